@@ -22,7 +22,10 @@ CODES = (
     re.compile(r'=>\s*"([A-Z])(\d+)"'),
 )
 # The same where the letter stands elsewhere, in the same function.
-NUMBERS = (("F", re.compile(r"\bReadFault::\w+[^=\n]*=>\s*\(line, (\d+)\)")), ("C", re.compile(r"\bRule::\w+ => (\d+),")))
+NUMBERS = (
+    ("F", re.compile(r"\bReadFault::\w+[^=\n]*=>\s*\(line, (\d+)\)")),
+    ("C", re.compile(r"\bRule::\w+ => (\d+),")),
+)
 # A function that answers one of several names, the names, and those that are kinds of errors.
 NAMING = re.compile(r"^( *)(?:pub )?fn (?:name|\w+_name|\w+_text)\([^)]*\) -> &'static str\n.*?^\1\}", re.M | re.S)
 NAME = re.compile(r'=>\s*"([a-z][a-z ]*)"')

@@ -1,4 +1,4 @@
-"""That each link of a page leads somewhere, and that no line of a page is over 120 columns."""
+"""That each link of a page leads somewhere."""
 
 import glob
 import os
@@ -47,13 +47,6 @@ class Links(unittest.TestCase):
             for words, name in REFERENCE.findall(text):
                 with self.subTest(page=os.path.relpath(page, TOP), words=words):
                     self.assertIn(name or words, defined)
-
-    def test_lines_are_narrow(self):
-        for page in PAGES:
-            with open(page, encoding="utf-8") as file:
-                for number, line in enumerate(file, 1):
-                    with self.subTest(page=os.path.relpath(page, TOP), line=number):
-                        self.assertLessEqual(len(line.rstrip("\n")), 120)
 
 
 if __name__ == "__main__":

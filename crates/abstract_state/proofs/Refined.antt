@@ -1,15 +1,16 @@
 -- Where a condition had a truth value, what is known of its branch holds: an induction over expressions, which change
 -- no variable unless they hold a call. Of these none has a bound form.
-use Rattle.std.proofs.Common.{arith, ◌≡◌, ◌∙◌, sym, ap, ap₂, refl, subst, ℕ, ℤ, pos, ◌+ℤ◌, ◌-ℤ◌, ◌*ℤ◌, neg_ℤ, int_div, int_le, int_lt, Bool, true, false, not}
+use Rattle.std.proofs.Common.{arith, ◌≡◌, ◌∙◌, sym, ap, ap₂, refl, subst, ℕ, ℤ, pos, ◌+ℤ◌, ◌-ℤ◌, neg_ℤ, int_le, Bool, true, false, not}
 use Rattle.std.proofs.Common.{◌&&◌, ◌||◌, cond, List, [], ◌∷◌, ◌++◌, map, Option, Some, None}
 use Rattle.std.specs.List.{All, list_all}
-use Rattle.std.specs.Int.{int_rem_euclid}
 use Rattle.std.specs.Ordering.{int_eq}
 use Rattle.std.proofs.lemmas.Int.{ints}
 use Rattle.std.proofs.lemmas.Bool.{and_parts, or_parts, cond_both}
 use Rattle.std.proofs.lemmas.List.Elements.{All-cons, All-nil, All-head, All-tail}
 use Rattle.typed_tree.specs.declared.tree.Monadic.{Monadic}
 use Rattle.typed_tree.specs.declared.tree.Monadic.TheVariants as monadic
+use Rattle.typed_tree.specs.declared.tree.Calculation.{Calculation}
+use Rattle.typed_tree.specs.declared.tree.Calculation.TheVariants as calculation
 use Rattle.typed_tree.specs.declared.tree.Dyadic.{Dyadic}
 use Rattle.typed_tree.specs.declared.tree.Dyadic.TheVariants as dyadic
 use Rattle.typed_tree.specs.declared.tree.Relation.{Relation}
@@ -35,7 +36,7 @@ use Rattle.domain.specs.Interval.{Interval, HasMember, always_true, never_true, 
 use Rattle.domain.specs.Facts.{Bound}
 use Rattle.meaning.specs.declared.store.Value.{Value}
 use Rattle.meaning.specs.declared.store.Value.TheVariants.{Number}
-use Rattle.meaning.specs.Integers.{integer_or_none, is_integer_number, is_odd, is_true, is_within, magnitude, truth}
+use Rattle.meaning.specs.Integers.{integer_or_none, is_integer_number, is_true, truth}
 use Rattle.meaning.specs.Store.{Environment, Place, Store, held, part}
 use Rattle.meaning.specs.Effect as effect
 use Rattle.meaning.specs.Effect.{Reply, Gives, Stops, and_then, fetch, fetch_all, is_in, number_of}
@@ -44,7 +45,7 @@ use Rattle.meaning.specs.Meaning.{Evaluation, Passing, Surroundings, accessed, i
 use Rattle.abstract_state.specs.State.{State, Dead}
 use Rattle.abstract_state.specs.Forms.{Form, Literal, Signed, Entire, Moved, Other, access_form, bound_of, chain_form, constant_of, moved_form, negative}
 use Rattle.abstract_state.specs.Forms.{offset_form}
-use Rattle.abstract_state.specs.Forms.{sign_form, signed}
+use Rattle.abstract_state.specs.Forms.{calculated_literal, sign_form, signed, signed_literal}
 use Rattle.abstract_state.specs.Conditions.{Condition, Conjunct, all_refined, bound_form, branched, chain_refined, condition_of, condition_step, conjunct_of}
 use Rattle.abstract_state.specs.Conditions.{link_condition, monadic_refined, passed_condition, operand_of}
 use Rattle.abstract_state.specs.Conditions.{operation_refined, related_forms, single_refined, takes_both, told, unless_excluded}
@@ -97,94 +98,89 @@ signed-form : (n : ℤ) (found : Option ℤ) (moment : Moment) → ((m : ℤ) �
 signed-form n None moment is = tt
 signed-form n (Some m) moment is = ap Number (is m refl)
 
-sign-form : (form : Form) (operation : Monadic) (moment : Moment) (n : ℤ) (w : Value) (s t : effect.State) → IsForm form moment (Number n)
-    → meaning.operated operation (Number n) s ≡ Gives w t → IsForm (sign_form form operation) moment w
-sign-form (Literal k) monadic.Plus moment n w s t is gives = let same = given-same (Number n) w s t gives in sym same.0 ∙ is
-sign-form (Literal k) monadic.Minus moment n w s t is gives =
-    let same = given-same (Number (neg_ℤ n)) w s t gives in
-    let number : n ≡ k = cc in
-    subst (λ (v : Value). IsForm (signed (integer_or_none (neg_ℤ k))) moment v) (ap (λ (m : ℤ). Number (neg_ℤ m)) (sym number) ∙ same.0)
-    (signed-form (neg_ℤ k) (integer_or_none (neg_ℤ k)) moment (λ m found. integer-is (neg_ℤ k) m found))
-sign-form (Literal k) monadic.Not moment n w s t is gives = tt
-sign-form (Literal k) monadic.Abs moment n w s t is gives = tt
-sign-form (Literal k) (monadic.Sqr overflow) moment n w s t is gives = tt
-sign-form (Literal k) monadic.Odd moment n w s t is gives = tt
-sign-form (Literal k) monadic.Ord moment n w s t is gives = tt
-sign-form (Literal k) (monadic.Chr no_char) moment n w s t is gives = tt
-sign-form (Literal k) (monadic.Succ no_successor last) moment n w s t is gives = tt
-sign-form (Literal k) (monadic.Pred no_predecessor first) moment n w s t is gives = tt
-sign-form (Signed k) operation moment n w s t is gives = tt
-sign-form (Entire root) operation moment n w s t is gives = tt
-sign-form (Moved root k) operation moment n w s t is gives = tt
-sign-form Other operation moment n w s t is gives = tt
+-- the number that an operation on one operand gives
+abbrev result_of : Monadic → ℤ → ℤ
+result_of (monadic.Plain does) n = meaning.calculated does n
+result_of (monadic.Tested fits does) n = meaning.shifted does n
+
+calculated-form : (does : Calculation) (k : ℤ) (moment : Moment) → IsForm (calculated_literal does k) moment (Number (meaning.calculated does k))
+calculated-form calculation.Same k moment = refl
+calculated-form calculation.Negative k moment =
+    signed-form (neg_ℤ k) (integer_or_none (neg_ℤ k)) moment (λ m found. integer-is (neg_ℤ k) m found)
+calculated-form calculation.Complement k moment = tt
+calculated-form calculation.Absolute k moment = tt
+calculated-form (calculation.Square overflow) k moment = tt
+calculated-form calculation.Parity k moment = tt
+calculated-form calculation.Ordinal k moment = tt
+
+signed_literal-form : (operation : Monadic) (k : ℤ) (moment : Moment) → IsForm (signed_literal operation k) moment (Number (result_of operation k))
+signed_literal-form (monadic.Plain does) k moment = calculated-form does k moment
+signed_literal-form (monadic.Tested fits does) k moment = tt
+
+sign-form : (form : Form) (operation : Monadic) (moment : Moment) (v : Value) → IsForm form moment v
+    → IsForm (sign_form form operation) moment (Number (result_of operation (number_of v)))
+sign-form (Literal k) operation moment v is =
+    subst (λ (v : Value). IsForm (signed_literal operation k) moment (Number (result_of operation (number_of v)))) (sym is)
+    (signed_literal-form operation k moment)
+sign-form (Signed k) operation moment v is = tt
+sign-form (Entire root) operation moment v is = tt
+sign-form (Moved root k) operation moment v is = tt
+sign-form Other operation moment v is = tt
 
 -- ---- operations change no variable
 
-whole-gives : (overflow : ℕ) (n : ℤ) (w : Value) (s t : effect.State) → meaning.whole overflow n s ≡ Gives w t → (w ≡ Number n) × (t ≡ s)
-whole-gives overflow n w s t is =
-    let passed = required (is_integer_number n) overflow s t (λ done. effect.give (Number n)) w is in
-    let same = given-same (Number n) w s t passed.1 in
+required-kept : (holds : Bool) (site : ℕ) (done : Unit {0}) (s t : effect.State) → effect.require holds site s ≡ Gives done t → t ≡ s
+required-kept true site done s t is = sym (given-same tt done s t is).1
+required-kept false site done s t is = absurd (cc)
+
+-- a result that may have to be an integer
+unless-gives : (overflow : Option ℕ) (n m : ℤ) (s t : effect.State) → meaning.unless_overflow overflow n s ≡ Gives m t → (m ≡ n) × (t ≡ s)
+unless-gives None n m s t is = let same = given-same n m s t is in (sym same.0, sym same.1)
+unless-gives (Some site) n m s t is =
+    let passed = required (is_integer_number n) site s t (λ done. effect.give n) m is in
+    let same = given-same n m s t passed.1 in
     (sym same.0, sym same.1)
 
--- behind a test
-tested-kept : (test : Bool) (site : ℕ) (v w : Value) (s t : effect.State)
-    → effect.◌>>=◌ (effect.require test site) (λ done. effect.give v) s ≡ Gives w t → t ≡ s
-tested-kept test site v w s t is =
-    let passed = required test site s t (λ done. effect.give v) w is in
-    sym (given-same v w s t passed.1).1
+operated-gives : (operation : Monadic) (n m : ℤ) (s t : effect.State) → meaning.operated operation n s ≡ Gives m t → (m ≡ result_of operation n) × (t ≡ s)
+operated-gives (monadic.Plain does) n m s t is = unless-gives (meaning.overflow_of does) (meaning.calculated does n) m s t is
+operated-gives (monadic.Tested fits does) n m s t is =
+    let result = meaning.shifted does n in
+    let passed = required (is_in fits.range (Number n)) fits.site s t (λ done. effect.give result) m is in
+    let same = given-same result m s t passed.1 in
+    (sym same.0, sym same.1)
 
-operated-kept : (operation : Monadic) (v w : Value) (s t : effect.State) → meaning.operated operation v s ≡ Gives w t → t ≡ s
-operated-kept monadic.Plus (Number n) w s t is = sym (given-same (Number n) w s t is).1
-operated-kept monadic.Minus (Number n) w s t is = sym (given-same (Number (neg_ℤ n)) w s t is).1
-operated-kept monadic.Not (Number n) w s t is = sym (given-same (Number (truth (not (is_true n)))) w s t is).1
-operated-kept monadic.Abs (Number n) w s t is = sym (given-same (Number (magnitude n)) w s t is).1
-operated-kept (monadic.Sqr overflow) (Number n) w s t is = (whole-gives overflow (n *ℤ n) w s t is).1
-operated-kept monadic.Odd (Number n) w s t is = sym (given-same (Number (truth (is_odd n))) w s t is).1
-operated-kept monadic.Ord (Number n) w s t is = sym (given-same (Number n) w s t is).1
-operated-kept (monadic.Chr no_char) (Number n) w s t is = tested-kept (is_within (pos 0) (pos 127) n) no_char (Number n) w s t is
-operated-kept (monadic.Succ no_successor last) (Number n) w s t is = tested-kept (int_lt n last) no_successor (Number (n +ℤ pos 1)) w s t is
-operated-kept (monadic.Pred no_predecessor first) (Number n) w s t is = tested-kept (int_lt first n) no_predecessor (Number (n -ℤ pos 1)) w s t is
+divides-kept : (operation : Dyadic) (b : ℤ) (done : Unit {0}) (s t : effect.State) → meaning.divides operation b s ≡ Gives done t → t ≡ s
+divides-kept (dyadic.Plus overflow) b done s t is = sym (given-same tt done s t is).1
+divides-kept (dyadic.Minus overflow) b done s t is = sym (given-same tt done s t is).1
+divides-kept (dyadic.Times overflow) b done s t is = sym (given-same tt done s t is).1
+divides-kept (dyadic.Div by_zero) b done s t is = required-kept (not (int_eq b (pos 0))) by_zero done s t is
+divides-kept (dyadic.Mod by_zero_or_less) b done s t is = required-kept (int_le (pos 1) b) by_zero_or_less done s t is
+divides-kept dyadic.And b done s t is = sym (given-same tt done s t is).1
+divides-kept dyadic.Or b done s t is = sym (given-same tt done s t is).1
+divides-kept (dyadic.Relation r) b done s t is = sym (given-same tt done s t is).1
 
--- what is known of the result of an operation on two operands
-abbrev pub IsResult : Dyadic → ℤ → ℤ → Value → Type 0
-IsResult (dyadic.Plus overflow) a b w = w ≡ Number (a +ℤ b)
-IsResult (dyadic.Minus overflow) a b w = w ≡ Number (a -ℤ b)
-IsResult (dyadic.Times overflow) a b w = Unit {0}
-IsResult (dyadic.Div by_zero) a b w = Unit {0}
-IsResult (dyadic.Mod by_zero_or_less) a b w = Unit {0}
-IsResult dyadic.And a b w = is_so w ≡ (is_true a && is_true b)
-IsResult dyadic.Or a b w = is_so w ≡ (is_true a || is_true b)
-IsResult (dyadic.Relation r) a b w = is_so w ≡ relates r a b
+combined-gives : (operation : Dyadic) (a b m : ℤ) (s t : effect.State) → meaning.combined operation a b s ≡ Gives m t
+    → (m ≡ meaning.of_both operation a b) × (t ≡ s)
+combined-gives operation a b m s t is =
+    let result = meaning.of_both operation a b in
+    let overflow = meaning.overflow_of_both operation in
+    let step = then-gives (meaning.divides operation b s) (λ done. meaning.unless_overflow overflow result) m t is in
+    let gives = unless-gives overflow result m step.1 t step.3 in
+    (gives.0, gives.1 ∙ divides-kept operation b step.0 s step.1 step.2)
+
+-- a number that is given as a value
+number-gives : (reply : Reply ℤ) (w : Value) (t : effect.State) → and_then reply (λ n. effect.give (Number n)) ≡ Gives w t
+    → (n : ℤ) × (reply ≡ Gives n t) × (w ≡ Number n)
+number-gives (Gives n u) w t is = let same = given-same (Number n) w u t is in (n, ap (Gives n) same.1, sym same.0)
+number-gives (Stops ending u) w t is = absurd (cc)
+
+-- a value is its number
+number-is : (v : Value) → v ≡ Number (number_of v)
+number-is (Number n) = refl
 
 truth-is : (b : Bool) → is_true (truth b) ≡ b
 truth-is true = refl
 truth-is false = refl
-
-combined-gives : (operation : Dyadic) (a b : ℤ) (w : Value) (s t : effect.State) → meaning.combined operation (Number a) (Number b) s ≡ Gives w t
-    → IsResult operation a b w × (t ≡ s)
-combined-gives (dyadic.Plus overflow) a b w s t is = whole-gives overflow (a +ℤ b) w s t is
-combined-gives (dyadic.Minus overflow) a b w s t is = whole-gives overflow (a -ℤ b) w s t is
-combined-gives (dyadic.Times overflow) a b w s t is = (tt, (whole-gives overflow (a *ℤ b) w s t is).1)
-combined-gives (dyadic.Div by_zero) a b w s t is =
-    let n = Number (int_div a b) in
-    let passed = required (not (int_eq b (pos 0))) by_zero s t (λ done. effect.give n) w is in
-    (tt, sym (given-same n w s t passed.1).1)
-combined-gives (dyadic.Mod by_zero_or_less) a b w s t is =
-    let n = Number (int_rem_euclid a b) in
-    let passed = required (int_le (pos 1) b) by_zero_or_less s t (λ done. effect.give n) w is in
-    (tt, sym (given-same n w s t passed.1).1)
-combined-gives dyadic.And a b w s t is =
-    let both = is_true a && is_true b in
-    let same = given-same (Number (truth both)) w s t is in
-    (ap is_so (sym same.0) ∙ truth-is both, sym same.1)
-combined-gives dyadic.Or a b w s t is =
-    let either = is_true a || is_true b in
-    let same = given-same (Number (truth either)) w s t is in
-    (ap is_so (sym same.0) ∙ truth-is either, sym same.1)
-combined-gives (dyadic.Relation r) a b w s t is =
-    let holds = relates r a b in
-    let same = given-same (Number (truth holds)) w s t is in
-    (ap is_so (sym same.0) ∙ truth-is holds, sym same.1)
 
 -- ---- what an expression tells
 
@@ -209,11 +205,7 @@ pub record Evaluates (env : Environment) (condition : Condition) (holds : Bool) 
 pub record Combines (env : Environment) (conjunct : Conjunct) (holds : Bool) (before after : Store) (left result : Value) : Type 0 where
   pub right : Value
   pub right_is : Evaluates env conjunct.right holds before after right
-  pub a : ℤ
-  pub b : ℤ
-  pub left_is : left ≡ Number a
-  pub b_is : right ≡ Number b
-  pub result_is : IsResult conjunct.operation a b result
+  pub result_is : result ≡ Number (meaning.of_both conjunct.operation (number_of left) (number_of right))
 
 abbrev pub EvaluatesAs : Evaluation → Condition → Bool → Type 0
 EvaluatesAs evaluation condition holds = (env : Surroundings) (s t : effect.State) (v : Value) → evaluation env s ≡ Gives v t
@@ -233,53 +225,54 @@ still-same Other before after same = tt
 -- ---- operators from left to right
 
 -- a relation of two operands
-forms-known : (variables : ℕ) (env : Environment) (store : Store) (r : Relation) (left right : Option Bound) (a b : ℤ) (state : State)
-    → IsOfForm (moment env store) left (Number a) → IsOfForm (moment env store) right (Number b) → relates r a b ≡ true → Knows variables env state store
-    → Knows variables env (related_forms r left right state) store
-forms-known variables env store r (Some left) (Some right) a b state (m, m_is, left_is) (n, n_is, right_is) is known =
-    let one : m ≡ a = cc in
-    let two : n ≡ b = cc in
+forms-known : (variables : ℕ) (env : Environment) (store : Store) (r : Relation) (left right : Option Bound) (v w : Value) (state : State)
+    → IsOfForm (moment env store) left v → IsOfForm (moment env store) right w → relates r (number_of v) (number_of w) ≡ true
+    → Knows variables env state store → Knows variables env (related_forms r left right state) store
+forms-known variables env store r (Some left) (Some right) v w state (m, m_is, left_is) (n, n_is, right_is) is known =
+    let one : m ≡ number_of v = sym (ap number_of m_is) in
+    let two : n ≡ number_of w = sym (ap number_of n_is) in
     related-known variables env store r state left right m n left_is right_is (ap₂ (relates r) one two ∙ is) known
-forms-known variables env store r None right a b state left_is right_is is known = known
-forms-known variables env store r (Some left) None a b state left_is right_is is known = known
+forms-known variables env store r None right v w state left_is right_is is known = known
+forms-known variables env store r (Some left) None v w state left_is right_is is known = known
 
 told-relates : (r : Relation) (a b : ℤ) (truth : Bool) → relates r a b ≡ truth → relates (told r truth) a b ≡ true
 told-relates r a b true is = is
 told-relates r a b false is = opposite-relates r a b is
 
-operation-known : (variables : ℕ) (env : Environment) (store : Store) (operation : Dyadic) (left right : Form) (a b : ℤ) (w : Value) (state : State)
-    → IsForm left (moment env store) (Number a) → IsForm right (moment env store) (Number b) → IsResult operation a b w → Knows variables env state store
-    → Knows variables env (operation_refined operation (is_so w) (bound_of left) (bound_of right) state) store
-operation-known variables env store (dyadic.Relation r) left right a b w state left_is right_is is known =
-    forms-known variables env store (told r (is_so w)) (bound_of left) (bound_of right) a b state (form-bound left (moment env store) (Number a) left_is)
-    (form-bound right (moment env store) (Number b) right_is) (told-relates r a b (is_so w) (sym is)) known
-operation-known variables env store (dyadic.Plus overflow) left right a b w state left_is right_is is known = known
-operation-known variables env store (dyadic.Minus overflow) left right a b w state left_is right_is is known = known
-operation-known variables env store (dyadic.Times overflow) left right a b w state left_is right_is is known = known
-operation-known variables env store (dyadic.Div by_zero) left right a b w state left_is right_is is known = known
-operation-known variables env store (dyadic.Mod by_zero_or_less) left right a b w state left_is right_is is known = known
-operation-known variables env store dyadic.And left right a b w state left_is right_is is known = known
-operation-known variables env store dyadic.Or left right a b w state left_is right_is is known = known
+operation-known : (variables : ℕ) (env : Environment) (store : Store) (operation : Dyadic) (left right : Form) (v w : Value) (so : Bool) (state : State)
+    → IsForm left (moment env store) v → IsForm right (moment env store) w → is_true (meaning.of_both operation (number_of v) (number_of w)) ≡ so
+    → Knows variables env state store → Knows variables env (operation_refined operation so (bound_of left) (bound_of right) state) store
+operation-known variables env store (dyadic.Relation r) left right v w so state left_is right_is is known =
+    forms-known variables env store (told r so) (bound_of left) (bound_of right) v w state (form-bound left (moment env store) v left_is)
+    (form-bound right (moment env store) w right_is)
+    (told-relates r (number_of v) (number_of w) so (sym (truth-is (relates r (number_of v) (number_of w))) ∙ is)) known
+operation-known variables env store (dyadic.Plus overflow) left right v w so state left_is right_is is known = known
+operation-known variables env store (dyadic.Minus overflow) left right v w so state left_is right_is is known = known
+operation-known variables env store (dyadic.Times overflow) left right v w so state left_is right_is is known = known
+operation-known variables env store (dyadic.Div by_zero) left right v w so state left_is right_is is known = known
+operation-known variables env store (dyadic.Mod by_zero_or_less) left right v w so state left_is right_is is known = known
+operation-known variables env store dyadic.And left right v w so state left_is right_is is known = known
+operation-known variables env store dyadic.Or left right v w so state left_is right_is is known = known
 
 -- both operands have the truth value that the whole takes from both
-both-so : (operation : Dyadic) (a b : ℤ) (w : Value) (truth : Bool) → takes_both truth operation ≡ true → IsResult operation a b w → is_so w ≡ truth
-    → (is_true a ≡ truth) × (is_true b ≡ truth)
-both-so dyadic.And a b w true takes is so = and_parts (is_true a) (is_true b) (sym is ∙ so)
-both-so dyadic.Or a b w false takes is so = or_parts (is_true a) (is_true b) (sym is ∙ so)
-both-so dyadic.And a b w false takes is so = absurd (cc)
-both-so dyadic.Or a b w true takes is so = absurd (cc)
-both-so (dyadic.Plus overflow) a b w true takes is so = absurd (cc)
-both-so (dyadic.Plus overflow) a b w false takes is so = absurd (cc)
-both-so (dyadic.Minus overflow) a b w true takes is so = absurd (cc)
-both-so (dyadic.Minus overflow) a b w false takes is so = absurd (cc)
-both-so (dyadic.Times overflow) a b w true takes is so = absurd (cc)
-both-so (dyadic.Times overflow) a b w false takes is so = absurd (cc)
-both-so (dyadic.Div by_zero) a b w true takes is so = absurd (cc)
-both-so (dyadic.Div by_zero) a b w false takes is so = absurd (cc)
-both-so (dyadic.Mod by_zero_or_less) a b w true takes is so = absurd (cc)
-both-so (dyadic.Mod by_zero_or_less) a b w false takes is so = absurd (cc)
-both-so (dyadic.Relation r) a b w true takes is so = absurd (cc)
-both-so (dyadic.Relation r) a b w false takes is so = absurd (cc)
+both-so : (operation : Dyadic) (a b : ℤ) (so : Bool) → takes_both so operation ≡ true → is_true (meaning.of_both operation a b) ≡ so
+    → (is_true a ≡ so) × (is_true b ≡ so)
+both-so dyadic.And a b true takes is = and_parts (is_true a) (is_true b) (sym (truth-is (is_true a && is_true b)) ∙ is)
+both-so dyadic.Or a b false takes is = or_parts (is_true a) (is_true b) (sym (truth-is (is_true a || is_true b)) ∙ is)
+both-so dyadic.And a b false takes is = absurd (cc)
+both-so dyadic.Or a b true takes is = absurd (cc)
+both-so (dyadic.Plus overflow) a b true takes is = absurd (cc)
+both-so (dyadic.Plus overflow) a b false takes is = absurd (cc)
+both-so (dyadic.Minus overflow) a b true takes is = absurd (cc)
+both-so (dyadic.Minus overflow) a b false takes is = absurd (cc)
+both-so (dyadic.Times overflow) a b true takes is = absurd (cc)
+both-so (dyadic.Times overflow) a b false takes is = absurd (cc)
+both-so (dyadic.Div by_zero) a b true takes is = absurd (cc)
+both-so (dyadic.Div by_zero) a b false takes is = absurd (cc)
+both-so (dyadic.Mod by_zero_or_less) a b true takes is = absurd (cc)
+both-so (dyadic.Mod by_zero_or_less) a b false takes is = absurd (cc)
+both-so (dyadic.Relation r) a b true takes is = absurd (cc)
+both-so (dyadic.Relation r) a b false takes is = absurd (cc)
 
 abbrev pub ProvedExpr : Type 0
 ProvedExpr = (e : Expr) × EvaluatesAs (value_of e) (condition_of e) (holds_call e)
@@ -327,12 +320,11 @@ turns-refine (link ∷ links) quiet env s t left result truth takes is so =
     let combines = link.1 env s step.1 left step.0 step.2 in
     let store_is = combines.right_is.store_is none.0 in
     let rest = turns-refine links none.1 env step.1 t step.0 result truth parts.1 step.3 so in
-    let both = both-so conjunct.operation combines.a combines.b step.0 truth parts.0 combines.result_is rest.0 in
-    let right_so : is_so combines.right ≡ truth = ap is_so combines.b_is ∙ both.1 in (
-      ap is_so combines.left_is ∙ both.0,
+    let both = both-so conjunct.operation (number_of left) (number_of combines.right) truth parts.0 (sym (ap is_so combines.result_is) ∙ rest.0) in (
+      both.0,
       λ variables state known.
           let one : Knows variables env.visible (conjunct.right.refined truth state) s.store =
-          subst (λ (b : Bool). Knows variables env.visible (conjunct.right.refined b state) s.store) right_so
+          subst (λ (b : Bool). Knows variables env.visible (conjunct.right.refined b state) s.store) both.1
           (combines.right_is.refines none.0 variables state known) in
           subst (λ (store : Store). Knows variables env.visible (all_refined truth (conjuncts_of links) (conjunct.right.refined truth state)) store) store_is
           (rest.1 variables (conjunct.right.refined truth state)
@@ -355,45 +347,44 @@ single-known (link ∷ []) quiet env s t left result form is form_is variables s
     let right_is : IsForm conjunct.right.form m combines.right =
     subst (λ (store : Store). IsForm conjunct.right.form (moment env.visible store) combines.right) (combines.right_is.store_is none.0)
     combines.right_is.form_is in
-    operation-known variables env.visible s.store conjunct.operation form conjunct.right.form combines.a combines.b result state
-    (subst (IsForm form m) combines.left_is form_is) (subst (IsForm conjunct.right.form m) combines.b_is right_is)
-    (subst (IsResult conjunct.operation combines.a combines.b) same combines.result_is) known
+    operation-known variables env.visible s.store conjunct.operation form conjunct.right.form left combines.right (is_so result) state form_is right_is
+    (sym (ap is_so combines.result_is) ∙ ap is_so same) known
 single-known (link ∷ next ∷ links) quiet env s t left result form is form_is variables state known = known
 
 -- ---- forms of chains
 
-constant-is : (form : Form) (moment : Moment) (b k : ℤ) → IsForm form moment (Number b) → constant_of form ≡ Some k → b ≡ k
-constant-is (Literal n) moment b k is found = cc
-constant-is (Signed n) moment b k is found = cc
-constant-is (Entire root) moment b k is found = absurd (cc)
-constant-is (Moved root n) moment b k is found = absurd (cc)
-constant-is Other moment b k is found = absurd (cc)
+constant-is : (form : Form) (moment : Moment) (v : Value) (k : ℤ) → IsForm form moment v → constant_of form ≡ Some k → number_of v ≡ k
+constant-is (Literal n) moment v k is found = ap number_of is ∙ (let same : n ≡ k = cc in same)
+constant-is (Signed n) moment v k is found = ap number_of is ∙ (let same : n ≡ k = cc in same)
+constant-is (Entire root) moment v k is found = absurd (cc)
+constant-is (Moved root n) moment v k is found = absurd (cc)
+constant-is Other moment v k is found = absurd (cc)
 
 negative-is : (found : Option ℤ) (b k : ℤ) → ((n : ℤ) → found ≡ Some n → b ≡ n) → negative found ≡ Some k → neg_ℤ b ≡ k
 negative-is None b k is negated = absurd (cc)
 negative-is (Some n) b k is negated = ap neg_ℤ (is n refl) ∙ integer-is (neg_ℤ n) k negated
 
-moved-form : (root : ℕ) (found : Option ℤ) (moment : Moment) (a : ℤ) (w : Value) → HasNumber moment root a → ((k : ℤ) → found ≡ Some k → w ≡ Number (a +ℤ k))
-    → IsForm (moved_form root found) moment w
-moved-form root None moment a w has is = tt
-moved-form root (Some k) moment a w has is = (a, has, is k refl)
+moved-form : (root : ℕ) (found : Option ℤ) (moment : Moment) (a n : ℤ) → HasNumber moment root a → ((k : ℤ) → found ≡ Some k → n ≡ (a +ℤ k))
+    → IsForm (moved_form root found) moment (Number n)
+moved-form root None moment a n has is = tt
+moved-form root (Some k) moment a n has is = (a, has, ap Number (is k refl))
 
-offset-form : (root : ℕ) (operation : Dyadic) (form : Form) (moment : Moment) (a b : ℤ) (w : Value) → HasNumber moment root a
-    → IsForm form moment (Number b) → IsResult operation a b w → IsForm (offset_form root operation (constant_of form)) moment w
-offset-form root (dyadic.Plus overflow) form moment a b w has form_is is =
-    moved-form root (constant_of form) moment a w has
-    (λ k found. is ∙ ap (λ (n : ℤ). Number (a +ℤ n)) (constant-is form moment b k form_is found))
-offset-form root (dyadic.Minus overflow) form moment a b w has form_is is =
-    moved-form root (negative (constant_of form)) moment a w has
+offset-form : (root : ℕ) (operation : Dyadic) (form : Form) (moment : Moment) (a : ℤ) (w : Value) → HasNumber moment root a → IsForm form moment w
+    → IsForm (offset_form root operation (constant_of form)) moment (Number (meaning.of_both operation a (number_of w)))
+offset-form root (dyadic.Plus overflow) form moment a w has form_is =
+    moved-form root (constant_of form) moment a (a +ℤ number_of w) has (λ k found. ap (λ (n : ℤ). a +ℤ n) (constant-is form moment w k form_is found))
+offset-form root (dyadic.Minus overflow) form moment a w has form_is =
+    moved-form root (negative (constant_of form)) moment a (a -ℤ number_of w) has
     (λ k found.
-    let negated : neg_ℤ b ≡ k = negative-is (constant_of form) b k (λ n one. constant-is form moment b n form_is one) found in
-    is ∙ ap Number (let sum : (a -ℤ b) ≡ (a +ℤ k) = omega (arith, ints, negated) in sum))
-offset-form root (dyadic.Times overflow) form moment a b w has form_is is = tt
-offset-form root (dyadic.Div by_zero) form moment a b w has form_is is = tt
-offset-form root (dyadic.Mod by_zero_or_less) form moment a b w has form_is is = tt
-offset-form root dyadic.And form moment a b w has form_is is = tt
-offset-form root dyadic.Or form moment a b w has form_is is = tt
-offset-form root (dyadic.Relation r) form moment a b w has form_is is = tt
+    let negated : neg_ℤ (number_of w) ≡ k =
+    negative-is (constant_of form) (number_of w) k (λ n one. constant-is form moment w n form_is one) found in
+    omega (arith, ints, negated))
+offset-form root (dyadic.Times overflow) form moment a w has form_is = tt
+offset-form root (dyadic.Div by_zero) form moment a w has form_is = tt
+offset-form root (dyadic.Mod by_zero_or_less) form moment a w has form_is = tt
+offset-form root dyadic.And form moment a w has form_is = tt
+offset-form root dyadic.Or form moment a w has form_is = tt
+offset-form root (dyadic.Relation r) form moment a w has form_is = tt
 
 -- a form tells of the value behind it, and what comes between changes no variable, if the form is part of a bound form
 abbrev Tells : Form → Environment → Store → Store → Value → Type 0
@@ -410,22 +401,25 @@ offset-none root dyadic.And env before after w = (tt, tt)
 offset-none root dyadic.Or env before after w = (tt, tt)
 offset-none root (dyadic.Relation r) env before after w = (tt, tt)
 
-offset-tells : (root : ℕ) (operation : Dyadic) (form : Form) (env : Environment) (before after : Store) (a b : ℤ) (w : Value)
-    → HasNumber (moment env before) root a → IsForm form (moment env after) (Number b) → Still form before after → IsResult operation a b w
-    → Tells (offset_form root operation (constant_of form)) env before after w
-offset-tells root operation (Literal n) env before after a b w has form_is still is = (
-  offset-form root operation (Literal n) (moment env after) a b w
-      (subst (λ (store : Store). HasNumber (moment env store) root a) (sym still) has) form_is is,
+offset-tells : (root : ℕ) (operation : Dyadic) (form : Form) (env : Environment) (before after : Store) (a : ℤ) (w : Value)
+    → HasNumber (moment env before) root a → IsForm form (moment env after) w → Still form before after
+    → Tells (offset_form root operation (constant_of form)) env before after (Number (meaning.of_both operation a (number_of w)))
+offset-tells root operation (Literal n) env before after a w has form_is still = (
+  offset-form root operation (Literal n) (moment env after) a w
+      (subst (λ (store : Store). HasNumber (moment env store) root a) (sym still) has) form_is,
   still-same (offset_form root operation (Some n)) before after still,
 )
-offset-tells root operation (Signed n) env before after a b w has form_is still is = (
-  offset-form root operation (Signed n) (moment env after) a b w
-      (subst (λ (store : Store). HasNumber (moment env store) root a) (sym still) has) form_is is,
+offset-tells root operation (Signed n) env before after a w has form_is still = (
+  offset-form root operation (Signed n) (moment env after) a w
+      (subst (λ (store : Store). HasNumber (moment env store) root a) (sym still) has) form_is,
   still-same (offset_form root operation (Some n)) before after still,
 )
-offset-tells root operation (Entire other) env before after a b w has form_is still is = offset-none root operation env before after w
-offset-tells root operation (Moved other k) env before after a b w has form_is still is = offset-none root operation env before after w
-offset-tells root operation Other env before after a b w has form_is still is = offset-none root operation env before after w
+offset-tells root operation (Entire other) env before after a w has form_is still =
+    offset-none root operation env before after (Number (meaning.of_both operation a (number_of w)))
+offset-tells root operation (Moved other k) env before after a w has form_is still =
+    offset-none root operation env before after (Number (meaning.of_both operation a (number_of w)))
+offset-tells root operation Other env before after a w has form_is still =
+    offset-none root operation env before after (Number (meaning.of_both operation a (number_of w)))
 
 abbrev chain_of : Form → List ProvedLink → Form
 chain_of form links = chain_form form (map operand_of (conjuncts_of links))
@@ -445,9 +439,9 @@ chain-tells (link ∷ []) (Entire root) env s t left result is form_is =
     let last = given-same step.0 result step.1 t step.3 in
     let whole = offset_form root conjunct.operation (constant_of conjunct.right.form) in
     let here : Tells whole env.visible s.store step.1.store step.0 =
-    offset-tells root conjunct.operation conjunct.right.form env.visible s.store step.1.store combines.a combines.b step.0
-    (form_is ∙ ap Some combines.left_is) (subst (IsForm conjunct.right.form (moment env.visible step.1.store)) combines.b_is combines.right_is.form_is)
-    combines.right_is.still combines.result_is in
+    subst (Tells whole env.visible s.store step.1.store) (sym combines.result_is)
+    (offset-tells root conjunct.operation conjunct.right.form env.visible s.store step.1.store (number_of left) combines.right
+    (form_is ∙ ap Some (number-is left)) combines.right_is.form_is combines.right_is.still) in
     subst (λ (v : Value). Tells whole env.visible s.store t.store v) last.0
     (subst (λ (u : effect.State). Tells whole env.visible s.store u.store step.0) last.1 here)
 
@@ -481,40 +475,42 @@ not-not : (b : Bool) → not (not b) ≡ b
 not-not true = refl
 not-not false = refl
 
-monadic-known : (operation : Monadic) (condition : Condition) (variables : ℕ) (env : Environment) (store : Store) (n : ℤ) (w : Value) (s t : effect.State)
+monadic-known : (operation : Monadic) (condition : Condition) (variables : ℕ) (env : Environment) (store : Store) (n : ℤ)
     → ((state : State) → Knows variables env state store → Knows variables env (condition.refined (is_true n) state) store)
-    → meaning.operated operation (Number n) s ≡ Gives w t → (state : State) → Knows variables env state store
-    → Knows variables env (monadic_refined operation condition (is_so w) state) store
-monadic-known monadic.Not condition variables env store n w s t refines is state known =
-    let same = (given-same (Number (truth (not (is_true n)))) w s t is).0 in
-    let swapped : is_true n ≡ not (is_so w) =
-    sym (not-not (is_true n)) ∙ ap not (sym (truth-is (not (is_true n)))) ∙ ap (λ (v : Value). not (is_so v)) same in
+    → (state : State) → Knows variables env state store
+    → Knows variables env (monadic_refined operation condition (is_true (result_of operation n)) state) store
+monadic-known (monadic.Plain calculation.Complement) condition variables env store n refines state known =
+    let swapped : is_true n ≡ not (is_true (truth (not (is_true n)))) = sym (not-not (is_true n)) ∙ ap not (sym (truth-is (not (is_true n)))) in
     subst (λ (b : Bool). Knows variables env (condition.refined b state) store) swapped (refines state known)
-monadic-known monadic.Plus condition variables env store n w s t refines is state known = known
-monadic-known monadic.Minus condition variables env store n w s t refines is state known = known
-monadic-known monadic.Abs condition variables env store n w s t refines is state known = known
-monadic-known (monadic.Sqr overflow) condition variables env store n w s t refines is state known = known
-monadic-known monadic.Odd condition variables env store n w s t refines is state known = known
-monadic-known monadic.Ord condition variables env store n w s t refines is state known = known
-monadic-known (monadic.Chr no_char) condition variables env store n w s t refines is state known = known
-monadic-known (monadic.Succ no_successor last) condition variables env store n w s t refines is state known = known
-monadic-known (monadic.Pred no_predecessor first) condition variables env store n w s t refines is state known = known
+monadic-known (monadic.Plain calculation.Same) condition variables env store n refines state known = known
+monadic-known (monadic.Plain calculation.Negative) condition variables env store n refines state known = known
+monadic-known (monadic.Plain calculation.Absolute) condition variables env store n refines state known = known
+monadic-known (monadic.Plain (calculation.Square overflow)) condition variables env store n refines state known = known
+monadic-known (monadic.Plain calculation.Parity) condition variables env store n refines state known = known
+monadic-known (monadic.Plain calculation.Ordinal) condition variables env store n refines state known = known
+monadic-known (monadic.Tested fits does) condition variables env store n refines state known = known
 
 monadic-evaluates : (operation : Monadic) (condition : Condition) (holds : Bool) (env : Environment) (s u t : effect.State) (a w : Value)
-    → Evaluates env condition holds s.store u.store a → meaning.operated operation a u ≡ Gives w t
+    → Evaluates env condition holds s.store u.store a
+    → and_then (meaning.operated operation (number_of a) u) (λ n. effect.give (Number n)) ≡ Gives w t
     → Evaluates env (record { form = sign_form condition.form operation; refined = monadic_refined operation condition }) holds s.store t.store w
-monadic-evaluates operation condition holds env s u t (Number n) w one is =
-    let kept : t.store ≡ u.store = ap (λ (x : effect.State). x.store) (operated-kept operation (Number n) w u t is) in
+monadic-evaluates operation condition holds env s u t a w one is =
+    let (m, operated, w_is) = number-gives (meaning.operated operation (number_of a) u) w t is in
+    let gives = operated-gives operation (number_of a) m u t operated in
+    let result : w ≡ Number (result_of operation (number_of a)) = w_is ∙ ap Number gives.0 in
+    let kept : t.store ≡ u.store = ap (λ (x : effect.State). x.store) gives.1 in
     record {
       form_is =
           subst (λ (store : Store). IsForm (sign_form condition.form operation) (moment env store) w) (sym kept)
-          (sign-form condition.form operation (moment env u.store) n w u t one.form_is is);
+          (subst (IsForm (sign_form condition.form operation) (moment env u.store)) (sym result)
+          (sign-form condition.form operation (moment env u.store) a one.form_is));
       still =
           subst (λ (store : Store). Still (sign_form condition.form operation) s.store store) (sym kept)
           (sign-still condition.form operation s.store u.store one.still);
       store_is = λ quiet. kept ∙ one.store_is quiet;
       refines = λ quiet variables state known.
-          monadic-known operation condition variables env s.store n w u t (λ state known. one.refines quiet variables state known) is state known;
+          subst (λ (v : Value). Knows variables env (monadic_refined operation condition (is_so v) state) s.store) (sym result)
+          (monadic-known operation condition variables env s.store (number_of a) (λ state known. one.refines quiet variables state known) state known);
     }
 
 chain-evaluates : (first : Condition) (holds : Bool) (links : List ProvedLink) (env : Surroundings) (s u t : effect.State) (left result : Value)
@@ -552,19 +548,16 @@ chain-evaluates first holds links env s u t left result one is =
     }
 
 link-combines : (operation : Dyadic) (condition : Condition) (holds : Bool) (env : Environment) (s u t : effect.State) (left right result : Value)
-    → Evaluates env condition holds s.store u.store right → meaning.combined operation left right u ≡ Gives result t
+    → Evaluates env condition holds s.store u.store right
+    → and_then (meaning.combined operation (number_of left) (number_of right) u) (λ n. effect.give (Number n)) ≡ Gives result t
     → Combines env (record { operation = operation; right = condition }) holds s.store t.store left result
-link-combines operation condition holds env s u t (Number a) (Number b) result one is =
-    let gives = combined-gives operation a b result u t is in
+link-combines operation condition holds env s u t left right result one is =
+    let (m, combined, result_is) = number-gives (meaning.combined operation (number_of left) (number_of right) u) result t is in
+    let gives = combined-gives operation (number_of left) (number_of right) m u t combined in
     record {
-      right = Number b;
-      right_is =
-          subst (λ (x : effect.State). Evaluates env condition holds s.store x.store (Number b)) (sym gives.1) one;
-      a = a;
-      b = b;
-      left_is = refl;
-      b_is = refl;
-      result_is = gives.0;
+      right = right;
+      right_is = subst (λ (x : effect.State). Evaluates env condition holds s.store x.store right) (sym gives.1) one;
+      result_is = result_is ∙ ap Number gives.0;
     }
 
 -- a layer of an expression, of which the parts are proved
@@ -617,23 +610,24 @@ accessed-kept access indexes all env s t found is =
 fetch-kept : (place : Option Place) (site : ℕ) (s t : effect.State) (v : Value) → fetch place site s ≡ Gives v t → t.store ≡ s.store
 fetch-kept place site s t v is = ap (λ (x : effect.State). x.store) (sym (fetch-gives (held s.store place) site s t v is).1)
 
-fetched_all-kept : (place : Option Place) (components : List (List Step)) (site : ℕ) (s t : effect.State) (row : List ℤ)
+fetched_all-kept : (place : Option Place) (components : List (List Step)) (site : ℕ) (s t : effect.State) (row : List Value)
     → fetch_all place components site s ≡ Gives row t → t.store ≡ s.store
 fetched_all-kept place [] site s t row is = given-kept [] row s t is
 fetched_all-kept place (steps ∷ components) site s t row is =
-    let behind : Value → effect.Action (List ℤ) =
-    λ v. effect.◌>>=◌ (fetch_all place components site) (λ numbers. effect.give (number_of v ∷ numbers)) in
+    let behind : Value → effect.Action (List Value) =
+    λ v. effect.◌>>=◌ (fetch_all place components site) (λ values. effect.give (v ∷ values)) in
     let first = then-gives (fetch (part place steps) site s) behind row t is in
-    let second = then-gives (fetch_all place components site first.1) (λ numbers. effect.give (number_of first.0 ∷ numbers)) row t first.3 in
-    given-kept (number_of first.0 ∷ second.0) row second.1 t second.3
+    let second = then-gives (fetch_all place components site first.1) (λ values. effect.give (first.0 ∷ values)) row t first.3 in
+    given-kept (first.0 ∷ second.0) row second.1 t second.3
     ∙ fetched_all-kept place components site first.1 second.1 second.0 second.2 ∙ fetch-kept (part place steps) site s first.1 first.0 first.2
 
 whole_of-kept : (value : Whole) (indexes : List Evaluation) → All KeepsStore (whole_indexes value indexes) → (env : Surroundings) (s t : effect.State)
-    (row : List ℤ) → whole_of value indexes env s ≡ Gives row t → t.store ≡ s.store
-whole_of-kept (Text number characters) indexes all env s t row is = given-kept (map pos characters.items) row (entered number env.visible s) t is
+    (row : List Value) → whole_of value indexes env s ≡ Gives row t → t.store ≡ s.store
+whole_of-kept (Text number characters) indexes all env s t row is =
+    given-kept (map (λ c. Number (pos c)) characters.items) row (entered number env.visible s) t is
 whole_of-kept (VariableOf access type_id cells defined) indexes all env s t row is =
     let components = components_of env.visible.types type_id in
-    let behind : Option Place → effect.Action (List ℤ) = λ place. fetch_all place components defined in
+    let behind : Option Place → effect.Action (List Value) = λ place. fetch_all place components defined in
     let first = then-gives (accessed access indexes env s) behind row t is in
     fetched_all-kept first.0 components defined first.1 t row first.3 ∙ accessed-kept access indexes all env s first.1 first.0 first.2
 
@@ -642,16 +636,16 @@ compare-kept : (number : ℕ) (relation : Relation) (left right : Whole) (left_i
     → (env : Surroundings) (s t : effect.State) (v : Value)
     → effect.◌>>=◌ (whole_of left left_indexes env)
     (λ a. effect.◌>>=◌ (effect.enter number env.visible)
-    (λ done. effect.◌>>=◌ (whole_of right right_indexes env) (λ b. effect.give (meaning.compared relation a b)))) s ≡ Gives v t
+    (λ done. effect.◌>>=◌ (whole_of right right_indexes env) (λ b. effect.give (Number (meaning.compared relation a b))))) s ≡ Gives v t
     → t.store ≡ s.store
 compare-kept number relation left right left_indexes right_indexes of_left of_right env s t v is =
-    let behind : List ℤ → effect.Action Value =
+    let behind : List Value → effect.Action Value =
     λ a. effect.◌>>=◌ (effect.enter number env.visible)
-    (λ done. effect.◌>>=◌ (whole_of right right_indexes env) (λ b. effect.give (meaning.compared relation a b))) in
+    (λ done. effect.◌>>=◌ (whole_of right right_indexes env) (λ b. effect.give (Number (meaning.compared relation a b)))) in
     let first = then-gives (whole_of left left_indexes env s) behind v t is in
     let start = entered number env.visible first.1 in
-    let second = then-gives (whole_of right right_indexes env start) (λ b. effect.give (meaning.compared relation first.0 b)) v t first.3 in
-    given-kept (meaning.compared relation first.0 second.0) v second.1 t second.3
+    let second = then-gives (whole_of right right_indexes env start) (λ b. effect.give (Number (meaning.compared relation first.0 b))) v t first.3 in
+    given-kept (Number (meaning.compared relation first.0 second.0)) v second.1 t second.3
     ∙ whole_of-kept right right_indexes of_right env start second.1 second.0 second.2 ∙ whole_of-kept left left_indexes of_left env s first.1 first.0 first.2
 
 -- an entire variable has the value that is read
@@ -708,7 +702,9 @@ value-layer (Variable access indexes defined) env s t v is =
     }
 value-layer (MonadicOf number operation operand) env s t v is =
     let start = entered number env.visible s in
-    let step = then-gives (value_of operand.value.0 env start) (meaning.operated operation) v t is in
+    let behind : Value → effect.Action Value =
+    λ a. effect.◌>>=◌ (meaning.operated operation (number_of a)) (λ n. effect.give (Number n)) in
+    let step = then-gives (value_of operand.value.0 env start) behind v t is in
     monadic-evaluates operation (condition_of operand.value.0) (holds_call operand.value.0) env.visible start step.1 t step.0 v
     (operand.value.1 env start step.1 step.0 step.2) step.3
 value-layer (Chain first rest) env s t v is =
@@ -737,7 +733,9 @@ link-layer : (y : Link-F ProvedExpr ProvedPassed ProvedLink)
     → LinkLayer (map-Link ProvedExpr ProvedPassed ProvedLink Expr Passed Link (λ e. e.0) (λ p. p.0) (λ l. l.0) y)
 link-layer y env s t left result is =
     let start = entered y.number env.visible s in
-    let step = then-gives (value_of y.operand.0 env start) (meaning.combined y.operation left) result t is in
+    let behind : Value → effect.Action Value =
+    λ right. effect.◌>>=◌ (meaning.combined y.operation (number_of left) (number_of right)) (λ n. effect.give (Number n)) in
+    let step = then-gives (value_of y.operand.0 env start) behind result t is in
     link-combines y.operation (condition_of y.operand.0) (holds_call y.operand.0) env.visible start step.1 t left step.0 result
     (y.operand.1 env start step.1 step.0 step.2) step.3
 
@@ -799,7 +797,7 @@ pub access-kept : (access : Access) (indexes : List Expr) → hold_call indexes 
     → accessed access (values_of indexes) env s ≡ Gives found t → t.store ≡ s.store
 access-kept access indexes quiet env s t found is = accessed-kept access (values_of indexes) (all-kept_of indexes quiet) env s t found is
 
-pub whole-kept : (value : Whole) (indexes : List Expr) → whole_holds_call value indexes ≡ false → (env : Surroundings) (s t : effect.State) (row : List ℤ)
+pub whole-kept : (value : Whole) (indexes : List Expr) → whole_holds_call value indexes ≡ false → (env : Surroundings) (s t : effect.State) (row : List Value)
     → whole_of value (values_of indexes) env s ≡ Gives row t → t.store ≡ s.store
 whole-kept value indexes quiet env s t row is = whole_of-kept value (values_of indexes) (whole-kept_of value indexes quiet) env s t row is
 

@@ -6,6 +6,7 @@ use Rattle.std.specs.List.{list_all}
 use Rattle.std.specs.Ordering.{int_eq}
 use Rattle.typed_tree.specs.declared.tree.Monadic.{Monadic}
 use Rattle.typed_tree.specs.declared.tree.Monadic.TheVariants as monadic
+use Rattle.typed_tree.specs.declared.tree.Calculation.TheVariants as calculation
 use Rattle.typed_tree.specs.declared.tree.Dyadic.{Dyadic}
 use Rattle.typed_tree.specs.declared.tree.Dyadic.TheVariants as dyadic
 use Rattle.typed_tree.specs.declared.tree.Relation.{Relation}
@@ -145,7 +146,7 @@ chain_refined first conjuncts truth state =
 
 -- an operation on one operand had a truth value: `not` swaps them
 abbrev pub monadic_refined : Monadic → Condition → Bool → State → State
-monadic_refined monadic.Not operand truth state = operand.refined (not truth) state
+monadic_refined (monadic.Plain calculation.Complement) operand truth state = operand.refined (not truth) state
 monadic_refined operation operand truth state = state
 
 abbrev pub link_condition : Link-F Condition (Unit {0}) Conjunct → Conjunct

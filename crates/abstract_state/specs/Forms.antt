@@ -4,6 +4,8 @@ use Rattle.std.specs.Prelude.{ℕ, ℤ, pos, neg_ℤ, List, [], ◌∷◌, Optio
 use Rattle.typed_tree.specs.declared.tree.Selector.{Selector}
 use Rattle.typed_tree.specs.declared.tree.Monadic.{Monadic}
 use Rattle.typed_tree.specs.declared.tree.Monadic.TheVariants as monadic
+use Rattle.typed_tree.specs.declared.tree.Calculation.{Calculation}
+use Rattle.typed_tree.specs.declared.tree.Calculation.TheVariants as calculation
 use Rattle.typed_tree.specs.declared.tree.Dyadic.{Dyadic}
 use Rattle.typed_tree.specs.declared.tree.Dyadic.TheVariants as dyadic
 use Rattle.domain.specs.Facts.{Bound, Number, Plus}
@@ -34,11 +36,16 @@ abbrev pub signed : Option ℤ → Form
 signed None = Other
 signed (Some n) = Signed n
 
+-- what is calculated from a constant that has no sign: itself, or its negative
+abbrev pub calculated_literal : Calculation → ℤ → Form
+calculated_literal calculation.Same n = Signed n
+calculated_literal calculation.Negative n = signed (integer_or_none (neg_ℤ n))
+calculated_literal does n = Other
+
 -- a sign before a constant that has none
 abbrev pub signed_literal : Monadic → ℤ → Form
-signed_literal monadic.Plus n = Signed n
-signed_literal monadic.Minus n = signed (integer_or_none (neg_ℤ n))
-signed_literal operation n = Other
+signed_literal (monadic.Plain does) n = calculated_literal does n
+signed_literal (monadic.Tested fits does) n = Other
 
 -- the number of a constant without a sign
 abbrev pub literal_of : Form → Option ℤ

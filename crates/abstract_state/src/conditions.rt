@@ -19,7 +19,7 @@ use domain::facts::Bound;
 use domain::interval::Interval;
 use std::alloc::AllocError;
 use typed_tree::calls::holds_call;
-use typed_tree::tree::{Dyadic, Expr, Link, Monadic, Relation};
+use typed_tree::tree::{Calculation, Dyadic, Expr, Link, Monadic, Relation};
 
 impl State {
     /// What is known where a condition, whose value lies in the range, had a truth value.
@@ -57,7 +57,7 @@ impl State {
             Expr::Constant { .. } | Expr::Variable { .. } => Ok(()),
             Expr::Compare { .. } | Expr::Call { .. } => Ok(()),
             Expr::Monadic {
-                operation: Monadic::Not,
+                operation: Monadic::Plain(Calculation::Complement),
                 operand,
                 ..
             } => self.refine(limits, operand, !truth),

@@ -1,11 +1,11 @@
 ghost use Rattle.std.specs.Prelude.{◌≡◌, map};
 ghost use Rattle.abstract_state.specs.Conditions.{bound_form, condition_of, conjunct_of, operand_of};
-ghost use Rattle.abstract_state.specs.Forms.{access_form, bound_of, chain_form, constant_of, literal_of, moved_form};
-ghost use Rattle.abstract_state.specs.Forms.{negative, offset_form, root_of, signed, signed_if};
+ghost use Rattle.abstract_state.specs.Forms.{access_form, bound_of, calculated_literal, chain_form, constant_of};
+ghost use Rattle.abstract_state.specs.Forms.{literal_of, moved_form, negative, offset_form, root_of, signed, signed_if};
 ghost use Rattle.abstract_state.specs.View.{said_form};
 
 use domain::facts::Bound;
-use typed_tree::tree::{Access, Dyadic, Expr, Link, Monadic};
+use typed_tree::tree::{Access, Calculation, Dyadic, Expr, Link, Monadic};
 
 /// The bound that an expression is: a constant, perhaps with a sign, a variable, or a variable plus or minus such a
 /// constant. `None`: it has another form.
@@ -106,21 +106,28 @@ fn constant(expression: &Expr) -> Option<i32>
     }
 }
 
-/// The number of a sign and a constant, if there is one.
+/// The number of a sign, or of ord, and a constant, if there is one.
 fn signed(operation: Monadic, literal: Option<i32>) -> Option<i32>
     ensures { result ≡ constant_of (signed_if literal operation) }
 {
     match operation {
-        Monadic::Plus => literal,
-        Monadic::Minus => negative(literal),
-        Monadic::Not => None,
-        Monadic::Abs => None,
-        Monadic::Sqr { .. } => None,
-        Monadic::Odd => None,
-        Monadic::Ord => None,
-        Monadic::Chr { .. } => None,
-        Monadic::Succ { .. } => None,
-        Monadic::Pred { .. } => None,
+        Monadic::Plain(does) => calculated(does, literal?),
+        Monadic::Tested { .. } => None,
+    }
+}
+
+/// What is calculated from a constant without a sign: itself, or its negative.
+fn calculated(does: Calculation, literal: i32) -> Option<i32>
+    ensures { result ≡ constant_of (calculated_literal does literal) }
+{
+    match does {
+        Calculation::Same => Some(literal),
+        Calculation::Negative => negative(Some(literal)),
+        Calculation::Complement => None,
+        Calculation::Absolute => None,
+        Calculation::Square { .. } => None,
+        Calculation::Parity => None,
+        Calculation::Ordinal => None,
     }
 }
 

@@ -280,10 +280,10 @@ impl State {
 
 impl Facts {
     /// What is known of a variable, by the values of the variables' types.
-    fn row(&self, limits: &[Interval], root: u32) -> Row
+    fn row(&self, limits: &[Interval], root: usize) -> Row
         ensures { result ≡ slice_index_or (rows_on limits.now self.now) root no_row }
     {
-        match limits.get(root as usize) {
+        match limits.get(root) {
             None => Row::NONE,
             Some(range) => match self.rows.get(root) {
                 None => Row {
@@ -298,22 +298,22 @@ impl Facts {
     fn range(&self, limits: &[Interval], root: u32) -> Interval
         ensures { result ≡ range_of (Live (viewed_facts limits.now self.now)) root }
     {
-        self.row(limits, root).range
+        self.row(limits, root as usize).range
     }
 
     fn is_defined(&self, limits: &[Interval], root: u32) -> bool
         ensures { result ≡ is_defined (Live (viewed_facts limits.now self.now)) root }
     {
-        self.row(limits, root).is_defined
+        self.row(limits, root as usize).is_defined
     }
 
     fn define(&mut self, limits: &[Interval], root: u32) -> Result<(), AllocError>
         ensures { IfOk result (λ _. Live (viewed_facts limits.now self.new)
             ≡ with_defined root (Live (viewed_facts limits.now self.old))) }
     {
-        let mut row = self.row(limits, root);
+        let mut row = self.row(limits, root as usize);
         row.is_defined = true;
-        self.rows.set(root, row)
+        self.rows.set(root as usize, row)
     }
 
     fn set_range(
@@ -325,9 +325,9 @@ impl Facts {
         ensures { IfOk result (λ _. Live (viewed_facts limits.now self.new)
             ≡ with_range root range (Live (viewed_facts limits.now self.old))) }
     {
-        let mut row = self.row(limits, root);
+        let mut row = self.row(limits, root as usize);
         row.range = range;
-        self.rows.set(root, row)
+        self.rows.set(root as usize, row)
     }
 
     fn insert(&mut self, order: Order) -> Result<(), AllocError>
@@ -349,9 +349,9 @@ impl Facts {
         ensures { IfOk result (λ _. Live (viewed_facts limits.now self.new)
             ≡ with_forgotten root (Live (viewed_facts limits.now self.old))) }
     {
-        let mut row = self.row(limits, root);
+        let mut row = self.row(limits, root as usize);
         row.is_defined = false;
-        self.rows.set(root, row)
+        self.rows.set(root as usize, row)
     }
 
     /// The orders of a variable are known with a bound in its place.

@@ -1,12 +1,11 @@
--- What stores of numbers to a variable, or to components of it, leave: they have them, aliases may have them too, and all else is as it was.
-use Rattle.std.proofs.Common.{arith, ◌≡◌, ◌≢◌, ⊎_elim, ◌⊎◌, inl, inr, ◌∙◌, sym, ap, refl, subst, ℕ, zero, suc, ℤ, Bool, true, false, cond, ◌||◌}
+-- What stores of values to a variable, or to components of it, leave: they have them, aliases may have them too, and all else is as it was.
+use Rattle.std.proofs.Common.{arith, ◌≡◌, ◌≢◌, ⊎_elim, ◌⊎◌, inl, inr, ◌∙◌, sym, ap, refl, subst, ℕ, zero, suc, Bool, true, false, cond, ◌||◌}
 use Rattle.std.proofs.Common.{nat_eq, List, [], ◌∷◌, Option, Some, None}
 use Rattle.std.specs.List.{Contains, list_all}
 use Rattle.std.proofs.lemmas.Bool.{both_ways, cases_Bool, cases_eq, eq-eqb, eqb-true, false_from_ne_true, or_parts}
 use Rattle.std.proofs.lemmas.List.Folds.{list_all_at, list_any-append}
 use Rattle.types.specs.declared.form.Step.{Step}
 use Rattle.meaning.specs.declared.store.Value.{Value}
-use Rattle.meaning.specs.declared.store.Value.TheVariants.{Number}
 use Rattle.meaning.specs.Store.{Environment, Place, Store, overlap, place_eq, stored, undefined, written}
 use Rattle.meaning.specs.Store as store
 use Rattle.abstract_state.specs.Holds.{HasValue, Separate, part_of, value_at}
@@ -97,26 +96,26 @@ hidden-apart env pairs separate root home at hidden other q differ none at_other
 
 -- ---- what is stored
 
--- components of a variable, or the whole of it, each by the steps to it, with a number
+-- components of a variable, or the whole of it, each by the steps to it, with a value
 abbrev pub Pairs : Type 0
-Pairs = List (List Step × ℤ)
+Pairs = List (List Step × Value)
 
 -- from a store to a later one
 pub record AreWritten (env : Environment) (aliases : List ℕ) (root : ℕ) (pairs : Pairs) (before after : Store) : Type 0 where
   -- what is none of them, and no part of an alias, is as it was
   pub others : (other : ℕ) (steps : List Step) → is_among other aliases ≡ false
-      → ((pair : List Step × ℤ) → Contains pairs pair → other ≡ root → pair.0 ≡ steps → ⊥)
+      → ((pair : List Step × Value) → Contains pairs pair → other ≡ root → pair.0 ≡ steps → ⊥)
       → value_at (moment env after) other steps ≡ value_at (moment env before) other steps
-  -- what there is was there, or is one of the numbers
+  -- what there is was there, or is one of the values
   pub came : (place : Place) (v : Value) → stored after place ≡ Some v
       → (stored before place ≡ Some v)
-      ⊎ ((pair : List Step × ℤ) × Contains pairs pair × (store.part (env.variables root) pair.0 ≡ Some place) × (v ≡ Number pair.1))
+      ⊎ ((pair : List Step × Value) × Contains pairs pair × (store.part (env.variables root) pair.0 ≡ Some place) × (v ≡ pair.1))
   -- what is defined stays so
   pub defined : (place : Place) (v : Value) → stored before place ≡ Some v → (w : Value) × (stored after place ≡ Some w)
-  -- each of them has one of their numbers
-  pub has : (pair : List Step × ℤ) → Contains pairs pair → HasValue (moment env after) root pair.0
-  pub sure : (pair : List Step × ℤ) (v : Value) → Contains pairs pair → value_at (moment env after) root pair.0 ≡ Some v
-      → (own : List Step × ℤ) × Contains pairs own × (own.0 ≡ pair.0) × (v ≡ Number own.1)
+  -- each of them has one of their values
+  pub has : (pair : List Step × Value) → Contains pairs pair → HasValue (moment env after) root pair.0
+  pub sure : (pair : List Step × Value) (v : Value) → Contains pairs pair → value_at (moment env after) root pair.0 ≡ Some v
+      → (own : List Step × Value) × Contains pairs own × (own.0 ≡ pair.0) × (v ≡ own.1)
 
 pub none-written : (env : Environment) (aliases : List ℕ) (root : ℕ) (store : Store) → AreWritten env aliases root [] store store
 none-written env aliases root store = record {
@@ -159,26 +158,26 @@ module _ (env : Environment) (aliases : List ℕ) (root : ℕ) (pairs : Pairs) (
   pub value-defined : (other : ℕ) (steps : List Step) → HasValue (moment env before) other steps → HasValue (moment env after) other steps
   value-defined other steps has = defined-at before after written.defined (env.variables other) steps has
 
-  -- what there is of any variable was there, or is one of the numbers, and lies where it was stored
+  -- what there is of any variable was there, or is one of the values, and lies where it was stored
   pub value-came : (other : ℕ) (steps : List Step) (v : Value) → value_at (moment env after) other steps ≡ Some v
       → (value_at (moment env before) other steps ≡ Some v)
-      ⊎ ((pair : List Step × ℤ) × Contains pairs pair × (store.part (env.variables root) pair.0 ≡ store.part (env.variables other) steps)
-      × (v ≡ Number pair.1))
+      ⊎ ((pair : List Step × Value) × Contains pairs pair × (store.part (env.variables root) pair.0 ≡ store.part (env.variables other) steps)
+      × (v ≡ pair.1))
   value-came other steps v is =
       let at = stored-of after (env.variables other) steps v is in
       ⊎_elim (λ was. inl (ap (λ (found : Option Place). part_of before found steps) at.1 ∙ was))
-      (λ (own : (pair : List Step × ℤ) × Contains pairs pair × (store.part (env.variables root) pair.0 ≡ Some (part at.0 steps)) × (v ≡ Number pair.1)).
+      (λ (own : (pair : List Step × Value) × Contains pairs pair × (store.part (env.variables root) pair.0 ≡ Some (part at.0 steps)) × (v ≡ pair.1)).
       inr (own.0, own.1, own.2 ∙ sym (ap (λ (found : Option Place). store.part found steps) at.1), own.3))
       (written.came (part at.0 steps) v at.2)
 
-  -- of the variable itself: one of its numbers
+  -- of the variable itself: one of its values
   pub own-came : (home : Place) → env.variables root ≡ Some home → (steps : List Step) (v : Value) → value_at (moment env after) root steps ≡ Some v
       → (value_at (moment env before) root steps ≡ Some v)
-      ⊎ ((pair : List Step × ℤ) × Contains pairs pair × (pair.0 ≡ steps) × (v ≡ Number pair.1))
+      ⊎ ((pair : List Step × Value) × Contains pairs pair × (pair.0 ≡ steps) × (v ≡ pair.1))
   own-came home at steps v is =
       ⊎_elim (λ was. inl was)
-      (λ (own : (pair : List Step × ℤ) × Contains pairs pair × (store.part (env.variables root) pair.0 ≡ store.part (env.variables root) steps)
-      × (v ≡ Number pair.1)).
+      (λ (own : (pair : List Step × Value) × Contains pairs pair × (store.part (env.variables root) pair.0 ≡ store.part (env.variables root) steps)
+      × (v ≡ pair.1)).
       inr (
         own.0,
         own.1,
@@ -197,7 +196,7 @@ module _ (env : Environment) (aliases : List ℕ) (root : ℕ) (pairs : Pairs) (
   }
 
   -- where the whole of it was stored, no component of it changed
-  pub whole-changes : ((pair : List Step × ℤ) → Contains pairs pair → pair.0 ≡ []) → OneChanges env root aliases before after
+  pub whole-changes : ((pair : List Step × Value) → Contains pairs pair → pair.0 ≡ []) → OneChanges env root aliases before after
   whole-changes whole = record {
     others = λ other steps apart free. written.others other steps free (λ pair inside same at. apart same (sym at ∙ whole pair inside));
     defined = λ other steps apart has. value-defined other steps has;
@@ -205,25 +204,25 @@ module _ (env : Environment) (aliases : List ℕ) (root : ℕ) (pairs : Pairs) (
 
 -- ---- one and then others
 
-module _ (env : Environment) (aliases : List ℕ) (root : ℕ) (first : List Step × ℤ) (pairs : Pairs) (before mid after : Store)
+module _ (env : Environment) (aliases : List ℕ) (root : ℕ) (first : List Step × Value) (pairs : Pairs) (before mid after : Store)
     (one : AreWritten env aliases root (first ∷ []) before mid) (rest : AreWritten env aliases root pairs mid after) where
-  only : (pair : List Step × ℤ) → Contains (first ∷ []) pair → first ≡ pair
+  only : (pair : List Step × Value) → Contains (first ∷ []) pair → first ≡ pair
   only pair inside = ⊎_elim (λ same. same) (λ none. absurd (omega (arith, none.1))) (head-or_tail first pair [] inside)
 
   abbrev Own : List Step → Value → Type 0
-  Own steps v = (pair : List Step × ℤ) × Contains (first ∷ pairs) pair × (pair.0 ≡ steps) × (v ≡ Number pair.1)
+  Own steps v = (pair : List Step × Value) × Contains (first ∷ pairs) pair × (pair.0 ≡ steps) × (v ≡ pair.1)
 
   abbrev Came : Place → Value → Type 0
   Came place v =
-      (pair : List Step × ℤ) × Contains (first ∷ pairs) pair × (store.part (env.variables root) pair.0 ≡ Some place) × (v ≡ Number pair.1)
+      (pair : List Step × Value) × Contains (first ∷ pairs) pair × (store.part (env.variables root) pair.0 ≡ Some place) × (v ≡ pair.1)
 
-  from-rest : (steps : List Step) (v : Value) → (pair : List Step × ℤ) × Contains pairs pair × (pair.0 ≡ steps) × (v ≡ Number pair.1) → Own steps v
+  from-rest : (steps : List Step) (v : Value) → (pair : List Step × Value) × Contains pairs pair × (pair.0 ≡ steps) × (v ≡ pair.1) → Own steps v
   from-rest steps v (pair, inside, at, is) = (pair, in-tail first pair pairs inside, at, is)
 
-  widened : (pair : List Step × ℤ) → Contains (first ∷ []) pair → Contains (first ∷ pairs) pair
+  widened : (pair : List Step × Value) → Contains (first ∷ []) pair → Contains (first ∷ pairs) pair
   widened pair inside = subst (Contains (first ∷ pairs)) (only pair inside) (at-head first pairs)
 
-  first-own : (steps : List Step) (v : Value) → (pair : List Step × ℤ) × Contains (first ∷ []) pair × (pair.0 ≡ steps) × (v ≡ Number pair.1)
+  first-own : (steps : List Step) (v : Value) → (pair : List Step × Value) × Contains (first ∷ []) pair × (pair.0 ≡ steps) × (v ≡ pair.1)
       → Own steps v
   first-own steps v (pair, inside, at, is) = (pair, widened pair inside, at, is)
 
@@ -234,24 +233,24 @@ module _ (env : Environment) (aliases : List ℕ) (root : ℕ) (first : List Ste
         ∙ one.others other steps free (λ pair inside same at. apart pair (widened pair inside) same at);
     came = λ place v is. ⊎_elim
         (λ was. ⊎_elim (λ old. inl old)
-        (λ (own : (pair : List Step × ℤ) × Contains (first ∷ []) pair × (store.part (env.variables root) pair.0 ≡ Some place) × (v ≡ Number pair.1)).
+        (λ (own : (pair : List Step × Value) × Contains (first ∷ []) pair × (store.part (env.variables root) pair.0 ≡ Some place) × (v ≡ pair.1)).
         inr (own.0, widened own.0 own.1, own.2, own.3)) (one.came place v was))
-        (λ (own : (pair : List Step × ℤ) × Contains pairs pair × (store.part (env.variables root) pair.0 ≡ Some place) × (v ≡ Number pair.1)).
+        (λ (own : (pair : List Step × Value) × Contains pairs pair × (store.part (env.variables root) pair.0 ≡ Some place) × (v ≡ pair.1)).
         inr (own.0, in-tail first own.0 pairs own.1, own.2, own.3)) (rest.came place v is);
     defined = λ place v is. let next = one.defined place v is in rest.defined place next.0 next.1;
     has = λ pair inside. ⊎_elim
-        (λ same. subst (λ (p : List Step × ℤ). HasValue (moment env after) root p.0) same
+        (λ same. subst (λ (p : List Step × Value). HasValue (moment env after) root p.0) same
         (value-defined env aliases root pairs mid after rest root first.0 (one.has first (at-head first []))))
         (λ later. rest.has pair later) (head-or_tail first pair pairs inside);
     sure = λ pair v inside is. ⊎_elim
-        (λ same. subst (λ (p : List Step × ℤ). Own p.0 v) same
+        (λ same. subst (λ (p : List Step × Value). Own p.0 v) same
         (⊎_elim (λ was. first-own first.0 v (one.sure first v (at-head first []) was)) (λ own. from-rest first.0 v own)
         (own-came env aliases root pairs mid after rest home at_home first.0 v
-        (subst (λ (p : List Step × ℤ). value_at (moment env after) root p.0 ≡ Some v) (sym same) is))))
+        (subst (λ (p : List Step × Value). value_at (moment env after) root p.0 ≡ Some v) (sym same) is))))
         (λ later. from-rest pair.0 v (rest.sure pair v later is)) (head-or_tail first pair pairs inside);
   }
 
--- ---- a number is stored
+-- ---- a value is stored
 
 still-some : (same : Bool) (v : Value) (before : Option Value) → (w : Value) × (before ≡ Some w) → (w : Value) × (cond same (Some v) before ≡ Some w)
 still-some true v before has = (v, refl)
@@ -262,30 +261,30 @@ some-came true v w before is = inr (refl, some-same w v (sym is))
 some-came false v w before is = inl is
 
 module _ (env : Environment) (aliases : List ℕ) (root : ℕ) (home : Place) (at : env.variables root ≡ Some home) (apart : IsApart env root home aliases)
-    (before : Store) (first : List Step) (n : ℤ) where
+    (before : Store) (first : List Step) (w : Value) where
   abbrev after : Store
-  after = written before (part home first) (Number n)
+  after = written before (part home first) w
 
-  abbrev pair : List Step × ℤ
-  pair = (first, n)
+  abbrev pair : List Step × Value
+  pair = (first, w)
 
   own-part : (s : Store) (steps : List Step) → value_at (moment env s) root steps ≡ part_of s (Some home) steps
   own-part s steps = ap (λ (found : Option Place). part_of s found steps) at
 
-  written-here : value_at (moment env after) root first ≡ Some (Number n)
-  written-here = own-part after first ∙ ap (λ (same : Bool). cond same (Some (Number n)) (stored before (part home first))) (place-itself (part home first))
+  written-here : value_at (moment env after) root first ≡ Some w
+  written-here = own-part after first ∙ ap (λ (same : Bool). cond same (Some w) (stored before (part home first))) (place-itself (part home first))
 
   beside : (steps : List Step) → first ≢ steps → value_at (moment env after) root steps ≡ value_at (moment env before) root steps
   beside steps differ =
       own-part after steps
-      ∙ ap (λ (same : Bool). cond same (Some (Number n)) (stored before (part home steps)))
+      ∙ ap (λ (same : Bool). cond same (Some w) (stored before (part home steps)))
       (false_from_ne_true (place_eq (part home first) (part home steps)) (λ same. differ (parts-same home first steps same)))
       ∙ sym (own-part before steps)
 
   elsewhere : (other : ℕ) → root ≢ other → is_among other aliases ≡ false → (found : Option Place) → env.variables other ≡ found → (steps : List Step)
       → part_of after found steps ≡ part_of before found steps
   elsewhere other differ free None there steps = refl
-  elsewhere other differ free (Some q) there steps = part-kept before (Some (Number n)) first home q steps (apart other q differ free there)
+  elsewhere other differ free (Some q) there steps = part-kept before (Some w) first home q steps (apart other q differ free there)
 
   step-or : (steps : List Step) → (first ≡ steps) ⊎ (first ≢ steps)
   step-or steps = by (place_eq (part home first) (part home steps)) refl
@@ -303,24 +302,24 @@ module _ (env : Environment) (aliases : List ℕ) (root : ℕ) (home : Place) (a
         (λ differ. subst (λ (r : ℕ). value_at (moment env after) r steps ≡ value_at (moment env before) r steps) same (beside steps differ)) (step-or steps))
         (λ differ. elsewhere other differ free (env.variables other) refl steps) (cases_eq root other);
     came = λ place v is. ⊎_elim (λ was. inl was)
-        (λ (own : (place_eq (part home first) place ≡ true) × (v ≡ Number n)).
+        (λ (own : (place_eq (part home first) place ≡ true) × (v ≡ w)).
         inr (
           pair,
           at-head pair [],
           ap (λ (found : Option Place). store.part found first) at ∙ ap Some (place-same (part home first) place own.0),
           own.1,
         ))
-        (some-came (place_eq (part home first) place) (Number n) v (stored before place) is);
-    defined = λ place v is. still-some (place_eq (part home first) place) (Number n) (stored before place) (v, is);
+        (some-came (place_eq (part home first) place) w v (stored before place) is);
+    defined = λ place v is. still-some (place_eq (part home first) place) w (stored before place) (v, is);
     has = λ own inside. ⊎_elim
-        (λ same. subst (λ (p : List Step × ℤ). HasValue (moment env after) root p.0) same (Number n, written-here))
+        (λ same. subst (λ (p : List Step × Value). HasValue (moment env after) root p.0) same (w, written-here))
         (λ none. absurd (omega (arith, none.1))) (head-or_tail pair own [] inside);
     sure = λ own v inside is. ⊎_elim
         (λ (same : pair ≡ own). (
           pair,
           at-head pair [],
-          ap (λ (p : List Step × ℤ). p.0) same,
-          some-same v (Number n) (sym is ∙ ap (λ (p : List Step × ℤ). value_at (moment env after) root p.0) (sym same) ∙ written-here),
+          ap (λ (p : List Step × Value). p.0) same,
+          some-same v w (sym is ∙ ap (λ (p : List Step × Value). value_at (moment env after) root p.0) (sym same) ∙ written-here),
         ))
         (λ none. absurd (omega (arith, none.1))) (head-or_tail pair own [] inside);
   }

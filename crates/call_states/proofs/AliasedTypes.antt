@@ -1,6 +1,6 @@
 -- In a store whose values lie in the types of their places, those of what is visible lie in the limits of its types; stores keep that, and what aliases get
 -- by them is what is stored to places of their types.
-use Rattle.std.proofs.Common.{arith, ◌≡◌, ⊎_elim, inl, inr, ◌∙◌, sym, ap, refl, subst, ℕ, ◌+◌, ◌<◌, ℤ, Bool, true, false, ◌&&◌, ◌||◌}
+use Rattle.std.proofs.Common.{arith, ◌≡◌, ⊎_elim, inl, inr, ◌∙◌, sym, ap, refl, subst, ℕ, ◌+◌, ◌<◌, Bool, true, false, ◌||◌}
 use Rattle.std.proofs.Common.{nat_eq, List, [], ◌∷◌, ◌++◌, Option, Some, None, length}
 use Rattle.std.specs.List.{Contains}
 use Rattle.std.specs.Option.{option_and_then, option_map}
@@ -189,18 +189,18 @@ in-types tree pairs block activations env store proper typed = record {
 
 -- ---- stores
 
--- each number that is stored is one of the type of its place
+-- each value that is stored is one of the type of its place
 abbrev pub AreTyped : Tree → Environment → ℕ → Pairs → Type 0
 AreTyped tree env root pairs =
-    (pair : List Step × ℤ) (place : Place) → Contains pairs pair → store.part (env.variables root) pair.0 ≡ Some place
-    → (own : TypeId) × (place_type tree place ≡ Some own) × LiesIn tree.types own (Number pair.1)
+    (pair : List Step × Value) (place : Place) → Contains pairs pair → store.part (env.variables root) pair.0 ≡ Some place
+    → (own : TypeId) × (place_type tree place ≡ Some own) × LiesIn tree.types own pair.1
 
 module _ (tree : Tree) (env : Environment) (aliases : List ℕ) (root : ℕ) (stores : Pairs) (before after : Store)
     (written : AreWritten env aliases root stores before after) where
   pub written-typed : AreTyped tree env root stores → Typed tree before → Typed tree after
   written-typed each typed place v is =
       ⊎_elim (λ was. typed place v was)
-      (λ (own : (pair : List Step × ℤ) × Contains stores pair × (store.part (env.variables root) pair.0 ≡ Some place) × (v ≡ Number pair.1)).
+      (λ (own : (pair : List Step × Value) × Contains stores pair × (store.part (env.variables root) pair.0 ≡ Some place) × (v ≡ pair.1)).
       let lies = each own.0 place own.1 own.2 in (lies.0, lies.1, subst (LiesIn tree.types lies.0) (sym own.3) lies.2))
       (written.came place v is)
 
@@ -208,7 +208,7 @@ module _ (tree : Tree) (env : Environment) (aliases : List ℕ) (root : ℕ) (st
       → Begun activations after
   written-begun activations home at young begun place v is =
       ⊎_elim (λ was. begun place v was)
-      (λ (own : (pair : List Step × ℤ) × Contains stores pair × (store.part (env.variables root) pair.0 ≡ Some place) × (v ≡ Number pair.1)).
+      (λ (own : (pair : List Step × Value) × Contains stores pair × (store.part (env.variables root) pair.0 ≡ Some place) × (v ≡ pair.1)).
       let same : Some (part home own.0.0) ≡ Some place = ap (λ (found : Option Place). store.part found own.0.0) (sym at) ∙ own.2 in
       let one : part home own.0.0 ≡ place = same_Some (part home own.0.0) place same in
       subst (λ (p : Place). p.activation < activations) one young)
@@ -221,19 +221,19 @@ pub both-same : (one other : Option TypeId) (own : TypeId) → one ≡ Some own 
 both-same one other own first second =
     ap (λ (t : Option TypeId). same_types t other) first ∙ ap (same_types (Some own)) second ∙ eq-eqb own.index own.index refl
 
--- each number that is stored is one of these, for its place
+-- each value that is stored is one of these, for its place
 abbrev pub AreStoredAs : Tree → Environment → ℕ → Pairs → List Stored → Type 0
 AreStoredAs tree env root pairs stored =
-    (pair : List Step × ℤ) (place : Place) (own : TypeId) → Contains pairs pair → store.part (env.variables root) pair.0 ≡ Some place
+    (pair : List Step × Value) (place : Place) (own : TypeId) → Contains pairs pair → store.part (env.variables root) pair.0 ≡ Some place
     → place_type tree place ≡ Some own → is_ordinal tree.types own ≡ true
-    → (one : Stored) × Contains stored one × (one.type_id ≡ Some own) × IsIn one.range (Number pair.1)
+    → (one : Stored) × Contains stored one × (one.type_id ≡ Some own) × IsIn one.range pair.1
 
 module _ (tree : Tree) (pairs : List (ℕ × ℕ)) (block activations : ℕ) (env : Environment) (proper : Proper tree pairs block activations env)
     (aliases : List ℕ) (root : ℕ) (stores : Pairs) (before after : Store) (written : AreWritten env aliases root stores before after)
     (typed : AreTyped tree env root stores) (stored : List Stored) (each : AreStoredAs tree env root stores stored) where
   abbrev Came : ℕ → List Step → Value → Type 0
   Came other steps v =
-      (pair : List Step × ℤ) × Contains stores pair × (store.part (env.variables root) pair.0 ≡ store.part (env.variables other) steps) × (v ≡ Number pair.1)
+      (pair : List Step × Value) × Contains stores pair × (store.part (env.variables root) pair.0 ≡ store.part (env.variables other) steps) × (v ≡ pair.1)
 
   came-as : (other : ℕ) (steps : List Step) (home : Place) (v : Value) (type_id : Option TypeId) → env.variables other ≡ Some home
       → ((own : TypeId) → place_type tree (part home steps) ≡ Some own → is_ordinal tree.types own ≡ true → type_id ≡ Some own) → Came other steps v

@@ -19,7 +19,6 @@ use Rattle.typed_tree.specs.WellFormed.{is_value_kind}
 use Rattle.typed_tree.specs.declared.tree.Tree.{Tree}
 use Rattle.typed_tree.specs.declared.tree.Variable.{Variable}
 use Rattle.meaning.specs.declared.store.Value.{Value}
-use Rattle.meaning.specs.declared.store.Value.TheVariants.{Number}
 use Rattle.meaning.specs.Effect as effect
 use Rattle.meaning.specs.Effect.{store_all}
 use Rattle.meaning.specs.Meaning as meaning
@@ -61,16 +60,16 @@ same-place p q is =
 -- ---- one store after another
 
 -- what is written to components of a place, one after another
-abbrev pub all_kept : Option Place → List (List Step) → List ℤ → Store → Store
-all_kept place [] numbers store = store
+abbrev pub all_kept : Option Place → List (List Step) → List Value → Store → Store
+all_kept place [] values store = store
 all_kept place (steps ∷ components) [] store = store
-all_kept place (steps ∷ components) (n ∷ numbers) store = all_kept place components numbers (kept store (part place steps) (Number n))
+all_kept place (steps ∷ components) (v ∷ values) store = all_kept place components values (kept store (part place steps) v)
 
 -- what is passed to one value parameter, and to all
 abbrev pub one_assigned : List Form → Option Place → Option Variable → Argument → Store → Store
 one_assigned types place formal (meaning.OfValue v) store = kept store place v
-one_assigned types place None (meaning.OfRow numbers) store = store
-one_assigned types place (Some formal) (meaning.OfRow numbers) store = all_kept place (components_of types formal.type_id) numbers store
+one_assigned types place None (meaning.OfRow values) store = store
+one_assigned types place (Some formal) (meaning.OfRow values) store = all_kept place (components_of types formal.type_id) values store
 one_assigned types place formal (meaning.OfPlace other) store = store
 
 abbrev pub all_assigned : Tree → Environment → List ℕ → List Argument → Store → Store
@@ -80,18 +79,18 @@ all_assigned tree visible (root ∷ roots) (argument ∷ arguments) store =
     all_assigned tree visible roots arguments
     (one_assigned tree.types (visible.variables root) (slice_get tree.variables.items root) argument store)
 
-stores-all : (place : Option Place) (components : List (List Step)) (numbers : List ℤ) (s : effect.State)
-    → store_all place components numbers s ≡ effect.Gives tt (record s { store = all_kept place components numbers s.store })
-stores-all place [] numbers s = refl
+stores-all : (place : Option Place) (components : List (List Step)) (values : List Value) (s : effect.State)
+    → store_all place components values s ≡ effect.Gives tt (record s { store = all_kept place components values s.store })
+stores-all place [] values s = refl
 stores-all place (steps ∷ components) [] s = refl
-stores-all place (steps ∷ components) (n ∷ numbers) s =
-    stores-all place components numbers (record s { store = kept s.store (part place steps) (Number n) })
+stores-all place (steps ∷ components) (v ∷ values) s =
+    stores-all place components values (record s { store = kept s.store (part place steps) v })
 
 assigns-one : (types : List Form) (place : Option Place) (formal : Option Variable) (argument : Argument) (s : effect.State)
     → assign types place formal argument s ≡ effect.Gives tt (record s { store = one_assigned types place formal argument s.store })
 assigns-one types place formal (meaning.OfValue v) s = refl
-assigns-one types place None (meaning.OfRow numbers) s = refl
-assigns-one types place (Some formal) (meaning.OfRow numbers) s = stores-all place (components_of types formal.type_id) numbers s
+assigns-one types place None (meaning.OfRow values) s = refl
+assigns-one types place (Some formal) (meaning.OfRow values) s = stores-all place (components_of types formal.type_id) values s
 assigns-one types place formal (meaning.OfPlace other) s = refl
 
 -- the assignments always come to their end, and change the store alone
@@ -121,15 +120,15 @@ kept-each P store (Some q) v own each place w is = by (place_eq q place) refl is
     by true same is = subst (P place) (same_Some v w is) (subst (λ (p : Place). P p v) (same-place q place same) (own q refl))
     by false same is = each place w is
 
-all_kept-each : (P : Place → Value → Type 0) (found : Option Place) (components : List (List Step)) (numbers : List ℤ)
-    → ((k : ℕ) (steps : List Step) (n : ℤ) (place : Place) → slice_get components k ≡ Some steps → slice_get numbers k ≡ Some n
-    → part found steps ≡ Some place → P place (Number n))
-    → (store : Store) → Each P store → Each P (all_kept found components numbers store)
-all_kept-each P found [] numbers own store each = each
+all_kept-each : (P : Place → Value → Type 0) (found : Option Place) (components : List (List Step)) (values : List Value)
+    → ((k : ℕ) (steps : List Step) (v : Value) (place : Place) → slice_get components k ≡ Some steps → slice_get values k ≡ Some v
+    → part found steps ≡ Some place → P place v)
+    → (store : Store) → Each P store → Each P (all_kept found components values store)
+all_kept-each P found [] values own store each = each
 all_kept-each P found (steps ∷ components) [] own store each = each
-all_kept-each P found (steps ∷ components) (n ∷ numbers) own store each =
-    all_kept-each P found components numbers (λ k. own (suc k)) (kept store (part found steps) (Number n))
-    (kept-each P store (part found steps) (Number n) (λ place is. own 0 steps n place refl refl is) each)
+all_kept-each P found (steps ∷ components) (v ∷ values) own store each =
+    all_kept-each P found components values (λ k. own (suc k)) (kept store (part found steps) v)
+    (kept-each P store (part found steps) v (λ place is. own 0 steps v place refl refl is) each)
 
 -- ---- what is as it was
 
@@ -139,14 +138,14 @@ kept-other store None v place away = refl
 kept-other store (Some q) v place away =
     ap (λ (b : Bool). cond b (Some v) (stored store place)) (false_from_ne_true (place_eq q place) (λ same. away q refl (same-place q place same)))
 
-all_kept-other : (found : Option Place) (components : List (List Step)) (numbers : List ℤ) (place : Place)
+all_kept-other : (found : Option Place) (components : List (List Step)) (values : List Value) (place : Place)
     → ((steps : List Step) (q : Place) → part found steps ≡ Some q → q ≡ place → ⊥) → (store : Store)
-    → stored (all_kept found components numbers store) place ≡ stored store place
-all_kept-other found [] numbers place away store = refl
+    → stored (all_kept found components values store) place ≡ stored store place
+all_kept-other found [] values place away store = refl
 all_kept-other found (steps ∷ components) [] place away store = refl
-all_kept-other found (steps ∷ components) (n ∷ numbers) place away store =
-    all_kept-other found components numbers place away (kept store (part found steps) (Number n))
-    ∙ kept-other store (part found steps) (Number n) place (away steps)
+all_kept-other found (steps ∷ components) (v ∷ values) place away store =
+    all_kept-other found components values place away (kept store (part found steps) v)
+    ∙ kept-other store (part found steps) v place (away steps)
 
 -- what is defined stays so
 kept-defined : (store : Store) (found : Option Place) (v : Value) (place : Place) (w : Value) → stored store place ≡ Some w
@@ -158,36 +157,36 @@ kept-defined store (Some q) v place w is = by (place_eq q place)
     by true = (v, refl)
     by false = (w, is)
 
-all_kept-defined : (found : Option Place) (components : List (List Step)) (numbers : List ℤ) (place : Place) (store : Store) (w : Value)
-    → stored store place ≡ Some w → (x : Value) × (stored (all_kept found components numbers store) place ≡ Some x)
-all_kept-defined found [] numbers place store w is = (w, is)
+all_kept-defined : (found : Option Place) (components : List (List Step)) (values : List Value) (place : Place) (store : Store) (w : Value)
+    → stored store place ≡ Some w → (x : Value) × (stored (all_kept found components values store) place ≡ Some x)
+all_kept-defined found [] values place store w is = (w, is)
 all_kept-defined found (steps ∷ components) [] place store w is = (w, is)
-all_kept-defined found (steps ∷ components) (n ∷ numbers) place store w is =
-    let once = kept-defined store (part found steps) (Number n) place w is in
-    all_kept-defined found components numbers place (kept store (part found steps) (Number n)) once.0 once.1
+all_kept-defined found (steps ∷ components) (v ∷ values) place store w is =
+    let once = kept-defined store (part found steps) v place w is in
+    all_kept-defined found components values place (kept store (part found steps) v) once.0 once.1
 
--- each component to which a number is written is defined
-all_kept-has : (p : Place) (components : List (List Step)) (numbers : List ℤ) (k : ℕ) (steps : List Step) → length numbers ≡ length components
+-- each component to which a value is written is defined
+all_kept-has : (p : Place) (components : List (List Step)) (values : List Value) (k : ℕ) (steps : List Step) → length values ≡ length components
     → slice_get components k ≡ Some steps → (store : Store)
-    → (x : Value) × (stored (all_kept (Some p) components numbers store) (record p { steps = p.steps ++ steps }) ≡ Some x)
-all_kept-has p [] numbers k steps count is store = absurd (none-some steps is)
+    → (x : Value) × (stored (all_kept (Some p) components values store) (record p { steps = p.steps ++ steps }) ≡ Some x)
+all_kept-has p [] values k steps count is store = absurd (none-some steps is)
 all_kept-has p (first ∷ components) [] k steps count is store = absurd (omega (arith, count))
-all_kept-has p (first ∷ components) (n ∷ numbers) zero steps count is store =
+all_kept-has p (first ∷ components) (v ∷ values) zero steps count is store =
     let q : Place = record p { steps = p.steps ++ first } in
     let same = same_Some first steps is in
     subst (λ (s : List Step). (x : Value)
-    × (stored (all_kept (Some p) components numbers (kept store (Some q) (Number n))) (record p { steps = p.steps ++ s }) ≡ Some x)) same
-    (all_kept-defined (Some p) components numbers q (kept store (Some q) (Number n)) (Number n) (written-stored store q (Number n)))
-all_kept-has p (first ∷ components) (n ∷ numbers) (suc k) steps count is store =
-    all_kept-has p components numbers k steps (omega (arith, count)) is (kept store (Some (record p { steps = p.steps ++ first })) (Number n))
+    × (stored (all_kept (Some p) components values (kept store (Some q) v)) (record p { steps = p.steps ++ s }) ≡ Some x)) same
+    (all_kept-defined (Some p) components values q (kept store (Some q) v) v (written-stored store q v))
+all_kept-has p (first ∷ components) (v ∷ values) (suc k) steps count is store =
+    all_kept-has p components values k steps (omega (arith, count)) is (kept store (Some (record p { steps = p.steps ++ first })) v)
 
 -- ---- what a parameter gets
 
 -- what is passed to a parameter of a type is the value of a component
 abbrev pub Gets : List Form → Variable → Argument → List Step → Value → Type 0
 Gets types formal (meaning.OfValue w) rest v = (rest ≡ []) × (v ≡ w)
-Gets types formal (meaning.OfRow numbers) rest v =
-    (k : ℕ) × (n : ℤ) × (slice_get (components_of types formal.type_id) k ≡ Some rest) × (slice_get numbers k ≡ Some n) × (v ≡ Number n)
+Gets types formal (meaning.OfRow values) rest v =
+    (k : ℕ) × (slice_get (components_of types formal.type_id) k ≡ Some rest) × (slice_get values k ≡ Some v)
 Gets types formal (meaning.OfPlace place) rest v = ⊥
 
 abbrev pub Distinct : List ℕ → Type 0
@@ -225,14 +224,14 @@ module _ (tree : Tree) (number activations : ℕ) (visible : Environment) where
       → slice_get tree.variables.items root ≡ Some formal → Fits tree activations argument formal → IsAway root formal place
       → stored (assigned_to root argument store) place ≡ stored store place
   one-other root formal (meaning.OfValue v) place store (inr other) is fits away = absurd (false≢true (sym other ∙ fits.0))
-  one-other root formal (meaning.OfRow numbers) place store (inr other) is fits away = absurd (false≢true (sym other ∙ fits.0))
+  one-other root formal (meaning.OfRow values) place store (inr other) is fits away = absurd (false≢true (sym other ∙ fits.0))
   one-other root formal (meaning.OfPlace found) place store home is fits away = refl
   one-other root formal (meaning.OfValue v) place store (inl home) is fits away =
       kept-other store (visible.variables root) v place
       (λ q at same. away-part root formal place away fits.0 [] q (sym home ∙ at) same)
-  one-other root formal (meaning.OfRow numbers) place store (inl home) is fits away =
-      ap (λ (found : Option Variable). stored (one_assigned tree.types (visible.variables root) found (meaning.OfRow numbers) store) place) is
-      ∙ all_kept-other (visible.variables root) (components_of tree.types formal.type_id) numbers place
+  one-other root formal (meaning.OfRow values) place store (inl home) is fits away =
+      ap (λ (found : Option Variable). stored (one_assigned tree.types (visible.variables root) found (meaning.OfRow values) store) place) is
+      ∙ all_kept-other (visible.variables root) (components_of tree.types formal.type_id) values place
       (λ steps q at same. away-part root formal place away fits.0 steps q (sym (ap (λ (found : Option Place). part found steps) home) ∙ at) same) store
 
   either-kind : (root : ℕ) (roots : List ℕ) (formal : Variable) → Homes (root ∷ roots) → slice_get tree.variables.items root ≡ Some formal
@@ -292,13 +291,13 @@ module _ (tree : Tree) (number activations : ℕ) (visible : Environment) where
       (λ place at rest same.
       (sym (steps-of root [] rest (same_Some (own_place number root) place (sym home ∙ at) ∙ same)), refl))
       (λ place v at rest same. absurd (none-some v (sym (empty rest) ∙ ap (stored store) (sym same) ∙ at)))
-  one-gets root formal (meaning.OfRow numbers) store home is fits value empty =
-      let P = λ (place : Place) (v : Value). (rest : List Step) → place ≡ own_part root rest → Gets tree.types formal (meaning.OfRow numbers) rest v in
-      subst (λ (found : Option Variable). Each P (one_assigned tree.types (visible.variables root) found (meaning.OfRow numbers) store)) (sym is)
-      (all_kept-each P (visible.variables root) (components_of tree.types formal.type_id) numbers
-      (λ k steps n place steps_at n_at part_is rest same.
+  one-gets root formal (meaning.OfRow values) store home is fits value empty =
+      let P = λ (place : Place) (v : Value). (rest : List Step) → place ≡ own_part root rest → Gets tree.types formal (meaning.OfRow values) rest v in
+      subst (λ (found : Option Variable). Each P (one_assigned tree.types (visible.variables root) found (meaning.OfRow values) store)) (sym is)
+      (all_kept-each P (visible.variables root) (components_of tree.types formal.type_id) values
+      (λ k steps v place steps_at v_at part_is rest same.
       let own : own_part root steps ≡ place = same_Some (own_part root steps) place (sym (ap (λ (found : Option Place). part found steps) home) ∙ part_is) in
-      (k, n, steps_at ∙ ap Some (steps-of root steps rest (own ∙ same)), n_at, refl))
+      (k, steps_at ∙ ap Some (steps-of root steps rest (own ∙ same)), v_at))
       store (λ place v at rest same. absurd (none-some v (sym (empty rest) ∙ ap (stored store) (sym same) ∙ at))))
 
   only-whole : (types : List Form) (formal : Variable) (range : OrdinalRange) (rest : List Step) → range_of types formal.type_id ≡ Some range
@@ -323,13 +322,13 @@ module _ (tree : Tree) (number activations : ℕ) (visible : Environment) where
         ap (λ (steps : List Step). stored (kept store (visible.variables root) w) (own_part root steps)) whole
             ∙ ap (λ (found : Option Place). stored (kept store found w) (own_part root [])) home ∙ written-stored store (own_place number root) w,
       )
-  one-has root formal (meaning.OfRow numbers) store home is fits value not_place rest (k, within, at) =
+  one-has root formal (meaning.OfRow values) store home is fits value not_place rest (k, within, at) =
       let there : slice_get (components_of tree.types formal.type_id) k ≡ Some rest =
       slice_get-get_or (components_of tree.types formal.type_id) k rest within ∙ ap Some at in
-      let has = all_kept-has (own_place number root) (components_of tree.types formal.type_id) numbers k rest fits.1.count there store in (
+      let has = all_kept-has (own_place number root) (components_of tree.types formal.type_id) values k rest fits.1.count there store in (
         has.0,
-        ap (λ (found : Option Variable). stored (one_assigned tree.types (visible.variables root) found (meaning.OfRow numbers) store) (own_part root rest)) is
-            ∙ ap (λ (found : Option Place). stored (all_kept found (components_of tree.types formal.type_id) numbers store) (own_part root rest)) home ∙ has.1,
+        ap (λ (found : Option Variable). stored (one_assigned tree.types (visible.variables root) found (meaning.OfRow values) store) (own_part root rest)) is
+            ∙ ap (λ (found : Option Place). stored (all_kept found (components_of tree.types formal.type_id) values store) (own_part root rest)) home ∙ has.1,
       )
 
   -- an argument for a value parameter is no place
@@ -400,11 +399,11 @@ module _ (tree : Tree) (number activations : ℕ) (visible : Environment) where
           kept-each P store (visible.variables root) v
           (λ place at. subst (λ (p : Place). P p v) (same_Some (own_place number root) place (sym (homes root formal here is fits.0) ∙ at))
           (whole root formal v here is fits.1)) each
-      one (meaning.OfRow numbers) fits =
-          subst (λ (found : Option Variable). Each P (one_assigned tree.types (visible.variables root) found (meaning.OfRow numbers) store)) (sym is)
-          (all_kept-each P (visible.variables root) (components_of tree.types formal.type_id) numbers
-          (λ k steps n place steps_at n_at part_is.
+      one (meaning.OfRow values) fits =
+          subst (λ (found : Option Variable). Each P (one_assigned tree.types (visible.variables root) found (meaning.OfRow values) store)) (sym is)
+          (all_kept-each P (visible.variables root) (components_of tree.types formal.type_id) values
+          (λ k steps v place steps_at v_at part_is.
           let own = same_Some (own_part root steps) place
           (sym (ap (λ (found : Option Place). part found steps) (homes root formal here is fits.0)) ∙ part_is) in
-          let typed = fits.1.each k steps n steps_at n_at in
-          subst (λ (p : Place). P p (Number n)) own (component root formal steps typed.0 (Number n) here is typed.1 typed.2)) store each)
+          let typed = fits.1.each k steps v steps_at v_at in
+          subst (λ (p : Place). P p v) own (component root formal steps typed.0 v here is typed.1 typed.2)) store each)

@@ -1,10 +1,10 @@
 -- Where a call begins, each component of a variable that caller and callee know is borne by one of the bearers of what a path names: it has the value of
 -- what bears it.
 use Rattle.std.proofs.Common.{arith, ◌≡◌, ⊎_elim, ◌∙◌, sym, ap, refl, subst, ℕ, Bool, true, false, cond}
-use Rattle.std.proofs.Common.{List, [], ◌∷◌, ◌++◌, length, map, Option, Some, None}
+use Rattle.std.proofs.Common.{List, [], ◌∷◌, ◌++◌, map, Option, Some, None}
 use Rattle.std.specs.List.{Contains}
 use Rattle.std.specs.Prelude.{is_some, slice_get, slice_index_or}
-use Rattle.std.proofs.lemmas.Bool.{and_parts, and_right, false≢true}
+use Rattle.std.proofs.lemmas.Bool.{and_parts, and_right}
 use Rattle.std.proofs.lemmas.Option.{slice_get_within}
 use Rattle.types.specs.Types.{is_ordinal}
 use Rattle.types.specs.declared.form.Step.{Step}
@@ -16,7 +16,6 @@ use Rattle.typed_tree.specs.declared.tree.Selector.{Selector}
 use Rattle.typed_tree.specs.declared.tree.Tree.{Tree}
 use Rattle.typed_tree.specs.declared.tree.Variable.{Variable as DeclaredVariable}
 use Rattle.domain.specs.Facts.{Path}
-use Rattle.domain.specs.Interval.{Interval}
 use Rattle.meaning.specs.declared.store.Value.{Value}
 use Rattle.meaning.specs.Meaning as meaning
 use Rattle.meaning.specs.Meaning.{Argument, environment_of, home_of, place_for, place_passed}
@@ -24,8 +23,7 @@ use Rattle.meaning.specs.Store.{Environment, Place, Store}
 use Rattle.abstract_state.specs.Holds.{IsIn, Moment, part_of, value_at}
 use Rattle.abstract_state.specs.Knows.{moment}
 use Rattle.abstract_state.specs.State.{is_entire}
-use Rattle.leaf_rows.specs.Leaves.{leaves_of}
-use Rattle.leaf_rows.specs.Rows.{all_parts, is_structured, no_parts, rows_accessed, rows_of, rows_under}
+use Rattle.leaf_rows.specs.Rows.{all_parts, no_parts, rows_accessed, rows_of, rows_under}
 use Rattle.abstract_state.specs.Loops.{is_among}
 use Rattle.leaf_rows.proofs.Accessed.{IsOf, contains-has, has-contains, row-leaf, rows-are, rows-count}
 use Rattle.leaf_rows.proofs.Components.{map-at}
@@ -33,8 +31,8 @@ use Rattle.leaf_rows.proofs.Selected.{Matches}
 use Rattle.component_states.specs.Components.{Entire, Reach}
 use Rattle.component_states.specs.Holds.{component_at}
 use Rattle.structured_states.specs.Loops.{is_ordinal_variable, names_entire, rows_named}
-use Rattle.call_states.specs.Actuals.{Actual, Bearer, Binding, Components, OfRows, OfValue, OfVariable, Passed, Variable, all_of_rows, are_of_rows}
-use Rattle.call_states.specs.Actuals.{are_of_types, bearers_at, bearers_for, bearers_named, bearers_of, bound_to, is_copy_for, is_of_type}
+use Rattle.call_states.specs.Actuals.{Actual, Bearer, Binding, Components, OfRows, OfValue, OfVariable, Passed, Variable, all_of_rows}
+use Rattle.call_states.specs.Actuals.{bearers_at, bearers_for, bearers_named, bearers_of, bound_to}
 use Rattle.call_states.specs.Environments.{Begun}
 use Rattle.call_states.proofs.Assigned.{Received}
 use Rattle.call_states.proofs.Bearers.{bearer-at, borne-rows, borne-variable, named-root, not-ordinal, ordinal-variable, under-whole}
@@ -46,42 +44,14 @@ use Rattle.call_states.proofs.Parameters.{IsOuter, IsOutward, IsParameter, outwa
 use Rattle.call_states.proofs.Passed.{AreArguments, Fits, IsArgument, IsReachedBy}
 use Rattle.call_states.proofs.Started.{callee-received, value-home}
 
--- ---- lists of ranges
-
--- the ranges of a copy are as many as its rows
-rows-many : (tree : Tree) (rows : List ℕ) (ranges : List Interval) → are_of_rows tree rows ranges ≡ true → length ranges ≡ length rows
-rows-many tree [] [] all = refl
-rows-many tree [] (range ∷ ranges) all = absurd (false≢true all)
-rows-many tree (row ∷ rows) [] all = absurd (false≢true all)
-rows-many tree (row ∷ rows) (range ∷ ranges) all =
-    let rest = rows-many tree rows ranges (and_parts _ (are_of_rows tree rows ranges) all).1 in omega (arith, rest)
-
--- a copy for a variable is one for a structured one
-pub copy-for : (tree : Tree) (root : ℕ) (ranges : List Interval) (variable : DeclaredVariable) → slice_get tree.variables.items root ≡ Some variable
-    → is_copy_for tree root ranges (slice_get tree.variables.items root) ≡ true
-    → (is_structured tree.types variable.type_id ≡ true) × (are_of_rows tree (rows_under (rows_of tree) root []) ranges ≡ true)
-copy-for tree root ranges variable is copy =
-    and_parts (is_structured tree.types variable.type_id) (are_of_rows tree (rows_under (rows_of tree) root []) ranges)
-    (sym (ap (is_copy_for tree root ranges) is) ∙ copy)
-
 -- the type of an entire variable
 pub own-type : (tree : Tree) (root : ℕ) (variable : DeclaredVariable) → slice_get tree.variables.items root ≡ Some variable
     → accessed tree.variables.items tree.types root [] ≡ Some variable.type_id
 own-type tree root variable is = ap (Rattle.std.specs.Option.option_and_then (λ (v : DeclaredVariable). led tree.types [] v.type_id)) is
 
--- as many ranges as leaves
-pub copy-count : (tree : Tree) (root : ℕ) (ranges : List Interval) (variable : DeclaredVariable) → slice_get tree.variables.items root ≡ Some variable
-    → is_copy_for tree root ranges (slice_get tree.variables.items root) ≡ true
-    → (length ranges ≡ length (rows_under (rows_of tree) root [])) × (length ranges ≡ length (leaves_of tree.types variable.type_id))
-copy-count tree root ranges variable is copy =
-    let both = copy-for tree root ranges variable is copy in
-    let many = rows-many tree (rows_under (rows_of tree) root []) ranges both.1 in
-    (many, many ∙ rows-count tree root [] variable.type_id (own-type tree root variable is) (λ none. both.0))
-
 module _ (tree : Tree) (pairs : List (ℕ × ℕ)) (number : ℕ) (block : Block) (arguments : List Argument) (caller : Environment) (activations from : ℕ)
     (call : IsCalled tree pairs number block arguments caller activations from) (store : Store) (begun : Begun activations store) (actuals : List Actual)
-    (are : AreArguments tree caller store block.heading.parameters.items actuals arguments)
-    (typed : are_of_types tree (bound_to block.heading.parameters.items actuals) ≡ true) where
+    (are : AreArguments tree caller store block.heading.parameters.items actuals arguments) where
   abbrev pub callee : Environment
   callee = environment_of tree (activation_of number block arguments caller activations)
 
@@ -99,7 +69,7 @@ module _ (tree : Tree) (pairs : List (ℕ × ℕ)) (number : ℕ) (block : Block
   outer = moment caller store
 
   abbrev IsOuterHere : ℕ → DeclaredVariable → Type 0
-  IsOuterHere root variable = IsOuter tree pairs number block arguments caller activations from call store actuals are typed root variable
+  IsOuterHere root variable = IsOuter tree pairs number block arguments caller activations from call store actuals are root variable
 
   abbrev ParameterHere : ℕ → DeclaredVariable → Type 0
   ParameterHere root variable = IsParameter tree caller store activations block.heading.parameters.items actuals arguments root variable
@@ -159,7 +129,7 @@ module _ (tree : Tree) (pairs : List (ℕ × ℕ)) (number : ℕ) (block : Block
   own-block : (root : ℕ) (variable : DeclaredVariable) → slice_get tree.variables.items root ≡ Some variable → ParameterHere root variable
       → variable.block ≡ number
   own-block root variable is p =
-      parameter-block tree pairs number block arguments caller activations from call store actuals are typed root variable is p
+      parameter-block tree pairs number block arguments caller activations from call store actuals are root variable is p
 
   -- a value parameter has what is passed to it
   pub value-received : (root : ℕ) (variable : DeclaredVariable) → slice_get tree.variables.items root ≡ Some variable → (p : ParameterHere root variable)
@@ -176,45 +146,45 @@ module _ (tree : Tree) (pairs : List (ℕ × ℕ)) (number : ℕ) (block : Block
       → IsOf tree row steps → (slice_index_or (all_parts tree) row no_parts).root ≡ path.root → is_among row (rows_named tree path) ≡ true → (j : ℕ)
       → slice_get (own_rows path.root) j ≡ Some row → (p : ParameterHere path.root variable) → (actual : Actual) (argument : Argument)
       → p.argument ≡ argument → IsArgument tree caller store variable actual argument → Fits tree activations argument variable
-      → is_of_type tree path.root actual ≡ true → place_for path.root block.heading.parameters.items arguments ≡ place_passed argument
+      → place_for path.root block.heading.parameters.items arguments ≡ place_passed argument
       → IsBorneBy (bearers_at (rows_named tree path) (own_rows path.root) (bearers_of tree actual)) path.root steps
-  row-borne path variable is row steps of_row root_is among j at p (OfValue range form) (meaning.OfValue v) argument_is known fits of_type place_is =
+  row-borne path variable is row steps of_row root_is among j at p (OfValue range form) (meaning.OfValue v) argument_is known fits place_is =
       let ordinal : is_ordinal tree.types variable.type_id ≡ true = ap is_some fits.1.1 in
       absurd (not-both tree.types variable.type_id ordinal (row-structured tree path.root row steps variable of_row root_is is).0)
-  row-borne path variable is row steps of_row root_is among j at p (OfValue range form) (meaning.OfRow numbers) argument_is known fits of_type place_is =
+  row-borne path variable is row steps of_row root_is among j at p (OfValue range form) (meaning.OfRow values) argument_is known fits place_is =
       absurd known
-  row-borne path variable is row steps of_row root_is among j at p (OfValue range form) (meaning.OfPlace place) argument_is known fits of_type place_is =
+  row-borne path variable is row steps of_row root_is among j at p (OfValue range form) (meaning.OfPlace place) argument_is known fits place_is =
       absurd known
-  row-borne path variable is row steps of_row root_is among j at p (OfRows ranges) (meaning.OfValue v) argument_is known fits of_type place_is = absurd known
-  row-borne path variable is row steps of_row root_is among j at p (OfRows ranges) (meaning.OfPlace place) argument_is known fits of_type place_is =
+  row-borne path variable is row steps of_row root_is among j at p (OfRows ranges) (meaning.OfValue v) argument_is known fits place_is = absurd known
+  row-borne path variable is row steps of_row root_is among j at p (OfRows ranges) (meaning.OfPlace place) argument_is known fits place_is =
       absurd known
-  row-borne path variable is row steps of_row root_is among j at p (OfRows ranges) (meaning.OfRow numbers) argument_is known fits of_type place_is =
-      let many = copy-count tree path.root ranges variable is of_type in
-      let one = many.0 in
+  row-borne path variable is row steps of_row root_is among j at p (OfRows ranges) (meaning.OfRow values) argument_is known fits place_is =
+      let count = rows-count tree path.root [] variable.type_id (own-type tree path.root variable is) (λ none. known.0) in
+      let many = known.1 in
       let within = slice_get_within (own_rows path.root) j row at in
-      let range = some-there ranges j (omega (arith, one, within)) in
+      let range = some-there ranges j (omega (arith, count, many, within)) in
       let leaf = row-leaf tree path.root [] variable.type_id (own-type tree path.root variable is) [] steps j row tt at of_row in
       let inside = (row-structured tree path.root row steps variable of_row root_is is).1 in
       let got = subst (λ (a : Argument). Received tree activations activations callee path.root variable a behind) argument_is
       (value-received path.root variable is p fits.0) in
       let has = got.has steps inside in
       let gets = got.gets steps has.0 has.1 in
-      let member = known.1 many.1 gets.0 j steps leaf.0 gets.1 range.0 gets.2 leaf.1 leaf.2 gets.3 range.1 in
+      let member = known.2 gets.0 j steps leaf.0 has.0 range.0 gets.1 leaf.1 leaf.2 gets.2 range.1 in
       let home = value-home tree pairs number block arguments caller activations from call path.root variable is (own-block path.root variable is p) fits.0 in
       record {
         bearer = Passed range.0;
         inside = bearer-at (rows_named tree path) (own_rows path.root) (map Passed ranges) j row (Passed range.0) among at
             (map-at Passed ranges j range.0 range.1);
-        borne = (has.0, ap (λ (found : Option Place). part_of behind found steps) home ∙ has.1, subst (IsIn range.0) (sym gets.4) member);
+        borne = (has.0, ap (λ (found : Option Place). part_of behind found steps) home ∙ has.1, member);
       }
-  row-borne path variable is row steps of_row root_is among j at p (OfVariable other selectors reach) (meaning.OfValue v) argument_is known fits of_type
+  row-borne path variable is row steps of_row root_is among j at p (OfVariable other selectors reach) (meaning.OfValue v) argument_is known fits
       place_is = absurd known
-  row-borne path variable is row steps of_row root_is among j at p (OfVariable other selectors reach) (meaning.OfRow numbers) argument_is known fits of_type
+  row-borne path variable is row steps of_row root_is among j at p (OfVariable other selectors reach) (meaning.OfRow values) argument_is known fits
       place_is = absurd known
-  row-borne path variable is row steps of_row root_is among j at p (OfVariable other selectors reach) (meaning.OfPlace None) argument_is known fits of_type
+  row-borne path variable is row steps of_row root_is among j at p (OfVariable other selectors reach) (meaning.OfPlace None) argument_is known fits
       place_is = absurd fits
   row-borne path variable is row steps of_row root_is among j at p (OfVariable other selectors reach) (meaning.OfPlace (Some place)) argument_is known fits
-      of_type place_is =
+      place_is =
       let lies = lies-at path.root variable is fits.0 (own-block path.root variable is p) place place_is other selectors reach known in
       let structured = (row-structured tree path.root row steps variable of_row root_is is).0 in
       let own = actual-of_row tree caller callee path.root other selectors lies.0 variable.type_id lies.1 structured j row at in
@@ -274,16 +244,16 @@ module _ (tree : Tree) (pairs : List (ℕ × ℕ)) (number : ℕ) (block : Block
       let there = contains-has (own_rows path.root) row (under-whole tree path.root row steps of_row root_is) in
       subst (λ (all : List Bearer). IsBorneBy all path.root steps) (sym bearers)
       (row-borne path variable is row steps of_row root_is (contains-among (rows_named tree path) row named) there.0 there.1 p p.actual p.argument refl p.known
-      p.fits p.of_type p.place_is))
-      (outward-cases tree pairs number block arguments caller activations from call store actuals are typed path.root outward)
+      p.fits p.place_is))
+      (outward-cases tree pairs number block arguments caller activations from call store actuals are path.root outward)
 
   -- ---- an entire variable
 
   whole-borne : (root : ℕ) (variable : DeclaredVariable) → slice_get tree.variables.items root ≡ Some variable → is_ordinal tree.types variable.type_id ≡ true
       → (p : ParameterHere root variable) → (actual : Actual) (argument : Argument) → p.argument ≡ argument
-      → IsArgument tree caller store variable actual argument → Fits tree activations argument variable → is_of_type tree root actual ≡ true
+      → IsArgument tree caller store variable actual argument → Fits tree activations argument variable
       → place_for root block.heading.parameters.items arguments ≡ place_passed argument → IsBorneBy (bearers_of tree actual) root []
-  whole-borne root variable is ordinal p (OfValue range form) (meaning.OfValue v) argument_is known fits of_type place_is =
+  whole-borne root variable is ordinal p (OfValue range form) (meaning.OfValue v) argument_is known fits place_is =
       let got = subst (λ (a : Argument). Received tree activations activations callee root variable a behind) argument_is
       (value-received root variable is p fits.0) in
       let has = got.has [] (subst (λ (all : List (List Step)). Contains all []) (sym (ordinal_component tree.types variable.type_id ordinal))
@@ -295,14 +265,16 @@ module _ (tree : Tree) (pairs : List (ℕ × ℕ)) (number : ℕ) (block : Block
         inside = (0, omega arith, refl);
         borne = (has.0, ap (λ (found : Option Place). part_of behind found []) home ∙ has.1, subst (IsIn range) (sym gets.1) known.0);
       }
-  whole-borne root variable is ordinal p (OfValue range form) (meaning.OfRow numbers) argument_is known fits of_type place_is = absurd known
-  whole-borne root variable is ordinal p (OfValue range form) (meaning.OfPlace place) argument_is known fits of_type place_is = absurd known
-  whole-borne root variable is ordinal p (OfRows ranges) argument argument_is known fits of_type place_is =
-      absurd (not-both tree.types variable.type_id ordinal (copy-for tree root ranges variable is of_type).0)
-  whole-borne root variable is ordinal p (OfVariable other selectors reach) (meaning.OfValue v) argument_is known fits of_type place_is = absurd known
-  whole-borne root variable is ordinal p (OfVariable other selectors reach) (meaning.OfRow numbers) argument_is known fits of_type place_is = absurd known
-  whole-borne root variable is ordinal p (OfVariable other selectors reach) (meaning.OfPlace None) argument_is known fits of_type place_is = absurd fits
-  whole-borne root variable is ordinal p (OfVariable other [] reach) (meaning.OfPlace (Some place)) argument_is known fits of_type place_is =
+  whole-borne root variable is ordinal p (OfValue range form) (meaning.OfRow values) argument_is known fits place_is = absurd known
+  whole-borne root variable is ordinal p (OfValue range form) (meaning.OfPlace place) argument_is known fits place_is = absurd known
+  whole-borne root variable is ordinal p (OfRows ranges) (meaning.OfValue v) argument_is known fits place_is = absurd known
+  whole-borne root variable is ordinal p (OfRows ranges) (meaning.OfRow values) argument_is known fits place_is =
+      absurd (not-both tree.types variable.type_id ordinal known.0)
+  whole-borne root variable is ordinal p (OfRows ranges) (meaning.OfPlace place) argument_is known fits place_is = absurd known
+  whole-borne root variable is ordinal p (OfVariable other selectors reach) (meaning.OfValue v) argument_is known fits place_is = absurd known
+  whole-borne root variable is ordinal p (OfVariable other selectors reach) (meaning.OfRow values) argument_is known fits place_is = absurd known
+  whole-borne root variable is ordinal p (OfVariable other selectors reach) (meaning.OfPlace None) argument_is known fits place_is = absurd fits
+  whole-borne root variable is ordinal p (OfVariable other [] reach) (meaning.OfPlace (Some place)) argument_is known fits place_is =
       let lies = lies-at root variable is fits.0 (own-block root variable is p) place place_is other [] reach known in
       let bearers = borne-variable tree other reach variable.type_id lies.1.actual_type ordinal in
       record {
@@ -314,7 +286,7 @@ module _ (tree : Tree) (pairs : List (ℕ × ℕ)) (number : ℕ) (block : Block
               ∙ ap (value_at outer other) (no-way lies.0 lies.1.matches),
         );
       }
-  whole-borne root variable is ordinal p (OfVariable other (selector ∷ selectors) reach) (meaning.OfPlace (Some place)) argument_is known fits of_type
+  whole-borne root variable is ordinal p (OfVariable other (selector ∷ selectors) reach) (meaning.OfPlace (Some place)) argument_is known fits
       place_is =
       let all = selector ∷ selectors in
       let lies = lies-at root variable is fits.0 (own-block root variable is p) place place_is other all reach known in
@@ -357,5 +329,5 @@ module _ (tree : Tree) (pairs : List (ℕ × ℕ)) (number : ℕ) (block : Block
       ap (bearers_for tree path) p.actual_is
       ∙ ap (λ (b : Bool). cond b (bearers_of tree p.actual) (bearers_at (rows_named tree path) (own_rows path.root) (bearers_of tree p.actual))) ordinal_root in
       subst (λ (all : List Bearer). IsBorneBy all path.root []) (sym bearers)
-      (whole-borne path.root variable is ordinal p p.actual p.argument refl p.known p.fits p.of_type p.place_is))
-      (outward-cases tree pairs number block arguments caller activations from call store actuals are typed path.root outward)
+      (whole-borne path.root variable is ordinal p p.actual p.argument refl p.known p.fits p.place_is))
+      (outward-cases tree pairs number block arguments caller activations from call store actuals are path.root outward)

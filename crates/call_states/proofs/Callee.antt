@@ -36,7 +36,7 @@ pub record IsPlaceFor (tree : Tree) (activations : ℕ) (variable : Variable) (p
 fitting-place : (tree : Tree) (activations : ℕ) (argument : Argument) (formal : Variable) (place : Place) → Fits tree activations argument formal
     → place_passed argument ≡ Some place → IsPlaceFor tree activations formal place
 fitting-place tree activations (meaning.OfValue v) formal place fits is = absurd (none-some place is)
-fitting-place tree activations (meaning.OfRow numbers) formal place fits is = absurd (none-some place is)
+fitting-place tree activations (meaning.OfRow values) formal place fits is = absurd (none-some place is)
 fitting-place tree activations (meaning.OfPlace None) formal place fits is = absurd fits
 fitting-place tree activations (meaning.OfPlace (Some own)) formal place fits is =
     let same = same_Some own place is in
@@ -65,7 +65,7 @@ not-both_kinds kind.Result value variable = false≢true value
 fitting-there : (tree : Tree) (activations : ℕ) (argument : Argument) (formal : Variable) → is_variable_kind formal.kind ≡ true
     → Fits tree activations argument formal → (place : Place) × (place_passed argument ≡ Some place)
 fitting-there tree activations (meaning.OfValue v) formal variable fits = absurd (not-both_kinds formal.kind fits.0 variable)
-fitting-there tree activations (meaning.OfRow numbers) formal variable fits = absurd (not-both_kinds formal.kind fits.0 variable)
+fitting-there tree activations (meaning.OfRow values) formal variable fits = absurd (not-both_kinds formal.kind fits.0 variable)
 fitting-there tree activations (meaning.OfPlace None) formal variable fits = absurd fits
 fitting-there tree activations (meaning.OfPlace (Some place)) formal variable fits = (place, refl)
 

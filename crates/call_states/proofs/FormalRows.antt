@@ -8,7 +8,7 @@ use Rattle.std.proofs.lemmas.Bool.{false≢true}
 use Rattle.std.proofs.lemmas.Option.{none-some, same_Some, slice_get_within}
 use Rattle.types.specs.Components.{components_of}
 use Rattle.types.specs.Forms.{Array, Form, Record}
-use Rattle.types.specs.Types.{form_at, is_ordinal}
+use Rattle.types.specs.Types.{form_at, has_components, is_ordinal, is_structured}
 use Rattle.types.specs.declared.form.Step.{Step}
 use Rattle.types.specs.declared.form.Step.TheVariants as step
 use Rattle.types.specs.declared.form.TypeId.{TypeId}
@@ -21,7 +21,7 @@ use Rattle.typed_tree.specs.declared.tree.Variable.{Variable}
 use Rattle.meaning.specs.Store.{Environment, Place, Store, part, stored}
 use Rattle.abstract_state.specs.Holds.{part_of, value_at}
 use Rattle.abstract_state.specs.Knows.{moment}
-use Rattle.leaf_rows.specs.Rows.{all_parts, first_index, has_components, is_structured, no_parts, rows_accessed, rows_of, rows_under}
+use Rattle.leaf_rows.specs.Rows.{all_parts, first_index, no_parts, rows_accessed, rows_of, rows_under}
 use Rattle.leaf_rows.proofs.Accessed.{IsOf, contains-has, has-contains, row-is, row-leaf, rows-are, rows-count}
 use Rattle.leaf_rows.proofs.Components.{Has}
 use Rattle.leaf_rows.proofs.Selected.{Matches}

@@ -45,7 +45,7 @@ use Rattle.component_states.specs.States.{State, all_of_row, gives_reached, is_d
 use Rattle.component_states.proofs.Bounds.{at_most-holds, raised-is, value-is}
 use Rattle.component_states.proofs.Listed.{any-of, each-of}
 use Rattle.structured_states.specs.Loops.{component_claims, component_facts, names_entire, plain, plain_facts, rows_named}
-use Rattle.call_states.specs.Actuals.{Actual, Bearer, Binding, Components, OfRows, OfValue, OfVariable, Passed, Variable, actual_of, are_of_types}
+use Rattle.call_states.specs.Actuals.{Actual, Bearer, Binding, Components, OfRows, OfValue, OfVariable, Passed, Variable, actual_of}
 use Rattle.call_states.specs.Actuals.{bearers_named}
 use Rattle.call_states.specs.Actuals.{bearers_at, bearers_for, bearers_of, bound_to}
 use Rattle.call_states.specs.Entry.{Limit, are_borne_between, are_given, are_ordered, are_reached, forms_at_most, has_between, is_at_most, is_borne_between}
@@ -145,8 +145,7 @@ all-some P (Some x) items own all = All-cons P x items (own x refl) all
 
 module _ (tree : Tree) (pairs : List (ℕ × ℕ)) (number : ℕ) (block : Block) (arguments : List Argument) (caller : Environment) (activations from : ℕ)
     (call : IsCalled tree pairs number block arguments caller activations from) (store : Store) (begun : Begun activations store) (actuals : List Actual)
-    (are : AreArguments tree caller store block.heading.parameters.items actuals arguments)
-    (typed : are_of_types tree (bound_to block.heading.parameters.items actuals) ≡ true) (state : State)
+    (are : AreArguments tree caller store block.heading.parameters.items actuals arguments) (state : State)
     (knows : Knows (all_parts tree) (length tree.variables.items) caller state store) where
   abbrev callee : Environment
   callee = environment_of tree (activation_of number block arguments caller activations)
@@ -167,15 +166,15 @@ module _ (tree : Tree) (pairs : List (ℕ × ℕ)) (number : ℕ) (block : Block
   total = length tree.variables.items
 
   abbrev IsBorneHere : Bearer → ℕ → List Step → Type 0
-  IsBorneHere bearer root steps = IsBorne tree pairs number block arguments caller activations from call store begun actuals are typed bearer root steps
+  IsBorneHere bearer root steps = IsBorne tree pairs number block arguments caller activations from call store begun actuals are bearer root steps
 
   abbrev IsReachedHere : ℕ → Reach → ℕ → List Step → Type 0
-  IsReachedHere row reach root steps = IsReached tree pairs number block arguments caller activations from call store begun actuals are typed row reach root
+  IsReachedHere row reach root steps = IsReached tree pairs number block arguments caller activations from call store begun actuals are row reach root
       steps
 
   abbrev BorneBy : Path → List Step → Type 0
   BorneBy path steps =
-      IsBorneBy tree pairs number block arguments caller activations from call store begun actuals are typed (bearers_named tree bindings path) path.root steps
+      IsBorneBy tree pairs number block arguments caller activations from call store begun actuals are (bearers_named tree bindings path) path.root steps
 
   -- ---- what is given of a bearer
 
@@ -290,7 +289,7 @@ module _ (tree : Tree) (pairs : List (ℕ × ℕ)) (number : ℕ) (block : Block
 
   -- the one bearer of an ordinal variable of the callee
   alone-limit : (root : ℕ) (bearers : List Bearer) (limit : Limit)
-      → IsBorneBy tree pairs number block arguments caller activations from call store begun actuals are typed bearers root []
+      → IsBorneBy tree pairs number block arguments caller activations from call store begun actuals are bearers root []
       → limit_of_variable state.variables bearers ≡ Some limit → limit.has_value ≡ true → (m : ℤ) × HasNumber inner root m × IsLimit outer limit m
   alone-limit root [] limit borne is has = absurd (none-some limit is)
   alone-limit root (Passed range ∷ []) limit borne is has = absurd (none-some limit is)
@@ -307,7 +306,7 @@ module _ (tree : Tree) (pairs : List (ℕ × ℕ)) (number : ℕ) (block : Block
   alone-limit root (Variable other ∷ bearer ∷ bearers) limit borne is has = absurd (none-some limit is)
 
   abbrev IsOuterHere : ℕ → DeclaredVariable → Type 0
-  IsOuterHere root variable = IsOuter tree pairs number block arguments caller activations from call store actuals are typed root variable
+  IsOuterHere root variable = IsOuter tree pairs number block arguments caller activations from call store actuals are root variable
 
   abbrev ParameterHere : ℕ → DeclaredVariable → Type 0
   ParameterHere root variable = IsParameter tree caller store activations block.heading.parameters.items actuals arguments root variable
@@ -329,14 +328,14 @@ module _ (tree : Tree) (pairs : List (ℕ × ℕ)) (number : ℕ) (block : Block
       by : (ordinal : Bool) → is_ordinal tree.types variable.type_id ≡ ordinal → (m : ℤ) × HasNumber inner root m × IsLimit outer limit m
       by true ordinal =
           let entire_root = ordinal-variable tree root variable is ∙ ordinal in
-          let borne = entire-borne tree pairs number block arguments caller activations from call store begun actuals are typed (entire root)
+          let borne = entire-borne tree pairs number block arguments caller activations from call store begun actuals are (entire root)
           (variable, is, round, own) entire_root in
           let bearers : bearers_named tree bindings (entire root) ≡ bearers_of tree (OfVariable other selectors reach) =
           ap (bearers_for tree (entire root)) actual_is
           ∙ ap (λ (b : Bool). cond b (bearers_of tree (OfVariable other selectors reach))
           (bearers_at (rows_named tree (entire root)) (rows_under (rows_of tree) root []) (bearers_of tree (OfVariable other selectors reach)))) entire_root in
           alone-limit root (bearers_of tree (OfVariable other selectors reach)) limit
-          (subst (λ (all : List Bearer). IsBorneBy tree pairs number block arguments caller activations from call store begun actuals are typed all root [])
+          (subst (λ (all : List Bearer). IsBorneBy tree pairs number block arguments caller activations from call store begun actuals are all root [])
           bearers
           borne)
           limit_is has
@@ -352,11 +351,11 @@ module _ (tree : Tree) (pairs : List (ℕ × ℕ)) (number : ℕ) (block : Block
   value-passed root (variable, is, round, own) p range form v argument_is value lies inside of_form =
       let ordinal : is_ordinal tree.types variable.type_id ≡ true = ap is_some lies.1 in
       let got = subst (λ (a : Argument). Received tree activations activations callee root variable a behind) argument_is
-      (value-received tree pairs number block arguments caller activations from call store begun actuals are typed root variable is p value) in
+      (value-received tree pairs number block arguments caller activations from call store begun actuals are root variable is p value) in
       let has = got.has [] (subst (λ (all : List (List Step)). Contains all []) (sym (ordinal_component tree.types variable.type_id ordinal))
       (0, omega arith, refl)) in
       let same = (got.gets [] has.0 has.1).1 in
-      let block_is = parameter-block tree pairs number block arguments caller activations from call store actuals are typed root variable is p in
+      let block_is = parameter-block tree pairs number block arguments caller activations from call store actuals are root variable is p in
       let home = value-home tree pairs number block arguments caller activations from call root variable is block_is value in
       let m = number-of v in
       let at : value_at inner root [] ≡ Some (Number m.0) =
@@ -382,11 +381,11 @@ module _ (tree : Tree) (pairs : List (ℕ × ℕ)) (number : ℕ) (block : Block
       let same = same_Some (record { form = form; range = range; has_value = true }) limit limit_is in
       subst (λ (l : Limit). (m : ℤ) × HasNumber inner root m × IsLimit outer l m) same
       (value-passed root outward p range form v argument_is fits.0 fits.1 is.0 is.1)
-  passed-limit root outward p limit (OfValue range form) (meaning.OfRow numbers) argument_is actual_is is fits limit_is has = absurd is
+  passed-limit root outward p limit (OfValue range form) (meaning.OfRow values) argument_is actual_is is fits limit_is has = absurd is
   passed-limit root outward p limit (OfValue range form) (meaning.OfPlace place) argument_is actual_is is fits limit_is has = absurd is
   passed-limit root outward p limit (OfRows ranges) argument argument_is actual_is is fits limit_is has = absurd (none-some limit limit_is)
   passed-limit root outward p limit (OfVariable other selectors reach) (meaning.OfValue v) argument_is actual_is is fits limit_is has = absurd is
-  passed-limit root outward p limit (OfVariable other selectors reach) (meaning.OfRow numbers) argument_is actual_is is fits limit_is has = absurd is
+  passed-limit root outward p limit (OfVariable other selectors reach) (meaning.OfRow values) argument_is actual_is is fits limit_is has = absurd is
   passed-limit root outward p limit (OfVariable other selectors reach) (meaning.OfPlace place) argument_is actual_is is fits limit_is has =
       variable-passed root outward other selectors reach limit actual_is is.1 limit_is has
 
@@ -396,13 +395,13 @@ module _ (tree : Tree) (pairs : List (ℕ × ℕ)) (number : ℕ) (block : Block
       ⊎_elim
       (λ (here : IsOuterHere root outward.0).
       variable-limit root root limit
-      (outer-value tree pairs number block arguments caller activations from call store begun actuals are typed root outward.0 here [])
+      (outer-value tree pairs number block arguments caller activations from call store begun actuals are root outward.0 here [])
       (same_Some (limit_of state.variables (Plus root (pos 0))) limit
       (sym (ap (limit_of_actual tree state.variables root) here.no_actual) ∙ limit_is)) has)
       (λ (p : ParameterHere root outward.0).
       passed-limit root outward p limit p.actual p.argument refl p.actual_is p.known p.fits
       (sym (ap (limit_of_actual tree state.variables root) p.actual_is) ∙ limit_is) has)
-      (outward-cases tree pairs number block arguments caller activations from call store actuals are typed root outward)
+      (outward-cases tree pairs number block arguments caller activations from call store actuals are root outward)
 
   bound-limit : (bound : Bound) (limit : Limit) → ((root : ℕ) → Contains (bound_roots bound) root → IsOutward tree number root)
       → limit_of_bound tree state.variables bindings bound ≡ Some limit → limit.has_value ≡ true → IsLimitOf bound limit
@@ -440,12 +439,12 @@ module _ (tree : Tree) (pairs : List (ℕ × ℕ)) (number : ℕ) (block : Block
   is_given_here one = is_given tree bindings state one
 
   entire-at : (path : Path) → IsOutward tree number path.root → names_entire tree path ≡ true → BorneBy path []
-  entire-at path outward is = entire-borne tree pairs number block arguments caller activations from call store begun actuals are typed path outward is
+  entire-at path outward is = entire-borne tree pairs number block arguments caller activations from call store begun actuals are path outward is
 
   component-at : (path : Path) → IsOutward tree number path.root → (row : ℕ) (steps : List Step) → Contains (rows_named tree path) row → IsOf tree row steps
       → BorneBy path steps
   component-at path outward row steps inside of_row =
-      component-borne tree pairs number block arguments caller activations from call store begun actuals are typed path outward row steps inside of_row
+      component-borne tree pairs number block arguments caller activations from call store begun actuals are path outward row steps inside of_row
 
   first-root : (path : Path) (one : Fact) → Outward one → (rest : List ℕ) → fact_roots one ≡ path.root ∷ rest → IsOutward tree number path.root
   first-root path one outward rest is = outward path.root (subst (λ (all : List ℕ). Contains all path.root) (sym is) (0, omega arith, refl))

@@ -18,7 +18,6 @@ pub mod Headings
 pub mod LedComponents
 pub mod Lists
 pub mod Mapped
-pub mod OfTypes
 pub mod Parameters
 pub mod Passed
 pub mod PlaceTypes

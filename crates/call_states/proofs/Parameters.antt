@@ -3,7 +3,7 @@ use Rattle.std.proofs.Common.{arith, ◌≡◌, ◌⊎◌, inl, inr, ◌∙◌, 
 use Rattle.std.proofs.Common.{nat_eq, List, [], ◌∷◌, Option, Some, None}
 use Rattle.std.specs.List.{Contains}
 use Rattle.std.specs.Prelude.{slice_get}
-use Rattle.std.proofs.lemmas.Bool.{and_parts, eqb-false, eqb-true, false≢true}
+use Rattle.std.proofs.lemmas.Bool.{eqb-false, eqb-true, false≢true}
 use Rattle.std.proofs.lemmas.Option.{get_or_from_slice_get, none-some, same_Some, slice_get_within}
 use Rattle.typed_tree.specs.WellFormed.{encloses, is_local_kind, is_one_of, is_parameter_kind, is_result_kind, is_round, of_one, outline_of}
 use Rattle.typed_tree.specs.declared.tree.Block.{Block}
@@ -13,7 +13,7 @@ use Rattle.typed_tree.specs.declared.tree.VariableKind.{VariableKind}
 use Rattle.typed_tree.specs.declared.tree.VariableKind.TheVariants as kind
 use Rattle.meaning.specs.Meaning.{Argument, environment_of, home_of, place_for, place_passed, seen_from}
 use Rattle.meaning.specs.Store.{Environment, Store}
-use Rattle.call_states.specs.Actuals.{Actual, Binding, actual_of, are_of_types, bound_to, is_of_type}
+use Rattle.call_states.specs.Actuals.{Actual, Binding, actual_of, bound_to}
 use Rattle.call_states.specs.Starts.{is_own}
 use Rattle.call_states.proofs.Callee.{IsCalled, activation_of, parameter-listed}
 use Rattle.call_states.proofs.Entered.{parameter-own}
@@ -32,30 +32,22 @@ pub record IsParameter (tree : Tree) (env : Environment) (store : Store) (activa
   pub place_is : place_for root roots arguments ≡ place_passed argument
   pub known : IsArgument tree env store variable actual argument
   pub fits : Fits tree activations argument variable
-  pub of_type : is_of_type tree root actual ≡ true
 
 module _ (tree : Tree) (env : Environment) (store : Store) (activations : ℕ) where
-  abbrev of_types : List Binding → Bool
-  of_types bindings = are_of_types tree bindings
-
   pub parameter-at : (roots : List ℕ) (actuals : List Actual) (arguments : List Argument) → AreArguments tree env store roots actuals arguments
-      → AllFit tree activations roots arguments → of_types (bound_to roots actuals) ≡ true → (root : ℕ) (variable : Variable)
+      → AllFit tree activations roots arguments → (root : ℕ) (variable : Variable)
       → slice_get tree.variables.items root ≡ Some variable → Contains roots root
       → IsParameter tree env store activations roots actuals arguments root variable
-  parameter-at [] actuals arguments are fit typed root variable is inside = absurd (omega (arith, inside.1))
-  parameter-at (first ∷ roots) [] arguments are fit typed root variable is inside = absurd are
-  parameter-at (first ∷ roots) (actual ∷ actuals) [] are fit typed root variable is inside = absurd are
+  parameter-at [] actuals arguments are fit root variable is inside = absurd (omega (arith, inside.1))
+  parameter-at (first ∷ roots) [] arguments are fit root variable is inside = absurd are
+  parameter-at (first ∷ roots) (actual ∷ actuals) [] are fit root variable is inside = absurd are
   parameter-at (first ∷ roots) (actual ∷ actuals) (argument ∷ arguments) (formal, formal_is, own, others)
-      (fitting, fitting_is, fits, fit) typed root variable is
+      (fitting, fitting_is, fits, fit) root variable is
       inside =
       by (nat_eq first root) refl inside
       (λ later.
-      parameter-at roots actuals arguments others fit
-      (and_parts (is_of_type tree first actual) (of_types (bound_to roots actuals)) typed).1 root variable is later)
+      parameter-at roots actuals arguments others fit root variable is later)
     where
-      tested : is_of_type tree first actual ≡ true
-      tested = (and_parts (is_of_type tree first actual) (of_types (bound_to roots actuals)) typed).0
-
       more : nat_eq first root ≡ false → IsParameter tree env store activations roots actuals arguments root variable
           → IsParameter tree env store activations (first ∷ roots) (actual ∷ actuals) (argument ∷ arguments) root variable
       more away p = record {
@@ -68,7 +60,6 @@ module _ (tree : Tree) (env : Environment) (store : Store) (activations : ℕ) w
         place_is = ap (λ (b : Bool). cond b (place_passed argument) (place_for root roots arguments)) away ∙ p.place_is;
         known = p.known;
         fits = p.fits;
-        of_type = p.of_type;
       }
 
       by : (same : Bool) → nat_eq first root ≡ same → Contains (first ∷ roots) root
@@ -88,7 +79,6 @@ module _ (tree : Tree) (env : Environment) (store : Store) (activations : ℕ) w
             place_is = ap (λ (b : Bool). cond b (place_passed argument) (place_for root roots arguments)) same;
             known = subst (λ (x : Variable). IsArgument tree env store x actual argument) v own;
             fits = subst (λ (x : Variable). Fits tree activations argument x) w fits;
-            of_type = subst (λ (r : ℕ). is_of_type tree r actual ≡ true) one tested;
           }
       by false same (zero, within, at) rest = absurd (eqb-false first root same at)
       by false same (suc k, within, at) rest = more same (rest (k, omega (arith, within), at))
@@ -126,8 +116,7 @@ other-kind kind.VariableParameter is = refl
 
 module _ (tree : Tree) (pairs : List (ℕ × ℕ)) (number : ℕ) (block : Block) (arguments : List Argument) (caller : Environment) (activations from : ℕ)
     (call : IsCalled tree pairs number block arguments caller activations from) (store : Store) (actuals : List Actual)
-    (are : AreArguments tree caller store block.heading.parameters.items actuals arguments)
-    (typed : are_of_types tree (bound_to block.heading.parameters.items actuals) ≡ true) where
+    (are : AreArguments tree caller store block.heading.parameters.items actuals arguments) where
   abbrev pub callee : Environment
   callee = environment_of tree (activation_of number block arguments caller activations)
 
@@ -172,7 +161,7 @@ module _ (tree : Tree) (pairs : List (ℕ × ℕ)) (number : ℕ) (block : Block
           let kinds : (is_local_kind variable.kind || is_result_kind variable.kind) ≡ false =
           sym (ap (λ (b : Bool). b && (is_local_kind variable.kind || is_result_kind variable.kind)) own) ∙ other in
           inr
-          (parameter-at tree caller store activations block.heading.parameters.items actuals arguments are call.fit typed root variable is
+          (parameter-at tree caller store activations block.heading.parameters.items actuals arguments are call.fit root variable is
           (parameter-listed tree call.well number block call.block_is root variable is (eqb-true variable.block number own) (other-kind variable.kind kinds)))
       by false own =
           inl (outer-is root variable is own (sym (ap (λ (b : Bool). b || is_one_of block.heading.around.items variable.block) own) ∙ encloses-it))

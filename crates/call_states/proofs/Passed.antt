@@ -10,6 +10,7 @@ use Rattle.types.specs.Forms.{Form}
 use Rattle.types.specs.declared.form.Step.{Step}
 use Rattle.types.specs.declared.form.Step.TheVariants as step
 use Rattle.types.specs.declared.form.TypeId.{TypeId}
+use Rattle.types.specs.Types.{is_structured}
 use Rattle.typed_tree.specs.Accesses.{accessed, index_count}
 use Rattle.typed_tree.specs.WellFormed.{Outline, is_value_kind, is_variable_kind, is_well_formed_selector, is_whole}
 use Rattle.typed_tree.specs.declared.tree.Selector.{Selector}
@@ -18,7 +19,7 @@ use Rattle.typed_tree.specs.declared.tree.Tree.{Tree}
 use Rattle.typed_tree.specs.declared.tree.Variable.{Variable}
 use Rattle.domain.specs.Facts.{Bound}
 use Rattle.domain.specs.Interval.{HasMember, Interval}
-use Rattle.meaning.specs.declared.store.Value.TheVariants.{Number}
+use Rattle.meaning.specs.declared.store.Value.{Value}
 use Rattle.meaning.specs.Integers.{maxint}
 use Rattle.meaning.specs.Meaning as meaning
 use Rattle.meaning.specs.Meaning.{Argument}
@@ -55,25 +56,25 @@ pub record Leads (env : Environment) (root : ℕ) (selectors : List Selector) (s
   pub matches : Matches selectors way
   pub reached : IsReachedBy env store selectors way reach
 
--- the number of each component of a type lies in the range of the leaf that names it
-abbrev pub LieIn : List Form → TypeId → List Interval → List ℤ → Type 0
-LieIn types id ranges numbers =
-    (k j : ℕ) (rest : List Step) (leaf : Leaf) (n : ℤ) (range : Interval) → slice_get (components_of types id) k ≡ Some rest
-    → slice_get (leaves_of types id) j ≡ Some leaf → is_named leaf.steps rest ≡ true → slice_get numbers k ≡ Some n → slice_get ranges j ≡ Some range
-    → HasMember range n
+-- the value of each component of a type lies in the range of the leaf that names it
+abbrev pub LieIn : List Form → TypeId → List Interval → List Value → Type 0
+LieIn types id ranges values =
+    (k j : ℕ) (rest : List Step) (leaf : Leaf) (v : Value) (range : Interval) → slice_get (components_of types id) k ≡ Some rest
+    → slice_get (leaves_of types id) j ≡ Some leaf → is_named leaf.steps rest ≡ true → slice_get values k ≡ Some v → slice_get ranges j ≡ Some range
+    → IsIn range v
 
 -- ---- what fits a formal parameter
 
--- numbers are those of the components of a type, each one of its own type
-pub record AreComponentsOf (types : List Form) (id : TypeId) (numbers : List ℤ) : Type 0 where
-  pub count : length numbers ≡ length (components_of types id)
-  pub each : (k : ℕ) (rest : List Step) (n : ℤ) → slice_get (components_of types id) k ≡ Some rest → slice_get numbers k ≡ Some n
-      → (own : TypeId) × (type_led types rest id ≡ Some own) × LiesIn types own (Number n)
+-- values are those of the components of a type, each one of its own type
+pub record AreComponentsOf (types : List Form) (id : TypeId) (values : List Value) : Type 0 where
+  pub count : length values ≡ length (components_of types id)
+  pub each : (k : ℕ) (rest : List Step) (v : Value) → slice_get (components_of types id) k ≡ Some rest → slice_get values k ≡ Some v
+      → (own : TypeId) × (type_led types rest id ≡ Some own) × LiesIn types own v
 
 -- what is passed fits a formal parameter: a value of its type, or a variable of its type, in an activation that has begun
 abbrev pub Fits : Tree → ℕ → Argument → Variable → Type 0
 Fits tree activations (meaning.OfValue v) formal = (is_value_kind formal.kind ≡ true) × LiesIn tree.types formal.type_id v
-Fits tree activations (meaning.OfRow numbers) formal = (is_value_kind formal.kind ≡ true) × AreComponentsOf tree.types formal.type_id numbers
+Fits tree activations (meaning.OfRow values) formal = (is_value_kind formal.kind ≡ true) × AreComponentsOf tree.types formal.type_id values
 Fits tree activations (meaning.OfPlace None) formal = ⊥
 Fits tree activations (meaning.OfPlace (Some place)) formal =
     (is_variable_kind formal.kind ≡ true) × (place_type tree place ≡ Some formal.type_id) × (place.activation < activations)
@@ -92,9 +93,9 @@ AllFit tree activations (root ∷ roots) (argument ∷ arguments) =
 -- what is passed is what the checker knows of the actual parameter of a formal one
 abbrev pub IsArgument : Tree → Environment → Store → Variable → Actual → Argument → Type 0
 IsArgument tree env store formal (OfValue range form) (meaning.OfValue v) = IsIn range v × IsOfForm (moment env store) form v
-IsArgument tree env store formal (OfRows ranges) (meaning.OfRow numbers) =
-    (length numbers ≡ length (components_of tree.types formal.type_id))
-    × (length ranges ≡ length (leaves_of tree.types formal.type_id) → LieIn tree.types formal.type_id ranges numbers)
+IsArgument tree env store formal (OfRows ranges) (meaning.OfRow values) =
+    (is_structured tree.types formal.type_id ≡ true) × (length ranges ≡ length (leaves_of tree.types formal.type_id))
+    × LieIn tree.types formal.type_id ranges values
 IsArgument tree env store formal (OfVariable root selectors reach) (meaning.OfPlace place) =
     Leads env root selectors store reach place × (accessed tree.variables.items tree.types root selectors ≡ Some formal.type_id)
     × ((way : List Step) (n : ℤ) → Matches selectors way → first_index way ≡ Some n → HasMember integer n)
@@ -154,13 +155,13 @@ module _ (tree : Tree) (env : Environment) (before after : Store) where
   pub after-call_argument : (formal : Variable) (actual : Actual) (argument : Argument) → IsArgument tree env before formal actual argument
       → IsArgument tree env after formal (after_call actual) argument
   after-call_argument formal (OfValue range form) (meaning.OfValue v) is = (is.0, tt)
-  after-call_argument formal (OfValue range form) (meaning.OfRow numbers) is = absurd is
+  after-call_argument formal (OfValue range form) (meaning.OfRow values) is = absurd is
   after-call_argument formal (OfValue range form) (meaning.OfPlace place) is = absurd is
   after-call_argument formal (OfRows ranges) (meaning.OfValue v) is = absurd is
-  after-call_argument formal (OfRows ranges) (meaning.OfRow numbers) is = is
+  after-call_argument formal (OfRows ranges) (meaning.OfRow values) is = is
   after-call_argument formal (OfRows ranges) (meaning.OfPlace place) is = absurd is
   after-call_argument formal (OfVariable root selectors reach) (meaning.OfValue v) is = absurd is
-  after-call_argument formal (OfVariable root selectors reach) (meaning.OfRow numbers) is = absurd is
+  after-call_argument formal (OfVariable root selectors reach) (meaning.OfRow values) is = absurd is
   after-call_argument formal (OfVariable root selectors reach) (meaning.OfPlace place) (leads, typed, integers) = (
     record {
       way = leads.way;

@@ -25,7 +25,7 @@ use Rattle.typed_tree.specs.declared.tree.Variable.{Variable}
 use Rattle.meaning.specs.Integers.{is_within}
 use Rattle.meaning.specs.Store.{Place}
 use Rattle.leaf_rows.specs.Leaves.{Elements, FieldAt, Leaf, LeafStep, behind_elements, form_leaves, is_named, leaves_at, leaves_of, range_at, scalar}
-use Rattle.leaf_rows.specs.Leaves.{Leafed, scalar_leaves}
+use Rattle.leaf_rows.specs.Leaves.{scalar_leaves}
 use Rattle.leaf_rows.proofs.Components.{Has, in-field_leaf, mapped-at, only}
 use Rattle.leaf_rows.proofs.Leafed.{leafed_before, leafed_many, leaves_before, leaves_of_form, leaves_of_none}
 use Rattle.leaf_rows.proofs.Selected.{IsElement, Matches, is-element, led-on, placed-field}

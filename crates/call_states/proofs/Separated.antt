@@ -65,9 +65,9 @@ passed-variable tree env store formal (OfVariable root selectors reach) (meaning
   leads = subst (λ (p : Option Place). Leads env root selectors store reach p) at is.0;
 }
 passed-variable tree env store formal (OfVariable root selectors reach) (meaning.OfValue v) place is at = absurd is
-passed-variable tree env store formal (OfVariable root selectors reach) (meaning.OfRow numbers) place is at = absurd is
+passed-variable tree env store formal (OfVariable root selectors reach) (meaning.OfRow values) place is at = absurd is
 passed-variable tree env store formal actual (meaning.OfValue v) place is at = absurd (none-some place at)
-passed-variable tree env store formal actual (meaning.OfRow numbers) place is at = absurd (none-some place at)
+passed-variable tree env store formal actual (meaning.OfRow values) place is at = absurd (none-some place at)
 passed-variable tree env store formal (OfValue range form) (meaning.OfPlace found) place is at = absurd is
 passed-variable tree env store formal (OfRows ranges) (meaning.OfPlace found) place is at = absurd is
 

@@ -1,17 +1,13 @@
 -- What the checker knows of the actual parameters of a call, and what has the values of the formal ones for the caller
 -- (ISO 7185:1990, 6.6.3). It says nothing of what a call does.
-use Rattle.std.specs.Prelude.{ℕ, ◌&&◌, Bool, true, false, List, [], ◌∷◌, Option, Some, None, if◌then◌else◌, map, nat_eq}
-use Rattle.std.specs.Prelude.{slice_get}
-use Rattle.std.specs.List.{list_all}
-use Rattle.types.specs.declared.form.OrdinalRange.{OrdinalRange}
+use Rattle.std.specs.Prelude.{ℕ, Bool, List, [], ◌∷◌, Option, Some, None, if◌then◌else◌, map, nat_eq}
 use Rattle.typed_tree.specs.declared.tree.Tree.{Tree}
 use Rattle.typed_tree.specs.declared.tree.Selector.{Selector}
-use Rattle.typed_tree.specs.declared.tree.Variable.{Variable as DeclaredVariable}
-use Rattle.domain.specs.Interval.{Interval, is_included}
+use Rattle.domain.specs.Interval.{Interval}
 use Rattle.domain.specs.Facts.{Bound, Path}
 use Rattle.abstract_state.specs.Loops.{is_among}
-use Rattle.abstract_state.specs.State.{integer, limits_of}
-use Rattle.leaf_rows.specs.Rows.{is_structured, rows_accessed, rows_of, rows_under, values_at}
+use Rattle.abstract_state.specs.State.{integer}
+use Rattle.leaf_rows.specs.Rows.{rows_accessed, rows_of, rows_under}
 use Rattle.component_states.specs.Components.{At, Entire, Index, Inside, Reach}
 use Rattle.structured_states.specs.Loops.{is_ordinal_variable, names_entire, rows_named}
 
@@ -82,35 +78,6 @@ bearers_for tree path (Some actual) =
 -- the bearers of what a path names, as the callee knows it
 abbrev pub bearers_named : Tree → List Binding → Path → List Bearer
 bearers_named tree bindings path = bearers_for tree path (actual_of bindings path.root)
-
--- ---- the types of formal parameters
-
--- a range lies among the values of an ordinal type
-abbrev pub lies_among : Option OrdinalRange → Interval → Bool
-lies_among None range = false
-lies_among (Some values) range = is_included range (limits_of values)
-
--- the ranges of a copy lie in those of the types of some rows
-abbrev pub are_of_rows : Tree → List ℕ → List Interval → Bool
-are_of_rows tree [] [] = true
-are_of_rows tree (row ∷ rows) (range ∷ ranges) =
-    lies_among (values_at (rows_of tree) row) range && are_of_rows tree rows ranges
-are_of_rows tree rows ranges = false
-
--- a copy of ranges lies in the type of a structured variable
-abbrev pub is_copy_for : Tree → ℕ → List Interval → Option DeclaredVariable → Bool
-is_copy_for tree root ranges None = false
-is_copy_for tree root ranges (Some variable) =
-    is_structured tree.types variable.type_id && are_of_rows tree (rows_under (rows_of tree) root []) ranges
-
--- what is passed as a copy lies in the type of a formal parameter
-abbrev pub is_of_type : Tree → ℕ → Actual → Bool
-is_of_type tree root (OfValue range form) = true
-is_of_type tree root (OfRows ranges) = is_copy_for tree root ranges (slice_get tree.variables.items root)
-is_of_type tree root (OfVariable other selectors reach) = true
-
-abbrev pub are_of_types : Tree → List Binding → Bool
-are_of_types tree bindings = list_all (λ binding. is_of_type tree binding.root binding.actual) bindings
 
 -- ---- where an actual parameter holds a call
 

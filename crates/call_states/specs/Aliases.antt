@@ -1,6 +1,6 @@
 -- What is known after a store through one variable, of the others that may share places with it, its aliases
 -- (ISO 7185:1990, 6.6.3.3). It says nothing of the variable itself.
-use Rattle.std.specs.Prelude.{ℕ, Bool, true, false, List, [], ◌∷◌, Option, Some, None, if◌then◌else◌, slice_get}
+use Rattle.std.specs.Prelude.{ℕ, Bool, false, List, [], ◌∷◌, Option, Some, None, if◌then◌else◌, slice_get}
 use Rattle.std.specs.Option.{option_and_then, option_map}
 use Rattle.types.specs.Types.{is_same, range_of}
 use Rattle.types.specs.declared.form.OrdinalRange.{OrdinalRange}

@@ -6,22 +6,18 @@ ghost use Rattle.leaf_rows.specs.Rows.{rows_of, rows_under};
 ghost use Rattle.leaf_rows.specs.View.{numbers};
 ghost use Rattle.structured_states.specs.Loops.{is_ordinal_variable};
 ghost use Rattle.call_states.specs.Actuals.{Components, Passed, Variable, actual_of, after_call, all_of_rows};
-ghost use Rattle.call_states.specs.Actuals.{are_of_rows, are_of_types, bearers_at, bearers_for, bearers_named};
-ghost use Rattle.call_states.specs.Actuals.{bearers_of, borne_by, is_copy_for, is_of_type, lies_among, settled};
+ghost use Rattle.call_states.specs.Actuals.{bearers_at, bearers_for, bearers_named, bearers_of, borne_by, settled};
 ghost use Rattle.call_states.specs.Actuals.{unknown_reach};
 ghost use Rattle.call_states.specs.View.{is_entire, said_actual, said_bearer, said_bindings, said_found};
 
-use abstract_state::limits;
 use certificate::Path;
 use component_states::{Index, Reach};
-use domain::Domain;
 use domain::facts::Bound;
 use domain::interval::Interval;
 use leaf_rows::{Rows, Span};
 use std::alloc::{AllocError, Global};
 use structured_states::kept_claims::{is_ordinal_variable, names_entire, rows_named};
 use typed_tree::tree::{Selector, Tree};
-use types::OrdinalRange;
 
 /// What is passed to a formal parameter (ISO 7185:1990, 6.6.3).
 #[derive(Drop)]
@@ -90,7 +86,7 @@ pub enum Bearer {
     /// An entire ordinal variable.
     Variable(u32),
     /// What is reached in a row of components.
-    Components { row: u32, reach: Reach },
+    Components { row: usize, reach: Reach },
 }
 
 /// The formal parameters of a block with their actual ones, as far as there are both.
@@ -251,7 +247,7 @@ fn bearers_at(
 {
     let mut found = Vec::new(alloc);
     for row in all.first..all.end() {
-        if let Some(bearer) = bearers.get((row - all.first) as usize) {
+        if let Some(bearer) = bearers.get(row - all.first) {
             if has(wanted, row) {
                 found.push(*bearer)?;
             }
@@ -261,76 +257,8 @@ fn bearers_at(
 }
 
 /// Whether a row is one of some.
-pub fn has(span: Span, row: u32) -> bool
+pub fn has(span: Span, row: usize) -> bool
     ensures { result ≡ is_among row (numbers span) }
 {
     span.first <= row && row < span.end()
-}
-
-/// Whether a range lies among the values of an ordinal type.
-pub fn lies_among(values: Option<OrdinalRange>, range: Interval) -> bool
-    ensures { result ≡ lies_among values range }
-{
-    match values {
-        None => false,
-        Some(values) => range.leq(&limits(values)),
-    }
-}
-
-/// Whether what is passed as copies lies in the types of the formal parameters.
-pub fn are_of_types(rows: &Rows, bindings: Bindings) -> bool
-    ensures { result ≡ are_of_types rows.now (said_bindings bindings.entry) }
-{
-    let roots = bindings.roots;
-    let actuals = bindings.actuals;
-    for i in 0..roots.len() {
-        match actuals.get(i) {
-            None => return true,
-            Some(actual) => {
-                if !is_of_type(rows, roots[i], actual) {
-                    return false;
-                }
-            }
-        }
-    }
-    true
-}
-
-/// Whether what is passed as a copy lies in the type of a formal parameter.
-fn is_of_type(rows: &Rows, root: u32, actual: &Actual) -> bool
-    ensures { result ≡ is_of_type rows.now root (said_actual actual.now) }
-{
-    match actual {
-        Actual::Value { .. } => true,
-        Actual::Rows(ranges) => is_copy_for(rows, root, ranges),
-        Actual::Variable { .. } => true,
-    }
-}
-
-/// Whether a copy of ranges lies in the type of a structured variable.
-fn is_copy_for(rows: &Rows, root: u32, ranges: &[Interval]) -> bool
-    ensures { result ≡ is_copy_for rows.now root ranges.now (slice_get rows.now.variables.items root) }
-{
-    match rows.tree().variables.get(root as usize) {
-        None => false,
-        Some(variable) => {
-            rows.is_structured(variable.type_id)
-                && are_of_rows(rows, rows.of_variable(root), ranges)
-        }
-    }
-}
-
-/// Whether the ranges of a copy lie in those of the types of some rows.
-fn are_of_rows(rows: &Rows, span: Span, ranges: &[Interval]) -> bool
-    ensures { result ≡ are_of_rows rows.now (numbers span) ranges.now }
-{
-    if ranges.len() != span.count as usize {
-        return false;
-    }
-    for i in 0..span.count {
-        if !lies_among(rows.values(span.first + i), ranges[i as usize]) {
-            return false;
-        }
-    }
-    true
 }

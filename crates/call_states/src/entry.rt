@@ -198,7 +198,7 @@ fn is_between(rows: &Rows, state: &State, bearer: Bearer, first: Limit, last: Li
 fn is_reached(
     rows: &Rows,
     state: &State,
-    row: u32,
+    row: usize,
     reach: &Reach,
     first: Limit,
     last: Limit,
@@ -216,7 +216,7 @@ fn is_reached(
 }
 
 /// Whether a stretch of a row is held that has all between two limits.
-fn holds_between(rows: &Rows, state: &State, row: u32, first: Limit, last: Limit) -> bool
+fn holds_between(rows: &Rows, state: &State, row: usize, first: Limit, last: Limit) -> bool
     ensures { result ≡ list_any (has_between (viewed_variables rows.now state.now.variables) row (said_limit first)
         (said_limit last)) (viewed rows.now state.now).components.stretches }
 {
@@ -231,7 +231,7 @@ fn holds_between(rows: &Rows, state: &State, row: u32, first: Limit, last: Limit
 fn has_between(
     rows: &Rows,
     state: &Variables,
-    row: u32,
+    row: usize,
     first: Limit,
     last: Limit,
     held: Stretch,

@@ -47,10 +47,10 @@ use Rattle.cert_checker.specs.Walk.{assigned_to}
 
 -- a number for the whole of a variable
 abbrev pub whole : ℤ → Pairs
-whole n = ([], n) ∷ []
+whole n = ([], Number n) ∷ []
 
-pub whole-only : (n : ℤ) (pair : List Step × ℤ) → Contains (whole n) pair → ([], n) ≡ pair
-whole-only n pair inside = ⊎_elim (λ same. same) (λ none. absurd (omega (arith, none.1))) (head-or_tail ([], n) pair [] inside)
+pub whole-only : (n : ℤ) (pair : List Step × Value) → Contains (whole n) pair → ([], Number n) ≡ pair
+whole-only n pair inside = ⊎_elim (λ same. same) (λ none. absurd (omega (arith, none.1))) (head-or_tail ([], Number n) pair [] inside)
 
 -- ---- forms
 
@@ -89,16 +89,16 @@ pub whole-written : (env : Environment) (aliases : List ℕ) (root : ℕ) (home 
     → (before : Store) (n : ℤ) → AreWritten env aliases root (whole n) before (written before home (Number n))
 whole-written env aliases root home at apart before n =
     subst (λ (steps : List Step). AreWritten env aliases root (whole n) before (written before (record home { steps = steps }) (Number n)))
-    (append-nil home.steps) (one-written env aliases root home at apart before [] n)
+    (append-nil home.steps) (one-written env aliases root home at apart before [] (Number n))
 
 pub whole-has : (env : Environment) (aliases : List ℕ) (root : ℕ) (n : ℤ) (before after : Store) → AreWritten env aliases root (whole n) before after
     → HasNumber (moment env after) root n
 whole-has env aliases root n before after are =
-    let pair : List Step × ℤ = ([], n) in
+    let pair : List Step × Value = ([], Number n) in
     let has = are.has pair (at-head pair []) in
     let sure = are.sure pair has.0 (at-head pair []) has.1 in
     let same = whole-only n sure.0 sure.1 in
-    has.1 ∙ ap (λ (v : Value). Some v) (sure.3 ∙ ap (λ (p : List Step × ℤ). Number p.1) (sym same))
+    has.1 ∙ ap (λ (v : Value). Some v) (sure.3 ∙ ap (λ (p : List Step × Value). p.1) (sym same))
 
 module _ (tree : Tree) (pairs : List (ℕ × ℕ)) (block activations : ℕ) (env : Environment) (proper : Proper tree pairs block activations env)
     (root : ℕ) (home : Place) (at : env.variables root ≡ Some home) where
@@ -123,14 +123,14 @@ module _ (tree : Tree) (pairs : List (ℕ × ℕ)) (block activations : ℕ) (en
       let same = whole-only n pair listed in
       let own : place ≡ home =
       same_Some place home
-      (sym place_is ∙ ap (λ (p : List Step × ℤ). store.part (env.variables root) p.0) (sym same)
+      (sym place_is ∙ ap (λ (p : List Step × Value). store.part (env.variables root) p.0) (sym same)
       ∙ ap (λ (found : Option Place). store.part found []) at ∙ ap (λ (s : List Step). Some (record home { steps = s })) (append-nil home.steps)) in
       let typed : place_type tree place ≡ Some variable.0.type_id = ap (place_type tree) own ∙ proper.typed root home variable.0 at variable.1 in
       let values : variable_values tree root ≡ range_of tree.types variable.0.type_id =
       ap (option_and_then (λ (v : Variable). range_of tree.types v.type_id)) variable.1 in
       let lies = some-range tree.types (variable_values tree root) variable.0.type_id (Number n) values ordinal
       (subst (λ (range : Interval). IsIn range (Number n)) (values-limits tree root variable.0 variable.1) inside) in
-      (variable.0.type_id, typed, subst (λ (p : List Step × ℤ). LiesIn tree.types variable.0.type_id (Number p.1)) same lies)
+      (variable.0.type_id, typed, subst (λ (p : List Step × Value). LiesIn tree.types variable.0.type_id p.1) same lies)
 
   abbrev aliases : List ℕ
   aliases = aliases_in (listed_pairs tree pairs) block root
@@ -146,13 +146,13 @@ module _ (tree : Tree) (pairs : List (ℕ × ℕ)) (block activations : ℕ) (en
         let there : part home [] ≡ place =
         same_Some (part home []) place
         (sym (ap (λ (found : Option Place). store.part found []) at)
-        ∙ ap (λ (p : List Step × ℤ). store.part (env.variables root) p.0) same ∙ place_is) in
+        ∙ ap (λ (p : List Step × Value). store.part (env.variables root) p.0) same ∙ place_is) in
         let same_type : variable_type tree root ≡ Some own =
         whole-type tree pairs block activations env proper root home own at (ap (place_type tree) there ∙ type_is) in (
           record { type_id = variable_type tree root; range = range },
           at-head (record { type_id = variable_type tree root; range = range }) [],
           same_type,
-          subst (λ (p : List Step × ℤ). IsIn range (Number p.1)) same inside,
+          subst (λ (p : List Step × Value). IsIn range p.1) same inside,
         )
 
     assigned-ready : (range : Interval) → HasMember range n → (state : State) → Knows (all_parts tree) variables env state before
@@ -177,7 +177,7 @@ module _ (tree : Tree) (pairs : List (ℕ × ℕ)) (block activations : ℕ) (en
               (one-kept env aliases root (whole n) before after are) has ready.knows.variables ready.variables_loose inside of_own (form-apart aliases form);
           components = changes-hold (all_parts tree) (components-inner tree) env root aliases own ready_state.components before after
               (whole-changes env aliases root (whole n) before after are
-              (λ pair listed. sym (ap (λ (p : List Step × ℤ). p.0) (whole-only n pair listed))))
+              (λ pair listed. sym (ap (λ (p : List Step × Value). p.0) (whole-only n pair listed))))
               (number-of env root own n before after has of_own) ready.components_loose ready.knows.components;
         }
 
@@ -196,7 +196,7 @@ ended-knows tree env way state before after x y n within are has other between a
       variables = ended-known (length tree.variables.items) env way state.variables before after x y n within
           (one-kept env [] way.control (whole m) before after are) has other between apart now last known.variables;
       components = changes-hold (all_parts tree) (components-inner tree) env way.control [] (next way) state.components before after
-          (whole-changes env [] way.control (whole m) before after are (λ pair listed. sym (ap (λ (p : List Step × ℤ). p.0) (whole-only m pair listed))))
+          (whole-changes env [] way.control (whole m) before after are (λ pair listed. sym (ap (λ (p : List Step × Value). p.0) (whole-only m pair listed))))
           (number-of env way.control (next way) m before after now (next-of_form env before way.control way.direction n has))
           (none-loose (all_parts tree) env state.components after) known.components;
     }

@@ -9,13 +9,14 @@ use Rattle.std.proofs.lemmas.List.{length-map}
 use Rattle.std.proofs.lemmas.List.Folds.{list_any-append}
 use Rattle.types.specs.Forms.{Form}
 use Rattle.types.specs.Forms.{Array, Record}
-use Rattle.types.specs.Types.{form_range, is_ordinal}
+use Rattle.types.specs.Types.{form_range, has_components, is_ordinal}
 use Rattle.typed_tree.specs.Accesses.{is_type, led}
 use Rattle.typed_tree.specs.Loops.{AreLoops, Inside, IsLoop, all_inside, inside_of, statement_inside}
 use Rattle.typed_tree.specs.WellFormed.{all_hold, are_whole, is_control, is_declared, is_local_kind, is_visible, is_well_formed_expr, is_well_formed_stmt}
-use Rattle.typed_tree.specs.WellFormed.{is_well_formed_test, leads_to_ordinal, outline_of, stmt_is_well_formed}
+use Rattle.typed_tree.specs.WellFormed.{fits_target, leads_to_ordinal, outline_of, stmt_is_well_formed}
 use Rattle.typed_tree.specs.declared.tree.Expr.{Expr}
 use Rattle.typed_tree.specs.declared.tree.Loop.{Loop}
+use Rattle.typed_tree.specs.declared.tree.RangeTest.{RangeTest}
 use Rattle.typed_tree.specs.declared.tree.Stmt.{Stmt}
 use Rattle.typed_tree.specs.declared.tree.Stmt.TheOpen.{Stmt-F}
 use Rattle.typed_tree.specs.declared.tree.Stmt.TheOpen.Stmt-F.{Empty, Assign, Copy, Write, Call, Compound, If, While, Repeat, For, Case}
@@ -24,7 +25,7 @@ use Rattle.typed_tree.specs.declared.tree.Stmt.TheFolds.{map-Stmt, fold-roll-Stm
 use Rattle.typed_tree.specs.declared.tree.Tree.{Tree}
 use Rattle.typed_tree.specs.declared.tree.Variable.{Variable}
 use Rattle.abstract_state.specs.Loops.{is_among}
-use Rattle.leaf_rows.specs.Rows.{Parts, all_parts, has_components, no_parts, parts_of, rows_of}
+use Rattle.leaf_rows.specs.Rows.{Parts, all_parts, no_parts, parts_of, rows_of}
 use Rattle.leaf_rows.proofs.Accessed.{leaf-of, parts-at}
 use Rattle.component_states.specs.Laws.{AreEntire}
 use Rattle.structured_states.specs.Loops.{controls_inside, controls_of, has_ordinals, is_ordinal_variable}
@@ -138,7 +139,7 @@ module _ (tree : Tree) (block : ℕ) where
       all-proved statements.items
       (and_parts (all_hold (map well_stmt (map (λ (s : Proved). s.0) statements.items))) (well_expr condition) well).0
   layer (For number loop_number place control first first_fits direction last last_fits body) well =
-      let is_test = is_well_formed_test (outline_of tree) block in
+      let is_test = λ (fits : RangeTest). fits_target (outline_of tree) block fits control [] in
       let one = and_parts (is_control (outline_of tree) block control)
       (well_expr first && (is_test first_fits && (well_expr last && (is_test last_fits && well_stmt body.value.0)))) well in
       let two = and_parts (well_expr first) (is_test first_fits && (well_expr last && (is_test last_fits && well_stmt body.value.0))) one.1 in

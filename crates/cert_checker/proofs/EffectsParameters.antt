@@ -167,9 +167,9 @@ placed-write at found (inr is) = λ place seen. absurd (cc)
 keeps-assign : (at : Standing) (types : List Form) (found : Option Place) (formal : Option Variable) (argument : Argument)
     → IsPlaced at found (place_passed argument) → Keeps at (assign types found formal argument)
 keeps-assign at types found formal (OfValue v) placed = keeps-store at found v (placed-write at found placed)
-keeps-assign at types found None (OfRow numbers) placed = keeps-give at tt
-keeps-assign at types found (Some formal) (OfRow numbers) placed =
-    keeps-store_all at found (components_of types formal.type_id) numbers (placed-write at found placed)
+keeps-assign at types found None (OfRow values) placed = keeps-give at tt
+keeps-assign at types found (Some formal) (OfRow values) placed =
+    keeps-store_all at found (components_of types formal.type_id) values (placed-write at found placed)
 keeps-assign at types found None (OfPlace other) placed = keeps-give at tt
 keeps-assign at types found (Some formal) (OfPlace other) placed = keeps-give at tt
 

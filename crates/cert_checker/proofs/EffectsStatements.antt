@@ -25,7 +25,7 @@ use Rattle.typed_tree.specs.declared.tree.Stmt.TheFolds.{map-Stmt, fold-roll-Stm
 use Rattle.typed_tree.specs.declared.tree.Stmt.TheViews.{roll-Stmt}
 use Rattle.typed_tree.specs.Calls.{holds_call, whole_holds_call}
 use Rattle.typed_tree.specs.WellFormed.{all_hold, are_whole, is_control, is_local_kind, is_result_kind, is_well_formed_expr, is_well_formed_stmt}
-use Rattle.typed_tree.specs.WellFormed.{is_well_formed_test, leads_to_ordinal, of_one, outline_of, stmt_is_well_formed}
+use Rattle.typed_tree.specs.WellFormed.{fits_target, leads_to_ordinal, of_one, outline_of, stmt_is_well_formed}
 use Rattle.meaning.specs.declared.outcome.Ending.TheVariants as ending
 use Rattle.meaning.specs.declared.store.Value.{Value}
 use Rattle.meaning.specs.declared.store.Value.TheVariants.{Number}
@@ -38,23 +38,21 @@ use Rattle.meaning.specs.Meaning as meaning
 use Rattle.abstract_state.specs.Conditions.{bound_form, condition_of}
 use Rattle.abstract_state.specs.Forms.{root_of}
 use Rattle.abstract_state.specs.Loops.{with_undefined}
-use Rattle.abstract_state.specs.State.{limits_of}
 use Rattle.abstract_state.specs.declared.known.Known.{Known}
 use Rattle.abstract_state.specs.declared.known.Known.TheVariants.{Ordinal}
 use Rattle.domain.specs.Facts.{Bound}
-use Rattle.domain.specs.Interval.{Interval, is_included}
+use Rattle.domain.specs.Interval.{Interval}
 use Rattle.component_states.specs.Components.{Reach}
 use Rattle.component_states.specs.States.{State, over_bound, over_change, over_variables}
 use Rattle.structured_states.specs.Cases.{arm_start, constants_before}
-use Rattle.leaf_rows.specs.Limits.{limits_at}
 use Rattle.structured_states.specs.Loops.{claims_at, round_of, with_own}
 use Rattle.structured_states.specs.Ways.{Way, next, turn_begun, turn_ended, way_of, way_out, where_counts}
 use Rattle.call_states.specs.Sections.{BlockClaims}
 use Rattle.call_states.specs.Starts.{is_own}
 use Rattle.expression_checker.specs.declared.fault.Rule.TheVariants.{Changes, LoopEntry, LoopTurn}
-use Rattle.expression_checker.specs.Walk.{Context, Walking, asked, may_change, value_walk}
+use Rattle.expression_checker.specs.Walk.{Context, Walking, may_change, value_walk}
 use Rattle.expression_checker.specs.Walk as flow
-use Rattle.cert_checker.specs.Walk.{Stores, are_typed, assign, assign_to, component_change, statement_step, statement_walk, store_to, stores_made}
+use Rattle.cert_checker.specs.Walk.{Stores, assign, assign_to, statement_step, statement_walk, store_to, stores_made}
 use Rattle.cert_checker.specs.Walk as walk
 use Rattle.expression_checker.proofs.EffectsKept.{CanGive, IsOwn, Keeps, MayWriteTo, Standing, own-write, under-write}
 use Rattle.expression_checker.proofs.EffectsKept.{keeps-enter, keeps-give, keeps-line_ended, keeps-looped, keeps-require, keeps-stop, keeps-store}
@@ -65,33 +63,29 @@ use Rattle.expression_checker.proofs.Effects.{access-kept, call-kept, parameter-
 -- ---- what the walk of a statement tells of those in it
 
 -- the rule of changes, of stores to components and of assignments
-may-store : (context : Context) (place : SourcePlace) (root : ℕ) (reach : Reach) (fits : Bool) (stores : Stores)
-    → Yields context (store_to place root reach fits stores) tt → may_change context root ≡ true
-may-store context place root reach fits stores yields =
-    let one = yields-then context (component_change place root fits stores) (λ _. stores_made root reach stores) tt yields in
-    let rest = fits && are_typed context stores in
-    let rule : Yields context (asked (may_change context root && rest) Changes place) tt =
-    record { state = one.1.state; unbroken = one.1.unbroken; value_is = one.1.value_is } in
-    (and_parts (may_change context root) rest (yields-asked context (may_change context root && rest) Changes place tt rule)).0
-
-may-assign : (context : Context) (place : SourcePlace) (root : ℕ) (selectors : List Selector) (reach : Reach) (values : Interval) (form : Option Bound)
-    (passed : Known) → Yields context (assign_to place root selectors reach values form passed) tt → may_change context root ≡ true
-may-assign context place root [] reach values form passed yields =
-    let one = yields-then context (walk.change place root values) (λ _. assign root form passed) tt yields in
-    let rest = is_included values (limits_at context.limits root) in
-    let rule : Yields context (asked (may_change context root && rest) Changes place) tt =
-    record { state = one.1.state; unbroken = one.1.unbroken; value_is = one.1.value_is } in
-    (and_parts (may_change context root) rest (yields-asked context (may_change context root && rest) Changes place tt rule)).0
-may-assign context place root (selector ∷ selectors) reach values form (Ordinal range) yields =
-    may-store context place root reach true (walk.alike range (walk.target_rows context root (selector ∷ selectors)))
+may-change : (context : Context) (place : SourcePlace) (root : ℕ) → Yields context (walk.change place root) tt → may_change context root ≡ true
+may-change context place root yields =
+    yields-asked context (may_change context root) Changes place tt
     (record { state = yields.state; unbroken = yields.unbroken; value_is = yields.value_is })
 
-may-copy : (context : Context) (place : SourcePlace) (root : ℕ) (selectors : List Selector) (reach : Reach) (type_id : TypeId) (value : Whole)
-    (ranges : List Interval) → Yields context (walk.copy_to place root selectors reach type_id value ranges) tt → may_change context root ≡ true
-may-copy context place root selectors reach type_id value ranges yields =
-    let rows = walk.target_rows context root selectors in
-    may-store context place root reach (flow.fits_whole context.tree.types type_id value && nat_eq (length rows) (length ranges))
-    (walk.paired rows ranges) (record { state = yields.state; unbroken = yields.unbroken; value_is = yields.value_is })
+may-store : (context : Context) (place : SourcePlace) (root : ℕ) (reach : Reach) (stores : Stores) → Yields context (store_to place root reach stores) tt
+    → may_change context root ≡ true
+may-store context place root reach stores yields =
+    may-change context place root (yields-then context (walk.change place root) (λ _. stores_made root reach stores) tt yields).1
+
+may-assign : (context : Context) (place : SourcePlace) (root : ℕ) (selectors : List Selector) (reach : Reach) (form : Option Bound) (passed : Known)
+    → Yields context (assign_to place root selectors reach form passed) tt → may_change context root ≡ true
+may-assign context place root [] reach form passed yields =
+    may-change context place root (yields-then context (walk.change place root) (λ _. assign root form passed) tt yields).1
+may-assign context place root (selector ∷ selectors) reach form (Ordinal range) yields =
+    may-store context place root reach (walk.alike range (walk.target_rows context root (selector ∷ selectors)))
+    (record { state = yields.state; unbroken = yields.unbroken; value_is = yields.value_is })
+
+may-copy : (context : Context) (place : SourcePlace) (root : ℕ) (selectors : List Selector) (reach : Reach) (ranges : List Interval)
+    → Yields context (walk.copy_to place root selectors reach ranges) tt → may_change context root ≡ true
+may-copy context place root selectors reach ranges yields =
+    may-store context place root reach (walk.paired (walk.target_rows context root selectors) ranges)
+    (record { state = yields.state; unbroken = yields.unbroken; value_is = yields.value_is })
 
 -- both ways break no rule
 yields-parted : (context : Context) (one_state other_state : State → State) (one other : Walking (Unit {0}))
@@ -194,34 +188,34 @@ module _ (tree : Tree) (blocks : List BlockClaims) (declares : DeclareTheirs tre
       → Keeps at (effect.◌>>=◌ (accessed target (values_of indexes) here) (λ place. effect.◌>>=◌ (value_of value here)
       (λ v. effect.◌>>=◌ (effect.require (is_in fits.range v) fits.site) (λ _. effect.store place v))))
   keeps-assignment becomes target indexes fits value context stands yields =
+      let held = walk.reach_stored target.selectors.items (holds_call value) in
       let assigned = λ (reach : Reach) (passed : Known).
-      assign_to becomes target.root target.selectors.items (walk.reach_stored target.selectors.items (holds_call value) reach) (limits_of fits.range) (bound_form value) passed in
+      assign_to becomes target.root target.selectors.items (held reach) (bound_form value) passed in
       let one = yields-then context (flow.access_walk target (flow.index_pieces indexes))
       (λ reach. flow.◌>>=◌ (value_walk value) (λ known. flow.◌>>=◌ (flow.fitting fits known) (assigned reach))) tt yields in
       let two = yields-then context (value_walk value) (λ known. flow.◌>>=◌ (flow.fitting fits known) (assigned one.0)) tt one.2 in
       let three = yields-then context (flow.fitting fits two.0) (assigned one.0) tt two.2 in
-      let may = may-assign context becomes target.root target.selectors.items (walk.reach_stored target.selectors.items (holds_call value) one.0) (limits_of fits.range)
-      (bound_form value) three.0 three.2 in
+      let may = may-assign context becomes target.root target.selectors.items (held one.0) (bound_form value) three.0 three.2 in
       keeps-when at _ _ (access-kept tree blocks declares block at grounds calls leave target indexes context one.0 stands one.1)
       (λ place given. keeps-then at _ _ (keeps-value value context two.0 stands two.1)
       (λ v. keeps-then at _ _ (keeps-require at (is_in fits.range v) fits.site)
       (λ _. keeps-store at place v (write-accessed target indexes context stands may place given))))
 
   keeps-copying : (becomes : SourcePlace) (target : Access) (indexes : List Expr) (type_id : TypeId) (value : Whole) (value_indexes : List Expr)
-      (context : Context) → In context → Yields context (walk.copying becomes target (flow.index_pieces indexes) type_id value value_indexes) tt
+      (context : Context) → In context → Yields context (walk.copying becomes target (flow.index_pieces indexes) value value_indexes) tt
       → Keeps at (effect.◌>>=◌ (accessed target (values_of indexes) here) (λ place. effect.◌>>=◌ (whole_of value (values_of value_indexes) here)
-      (λ numbers. effect.store_all place (components_of at.visible.types type_id) numbers)))
+      (λ values. effect.store_all place (components_of at.visible.types type_id) values)))
   keeps-copying becomes target indexes type_id value value_indexes context stands yields =
+      let held = walk.reach_stored target.selectors.items (whole_holds_call value value_indexes) in
       let copied = λ (reach : Reach) (ranges : List Interval).
-      walk.copy_to becomes target.root target.selectors.items (walk.reach_stored target.selectors.items (whole_holds_call value value_indexes) reach) type_id value ranges in
+      walk.copy_to becomes target.root target.selectors.items (held reach) ranges in
       let one = yields-then context (flow.access_walk target (flow.index_pieces indexes))
       (λ reach. flow.◌>>=◌ (flow.whole_walk value (flow.index_pieces value_indexes)) (copied reach)) tt yields in
       let two = yields-then context (flow.whole_walk value (flow.index_pieces value_indexes)) (copied one.0) tt one.2 in
-      let may = may-copy context becomes target.root target.selectors.items (walk.reach_stored target.selectors.items (whole_holds_call value value_indexes) one.0)
-      type_id value two.0 two.2 in
+      let may = may-copy context becomes target.root target.selectors.items (held one.0) two.0 two.2 in
       keeps-when at _ _ (access-kept tree blocks declares block at grounds calls leave target indexes context one.0 stands one.1)
       (λ place given. keeps-then at _ _ (whole-kept tree blocks declares block at grounds calls leave value value_indexes context two.0 stands two.1)
-      (λ numbers. keeps-store_all at place (components_of at.visible.types type_id) numbers
+      (λ values. keeps-store_all at place (components_of at.visible.types type_id) values
       (write-accessed target indexes context stands may place given)))
 
   -- ---- loops
@@ -291,9 +285,9 @@ module _ (tree : Tree) (blocks : List BlockClaims) (declares : DeclareTheirs tre
       grounds.own control variable place found own seen
 
   keeps-between : (control : ℕ) (first_fits : RangeTest) (direction : Direction) (last_fits : RangeTest) (execution : Execution)
-      → IsOwn at (at.visible.variables control) → Keeps at (execution here) → (first last : Value)
+      → IsOwn at (at.visible.variables control) → Keeps at (execution here) → (first last : ℤ)
       → Keeps at (meaning.for_between control first_fits direction last_fits execution here first last)
-  keeps-between control first_fits direction last_fits execution own kept (Number first) (Number last) =
+  keeps-between control first_fits direction last_fits execution own kept first last =
       let found = at.visible.variables control in
       let round = λ (n : ℤ). keeps-then at (effect.store found (Number n))
       (λ _. effect.◌>>=◌ effect.use_turn (λ _. effect.◌>>=◌ (execution here) (λ _. give (value_behind direction last n))))
@@ -316,7 +310,7 @@ module _ (tree : Tree) (blocks : List BlockClaims) (declares : DeclareTheirs tre
       let turns = (yields-parted context (over_variables (where_counts true way)) (over_variables (where_counts false way))
       (walk.for_turns number place walking way) (flow.give tt) one.1).0 in
       let begun = walk.begin_way in
-      let two = yields-then context (walk.tested_way place way)
+      let two = yields-then context (walk.tested_way way)
       (λ tested. flow.◌>>=◌ (begun tested) (λ _. walk.rounds_of number place walking tested)) tt turns in
       let three = yields-then context (begun two.0) (λ _. walk.rounds_of number place walking two.0) tt two.2 in
       let steady = walk.steady_in context number two.0 in
@@ -336,7 +330,7 @@ module _ (tree : Tree) (blocks : List BlockClaims) (declares : DeclareTheirs tre
       → Yields context (flow.◌>>=◌ (value_walk first) (λ from. flow.◌>>=◌ (value_walk last) (λ to.
       walk.for_walk number place walking (way_of control direction first first_fits last last_fits from to)))) tt
       → Keeps at (effect.◌>>=◌ (value_of first here) (λ a. effect.◌>>=◌ (value_of last here)
-      (λ b. effect.◌>>=◌ (meaning.for_between control first_fits direction last_fits execution here a b)
+      (λ b. effect.◌>>=◌ (meaning.for_between control first_fits direction last_fits execution here (number_of a) (number_of b))
       (λ _. effect.undefine (at.visible.variables control)))))
   keeps-for number place control first first_fits direction last last_fits execution walking kept own context stands yields =
       let whole = λ (from to : Known). walk.for_walk number place walking (way_of control direction first first_fits last last_fits from to) in
@@ -346,7 +340,7 @@ module _ (tree : Tree) (blocks : List BlockClaims) (declares : DeclareTheirs tre
       let body = kept-turns number place way execution walking kept context stands two.2 in
       keeps-then at _ _ (keeps-value first context one.0 stands one.1)
       (λ a. keeps-then at _ _ (keeps-value last context two.0 stands two.1)
-      (λ b. keeps-then at _ _ (keeps-between control first_fits direction last_fits execution own body a b)
+      (λ b. keeps-then at _ _ (keeps-between control first_fits direction last_fits execution own body (number_of a) (number_of b))
       (λ _. keeps-undefine at (at.visible.variables control) own)))
 
   -- ---- case statements
@@ -394,7 +388,7 @@ module _ (tree : Tree) (blocks : List BlockClaims) (declares : DeclareTheirs tre
       keeps-then at _ _ (keeps-enter at number at.visible) (λ _. keeps-assignment becomes target indexes.items fits value context stands one.2)
   layer (Copy number becomes target indexes type_id value value_indexes) well context stands yields =
       let one = yields-then context (flow.enter number)
-      (λ _. walk.copying becomes target (flow.index_pieces indexes.items) type_id value value_indexes.items) tt yields in
+      (λ _. walk.copying becomes target (flow.index_pieces indexes.items) value value_indexes.items) tt yields in
       keeps-then at _ _ (keeps-enter at number at.visible)
       (λ _. keeps-copying becomes target indexes.items type_id value value_indexes.items context stands one.2)
   layer (Write number name parameters ends_line) well context stands yields =
@@ -443,7 +437,7 @@ module _ (tree : Tree) (blocks : List BlockClaims) (declares : DeclareTheirs tre
       keeps-then at _ _ (keeps-enter at number at.visible)
       (λ _. keeps-repeat condition (meaning.all_of (map effect_of inner)) walking (keeps-all statements.items parts.0) loop_number place context stands one.2)
   layer (For number loop_number place control first first_fits direction last last_fits body) well context stands yields =
-      let is_test = is_well_formed_test (outline_of tree) block in
+      let is_test = λ (fits : RangeTest). fits_target (outline_of tree) block fits control [] in
       let is_body = well_stmt body.value.0 in
       let controls = and_parts (is_control (outline_of tree) block control)
       (well_expr first && (is_test first_fits && (well_expr last && (is_test last_fits && is_body)))) well in

@@ -5,7 +5,6 @@ use Rattle.typed_tree.specs.declared.tree.Access.{Access}
 use Rattle.typed_tree.specs.declared.tree.Selector.{Selector}
 use Rattle.typed_tree.specs.declared.tree.RangeTest.{RangeTest}
 use Rattle.domain.specs.Facts.{Bound}
-use Rattle.domain.specs.Interval.{Interval}
 use Rattle.typed_tree.specs.declared.tree.Expr.{Expr}
 use Rattle.typed_tree.specs.declared.tree.Stmt.{Stmt}
 use Rattle.typed_tree.specs.declared.tree.Stmt.TheOpen.{Stmt-F}
@@ -21,7 +20,6 @@ use Rattle.certificate.specs.declared.Certificate.{Certificate}
 use Rattle.abstract_state.specs.declared.known.Known.{Known}
 use Rattle.abstract_state.specs.declared.known.Known.TheVariants.{Ordinal}
 use Rattle.cert_checker.specs.Promise.{LinksEntries}
-use Rattle.abstract_state.specs.State.{limits_of}
 use Rattle.component_states.specs.Components.{Reach}
 use Rattle.component_states.specs.States.{State, dead, joined_states, over_variables}
 use Rattle.call_states.specs.Sections.{block_claims_at}
@@ -35,7 +33,7 @@ use Rattle.abstract_state.specs.Forms.{root_of}
 use Rattle.structured_states.specs.Cases.{arm_start, constants_before}
 use Rattle.place.specs.declared.Place.{Place}
 use Rattle.expression_checker.specs.Walk.{Context, Walking, ◌>>=◌, access_walk, index_pieces, numbers_of, fitting, value_walk, parameter_walk, whole_walk}
-use Rattle.cert_checker.specs.Walk.{first_context, assign, assign_to, arms_walk, case_walk, for_round, for_turns, for_walk, index_test, loop_walk}
+use Rattle.cert_checker.specs.Walk.{first_context, assign_to, arms_walk, case_walk, for_round, for_turns, for_walk, index_test, loop_walk}
 use Rattle.cert_checker.specs.Walk.{steady_in}
 use Rattle.cert_checker.specs.Walk.{tested_way, while_round, repeat_round, statement_step, statement_walk, where_so, all_of, block_walk, blocks_walk}
 use Rattle.cert_checker.specs.Walk.{begin_way, program_walk, reach_stored, result_use}
@@ -45,19 +43,19 @@ use Rattle.expression_checker.proofs.Entered.{whole-entered}
 abbrev stores : Place → Access → RangeTest → Expr → Reach → Known → Walking (Unit {0})
 stores becomes target fits value reach known =
     fitting fits known
-    >>= assign_to becomes target.root target.selectors.items (reach_stored target.selectors.items (holds_call value) reach) (limits_of fits.range) (bound_form value)
+    >>= assign_to becomes target.root target.selectors.items (reach_stored target.selectors.items (holds_call value) reach) (bound_form value)
 
-assigned-silent : (becomes : Place) (root : ℕ) (selectors : List Selector) (reach : Reach) (values : Interval) (form : Option Bound) (known : Known)
-    → Enters (assign_to becomes root selectors reach values form known) []
-assigned-silent becomes root [] reach values form (Ordinal range) context state = refl
-assigned-silent becomes root (selector ∷ selectors) reach values form (Ordinal range) context state = refl
+assigned-silent : (becomes : Place) (root : ℕ) (selectors : List Selector) (reach : Reach) (form : Option Bound) (known : Known)
+    → Enters (assign_to becomes root selectors reach form known) []
+assigned-silent becomes root [] reach form (Ordinal range) context state = refl
+assigned-silent becomes root (selector ∷ selectors) reach form (Ordinal range) context state = refl
 
 stores-silent : (becomes : Place) (target : Access) (fits : RangeTest) (value : Expr) (reach : Reach) (known : Known)
     → Enters (stores becomes target fits value reach known) []
 stores-silent becomes target fits value reach (Ordinal range) context state =
     let passed = fitting fits (Ordinal range) context state in
-    assigned-silent becomes target.root target.selectors.items (reach_stored target.selectors.items (holds_call value) reach) (limits_of fits.range) (bound_form value) passed.value
-    context passed.after
+    assigned-silent becomes target.root target.selectors.items (reach_stored target.selectors.items (holds_call value) reach) (bound_form value)
+    passed.value context passed.after
 
 -- walks one after another enter what each enters
 all-entered : {X : Type 0} (walk : X → Walking (Unit {0})) (numbers : X → List ℕ) → ((x : X) → Enters (walk x) (numbers x)) → (xs : List X)
@@ -99,7 +97,7 @@ module _ (number : ℕ) (place : Place) (body : Walking (Unit {0})) (numbers : L
 
   turns_of-entered : (way : Way) → Enters (for_turns number place body way) numbers
   turns_of-entered way context state =
-      let tested = tested_way place way context state in
+      let tested = tested_way way context state in
       let begun = begin_way tested.value context tested.after in
       loop-entered number place (Some tested.value.control) (for_round (steady_in context number tested.value) body) numbers
       (for_round-entered (steady_in context number tested.value)) context begun.after

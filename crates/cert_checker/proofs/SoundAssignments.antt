@@ -5,8 +5,10 @@ use Rattle.std.specs.List.{Contains, list_all}
 use Rattle.std.specs.Option.{option_and_then}
 use Rattle.std.specs.Prelude.{is_some, slice_get}
 use Rattle.std.proofs.lemmas.Bool.{and_parts, ltb-true}
+use Rattle.std.proofs.lemmas.Option.{same_Some}
 use Rattle.types.proofs.Scalars.{ordinal_component}
 use Rattle.types.specs.Components.{components_of}
+use Rattle.types.specs.Forms.{Form}
 use Rattle.types.specs.Types.{is_ordinal, range_of}
 use Rattle.types.specs.declared.form.Step.{Step}
 use Rattle.types.specs.declared.form.TypeId.{TypeId}
@@ -14,8 +16,8 @@ use Rattle.place.specs.declared.Place.{Place}
 use Rattle.typed_tree.specs.Accesses as accesses
 use Rattle.typed_tree.specs.Accesses.{is_type, led}
 use Rattle.typed_tree.specs.Calls.{holds_call}
-use Rattle.typed_tree.specs.WellFormed.{Outline, are_well_formed, is_well_formed_expr, is_well_formed_selector, is_well_formed_test, is_whole, leads_to_ordinal}
-use Rattle.typed_tree.specs.WellFormed.{outline_of}
+use Rattle.typed_tree.specs.WellFormed.{Outline, are_well_formed, fits_target, is_range_of, is_well_formed_expr, is_well_formed_selector, is_well_formed_test}
+use Rattle.typed_tree.specs.WellFormed.{is_whole, leads_to_ordinal, outline_of}
 use Rattle.typed_tree.specs.declared.tree.Access.{Access}
 use Rattle.typed_tree.specs.declared.tree.Expr.{Expr}
 use Rattle.typed_tree.specs.declared.tree.RangeTest.{RangeTest}
@@ -23,7 +25,7 @@ use Rattle.typed_tree.specs.declared.tree.Selector.{Selector}
 use Rattle.typed_tree.specs.declared.tree.Tree.{Tree}
 use Rattle.typed_tree.specs.declared.tree.Variable.{Variable}
 use Rattle.domain.specs.Facts.{Bound}
-use Rattle.domain.specs.Interval.{HasMember, Interval, is_included}
+use Rattle.domain.specs.Interval.{HasMember, Interval}
 use Rattle.meaning.specs.declared.store.Value.{Value}
 use Rattle.meaning.specs.declared.store.Value.TheVariants.{Number}
 use Rattle.meaning.specs.Store.{Environment, Place as StorePlace, Store, part}
@@ -35,25 +37,29 @@ use Rattle.abstract_state.specs.declared.known.Known.TheVariants.{Ordinal}
 use Rattle.abstract_state.specs.Conditions.{bound_form}
 use Rattle.abstract_state.specs.Holds.{IsIn}
 use Rattle.abstract_state.specs.Knows.{IsOfForm, moment}
-use Rattle.abstract_state.specs.State.{limits_of}
-use Rattle.abstract_state.proofs.Ranged.{IsKnown, included-in, is_in-limits}
+use Rattle.abstract_state.proofs.Ranged.{IsKnown}
 use Rattle.abstract_state.proofs.Refined.{expression-kept, form-known}
-use Rattle.leaf_rows.specs.Limits.{all_limits, limits_at}
+use Rattle.leaf_rows.specs.Limits.{all_limits, limits_at, limits_or_integer}
 use Rattle.leaf_rows.specs.Rows.{rows_accessed, rows_of}
+use Rattle.leaf_rows.proofs.Components.{Has, only}
 use Rattle.component_states.specs.Components.{At, Entire, Inside, Reach}
 use Rattle.structured_states.specs.Loops.{all_list}
 use Rattle.call_states.specs.Aliases.{variable_values}
+use Rattle.call_states.specs.Environments.{LiesIn, type_led}
+use Rattle.call_states.proofs.AliasedTypes.{values-limits}
+use Rattle.call_states.proofs.FormalRows.{variable-accessed}
 use Rattle.call_states.proofs.Passed.{indexes-integer, reached-later}
 use Rattle.expression_checker.specs.declared.fault.Rule.TheVariants.{Changes}
+use Rattle.expression_checker.proofs.Fitting.{passed-lies}
 use Rattle.expression_checker.specs.Walk as flow
 use Rattle.expression_checker.specs.Walk.{Context, Walked, Walking, followed, may_change, value_walk}
 use Rattle.expression_checker.proofs.Sound.{Any_value, Good, IsValue, SoundCalls, SoundFrom, World, declared_in, from-then, good-weaker}
 use Rattle.expression_checker.proofs.Sound.{is_seen, sites_in, sound-anywhere, sound-here, types_in, unbroken-left}
-use Rattle.expression_checker.proofs.SoundAccesses.{LeadsTo, leads-seen, leads-tests, leads-type, no-way, part-none, required-leaves, required-true, type-of}
+use Rattle.expression_checker.proofs.SoundAccesses.{LeadsTo, leads-seen, leads-tests, no-way, part-none, required-leaves, required-true, type-of}
 use Rattle.expression_checker.proofs.SoundCalls.{CallLaws}
 use Rattle.expression_checker.proofs.SoundExpressions.{SoundAction, access-sound, value-sound}
 use Rattle.expression_checker.proofs.SoundOperations.{IsKnownOf, fitting-sound}
-use Rattle.expression_checker.proofs.SoundRows.{IsReachedBy, Leads, rows-are}
+use Rattle.expression_checker.proofs.SoundRows.{AreComponentsOf, IsReachedBy, Leads, rows-are}
 use Rattle.cert_checker.specs.Walk as walk
 use Rattle.cert_checker.specs.Walk.{Stores, alike, ends_at_index, reach_before, reach_of_store, reach_stored}
 use Rattle.cert_checker.proofs.Targets.{alike-at, alike-targets}
@@ -64,9 +70,18 @@ use Rattle.cert_checker.proofs.Written.{Fit, Foretold, kept-rule, listed-good, s
 no-selector : (selector : Selector) (selectors : List Selector) → selector ∷ selectors ≡ [] → ⊥
 no-selector selector selectors is = cc
 
-alone : (n m : ℤ) → Contains (n ∷ []) m → n ≡ m
-alone n m (zero, within, is) = is
-alone n m (suc k, within, is) = absurd (omega (arith, within))
+-- a value of an ordinal type is that of its one component
+one-component : (types : List Form) (id : TypeId) (v : Value) → components_of types id ≡ [] ∷ [] → LiesIn types id v → AreComponentsOf types id (v ∷ [])
+one-component types id v scalar lies = record {
+  count = sym (ap length scalar);
+  each = λ k rest w rest_at w_at.
+      let none = only [] rest (subst (λ (all : List (List Step)). Has all rest) scalar (k, rest_at)) in
+      (id, ap (λ (steps : List Step). type_led types steps id) (sym none), subst (LiesIn types id) (only v w (k, w_at)) lies);
+}
+
+alone : (v w : Value) → Contains (v ∷ []) w → v ≡ w
+alone v w (zero, within, is) = is
+alone v w (suc k, within, is) = absurd (omega (arith, within))
 
 -- an entire variable of an ordinal type has its values
 pub ordinal-values : (tree : Tree) (root : ℕ) → is_type (is_ordinal tree.types) (accesses.accessed tree.variables.items tree.types root []) ≡ true
@@ -114,6 +129,35 @@ reached-then outline block tree env before after root selectors reach place hold
           (λ n first. indexes-integer outline block selectors leads.way n tests leads.matches first) leads.reached;
     }
 
+-- ---- values that pass a test
+
+module _ (world : World) where
+  -- the test has the range of the type of what is accessed
+  abbrev pub has_type : RangeTest → ℕ → List Selector → Bool
+  has_type fits root selectors =
+      is_type (λ id. is_range_of fits.range (range_of (types_in world) id)) (accesses.accessed (declared_in world) (types_in world) root selectors)
+
+  -- so what passes is a value of that type
+  passed-typed : (root : ℕ) (selectors : List Selector) (fits : RangeTest) (v : Value) → has_type fits root selectors ≡ true → is_in fits.range v ≡ true
+      → (id : TypeId) × (accesses.accessed (declared_in world) (types_in world) root selectors ≡ Some id) × LiesIn (types_in world) id v
+  passed-typed root selectors fits v typed passes =
+      let id = type-of (λ (t : TypeId). is_range_of fits.range (range_of (types_in world) t))
+      (accesses.accessed (declared_in world) (types_in world) root selectors) typed in
+      (id.0, id.1, passed-lies (types_in world) id.0 fits v (range_of (types_in world) id.0) refl id.2 passes)
+
+  -- and one of an entire variable
+  pub entire-lies : (root : ℕ) (fits : RangeTest) (v : Value) → has_type fits root [] ≡ true → is_in fits.range v ≡ true
+      → (is_some (variable_values world.tree root) ≡ true) × IsIn (limits_at (all_limits world.tree) root) v
+  entire-lies root fits v typed passes =
+      let own = passed-typed root [] fits v typed passes in
+      let variable = variable-accessed world.tree root [] own.0 own.1 in
+      let values : variable_values world.tree root ≡ Some own.2.0 =
+      ap (option_and_then (λ (one : Variable). range_of (types_in world) one.type_id)) variable.1
+      ∙ ap (range_of (types_in world)) (same_Some variable.0.type_id own.0 variable.2) ∙ own.2.1 in (
+        ap is_some values,
+        subst (λ (range : Interval). IsIn range v) (sym (values-limits world.tree root variable.0 variable.1 ∙ ap limits_or_integer values)) own.2.2,
+      )
+
 module _ (world : World) (limits_are : world.limits ≡ all_limits world.tree) (block : ℕ) (env : Surroundings) (laws : CallLaws world)
     (calls : SoundCalls world env.calls) where
   abbrev visible : Environment
@@ -126,67 +170,63 @@ module _ (world : World) (limits_are : world.limits ≡ all_limits world.tree) (
 
   -- to a component
   component-stored : (becomes : Place) (root : ℕ) (selectors : List Selector) (id : TypeId)
-      → accesses.accessed (declared_in world) (types_in world) root selectors ≡ Some id → is_ordinal (types_in world) id ≡ true → (selectors ≡ [] → ⊥)
-      → is_seen world block root ≡ true → (reach : Reach) (place : Option StorePlace) (known : Known) (v : Value) → IsKnown known v
+      → accesses.accessed (declared_in world) (types_in world) root selectors ≡ Some id → (v : Value) → LiesIn (types_in world) id v → (selectors ≡ [] → ⊥)
+      → is_seen world block root ≡ true → (reach : Reach) (place : Option StorePlace) (known : Known) → IsKnown known v
       → (store : Store) → Leads visible root selectors store reach place
       → SoundFrom {A = Unit {0}} {B = Unit {0}} world block visible store Any_value (effect.store place v)
       (walk.assign_component becomes root selectors reach known)
-  component-stored becomes root selectors id of_type ordinal some seen reach place (Ordinal range) (Number n) inside store leads
+  component-stored becomes root selectors id of_type v lies some seen reach place (Ordinal range) inside store leads
       context state s same unbroken part_of here =
       let at = here.proper.visible root seen in
       let rows = rows-are world.tree root selectors id of_type in
-      let scalar = ordinal_component (types_in world) id ordinal in
-      let numbers = n ∷ [] in
+      let scalar = ordinal_component (types_in world) id (ap is_some lies.1) in
+      let values = v ∷ [] in
       let touched = λ (tree : Tree). rows_accessed (rows_of tree) root selectors in
-      let stores = alike range (touched context.tree) in
-      let many : length (components_of (types_in world) id) ≡ length numbers = ap length scalar in
-      let fit = λ (fits : ◌≡◌ {A = Bool} true true).
-      subst (λ (tree : Tree). Fit world limits_are block visible root at.0 at.1 selectors id rows reach leads.way leads.matches numbers many
+      let components = one-component (types_in world) id v scalar lies in
+      let many = sym components.count in
+      let fit =
+      subst (λ (tree : Tree). Fit world limits_are block visible root at.0 at.1 selectors id rows reach leads.way leads.matches values many
       (alike range (touched tree))) (sym here.stands.goes.tree_is)
       (record {
         structured = λ none. absurd (some none);
         are = λ one listed. (alike-at range (touched world.tree) one listed).0;
-        targets = alike-targets world.tree root selectors id rows visible store leads.way leads.matches numbers many (λ none. absurd (some none)) range
-            (λ m listed. subst (HasMember range) (alone n m listed) inside);
+        targets = alike-targets world.tree root selectors id rows visible store leads.way leads.matches values many (λ none. absurd (some none)) range
+            (λ w listed. subst (IsIn range) (alone v w listed) inside);
       }) in
       let reached = subst (λ (x : Store). IsReachedBy visible x selectors leads.way reach) (sym same) leads.reached in
-      let good = stores-good world limits_are block visible root at.0 at.1 selectors id rows reach leads.way leads.matches numbers many becomes true stores fit
-      context state s reached unbroken here place leads.place_is in
-      let P = Foretold world visible context (walk.store_to becomes root reach true stores context state) s.store in
-      subst (λ (p : Option StorePlace). Good world P s (effect.store p (Number n) s)) (part-none place)
-      (subst (λ (components : List (List Step)). Good world P s (effect.store_all place components numbers s)) scalar good)
+      let good = stores-good world limits_are block visible root at.0 at.1 selectors id rows reach leads.way leads.matches values many of_type components
+      becomes (alike range (touched context.tree)) fit context state s reached unbroken here place leads.place_is in
+      let P = Foretold world visible context (walk.assign_component becomes root selectors reach (Ordinal range) context state) s.store in
+      subst (λ (p : Option StorePlace). Good world P s (effect.store p v s)) (part-none place)
+      (subst (λ (components : List (List Step)). Good world P s (effect.store_all place components values s)) scalar good)
 
   -- to what is accessed
   value-stored : (becomes : Place) (root : ℕ) (selectors : List Selector) (fits : RangeTest) (form : Option Bound)
-      → is_type (is_ordinal (types_in world)) (accesses.accessed (declared_in world) (types_in world) root selectors) ≡ true
-      → is_seen world block root ≡ true → (reach : Reach) (place : Option StorePlace) (known : Known) (v : Value) → is_in fits.range v ≡ true → IsKnown known v
-      → (store : Store) → IsOfForm (moment visible store) form v → Leads visible root selectors store reach place
+      → has_type world fits root selectors ≡ true → is_seen world block root ≡ true → (reach : Reach) (place : Option StorePlace) (known : Known) (v : Value)
+      → is_in fits.range v ≡ true → IsKnown known v → (store : Store) → IsOfForm (moment visible store) form v → Leads visible root selectors store reach place
       → SoundFrom {A = Unit {0}} {B = Unit {0}} world block visible store Any_value (effect.store place v)
-      (walk.assign_to becomes root selectors reach (limits_of fits.range) form known)
+      (walk.assign_to becomes root selectors reach form known)
   value-stored becomes root [] fits form typed seen reach place (Ordinal range) (Number n) passes inside store of_form leads
       context state s same unbroken part_of here =
       let at = here.proper.visible root seen in
       let known : Known = Ordinal range in
       let v : Value = Number n in
-      let may = may_change context root in
-      let included = is_included (limits_of fits.range) (limits_at context.limits root) in
-      let asked = walk.change becomes root (limits_of fits.range) context state in
+      let asked = walk.change becomes root context state in
       let last = walk.assign root form known context state in
-      let listed = and_parts may included (kept-rule (may && included) Changes becomes (unbroken-left asked.broken last.broken unbroken)) in
-      let own : IsIn (limits_at context.limits root) v =
-      included-in (limits_of fits.range) (limits_at context.limits root) v listed.1 (is_in-limits fits.range v passes) in
+      let may = kept-rule (may_change context root) Changes becomes (unbroken-left asked.broken last.broken unbroken) in
+      let own = entire-lies world root fits v typed passes in
       let entire : place ≡ visible.variables root =
       leads.place_is ∙ ap (part (visible.variables root)) (no-way leads.way leads.matches) ∙ part-none (visible.variables root) in
       subst (λ (p : Option StorePlace). Good world (Foretold world visible context (followed asked last) s.store) s (effect.store p v s)) (sym entire)
       (good-weaker world (Foretold world visible context last s.store) (Foretold world visible context (followed asked last) s.store) s
       (effect.store (visible.variables root) v s) (λ done w stored then. record { tie = tt; stands = then.so.stands; kept = then.so.kept })
-      (listed-good world limits_are block visible root at.0 at.1 n range form context state s here (ordinal-values world.tree root typed)
-      (subst (λ (limits : List Interval). IsIn (limits_at limits root) v) here.stands.goes.limits_are own) inside
-      (subst (λ (x : Store). IsOfForm (moment visible x) form v) (sym same) of_form) (and_parts (all_list root context.rounds) _ listed.0).0))
+      (listed-good world limits_are block visible root at.0 at.1 n range form context state s here own.0
+      (subst (λ (limits : List Interval). IsIn (limits_at limits root) v) (sym limits_are) own.1) inside
+      (subst (λ (x : Store). IsOfForm (moment visible x) form v) (sym same) of_form) (and_parts (all_list root context.rounds) _ may).0))
   value-stored becomes root (selector ∷ selectors) fits form typed seen reach place known v passes inside store of_form leads
       context state s same unbroken part_of here =
-      let id = type-of (is_ordinal (types_in world)) (accesses.accessed (declared_in world) (types_in world) root (selector ∷ selectors)) typed in
-      component-stored becomes root (selector ∷ selectors) id.0 id.1 id.2 (no-selector selector selectors) seen reach place known v inside store leads
+      let own = passed-typed world root (selector ∷ selectors) fits v typed passes in
+      component-stored becomes root (selector ∷ selectors) own.0 own.1 v own.2 (no-selector selector selectors) seen reach place known inside store leads
       context state s same unbroken part_of here
 
   -- ---- assignments
@@ -207,7 +247,7 @@ module _ (world : World) (limits_are : world.limits ≡ all_limits world.tree) (
   walked-store becomes target fits value reach known =
       flow.◌>>=◌ (flow.fitting fits known)
       (λ passed.
-      walk.assign_to becomes target.root target.selectors.items (reach_stored target.selectors.items (holds_call value) reach) (limits_of fits.range) (bound_form value) passed)
+      walk.assign_to becomes target.root target.selectors.items (reach_stored target.selectors.items (holds_call value) reach) (bound_form value) passed)
 
   -- the target is accessed, and then comes the value
   abbrev pub assigned : Access → List Expr → RangeTest → Expr → effect.Action (Unit {0})
@@ -215,7 +255,7 @@ module _ (world : World) (limits_are : world.limits ≡ all_limits world.tree) (
       effect.◌>>=◌ (accessed target (values_of indexes) env) (λ place. effect.◌>>=◌ (value_of value env) (tested-store place fits))
 
   module _ (becomes : Place) (target : Access) (fits : RangeTest) (value : Expr) (value_well : well_expr value ≡ true)
-      (typed : is_type (is_ordinal (types_in world)) (accesses.accessed (declared_in world) (types_in world) target.root target.selectors.items) ≡ true)
+      (typed : has_type world fits target.root target.selectors.items ≡ true)
       (tests : list_all (is_well_formed_selector outline block) target.selectors.items ≡ true)
       (seen : is_seen world block target.root ≡ true) (below : fits.site < sites_in world) (reach : Reach) (place : Option StorePlace) where
     abbrev held : Reach
@@ -230,7 +270,7 @@ module _ (world : World) (limits_are : world.limits ≡ all_limits world.tree) (
         let selectors = target.selectors.items in
         let test = effect.require (is_in fits.range v) fits.site in
         from-then world block visible store (IsKnownOf v) Any_value test (λ tested. effect.store place v) (flow.fitting fits known)
-        (λ passed. walk.assign_to becomes root selectors held (limits_of fits.range) (bound_form value) passed)
+        (λ passed. walk.assign_to becomes root selectors held (bound_form value) passed)
         (sound-here world block visible store (IsKnownOf v) test (flow.fitting fits known) (fitting-sound world block visible fits known v below inside))
         (λ passed done s t is from told.
         let stays : t.store ≡ store = required-leaves (is_in fits.range v) fits.site s t done is ∙ from in
@@ -254,18 +294,18 @@ module _ (world : World) (limits_are : world.limits ≡ all_limits world.tree) (
   pub assignment-sound : (becomes : Place) (target : Access) (indexes : List Expr) (fits : RangeTest) (value : Expr)
       → (are_well_formed outline block indexes
       && (leads_to_ordinal outline block target.root target.selectors.items (length indexes)
-      && (well_expr value && is_well_formed_test outline block fits))) ≡ true
+      && (well_expr value && fits_target outline block fits target.root target.selectors.items))) ≡ true
       → SoundAction world block visible (assigned target indexes fits value) (walk.assignment becomes target (flow.index_pieces indexes) fits value)
   assignment-sound becomes target indexes fits value well =
       let root = target.root in
       let selectors = target.selectors.items in
-      let is_test = is_well_formed_test outline block fits in
+      let is_test = fits_target outline block fits root selectors in
       let there = leads_to_ordinal outline block root selectors (length indexes) in
       let one = and_parts (are_well_formed outline block indexes) (there && (well_expr value && is_test)) well in
       let two = and_parts there (well_expr value && is_test) one.1 in
       let three = and_parts (well_expr value) is_test two.1 in
+      let four = and_parts (is_well_formed_test outline block fits) (has_type world fits root selectors) three.1 in
       let wanted = is_ordinal (types_in world) in
-      let typed = leads-type outline block wanted root selectors (length indexes) two.0 in
       let tests = leads-tests outline block wanted root selectors (length indexes) two.0 in
       let seen = leads-seen outline block wanted root selectors (length indexes) two.0 in
       let action = accessed target (values_of indexes) env in
@@ -278,4 +318,4 @@ module _ (world : World) (limits_are : world.limits ≡ all_limits world.tree) (
       (sound-here world block visible store (LeadsTo world block env root selectors) action walking
       (access-sound world block env laws calls target indexes wanted one.0 two.0))
       (λ reach place s t is from leads.
-      from-value becomes target fits value three.0 typed tests seen (site-within fits three.1) reach place t.store leads))
+      from-value becomes target fits value three.0 four.1 tests seen (site-within fits four.0) reach place t.store leads))

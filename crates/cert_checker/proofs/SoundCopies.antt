@@ -1,34 +1,33 @@
 -- Copies of whole values are sound: the target is accessed, and then come the components, which are stored side by side.
-use Rattle.std.proofs.Common.{◌≡◌, ◌∙◌, sym, ap, subst, ℕ, ℤ, Bool, true, not, ◌&&◌, ◌||◌, nat_eq, length, List, Option, Some}
-use Rattle.std.proofs.lemmas.Bool.{and_parts, eqb-true}
+use Rattle.std.proofs.Common.{◌≡◌, ◌∙◌, sym, ap, subst, ℕ, Bool, true, not, ◌&&◌, length, List, Option, Some}
+use Rattle.std.proofs.lemmas.Bool.{and_parts}
 use Rattle.types.specs.Components.{components_of}
 use Rattle.types.specs.Forms.{Form}
-use Rattle.types.specs.Types.{have_one_length, is_ordinal, is_same, string_length}
+use Rattle.types.specs.Types.{is_ordinal, is_same}
 use Rattle.types.specs.declared.form.TypeId.{TypeId}
 use Rattle.place.specs.declared.Place.{Place}
 use Rattle.typed_tree.specs.Accesses as accesses
 use Rattle.typed_tree.specs.Calls.{whole_holds_call}
 use Rattle.typed_tree.specs.WellFormed.{Outline, are_well_formed, is_well_formed_value, is_well_formed_whole, leads_to_whole, length_of}
-use Rattle.typed_tree.specs.WellFormed.{may_copy, outline_of}
+use Rattle.typed_tree.specs.WellFormed.{may_copy, outline_of, source_of}
 use Rattle.typed_tree.specs.declared.tree.Access.{Access}
 use Rattle.typed_tree.specs.declared.tree.Expr.{Expr}
 use Rattle.typed_tree.specs.declared.tree.Selector.{Selector}
 use Rattle.typed_tree.specs.declared.tree.Tree.{Tree}
 use Rattle.typed_tree.specs.declared.tree.Whole.{Whole}
-use Rattle.typed_tree.specs.declared.tree.Whole.TheVariants.{Text, Variable as VariableOf}
 use Rattle.domain.specs.Interval.{Interval}
+use Rattle.meaning.specs.declared.store.Value.{Value}
 use Rattle.meaning.specs.Store.{Environment, Place as StorePlace, Store}
 use Rattle.meaning.specs.Effect as effect
 use Rattle.meaning.specs.Meaning as meaning
 use Rattle.meaning.specs.Meaning.{Surroundings, accessed, values_of}
 use Rattle.abstract_state.proofs.Refined.{whole-kept}
 use Rattle.leaf_rows.specs.Limits.{all_limits}
-use Rattle.leaf_rows.specs.Rows.{is_structured, rows_accessed, rows_of}
+use Rattle.leaf_rows.specs.Rows.{rows_accessed, rows_of}
 use Rattle.leaf_rows.proofs.Accessed.{row-leaf, rows-count}
 use Rattle.component_states.specs.Components.{Reach}
 use Rattle.expression_checker.specs.Walk as flow
-use Rattle.expression_checker.specs.Walk.{fits_whole}
-use Rattle.expression_checker.proofs.Fitting.{contains-at, fits-lie, many-numbers, same-type}
+use Rattle.expression_checker.proofs.Fitting.{contains-at, copy-for, same-type}
 use Rattle.expression_checker.proofs.Sound.{Any_value, Good, SoundCalls, SoundFrom, World, declared_in, from-then, is_seen, sound-anywhere, sound-here}
 use Rattle.expression_checker.proofs.Sound.{types_in}
 use Rattle.expression_checker.proofs.SoundAccesses.{IsWholeIn, LeadsTo, leads-seen, leads-tests, leads-type, type-of}
@@ -71,47 +70,35 @@ module _ (world : World) (limits_are : world.limits ≡ all_limits world.tree) (
     -- ---- the copy
 
     copy-stored : (becomes : Place) → is_seen world block root ≡ true → (value : Whole) (indexes : ℕ)
-        → is_well_formed_whole outline block value indexes ≡ true → may_copy outline block target (length_of value) ≡ true
-        → (reach : Reach) (place : Option StorePlace) (ranges : List Interval) (numbers : List ℤ) → IsWhole (types_in world) value ranges numbers
+        → is_well_formed_whole outline block value indexes ≡ true → may_copy outline block target (source_of value) (length_of value) ≡ true
+        → (reach : Reach) (place : Option StorePlace) (ranges : List Interval) (values : List Value) → IsWhole (types_in world) value ranges values
         → (store : Store) → Leads visible root selectors store reach place
-        → SoundFrom {A = Unit {0}} {B = Unit {0}} world block visible store Any_value (effect.store_all place (components_of visible.types target) numbers)
-        (walk.copy_to becomes root selectors reach target value ranges)
-    copy-stored becomes seen value indexes well may reach place ranges numbers whole store leads_place context state s same unbroken part here =
-        let types = types_in world in
+        → SoundFrom {A = Unit {0}} {B = Unit {0}} world block visible store Any_value (effect.store_all place (components_of visible.types target) values)
+        (walk.copy_to becomes root selectors reach ranges)
+    copy-stored becomes seen value indexes well may reach place ranges values whole store leads_place context state s same unbroken part here =
+        let copy = copy-for outline block laws.required target indexes ranges values value well may whole in
         let at = here.proper.visible root seen in
         let rows = rows-are world.tree root selectors target leads in
-        let many = many-numbers outline block target value indexes ranges numbers well may whole in
-        let fits = λ (tree : Tree). fits_whole tree.types target value && nat_eq (length (rows_accessed (rows_of tree) root selectors)) (length ranges) in
-        let stores = λ (tree : Tree). paired (rows_accessed (rows_of tree) root selectors) ranges in
+        let many = sym copy.components.count in
+        let long : length under ≡ length ranges = rows-count world.tree root selectors target leads (λ none. copy.structured) ∙ sym copy.many in
         let way = leads_place.way in
         let matches = leads_place.matches in
-        let MayFit = λ (tree : Tree). fits tree ≡ true
-        → Fit world limits_are block visible root at.0 at.1 selectors target rows reach way matches numbers many (stores tree) in
-        let fit : MayFit world.tree = λ is.
-        let both = and_parts (fits_whole types target value) (nat_eq (length under) (length ranges)) is in
-        let long = eqb-true (length under) (length ranges) both.1 in
-        let structured = fits-structured value both.0 in
-        let lie = fits-lie types target value ranges numbers whole both.0 many
-        (sym long ∙ rows-count world.tree root selectors target leads (λ none. structured)) in
-        record {
-          structured = λ none. structured;
+        let stores = λ (tree : Tree). paired (rows_accessed (rows_of tree) root selectors) ranges in
+        let fit =
+        subst (λ (tree : Tree). Fit world limits_are block visible root at.0 at.1 selectors target rows reach way matches values many (stores tree))
+        (sym here.stands.goes.tree_is)
+        (record {
+          structured = λ none. copy.structured;
           are = λ one listed. let at = paired-at under ranges one listed in contains-at under at.j one.0 at.row_is;
-          targets = paired-targets world.tree root selectors target rows visible store way matches numbers many (λ none. structured) ranges long lie
+          targets = paired-targets world.tree root selectors target rows visible store way matches values many (λ none. copy.structured) ranges long copy.lie
               (λ rest j row at of_row. row-leaf world.tree root selectors target leads way rest j row matches at of_row);
-        } in
+        }) in
         let reached = subst (λ (x : Store). IsReachedBy visible x selectors way reach) (sym same) leads_place.reached in
         subst (λ (own : List Form).
-        Good world (Foretold world visible context (walk.copy_to becomes root selectors reach target value ranges context state) s.store) s
-        (effect.store_all place (components_of own target) numbers s)) (sym here.proper.types_are)
-        (stores-good world limits_are block visible root at.0 at.1 selectors target rows reach way matches numbers many becomes (fits context.tree)
-        (stores context.tree) (subst MayFit (sym here.stands.goes.tree_is) fit) context state s reached unbroken here place leads_place.place_is)
-      where
-        fits-structured : (value : Whole) → fits_whole (types_in world) target value ≡ true → is_structured (types_in world) target ≡ true
-        fits-structured (Text number text) is =
-            (and_parts (is_structured (types_in world) target) (have_one_length (string_length (types_in world) target) (Some (length text.items))) is).0
-        fits-structured (VariableOf access source cells defined) is =
-            (and_parts (is_structured (types_in world) target)
-            (is_same target source || have_one_length (string_length (types_in world) target) (string_length (types_in world) source)) is).0
+        Good world (Foretold world visible context (walk.copy_to becomes root selectors reach ranges context state) s.store) s
+        (effect.store_all place (components_of own target) values s)) (sym here.proper.types_are)
+        (stores-good world limits_are block visible root at.0 at.1 selectors target rows reach way matches values many leads copy.components becomes
+        (stores context.tree) fit context state s reached unbroken here place leads_place.place_is)
 
   -- the target is accessed, and then comes the value
   abbrev pub copied : Access → List Expr → TypeId → Whole → List Expr → effect.Action (Unit {0})
@@ -126,15 +113,15 @@ module _ (world : World) (limits_are : world.limits ≡ all_limits world.tree) (
   pub copying-sound : (becomes : Place) (target : Access) (indexes : List Expr) (type_id : TypeId) (value : Whole) (value_indexes : List Expr)
       → (are_well_formed outline block indexes
       && (leads_to_whole outline block type_id target.root target.selectors.items (length indexes)
-      && (is_well_formed_value outline block value value_indexes && may_copy outline block type_id (length_of value)))) ≡ true
+      && (is_well_formed_value outline block value value_indexes && may_copy outline block type_id (source_of value) (length_of value)))) ≡ true
       → SoundAction world block visible (copied target indexes type_id value value_indexes)
-      (walk.copying becomes target (flow.index_pieces indexes) type_id value value_indexes)
+      (walk.copying becomes target (flow.index_pieces indexes) value value_indexes)
   copying-sound becomes target indexes type_id value value_indexes well =
       let root = target.root in
       let selectors = target.selectors.items in
       let there = leads_whole type_id root selectors (length indexes) in
       let is_value = is_well_formed_value outline block value value_indexes in
-      let may = may_copy outline block type_id (length_of value) in
+      let may = may_copy outline block type_id (source_of value) (length_of value) in
       let one = and_parts (are_well_formed outline block indexes) (there && (is_value && may)) well in
       let two = and_parts there (is_value && may) one.1 in
       let three = and_parts is_value may two.1 in
@@ -149,7 +136,7 @@ module _ (world : World) (limits_are : world.limits ≡ all_limits world.tree) (
       let walking = flow.access_walk target (flow.index_pieces indexes) in
       let whole_walking = flow.whole_walk value (flow.index_pieces value_indexes) in
       let hold = whole_holds_call value value_indexes in
-      let copy = λ (reach : Reach). walk.copy_to becomes root selectors (reach_stored selectors hold reach) type_id value in
+      let copy = λ (reach : Reach). walk.copy_to becomes root selectors (reach_stored selectors hold reach) in
       let walk_next = λ (reach : Reach). flow.◌>>=◌ whole_walking (copy reach) in
       sound-anywhere {A = Unit {0}} {B = Unit {0}} world block visible Any_value (effect.◌>>=◌ action next) (flow.◌>>=◌ walking walk_next)
       (λ store.
@@ -161,8 +148,8 @@ module _ (world : World) (limits_are : world.limits ≡ all_limits world.tree) (
       (copy reach)
       (sound-here world block visible t.store (IsWholeIn world block env value) whole whole_walking
       (whole_value-sound world block env laws calls value value_indexes three.0))
-      (λ ranges numbers s2 u gives same told.
+      (λ ranges values s2 u gives same told.
       copy-stored root selectors type_id leads_is becomes seen value (length value_indexes) (well-whole value value_indexes three.0) three.1
-      (reach_stored selectors hold reach) place ranges numbers told u.store
+      (reach_stored selectors hold reach) place ranges values told u.store
       (reached-then outline block world.tree visible t.store u.store root selectors reach place hold tests
-      (λ quiet. whole-kept value value_indexes quiet env s2 u numbers gives ∙ same) leads))))
+      (λ quiet. whole-kept value value_indexes quiet env s2 u values gives ∙ same) leads))))

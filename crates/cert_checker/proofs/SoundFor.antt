@@ -1,18 +1,19 @@
 -- For statements are sound: in each turn the control variable lies on its way, and the body leaves it as it is.
-use Rattle.std.proofs.Common.{arith, ◌≡◌, ◌≢◌, ⊎_elim, ◌∙◌, sym, ap, ap₂, refl, length, subst, ℕ, ◌<◌, ℤ, Bool, true, false, cond, ◌&&◌, ◌||◌}
+use Rattle.std.proofs.Common.{arith, ◌≡◌, ◌≢◌, ⊎_elim, ◌∙◌, sym, ap, refl, subst, ℕ, ◌<◌, ℤ, Bool, true, false, cond, ◌||◌}
 use Rattle.std.proofs.Common.{List, [], ◌∷◌, ◌++◌, Option, Some, None, nat_eq}
 use Rattle.std.specs.Ordering.{int_eq}
 use Rattle.std.specs.Prelude.{◌≤◌, is_some}
 use Rattle.std.proofs.lemmas.Int.{ints}
-use Rattle.std.proofs.lemmas.Bool.{and_parts, and_from, both_ways, cases_eq, eq-eqb, eqb-true, false_from_ne_true}
-use Rattle.std.proofs.lemmas.List.Folds.{list_all-append, list_any-append}
+use Rattle.std.proofs.lemmas.Bool.{and_from, both_ways, cases_eq, eq-eqb, eqb-true, false_from_ne_true}
+use Rattle.std.proofs.lemmas.List.Folds.{list_any-append}
 use Rattle.std.proofs.lemmas.List.Elements.{Contains-push_cases}
 use Rattle.std.proofs.lemmas.Option.{slice_get_within}
 use Rattle.place.specs.declared.Place.{Place as SourcePlace}
 use Rattle.typed_tree.specs.declared.tree.Tree.{Tree}
 use Rattle.typed_tree.specs.declared.tree.Direction.{Direction}
 use Rattle.typed_tree.specs.declared.tree.Direction.TheVariants.{To, DownTo}
-use Rattle.domain.specs.Interval.{Interval, HasMember, is_included}
+use Rattle.typed_tree.specs.declared.tree.RangeTest.{RangeTest}
+use Rattle.domain.specs.Interval.{Interval, HasMember}
 use Rattle.domain.specs.Facts.{Bound}
 use Rattle.meaning.specs.declared.store.Value.TheVariants.{Number}
 use Rattle.meaning.specs.Counting.{has_values, next_value, value_behind}
@@ -22,20 +23,19 @@ use Rattle.meaning.specs.Meaning as meaning
 use Rattle.meaning.specs.Meaning.{Surroundings}
 use Rattle.meaning.specs.Laws.{state_after}
 use Rattle.meaning.specs.Store.{Environment, Place as StorePlace, Store, is_beginning, overlap, stored as stored_at, undefined, written}
-use Rattle.abstract_state.specs.declared.known.Known.TheVariants.{Ordinal}
 use Rattle.abstract_state.specs.State.{limits_of}
 use Rattle.abstract_state.specs.Loops.{is_among, with_undefined}
 use Rattle.abstract_state.specs.Holds.{HasNumber, IsIn}
 use Rattle.abstract_state.specs.Knows as entire
 use Rattle.abstract_state.specs.Knows.{IsKept, IsOfForm, moment}
-use Rattle.abstract_state.proofs.Ranged.{included-in, is_in-limits, limits-is_in}
+use Rattle.abstract_state.proofs.Ranged.{is_in-limits, limits-is_in}
 use Rattle.component_states.specs.States.{State, over_bound, over_change, over_variables}
 use Rattle.component_states.specs.Holds.{Knows}
 use Rattle.component_states.specs.Laws.{AreEntire}
 use Rattle.leaf_rows.specs.Limits.{all_limits, limits_at}
 use Rattle.structured_states.specs.Loops.{Round, controls_inside, round_of, touched, with_own}
 use Rattle.structured_states.proofs.Touched.{all_control}
-use Rattle.structured_states.specs.Pairs.{aliases_of, Listed, aliases_in}
+use Rattle.structured_states.specs.Pairs.{aliases_of, aliases_in}
 use Rattle.structured_states.specs.Ways as ways
 use Rattle.structured_states.specs.Ways.{Way, entered, met, step, turn_begun, turn_ended, way_out, where_counts, with_values}
 use Rattle.structured_states.proofs.OnWay.{Between, MayBe, begun-known, counts-known, counts-ordered, entered-known, kept-may, met-in, next-between}
@@ -45,12 +45,11 @@ use Rattle.call_states.specs.Aliases.{variable_values}
 use Rattle.call_states.specs.Environments.{Fine, LiesUnder, Proper}
 use Rattle.call_states.proofs.AliasedStores.{AreWritten, IsApart, all-pass, hidden-apart, one-kept}
 use Rattle.call_states.proofs.AliasedTypes.{declared, shows, written-begun, written-typed}
-use Rattle.call_states.proofs.SeenAliases.{apart-seen, listed_pairs, none-seen}
+use Rattle.call_states.proofs.SeenAliases.{apart-seen, listed_pairs}
 use Rattle.expression_checker.specs.Walk as flow
 use Rattle.expression_checker.specs.Walk.{Context, Walked, Walking, followed}
-use Rattle.expression_checker.specs.declared.fault.Rule.TheVariants.{Changes}
 use Rattle.expression_checker.proofs.Keeping.{Keeps, keeps-itself, keeps-then}
-use Rattle.expression_checker.proofs.Sound.{Any_value, Good, Goes, Here, IsForetold, IsPartOf, Passes, Sound, Stands, World, good-give, good-then, good-weaker}
+use Rattle.expression_checker.proofs.Sound.{Any_value, Good, Goes, Here, IsForetold, IsPartOf, Passes, Stands, World, good-give, good-then, good-weaker}
 use Rattle.expression_checker.proofs.Sound.{here-behind, is_seen, nothing-new, over-known, part-left, part-right, parts_in, proper-grown, sites_in, stands-as}
 use Rattle.expression_checker.proofs.Sound.{unbroken-left, unbroken-right, variables_in}
 use Rattle.expression_checker.proofs.SoundCalls.{in_world, by-world}
@@ -66,7 +65,7 @@ use Rattle.abstract_state.proofs.Knows.{entire-value}
 use Rattle.cert_checker.proofs.SoundLoops.{AreControlled, AreFine, RoundEnds, SoundAmong, all-controls, here-as, inner, inner-controlled, loop-good}
 use Rattle.cert_checker.proofs.SoundLoops.{loop_begun, rounds-outer, rounds-own}
 use Rattle.cert_checker.proofs.SoundLoops.{turn-then, ways-good, with_head}
-use Rattle.cert_checker.proofs.Written.{Foretold, kept-rule}
+use Rattle.cert_checker.proofs.Written.{Foretold}
 
 -- a number between two of a range lies in the range
 between-in : (direction : Direction) (range : Interval) (x y n : ℤ) → HasMember range x → HasMember range y → Between direction x y n → HasMember range n
@@ -121,6 +120,11 @@ control-keeps env root rounds before after kept controls round inside = record {
 -- the values of a variable's type
 abbrev typed_values : World → ℕ → Interval
 typed_values world root = limits_at (all_limits world.tree) root
+
+-- a test for a variable names a site of the table, and what passes is one of those values
+pub record IsTestFor (world : World) (root : ℕ) (fits : RangeTest) : Type 0 where
+  pub below : fits.site < sites_in world
+  pub typed : (n : ℤ) → is_in fits.range (Number n) ≡ true → HasMember (typed_values world root) n
 
 -- the control variable of a loop and those inside it
 abbrev all_in : World → ℕ → ℕ → List ℕ
@@ -390,23 +394,6 @@ module _ (world : World) (ranges : world.limits ≡ all_limits world.tree) (bloc
   may-of_form store None n may = tt
   may-of_form store (Some bound) n may = (n, refl, may bound refl)
 
-  -- where no rule is broken, the bounds fit the variable
-  may-changed : (place : SourcePlace) (context : Context) (state : State) (way : Way) → (walk.for_turns number place body way context state).broken ≡ []
-      → walk.fit_control context way.control way.first.fits.range way.last.fits.range ≡ true
-  may-changed place context state way unbroken =
-      let first = walk.tested_end state way.first context state in
-      let last = walk.tested_end state way.last context first.after in
-      let asked = walk.bounds_fit place way.control way.first.fits.range way.last.fits.range context last.after in
-      let from_asked = followed asked (flow.give (with_values first.value last.value way) context last.after) in
-      let tests = walk.tested_way place way context state in
-      let tested = with_values first.value last.value way in
-      let begun = walk.begin_way tested context last.after in
-      let turns = walk.rounds_of number place body tested context begun.after in
-      let tests_unbroken = unbroken-left tests.broken (begun.broken ++ turns.broken) unbroken in
-      kept-rule (walk.fit_control context way.control way.first.fits.range way.last.fits.range) Changes place
-      (unbroken-left asked.broken [] (unbroken-right last.broken from_asked.broken
-      (unbroken-right first.broken (last.broken ++ from_asked.broken) tests_unbroken)))
-
   own-of : (context : Context) (state : State) (s : effect.State) (control : ℕ) → IsControl world block env execution context control
       → Here world block visible context state s → IsOwn world block visible s.activations control
   own-of context state s control text here =
@@ -421,7 +408,7 @@ module _ (world : World) (ranges : world.limits ≡ all_limits world.tree) (bloc
   module _ (place : SourcePlace) (context : Context) (state : State) (way : Way) (x y : ℤ)
       (text : IsControl world block env execution context way.control) (held : AreControlled among context)
       (controls_are : AreEntire (parts_in world) (all_in world number way.control))
-      (first_site : way.first.fits.site < sites_in world) (last_site : way.last.fits.site < sites_in world)
+      (first_tested : IsTestFor world way.control way.first.fits) (last_tested : IsTestFor world way.control way.last.fits)
       (counts : has_values way.direction x y ≡ true) where
     abbrev first : Walked Interval
     first = walk.tested_end state way.first context state
@@ -432,9 +419,6 @@ module _ (world : World) (ranges : world.limits ≡ all_limits world.tree) (bloc
     abbrev tested : Way
     tested = with_values first.value last.value way
 
-    abbrev asked : Walked (Unit {0})
-    asked = walk.bounds_fit place way.control way.first.fits.range way.last.fits.range context last.after
-
     abbrev begun : Walked (Unit {0})
     begun = walk.begin_way tested context last.after
 
@@ -444,14 +428,14 @@ module _ (world : World) (ranges : world.limits ≡ all_limits world.tree) (bloc
     abbrev from_begun : Walked (Unit {0})
     from_begun = followed begun turns
 
-    abbrev from_asked : Walked Way
-    from_asked = followed asked (flow.give tested context last.after)
+    abbrev given : Walked Way
+    given = flow.give tested context last.after
 
     abbrev from_last : Walked Way
-    from_last = followed last from_asked
+    from_last = followed last given
 
     abbrev tests : Walked Way
-    tests = walk.tested_way place way context state
+    tests = walk.tested_way way context state
 
     abbrev whole_walked : Walked (Unit {0})
     whole_walked = walk.for_turns number place body way context state
@@ -463,28 +447,15 @@ module _ (world : World) (ranges : world.limits ≡ all_limits world.tree) (bloc
     rounds_action = effect.looped (meaning.for_round way.control way.direction y execution env) x
 
     -- the control variable gets its first value, and the rounds follow
-    module _ (unbroken : turns.broken ≡ []) (part : IsPartOf world turns)
-        (may : walk.fit_control context way.control way.first.fits.range way.last.fits.range ≡ true) (v : effect.State)
+    module _ (unbroken : turns.broken ≡ []) (part : IsPartOf world turns) (v : effect.State)
         (here : Here world block visible context last.after v) (forms : Forms v.store) (in_first : IsIn first.value (Number x))
         (in_last : IsIn last.value (Number y)) (x_fits : is_in way.first.fits.range (Number x) ≡ true)
         (y_fits : is_in way.last.fits.range (Number y) ≡ true) where
-      abbrev first_fits : Bool
-      first_fits = is_included (limits_of way.first.fits.range) (limits_at context.limits way.control)
-
-      abbrev last_fits : Bool
-      last_fits = is_included (limits_of way.last.fits.range) (limits_at context.limits way.control)
-
-      in-type : (own : Interval) (n : ℤ) → is_included own (limits_at context.limits way.control) ≡ true → IsIn own (Number n)
-          → HasMember (typed_values world way.control) n
-      in-type own n is inside =
-          subst (λ (all : List Interval). IsIn (limits_at all way.control) (Number n)) (here.stands.goes.limits_are ∙ ranges)
-          (included-in own (limits_at context.limits way.control) (Number n) is inside)
-
       x_typed : HasMember (typed_values world way.control) x
-      x_typed = in-type (limits_of way.first.fits.range) x (and_parts first_fits last_fits may).0 (is_in-limits way.first.fits.range (Number x) x_fits)
+      x_typed = first_tested.typed x x_fits
 
       y_typed : HasMember (typed_values world way.control) y
-      y_typed = in-type (limits_of way.last.fits.range) y (and_parts first_fits last_fits may).1 (is_in-limits way.last.fits.range (Number y) y_fits)
+      y_typed = last_tested.typed y y_fits
 
       is_own : IsOwn world block visible v.activations way.control
       is_own = own-of context last.after v way.control text here
@@ -566,9 +537,6 @@ module _ (world : World) (ranges : world.limits ≡ all_limits world.tree) (bloc
       tests_unbroken : tests.broken ≡ []
       tests_unbroken = unbroken-left tests.broken from_begun.broken unbroken
 
-      may_here : walk.fit_control context way.control way.first.fits.range way.last.fits.range ≡ true
-      may_here = may-changed place context state way unbroken
-
       tests_part : IsPartOf world tests
       tests_part = part-left world tests from_begun part
 
@@ -588,11 +556,11 @@ module _ (world : World) (ranges : world.limits ≡ all_limits world.tree) (bloc
           good-then world (IsForetold world visible (Passes last_test (Number y)) context last u.store) (Foretold world visible context whole_walked start) u
           (effect.require last_test way.last.fits.site u) (λ done. rounds_action)
           (within-sound world block visible (limits_of way.last.fits.range) way.last.fits.site (met way.last.form state.variables way.last.values)
-          (Number y) last_test last_site
+          (Number y) last_test last_tested.below
           (is_in-limits way.last.fits.range (Number y)) (limits-is_in way.last.fits.range (Number y))
           (met-in (variables_in world) visible u.store way.last.form state.variables way.last.values y forms.1 known inside) context first.after u
-          (unbroken-left last.broken from_asked.broken (unbroken-right first.broken from_last.broken tests_unbroken))
-          (part-left world last from_asked (part-right world first from_last from-first)) here)
+          (unbroken-left last.broken given.broken (unbroken-right first.broken from_last.broken tests_unbroken))
+          (part-left world last given (part-right world first from_last from-first)) here)
           (λ done v is told.
           let same = required-same last_test way.last.fits.site u v done is in
           let forms_here : Forms v.store = subst (λ (s : effect.State). Forms s.store) same.1 forms in
@@ -604,7 +572,7 @@ module _ (world : World) (ranges : world.limits ≡ all_limits world.tree) (bloc
             kept = keeps-then visible context.rounds start u.store w.store kept
                 (keeps-then visible context.rounds u.store v.store w.store told.so.kept then.so.kept);
           })
-          (rounds-good (unbroken-right begun.broken turns.broken (unbroken-right tests.broken from_begun.broken unbroken)) turns_part may_here v here_behind
+          (rounds-good (unbroken-right begun.broken turns.broken (unbroken-right tests.broken from_begun.broken unbroken)) turns_part v here_behind
           forms_here in_first told.so.tie.0 x_fits same.0))
 
       -- the tests of both, and then the rounds
@@ -616,7 +584,7 @@ module _ (world : World) (ranges : world.limits ≡ all_limits world.tree) (bloc
           (Foretold world visible context whole_walked t.store) t (effect.require first_test way.first.fits.site t)
           (λ done. effect.◌>>=◌ (effect.require last_test way.last.fits.site) (λ done. rounds_action))
           (within-sound world block visible (limits_of way.first.fits.range) way.first.fits.site (met way.first.form state.variables way.first.values)
-          (Number x) first_test first_site
+          (Number x) first_test first_tested.below
           (is_in-limits way.first.fits.range (Number x)) (limits-is_in way.first.fits.range (Number x))
           (met-in (variables_in world) visible t.store way.first.form state.variables way.first.values x forms.0 here.stands.known.variables in_first) context
           state t
@@ -632,7 +600,7 @@ module _ (world : World) (ranges : world.limits ≡ all_limits world.tree) (bloc
   module _ (place : SourcePlace) (context : Context) (state : State) (way : Way) (x y : ℤ)
       (text : IsControl world block env execution context way.control) (held : AreControlled among context)
       (controls_are : AreEntire (parts_in world) (all_in world number way.control))
-      (first_site : way.first.fits.site < sites_in world) (last_site : way.last.fits.site < sites_in world) where
+      (first_tested : IsTestFor world way.control way.first.fits) (last_tested : IsTestFor world way.control way.last.fits) where
     abbrev where_so : Bool → State
     where_so b = over_variables (where_counts b way) state
 
@@ -690,7 +658,7 @@ module _ (world : World) (ranges : world.limits ≡ all_limits world.tree) (bloc
     pub for-good : (t : effect.State) → statement.broken ≡ [] → IsPartOf world statement → Here world block visible context state t
         → MayBe visible t.store way.first.form x → MayBe visible t.store way.last.form y → HasMember way.first.values x → HasMember way.last.values y
         → Good world (Foretold world visible context statement t.store) t
-        (effect.◌>>=◌ (meaning.for_between way.control way.first.fits way.direction way.last.fits execution env (Number x) (Number y))
+        (effect.◌>>=◌ (meaning.for_between way.control way.first.fits way.direction way.last.fits execution env x y)
         (λ done. effect.undefine (visible.variables way.control)) t)
     for-good t unbroken part here one other in_first in_last =
         let both_unbroken = unbroken-left both.broken behind.broken unbroken in
@@ -704,7 +672,7 @@ module _ (world : World) (ranges : world.limits ≡ all_limits world.tree) (bloc
         (cond counts turns (effect.give tt) t) (λ done. effect.undefine (visible.variables way.control))
         (ways-good world visible turns (effect.give tt) taken never counts context t
         (λ is unbroken part.
-        turns-good place context (where_so true) way x y text held controls_are first_site last_site is unbroken part t (here_so true is)
+        turns-good place context (where_so true) way x y text held controls_are first_tested last_tested is unbroken part t (here_so true is)
         (one, other) in_first in_last)
         (λ is unbroken part.
         good-give world (Foretold world visible context never t.store) tt t here.fine

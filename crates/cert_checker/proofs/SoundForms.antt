@@ -4,7 +4,7 @@ use Rattle.std.proofs.Common.{List, [], ◌∷◌, ◌++◌, map, Option, Some, 
 use Rattle.std.specs.declared.alloc.Global.{Global}
 use Rattle.std.specs.declared.vec.Vec.{Vec}
 use Rattle.std.specs.List.{list_all, list_any}
-use Rattle.std.specs.Prelude.{is_some, slice_get}
+use Rattle.std.specs.Prelude.{slice_get}
 use Rattle.std.proofs.lemmas.Bool.{and_parts, eq-eqb, ltb-true, or_left, or_right}
 use Rattle.std.proofs.lemmas.List.Folds.{list_any-append}
 use Rattle.std.proofs.lemmas.List.{length-map}
@@ -26,7 +26,7 @@ use Rattle.typed_tree.specs.Loops.{AreLoops, Inside, IsLoop, all_inside, both_in
 use Rattle.typed_tree.specs.Loops.{controls_of as block_controls}
 use Rattle.typed_tree.specs.Threats.{Spares, all_spare, is_none_of, spares, spares_in_expr, statement_spares}
 use Rattle.typed_tree.specs.WellFormed.{Outline, all_hold, are_whole, is_control, is_declared, is_local_kind, is_well_formed_expr, is_well_formed_parameter}
-use Rattle.typed_tree.specs.WellFormed.{is_well_formed_stmt, is_well_formed_test, leads_to_ordinal, outline_of, stmt_is_well_formed}
+use Rattle.typed_tree.specs.WellFormed.{fits_target, is_well_formed_stmt, is_well_formed_test, leads_to_ordinal, outline_of, stmt_is_well_formed}
 use Rattle.domain.specs.Interval.{common}
 use Rattle.domain.specs.Numbers.{hull, is_covered}
 use Rattle.domain.proofs.Numbers.{among-hull, covered-among}
@@ -50,7 +50,6 @@ use Rattle.component_states.specs.Laws.{AreEntire}
 use Rattle.component_states.specs.States.{State, dead, is_dead, joined_states, over_variables}
 use Rattle.component_states.proofs.Joins.{join-holds}
 use Rattle.structured_states.specs.Cases.{at_constants, constants_before}
-use Rattle.call_states.specs.Aliases.{variable_values}
 use Rattle.leaf_rows.specs.Limits.{all_limits}
 use Rattle.structured_states.specs.Loops.{controls_inside, controls_of}
 use Rattle.structured_states.specs.Pairs.{aliases_of}
@@ -66,15 +65,15 @@ use Rattle.expression_checker.proofs.Sound.{sites_in, sound-enter, sound-give, s
 use Rattle.expression_checker.proofs.Sound.{unbroken-right, variables_in}
 use Rattle.expression_checker.proofs.SoundAccesses.{leads-type}
 use Rattle.expression_checker.proofs.SoundCalls.{CallLaws}
-use Rattle.expression_checker.proofs.SoundExpressions.{SoundAction, entered-sound, parameter-sound, procedure-sound, value-sound}
+use Rattle.expression_checker.proofs.SoundExpressions.{SoundAction, parameter-sound, procedure-sound, value-sound}
 use Rattle.cert_checker.specs.Walk as walk
 use Rattle.cert_checker.specs.Walk.{statement_walk}
 use Rattle.cert_checker.proofs.Controls.{AreOrdinal, all-ordinal, control-ordinal, control-seen, controls-ordinal, inside-ordinal, loops-parts, one-ordinal}
 use Rattle.cert_checker.proofs.Controls.{control-declared, ordinal-entire}
-use Rattle.cert_checker.proofs.SoundAssignments.{assigned, assignment-sound, ordinal-values, site-within}
+use Rattle.cert_checker.proofs.SoundAssignments.{assigned, assignment-sound, entire-lies, has_type, ordinal-values, site-within}
 use Rattle.cert_checker.proofs.SoundCase.{arm-missing, arms-behind, at-constants_known, entire-number, first-constants}
 use Rattle.cert_checker.proofs.SoundCopies.{copied, copying-sound}
-use Rattle.cert_checker.proofs.SoundFor.{IsControl, for-good}
+use Rattle.cert_checker.proofs.SoundFor.{IsControl, IsTestFor, for-good}
 use Rattle.cert_checker.proofs.SparedCalls.{Controls, IsAlone, SpareControls}
 use Rattle.cert_checker.proofs.SparedText.{MayChangeOthers, text-kept}
 use Rattle.expression_checker.proofs.EffectsKept.{watching}
@@ -288,12 +287,21 @@ module _ (world : World) (limits_are : world.limits ≡ all_limits world.tree) (
       (sound-choice controls world block env condition consequence alternative true_walk false_walk
       (value-sound world block env laws calls condition well) one other)
 
+  -- the test of a bound has the range of the control variable's type
+  control-tested : (control : ℕ) (fits : RangeTest) → fits_target outline block fits control [] ≡ true → IsTestFor world control fits
+  control-tested control fits well =
+      let parts = and_parts (is_well_formed_test outline block fits) (has_type world fits control []) well in
+      record {
+        below = site-within world limits_are block env laws calls fits parts.0;
+        typed = λ n passes. (entire-lies world control fits (Number n) parts.1 passes).1;
+      }
+
   -- a for, from the values of its bounds
   bounds-good : (number : ℕ) (place : Place) (control : ℕ) (first : Expr) (first_fits : RangeTest) (direction : Direction) (last : Expr) (last_fits : RangeTest)
       (execution : Execution) (walking : Walking (Unit {0})) (among : List ℕ) → controls_inside world.tree number ≡ among
       → SoundAmong {A = Unit {0}} {B = Unit {0}} among world block visible Any_value (execution env) walking
-      → AreEntire (parts_in world) (control ∷ controls_inside world.tree number) → StandsIn world block number → first_fits.site < sites_in world
-      → last_fits.site < sites_in world → (from to : Known) (a b : Value) (context : Context) (state : State) (t : effect.State)
+      → AreEntire (parts_in world) (control ∷ controls_inside world.tree number) → StandsIn world block number → IsTestFor world control first_fits
+      → IsTestFor world control last_fits → (from to : Known) (a b : Value) (context : Context) (state : State) (t : effect.State)
       → IsControl world block env execution context control → AreControlled among context
       → (walk.for_walk number place walking (way_of control direction first first_fits last last_fits from to) context state).broken ≡ []
       → IsPartOf world (walk.for_walk number place walking (way_of control direction first first_fits last last_fits from to) context state)
@@ -302,13 +310,14 @@ module _ (world : World) (limits_are : world.limits ≡ all_limits world.tree) (
       → IsKnown from a → IsKnown to b
       → Good world (Foretold world visible context
       (walk.for_walk number place walking (way_of control direction first first_fits last last_fits from to) context state) t.store) t
-      (effect.◌>>=◌ (meaning.for_between control first_fits direction last_fits execution env a b) (λ done. effect.undefine (visible.variables control)) t)
-  bounds-good number place control first first_fits direction last last_fits execution walking among inside_are one controls_are stands first_site last_site
+      (effect.◌>>=◌ (meaning.for_between control first_fits direction last_fits execution env (effect.number_of a) (effect.number_of b))
+      (λ done. effect.undefine (visible.variables control)) t)
+  bounds-good number place control first first_fits direction last last_fits execution walking among inside_are one controls_are stands first_tested last_tested
       (Ordinal from) (Ordinal to)
       (Number x) (Number y) context state t text held unbroken part here first_form last_form in_first in_last =
       for-good world limits_are block env number stands execution walking among inside_are one place context state
       (way_of control direction first first_fits last last_fits (Ordinal from) (Ordinal to))
-      x y text held controls_are first_site last_site t unbroken part here (of-form_may visible t.store (form_before first last) x first_form)
+      x y text held controls_are first_tested last_tested t unbroken part here (of-form_may visible t.store (form_before first last) x first_form)
       (of-form_may visible t.store (bound_form last) y last_form) in_first in_last
 
   -- the form of the first bound behind the last
@@ -325,15 +334,16 @@ module _ (world : World) (limits_are : world.limits ≡ all_limits world.tree) (
       → SoundAmong {A = Unit {0}} {B = Unit {0}} among world block visible Any_value (execution env) walking
       → ((context : Context) → all_control control context.rounds ≡ true → IsControl world block env execution context control)
       → AreEntire (parts_in world) (control ∷ controls_inside world.tree number) → StandsIn world block number → well_expr first ≡ true
-      → first_fits.site < sites_in world
-      → well_expr last ≡ true → last_fits.site < sites_in world
+      → IsTestFor world control first_fits
+      → well_expr last ≡ true → IsTestFor world control last_fits
       → SoundAmong {A = Unit {0}} {B = Unit {0}} (control ∷ among) world block visible Any_value
       (effect.◌>>=◌ (value_of first env) (λ a. effect.◌>>=◌ (value_of last env) (λ b.
-      effect.◌>>=◌ (meaning.for_between control first_fits direction last_fits execution env a b) (λ done. effect.undefine (visible.variables control)))))
+      effect.◌>>=◌ (meaning.for_between control first_fits direction last_fits execution env (effect.number_of a) (effect.number_of b))
+      (λ done. effect.undefine (visible.variables control)))))
       (flow.◌>>=◌ (value_walk first) (λ from. flow.◌>>=◌ (value_walk last) (λ to.
       walk.for_walk number place walking (way_of control direction first first_fits last last_fits from to))))
   for-sound number place control first first_fits direction last last_fits execution walking among inside_are one text controls_are stands first_well
-      first_site last_well last_site context state s held unbroken part here =
+      first_tested last_well last_tested context state s held unbroken part here =
       let own_held = held control (or_left (nat_eq control control) (is_among control among) (eq-eqb control control refl)) in
       let inside_held : AreControlled among context = λ root is. held root (or_right (nat_eq control root) (is_among root among) is) in
       let from = value_walk first context state in
@@ -341,7 +351,8 @@ module _ (world : World) (limits_are : world.limits ≡ all_limits world.tree) (
       let rest = walk.for_walk number place walking (way_of control direction first first_fits last last_fits from.value to.value) context to.after in
       let more = followed to rest in
       let Q = Foretold world visible context (followed from more) s.store in
-      let finish = λ (a b : Value). effect.◌>>=◌ (meaning.for_between control first_fits direction last_fits execution env a b)
+      let finish = λ (a b : Value).
+      effect.◌>>=◌ (meaning.for_between control first_fits direction last_fits execution env (effect.number_of a) (effect.number_of b))
       (λ done. effect.undefine (visible.variables control)) in
       let more_unbroken = unbroken-right from.broken more.broken unbroken in
       let more_part = part-right world from more part in
@@ -363,8 +374,8 @@ module _ (world : World) (limits_are : world.limits ≡ all_limits world.tree) (
         kept = keeps-then visible context.rounds s.store t.store w.store first_told.so.kept
             (keeps-then visible context.rounds t.store u.store w.store last_told.so.kept then.so.kept);
       })
-      (bounds-good number place control first first_fits direction last last_fits execution walking among inside_are one controls_are stands first_site
-      last_site from.value to.value a b context to.after u (text context own_held) inside_held
+      (bounds-good number place control first first_fits direction last last_fits execution walking among inside_are one controls_are stands first_tested
+      last_tested from.value to.value a b context to.after u (text context own_held) inside_held
       (unbroken-right to.broken rest.broken more_unbroken) (part-right world to rest more_part) here_last form
       (form-known last env t u b last_is) first_told.so.tie last_told.so.tie)))
 
@@ -515,7 +526,7 @@ module _ (world : World) (limits_are : world.limits ≡ all_limits world.tree) (
       (plainly [] world block visible does walked (assignment-sound world limits_are block env laws calls becomes target indexes.items fits value well))
   statement-layer (Copy number becomes target indexes type_id value value_indexes) well text =
       let does = copied world limits_are block env laws calls target indexes.items type_id value value_indexes.items in
-      let walked = walk.copying becomes target (flow.index_pieces indexes.items) type_id value value_indexes.items in
+      let walked = walk.copying becomes target (flow.index_pieces indexes.items) value value_indexes.items in
       entered-among [] number does walked
       (plainly [] world block visible does walked
       (copying-sound world limits_are block env laws calls becomes target indexes.items type_id value value_indexes.items well))
@@ -603,7 +614,7 @@ module _ (world : World) (limits_are : world.limits ≡ all_limits world.tree) (
       (λ a. sound-repeat inside.controls world block env condition body bodies (all-sound statements.items parts.0 own)
       (value-sound world block env laws calls condition parts.1)))
   statement-layer (For number loop_number place control first first_fits direction last last_fits body) well text =
-      let is_test = is_well_formed_test outline block in
+      let is_test = λ (fits : RangeTest). fits_target outline block fits control [] in
       let controls = is_control outline block control in
       let leads = leads_to_ordinal outline block control [] 0 in
       let one = and_parts controls
@@ -646,7 +657,8 @@ module _ (world : World) (limits_are : world.limits ≡ all_limits world.tree) (
             text-kept (watching place visible) env.calls (spared_by block control controls place visible alone) refl body.value.0 (control ∷ text.roots)
             (others-alone place control text.roots visible alone) so_three.1;
       } in
-      let finish = λ (a b : Value). effect.◌>>=◌ (meaning.for_between control first_fits direction last_fits execution env a b)
+      let finish = λ (a b : Value).
+      effect.◌>>=◌ (meaning.for_between control first_fits direction last_fits execution env (effect.number_of a) (effect.number_of b))
       (λ done. effect.undefine (visible.variables control)) in
       entered-among (control ∷ inside.controls) number
       (effect.◌>>=◌ (value_of first env) (λ a. effect.◌>>=◌ (value_of last env) (finish a)))
@@ -658,7 +670,7 @@ module _ (world : World) (limits_are : world.limits ≡ all_limits world.tree) (
       (one-ordinal world.tree control (controls_inside world.tree loop_number) (control-ordinal world.tree block control one.0)
       (inside-ordinal world.tree block loop_number inside.controls (controls-ordinal world.tree block body.value.0 five.1) loop)))
       (loop.0, loop.1, loop.2) two.0
-      (site-within world limits_are block env laws calls first_fits three.0) four.0 (site-within world limits_are block env laws calls last_fits five.0))
+      (control-tested control first_fits three.0) four.0 (control-tested control last_fits five.0))
   statement-layer (Case number site index constants arms) well text =
       let inner = bodies arms.items in
       let one = and_parts (nat_lt site (sites_in world)) (well_expr index && (list_all are_whole constants.items && all_hold (map well_stmt inner))) well in

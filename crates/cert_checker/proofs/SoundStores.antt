@@ -1,11 +1,9 @@
 -- Stores to components of rows are sound: what is known behind them holds.
-use Rattle.std.proofs.Common.{◌≡◌, ⊎_elim, inl, inr, ◌∙◌, sym, ap, refl, subst, ℕ, ℤ, ◌+ℤ◌, Bool, true, false, cond, ◌+◌, length, arith, List, [], ◌∷◌}
+use Rattle.std.proofs.Common.{◌≡◌, ⊎_elim, inl, inr, ◌∙◌, sym, ap, refl, subst, ℕ, ℤ, ◌+ℤ◌, Bool, true, false, cond, length, arith, List, [], ◌∷◌}
 use Rattle.std.proofs.Common.{Option, Some, None}
-use Rattle.std.specs.Option.{option_and_then}
-use Rattle.std.specs.Prelude.{map, slice_get, slice_index_or}
-use Rattle.std.specs.List.{Contains, list_all}
+use Rattle.std.specs.Prelude.{map, slice_index_or}
+use Rattle.std.specs.List.{Contains}
 use Rattle.std.proofs.lemmas.Option.{none-some, same_Some}
-use Rattle.types.specs.declared.form.OrdinalRange.{OrdinalRange}
 use Rattle.types.specs.declared.form.Step.{Step}
 use Rattle.typed_tree.specs.declared.tree.Selector.{Selector}
 use Rattle.typed_tree.specs.declared.tree.Tree.{Tree}
@@ -17,30 +15,26 @@ use Rattle.meaning.specs.declared.store.Value.TheVariants.{Number}
 use Rattle.meaning.specs.Store.{Environment, Place, Store}
 use Rattle.meaning.specs.Store as store
 use Rattle.abstract_state.specs.State as variables
-use Rattle.abstract_state.specs.State.{limits_of}
 use Rattle.abstract_state.specs.Holds.{IsBound, IsIn, value_at}
 use Rattle.abstract_state.specs.Knows as entire
 use Rattle.abstract_state.specs.Knows.{moment}
 use Rattle.abstract_state.specs.Loops.{is_among, with_touched}
 use Rattle.abstract_state.proofs.Apart.{part}
 use Rattle.abstract_state.proofs.Looped as looped
-use Rattle.abstract_state.proofs.Ranged.{included-in}
 use Rattle.leaf_rows.specs.Limits.{all_limits, limits_at}
-use Rattle.leaf_rows.specs.Rows.{Parts, Row, all_parts, no_parts, rows_of, type_at, values_at}
-use Rattle.leaf_rows.proofs.Accessed.{components-inner, row-is, rows-apart}
+use Rattle.leaf_rows.specs.Rows.{Parts, all_parts, no_parts, rows_of, type_at}
+use Rattle.leaf_rows.proofs.Accessed.{components-inner, rows-apart}
 use Rattle.component_states.specs.Components.{At, Components, Entire, Index, Inside, Reach, all_stored}
 use Rattle.component_states.specs.Holds.{ComponentsHold, IsOfRow, Knows, component_at}
 use Rattle.component_states.specs.Laws.{AreApart, AreComponents, AreLoose, AreStored, IsReach, IsReachApart, IsReached, bound_rests}
 use Rattle.component_states.specs.States.{State}
 use Rattle.component_states.proofs.Stored.{formless-hold, stores-hold}
 use Rattle.structured_states.specs.Pairs.{aliases_in}
-use Rattle.call_states.specs.Actuals.{lies_among}
 use Rattle.call_states.specs.Aliases.{Stored, index_unless_alias, reach_unless_alias, unless_alias, with_aliases_stored}
 use Rattle.call_states.specs.Environments.{Proper, Typed, place_type}
 use Rattle.call_states.proofs.Aliased.{aliases-ready}
-use Rattle.call_states.proofs.AliasedStores.{AreWritten, Pairs, all-pass, at-head, head-or_tail, in-tail, one-kept, own-came, value-defined}
-use Rattle.call_states.proofs.AliasedTypes.{AreStoredAs, AreTyped, are-aliased, in-types, part-type, row-type, shows, written-typed}
-use Rattle.call_states.proofs.ComponentTypes.{component-typed}
+use Rattle.call_states.proofs.AliasedStores.{AreWritten, Pairs, at-head, head-or_tail, in-tail, one-kept, own-came, value-defined}
+use Rattle.call_states.proofs.AliasedTypes.{AreStoredAs, AreTyped, are-aliased, in-types, row-type, shows, written-typed}
 use Rattle.call_states.proofs.Passed.{IsIndexOn, IsReachedBy}
 use Rattle.call_states.proofs.SeenAliases.{listed_pairs}
 use Rattle.cert_checker.specs.Walk.{Stores}
@@ -48,18 +42,18 @@ use Rattle.cert_checker.specs.Walk.{Stores}
 abbrev pub root_at : List Parts → ℕ → ℕ
 root_at rows row = (slice_index_or rows row no_parts).root
 
--- numbers go to components of rows of one variable, each row with the range of its numbers
+-- values go to components of rows of one variable, each row with the range of its values
 pub record AreTargets (rows : List Parts) (root : ℕ) (pairs : Pairs) (stores : Stores) : Type 0 where
   pub roots : (one : ℕ × Interval) → Contains stores one → root_at rows one.0 ≡ root
-  pub in_rows : (pair : List Step × ℤ) → Contains pairs pair → (one : ℕ × Interval) × Contains stores one × IsOfRow rows one.0 pair.0
-  pub in_ranges : (pair : List Step × ℤ) (one : ℕ × Interval) → Contains pairs pair → Contains stores one → IsOfRow rows one.0 pair.0
-      → HasMember one.1 pair.1
+  pub in_rows : (pair : List Step × Value) → Contains pairs pair → (one : ℕ × Interval) × Contains stores one × IsOfRow rows one.0 pair.0
+  pub in_ranges : (pair : List Step × Value) (one : ℕ × Interval) → Contains pairs pair → Contains stores one → IsOfRow rows one.0 pair.0
+      → IsIn one.1 pair.1
 
--- what is reached of these rows is among the components that get numbers
+-- what is reached of these rows is among the components that get values
 abbrev pub AreReached : List Parts → Environment → Reach → Pairs → Stores → Store → Type 0
 AreReached rows env reach pairs stores before =
     (one : ℕ × Interval) (steps : List Step) → Contains stores one → IsOfRow rows one.0 steps → IsReached env before reach steps
-    → (pair : List Step × ℤ) × Contains pairs pair × (pair.0 ≡ steps)
+    → (pair : List Step × Value) × Contains pairs pair × (pair.0 ≡ steps)
 
 module _ (rows : List Parts) (env : Environment) (aliases : List ℕ) (root : ℕ) (home : Place) (at : env.variables root ≡ Some home) (pairs : Pairs)
     (stores : Stores) (before after : Store) (targets : AreTargets rows root pairs stores) (written : AreWritten env aliases root pairs before after) where
@@ -73,9 +67,9 @@ module _ (rows : List Parts) (env : Environment) (aliases : List ℕ) (root : �
   from-root one inside steps found store is =
       ap (λ (r : ℕ). value_at (moment env store) r steps) (targets.roots one inside) ∙ is
 
-  -- a number that was written lies in the range of each row that has its component
+  -- a value that was written lies in the range of each row that has its component
   own-in : (one : ℕ × Interval) (steps : List Step) (v : Value) → Contains stores one → IsOfRow rows one.0 steps
-      → (pair : List Step × ℤ) × Contains pairs pair × (pair.0 ≡ steps) × (v ≡ Number pair.1) → IsIn one.1 v
+      → (pair : List Step × Value) × Contains pairs pair × (pair.0 ≡ steps) × (v ≡ pair.1) → IsIn one.1 v
   own-in one steps v inside of_row (pair, listed, here, is) =
       subst (IsIn one.1) (sym is) (targets.in_ranges pair one listed inside (subst (IsOfRow rows one.0) (sym here) of_row))
 
@@ -186,47 +180,22 @@ module _ (rows : List Parts) (inner : AreComponents rows) (apart : AreApart rows
           loose holds
       by (Some b) form_is = by-law (At index) is free (reached (b, form_is))
 
--- ---- the types of what is stored
+-- ---- what the aliases may get
 
 module _ (tree : Tree) (pairs : List (ℕ × ℕ)) (block activations : ℕ) (env : Environment) (proper : Proper tree pairs block activations env)
-    (root : ℕ) (home : Place) (at : env.variables root ≡ Some home) (numbers : Pairs) (stores : Stores)
-    (targets : AreTargets (all_parts tree) root numbers stores) where
+    (root : ℕ) (home : Place) (at : env.variables root ≡ Some home) (values : Pairs) (stores : Stores)
+    (targets : AreTargets (all_parts tree) root values stores) where
   home-at : (one : ℕ × Interval) → Contains stores one → env.variables (root_at (all_parts tree) one.0) ≡ Some home
   home-at one inside = ap (λ (r : ℕ). env.variables r) (targets.roots one inside) ∙ at
 
-  of-values : (values : Option OrdinalRange) (range : Interval) (n : ℤ) → lies_among values range ≡ true → HasMember range n
-      → (own : OrdinalRange) × (values ≡ Some own) × HasMember (limits_of own) n
-  of-values None range n lies inside = absurd (cc)
-  of-values (Some own) range n lies inside = (own, refl, included-in range (limits_of own) (Number n) lies inside)
-
   place-is : (steps : List Step) (place : Place) → store.part (env.variables root) steps ≡ Some place → part home steps ≡ place
   place-is steps place is = same_Some (part home steps) place (sym (ap (λ (found : Option Place). store.part found steps) at) ∙ is)
-
-  -- numbers of rows whose values have them are ones of the types of their places
-  pub targets-typed : list_all (λ (one : ℕ × Interval). lies_among (values_at (rows_of tree) one.0) one.1) stores ≡ true
-      → AreTyped tree env root numbers
-  targets-typed lie pair place listed place_is =
-      let row = targets.in_rows pair listed in
-      let one = row.0 in
-      let lies = all-pass (λ (o : ℕ × Interval). lies_among (values_at (rows_of tree) o.0) o.1) stores one row.1 lie in
-      let own = of-values (values_at (rows_of tree) one.0) one.1 pair.1 lies (targets.in_ranges pair one listed row.1 row.2) in
-      let is = row-is tree one.0 pair.0 row.2 in
-      let leaf_values : is.row.leaf.values ≡ Some own.0 =
-      sym (ap (option_and_then (λ (r : Row). r.leaf.values)) is.is) ∙ own.1 in
-      let typed = component-typed tree.types pair.0 is.leaf.variable.type_id is.row.leaf own.0 is.of_type (is.leaf.j, is.leaf.leaf_is) is.named leaf_values in
-      let e : 0 + is.leaf.root ≡ is.leaf.root = omega arith in
-      let root_is : root ≡ is.leaf.root = sym (targets.roots one row.1) ∙ ap (λ (p : Parts). p.root) is.parts_are ∙ is.leaf.root_is ∙ e in
-      let declared_is : slice_get tree.variables.items root ≡ Some is.leaf.variable = ap (slice_get tree.variables.items) root_is ∙ is.leaf.variable_is in
-      let here : place_type tree place ≡ Some typed.0 =
-      ap (place_type tree) (sym (place-is pair.0 place place_is))
-      ∙ part-type tree pairs block activations env proper root home is.leaf.variable pair.0 at declared_is ∙ typed.1 in
-      (typed.0, here, (own.0, typed.2, own.2))
 
   -- what stores to rows tell of the aliases
   abbrev pub told : List Stored
   told = map (λ (one : ℕ × Interval). record { type_id = type_at (rows_of tree) one.0; range = one.1 }) stores
 
-  pub targets-told : AreStoredAs tree env root numbers told
+  pub targets-told : AreStoredAs tree env root values told
   targets-told pair place own listed place_is type_is ordinal =
       let row = targets.in_rows pair listed in
       let one = row.0 in
@@ -246,14 +215,14 @@ module _ (tree : Tree) (pairs : List (ℕ × ℕ)) (block activations : ℕ) (en
 
 -- ---- a state behind stores
 
--- what is known where numbers were stored to what is reached of a variable
+-- what is known where values were stored to what is reached of a variable
 pub made-knows : (tree : Tree) (pairs : List (ℕ × ℕ)) (block activations : ℕ) (env : Environment) (proper : Proper tree pairs block activations env)
-    (root : ℕ) (home : Place) → env.variables root ≡ Some home → (numbers : Pairs) (stores : Stores) → AreTargets (all_parts tree) root numbers stores
-    → (before after : Store) → AreWritten env (aliases_in (listed_pairs tree pairs) block root) root numbers before after
-    → AreTyped tree env root numbers → Typed tree before
+    (root : ℕ) (home : Place) → env.variables root ≡ Some home → (values : Pairs) (stores : Stores) → AreTargets (all_parts tree) root values stores
+    → (before after : Store) → AreWritten env (aliases_in (listed_pairs tree pairs) block root) root values before after
+    → AreTyped tree env root values → Typed tree before
     → (reach : Reach) → IsReach env before (reach_unless_alias (aliases_in (listed_pairs tree pairs) block root) reach)
     → (IsFormed (reach_unless_alias (aliases_in (listed_pairs tree pairs) block root) reach)
-    → AreReached (all_parts tree) env (reach_unless_alias (aliases_in (listed_pairs tree pairs) block root) reach) numbers stores before)
+    → AreReached (all_parts tree) env (reach_unless_alias (aliases_in (listed_pairs tree pairs) block root) reach) values stores before)
     → (state : State) → Knows (all_parts tree) (length tree.variables.items) env state before
     → Knows (all_parts tree) (length tree.variables.items) env
     (record {
@@ -267,23 +236,23 @@ pub made-knows : (tree : Tree) (pairs : List (ℕ × ℕ)) (block activations : 
           (with_aliases_stored tree (aliases_in (listed_pairs tree pairs) block root)
           (map (λ (one : ℕ × Interval). record { type_id = type_at (rows_of tree) one.0; range = one.1 }) stores) state).components;
     }) after
-made-knows tree pairs block activations env proper root home at numbers stores targets before after written typed typed_store reach is_reach reached state
+made-knows tree pairs block activations env proper root home at values stores targets before after written typed typed_store reach is_reach reached state
     known =
     let aliases = aliases_in (listed_pairs tree pairs) block root in
     let parts = all_parts tree in
     let variables = length tree.variables.items in
     let shown = shows tree pairs block activations env proper in
-    let told_of = told tree pairs block activations env proper root home at numbers stores targets in
+    let told_of = told tree pairs block activations env proper root home at values stores targets in
     let ready_state = with_aliases_stored tree aliases told_of state in
     let ready = aliases-ready tree variables env shown aliases told_of state before after
-    (are-aliased tree pairs block activations env proper aliases root numbers before after written typed told_of
-    (targets-told tree pairs block activations env proper root home at numbers stores targets)) known in
-    let after_typed = written-typed tree env aliases root numbers before after written typed typed_store in
+    (are-aliased tree pairs block activations env proper aliases root values before after written typed told_of
+    (targets-told tree pairs block activations env proper root home at values stores targets)) known in
+    let after_typed = written-typed tree env aliases root values before after written typed typed_store in
     let in_limits = in-types tree pairs block activations env after proper after_typed in
     record {
       variables = looped.stored-known variables env shown (limits_at (all_limits tree)) root aliases ready_state.variables before after
-          (one-kept env aliases root numbers before after written) (λ v is. in_limits.ranges root v is) ready.knows.variables ready.variables_loose;
-      components = stored-known parts (components-inner tree) (rows-apart tree) variables env aliases root home at numbers stores before after targets written
+          (one-kept env aliases root values before after written) (λ v is. in_limits.ranges root v is) ready.knows.variables ready.variables_loose;
+      components = stored-known parts (components-inner tree) (rows-apart tree) variables env aliases root home at values stores before after targets written
           ready_state.variables ready.knows.variables ready_state.components ready.components_loose ready.knows.components (reach_unless_alias aliases reach)
           is_reach (reach-apart aliases reach) reached;
     }

@@ -73,7 +73,7 @@ among-but but start (first ∷ blocks) (suc k) block root is other among =
 passed-may : (at : Standing) (root : ℕ) (home : Place) (argument : Argument) → place_passed argument ≡ Some home
     → AllMayPass at (argument ∷ []) → MayWrite at home
 passed-may at root home (OfValue v) is may = absurd (none-some home is)
-passed-may at root home (OfRow numbers) is may = absurd (none-some home is)
+passed-may at root home (OfRow values) is may = absurd (none-some home is)
 passed-may at root home (OfPlace found) is may = may.0 home is
 
 for-may : (at : Standing) (root : ℕ) (home : Place) (parameters : List ℕ) (arguments : List Argument) → AllMayPass at arguments

@@ -50,14 +50,14 @@ use Rattle.meaning.specs.Meaning.{passing_of, selected, value_of, value_step, va
 use Rattle.meaning.specs.Meaning as meaning
 use Rattle.expression_checker.proofs.EffectsKept.{CanGive, IsOwn, Keeps, MayChange, MayWriteTo, Standing, can-then, given-same, own-write, under-write}
 use Rattle.expression_checker.proofs.EffectsKept.{keeps-combined, keeps-enter, keeps-fetch, keeps-fetch_all, keeps-give, keeps-line_ended, keeps-looped}
-use Rattle.expression_checker.proofs.EffectsKept.{keeps-operated, keeps-require, keeps-stop, keeps-store, keeps-store_all, keeps-then, keeps-turn}
+use Rattle.expression_checker.proofs.EffectsKept.{keeps-operated, keeps-require, keeps-stop, keeps-store, keeps-store_all, keeps-then, keeps-turn, keeps-valued}
 use Rattle.expression_checker.proofs.EffectsKept.{keeps-undefine, keeps-when, keeps-write}
 use Rattle.expression_checker.proofs.Effects.{under-accessed}
 
 -- a variable that is passed may be written
 abbrev pub MayPass : Standing → Argument → Type 0
 MayPass at (meaning.OfValue v) = Unit {0}
-MayPass at (OfRow numbers) = Unit {0}
+MayPass at (OfRow values) = Unit {0}
 MayPass at (OfPlace found) = MayWriteTo at found
 
 abbrev pub AllMayPass : Standing → List Argument → Type 0
@@ -130,7 +130,7 @@ module _ (at : Standing) (calls : Calls) (called : CallsKeep at calls) where
     keeps-components : (value : Whole) (indexes : List KeptExpr) → indexes_so value (map (spares_in_expr roots) (bare_exprs indexes)) ≡ true
         → Keeps at (whole_of value (values_of (bare_exprs indexes)) here)
     keeps-components (Text number characters) indexes so =
-        keeps-then at _ _ (keeps-enter at number at.visible) (λ _. keeps-give at (map pos characters.items))
+        keeps-then at _ _ (keeps-enter at number at.visible) (λ _. keeps-give at (map (λ c. Number (pos c)) characters.items))
     keeps-components (VariableOf access type_id cells defined) indexes so =
         keeps-then at _ _ (keeps-accessed access indexes so) (λ found. keeps-fetch_all at found (components_of at.visible.types type_id) defined)
 
@@ -204,7 +204,7 @@ module _ (at : Standing) (calls : Calls) (called : CallsKeep at calls) where
         keeps-then at _ _ (keeps-accessed access indexes.items so) (λ found. keeps-fetch at found defined)
     layer (MonadicOf number operation operand) so =
         keeps-then at _ _ (keeps-enter at number at.visible)
-        (λ _. keeps-then at _ _ (operand.value.1 so) (λ v. keeps-operated at operation v))
+        (λ _. keeps-then at _ _ (operand.value.1 so) (λ v. keeps-valued at _ (keeps-operated at operation (number_of v))))
     layer (Chain first rest) so =
         let parts = and_parts (spares_in_expr roots first.value.0) (all_so (map (spares_in_link roots) (map (λ l. l.0) rest.items))) so in
         keeps-then at _ _ (first.value.1 parts.0) (λ v. keeps-in_turn rest.items v parts.1)
@@ -213,7 +213,7 @@ module _ (at : Standing) (calls : Calls) (called : CallsKeep at calls) where
         (indexes_so right (map (spares_in_expr roots) (bare_exprs right_indexes.items))) so in
         keeps-then at _ _ (keeps-components left left_indexes.items parts.0)
         (λ a. keeps-then at _ _ (keeps-enter at number at.visible)
-        (λ _. keeps-then at _ _ (keeps-components right right_indexes.items parts.1) (λ b. keeps-give at (compared relation a b))))
+        (λ _. keeps-then at _ _ (keeps-components right right_indexes.items parts.1) (λ b. keeps-give at (Number (compared relation a b)))))
     layer (CallOf call actuals) so = keeps-calling call actuals.items so
 
     passed-layer : (y : Passed-F KeptExpr KeptPassed KeptLink) → spared_passed (bare_passed y) ≡ true → KeepsPassed (valued_passed (bare_passed y))
@@ -227,9 +227,9 @@ module _ (at : Standing) (calls : Calls) (called : CallsKeep at calls) where
           subst (MayPass at) (given-same (meaning.OfValue run.0) argument last.2) tt;
     }
     passed-layer (PassedWhole type_id value indexes) so = record {
-      kept = keeps-then at _ _ (keeps-components value indexes.items so) (λ numbers. keeps-give at (OfRow numbers));
+      kept = keeps-then at _ _ (keeps-components value indexes.items so) (λ row. keeps-give at (OfRow row));
       may = λ argument given.
-          let run = can-then (whole_of value (values_of (bare_exprs indexes.items)) here) (λ numbers. give (OfRow numbers)) argument given in
+          let run = can-then (whole_of value (values_of (bare_exprs indexes.items)) here) (λ row. give (OfRow row)) argument given in
           subst (MayPass at) (given-same (OfRow run.0) argument run.2) tt;
     }
     passed-layer (Reference type_id access indexes) so =
@@ -245,7 +245,7 @@ module _ (at : Standing) (calls : Calls) (called : CallsKeep at calls) where
     link-layer : (y : Link-F KeptExpr KeptPassed KeptLink) → spared_link (bare_link y) ≡ true → (v : Value) → Keeps at (valued_link (bare_link y) here v)
     link-layer y so v =
         keeps-then at _ _ (keeps-enter at y.number at.visible)
-        (λ _. keeps-then at _ _ (y.operand.1 so) (λ w. keeps-combined at y.operation v w))
+        (λ _. keeps-then at _ _ (y.operand.1 so) (λ w. keeps-valued at _ (keeps-combined at y.operation (number_of v) (number_of w))))
 
     abbrev IsKeptLayer : Expr-F Expr Passed Link → Type 0
     IsKeptLayer x = spared x ≡ true → Keeps at (valued x here)
@@ -318,16 +318,16 @@ module _ (at : Standing) (calls : Calls) (called : CallsKeep at calls) where
     -- ---- what is written
 
     width-kept : (width : Option Width) (default : ℤ) → spares_in_width roots width ≡ true → Keeps at (width_of width default here)
-    width-kept None default so = keeps-give at (Number default)
+    width-kept None default so = keeps-give at default
     width-kept (Some width) default so =
         keeps-then at _ _ (keeps-value width.value so)
-        (λ w. keeps-then at _ _ (keeps-require at (is_positive w) width.site) (λ _. keeps-give at w))
+        (λ w. keeps-then at _ _ (keeps-require at (is_positive (number_of w)) width.site) (λ _. keeps-give at (number_of w)))
 
     written-kept : (value : Written) (width : Option Width) → spares_in_written roots value ≡ true → spares_in_width roots width ≡ true
         → Keeps at (written_of value width here)
     written-kept (OrdinalOf value representation) width so widths =
         keeps-then at _ _ (keeps-value value so)
-        (λ v. keeps-then at _ _ (width-kept width (default_width representation) widths) (λ w. keeps-write at (text_of representation v w)))
+        (λ v. keeps-then at _ _ (width-kept width (default_width representation) widths) (λ w. keeps-write at (text_of representation (number_of v) w)))
     written-kept (String value indexes) width so widths =
         keeps-then at _ _ (whole-kept value indexes.items so)
         (λ components. keeps-then at _ _ (width-kept width (pos (length_of value)) widths) (λ w. keeps-write at (row_text components w)))
@@ -368,9 +368,9 @@ module _ (at : Standing) (calls : Calls) (called : CallsKeep at calls) where
   keeps-turn_if true body kept = keeps-then at _ _ (keeps-turn at) (λ _. keeps-then at _ _ kept (λ _. keeps-give at (Some tt)))
 
   keeps-between : (control : ℕ) (first_fits : RangeTest) (direction : Direction) (last_fits : RangeTest) (execution : Execution)
-      → MayWriteTo at (at.visible.variables control) → Keeps at (execution here) → (first last : Value)
+      → MayWriteTo at (at.visible.variables control) → Keeps at (execution here) → (first last : ℤ)
       → Keeps at (meaning.for_between control first_fits direction last_fits execution here first last)
-  keeps-between control first_fits direction last_fits execution may kept (Number first) (Number last) =
+  keeps-between control first_fits direction last_fits execution may kept first last =
       let found = at.visible.variables control in
       let round = λ (n : ℤ). keeps-then at (effect.store found (Number n))
       (λ _. effect.◌>>=◌ effect.use_turn (λ _. effect.◌>>=◌ (execution here) (λ _. give (value_behind direction last n))))
@@ -425,7 +425,7 @@ module _ (at : Standing) (calls : Calls) (called : CallsKeep at calls) where
       keeps-then at _ _ (keeps-enter at number at.visible)
       (λ _. keeps-when at _ _ (access-kept roots others target indexes.items one.0)
       (λ place given. keeps-then at _ _ (whole-kept roots others value value_indexes.items two.1)
-      (λ numbers. keeps-store_all at place (components_of at.visible.types type_id) numbers
+      (λ values. keeps-store_all at place (components_of at.visible.types type_id) values
       (write-accessed roots others target (values_of indexes.items) two.0 place given))))
   stmt-layer settled (Write number name parameters ends_line) roots others so =
       keeps-then at _ _ (keeps-enter at number at.visible)
@@ -472,7 +472,7 @@ module _ (at : Standing) (calls : Calls) (called : CallsKeep at calls) where
       (λ _. keeps-then at _ _ (keeps-value roots others first two.0)
       (λ a. keeps-then at _ _ (keeps-value roots others last three.0)
       (λ b. keeps-then at _ _ (keeps-between control first_fits direction last_fits (effect_of body.value.0) (own-write at found own)
-      (body.value.1 (control ∷ roots) (others-but control roots others) three.1) a b)
+      (body.value.1 (control ∷ roots) (others-but control roots others) three.1) (number_of a) (number_of b))
       (λ _. keeps-undefine at found own))))
   stmt-layer settled (Case number site index constants arms) roots others so =
       let one = and_parts (spares_in_expr roots index) (all_spare (map spares (bodies arms.items)) roots) so in

@@ -25,7 +25,7 @@ use Rattle.abstract_state.specs.declared.known.Known.TheVariants.{Ordinal}
 use Rattle.structured_states.specs.declared.ways.Way.{Way as KeptWay}
 use Rattle.structured_states.specs.Ways.{End, Way, end_of, entered, form_before, met, next, turn_begun, turn_ended, way_of, way_out, where_counts, with_values}
 use Rattle.expression_checker.specs.Walk.{changed_by}
-use Rattle.cert_checker.specs.Walk.{assign, begin_way, bounds_fit, for_round, for_turns, for_walk, loop_walk, parted, rounds_of, statement_walk, steady_in}
+use Rattle.cert_checker.specs.Walk.{assign, begin_way, for_round, for_turns, for_walk, loop_walk, parted, rounds_of, statement_walk, steady_in}
 use Rattle.cert_checker.specs.Walk.{tested_end, tested_way}
 use Rattle.cert_checker.specs.View.{AreLoops, Goes, IsMoved, Moves, Parts, Walks, Went, context_of, said_state, said_tested, viewed_in}
 use Rattle.cert_checker.proofs.Steps.{Does, Stops, branches-stopped, goes-as, goes-here, goes-stopped, goes-then, moved-loops, moved-same, viewed-same}
@@ -225,21 +225,20 @@ module _ (way : Way) (body : Walking (Unit {0})) (old begun : Walk) (moved : IsM
   for_round-ends bodied new before after (Err fault) done is = for_round-unended bodied new before after fault done is
 
 -- the tests of both bounds
-module _ (place : SourcePlace) (way : Way) (old : Walk) where
+module _ (way : Way) (old : Walk) where
   abbrev start : State
   start = state_of old.flow
 
   pub way-given_up : (new : Walk) (visits : Visits) (fault : CheckFault) (result : Result KeptWay CheckFault)
-      → IsErr result × IsErrAnd result (λ e. e ≡ fault) → Goes {A = Way} (tested_way place way) old visits (Err fault) new visits
-      → Goes (tested_way place way) old visits (said_tested result) new visits
+      → IsErr result × IsErrAnd result (λ e. e ≡ fault) → Goes {A = Way} (tested_way way) old visits (Err fault) new visits
+      → Goes (tested_way way) old visits (said_tested result) new visits
   way-given_up new visits fault (Ok a) is goes = absurd is.1
   way-given_up new visits fault (Err other) is goes =
-      subst (λ f. Goes {A = Way} (tested_way place way) old visits (Err f) new visits) (sym is.1) goes
+      subst (λ f. Goes {A = Way} (tested_way way) old visits (Err f) new visits) (sym is.1) goes
 
   -- what comes behind the test of the first bound, and behind that of the last
   abbrev from_last : Interval → Interval → Walking Way
-  from_last first last =
-      bounds_fit place way.control way.first.fits.range way.last.fits.range >>= λ _. give (with_values first last way)
+  from_last first last = give (with_values first last way)
 
   abbrev from_first : Interval → Walking Way
   from_first first = tested_end start way.last >>= from_last first
@@ -251,12 +250,12 @@ module _ (place : SourcePlace) (way : Way) (old : Walk) where
   last_test range = within (limits_of way.last.fits.range) way.last.fits.site range
 
   tests-go : (new : Walk) (visits : Visits) (result : Result Way CheckFault)
-      → Goes (tested_end start way.first >>= from_first) old visits result new visits → Goes (tested_way place way) old visits result new visits
+      → Goes (tested_end start way.first >>= from_first) old visits result new visits → Goes (tested_way way) old visits result new visits
   tests-go new visits result one =
-      goes-here (tested_way place way) (tested_end start way.first >>= from_first) old new visits visits result refl one
+      goes-here (tested_way way) (tested_end start way.first >>= from_first) old new visits visits result refl one
 
   pub tests-first : (new : Walk) (visits : Visits) (fault : CheckFault) (range : Interval) → range ≡ met way.first.form start.variables way.first.values
-      → Stops (first_test range) old visits visits fault → Goes {A = Way} (tested_way place way) old visits (Err fault) new visits
+      → Stops (first_test range) old visits visits fault → Goes {A = Way} (tested_way way) old visits (Err fault) new visits
   tests-first new visits fault range is stopped =
       tests-go new visits (Err fault)
       (goes-stopped (tested_end start way.first) from_first old new visits visits fault
@@ -266,14 +265,14 @@ module _ (place : SourcePlace) (way : Way) (old : Walk) where
       (first_is : first_range ≡ met way.first.form start.variables way.first.values)
       (last_is : last_range ≡ met way.last.form start.variables way.last.values) (passed : Does (first_test first_range) old visits one visits first) where
     first-goes : (new : Walk) (result : Result Way CheckFault) → Goes (from_first first) one visits result new visits
-        → Goes (tested_way place way) old visits result new visits
+        → Goes (tested_way way) old visits result new visits
     first-goes new result then =
         tests-go new visits result
         (goes-then (tested_end start way.first) from_first old one new visits visits visits first result
         (subst (λ r. Does (first_test r) old visits one visits first) first_is passed) then)
 
     pub last-stopped : (new : Walk) (fault : CheckFault) → Stops (last_test last_range) one visits visits fault
-        → Goes {A = Way} (tested_way place way) old visits (Err fault) new visits
+        → Goes {A = Way} (tested_way way) old visits (Err fault) new visits
     last-stopped new fault stopped =
         first-goes new (Err fault)
         (goes-stopped (tested_end start way.last) (from_last first) one new visits visits fault
@@ -281,29 +280,17 @@ module _ (place : SourcePlace) (way : Way) (old : Walk) where
 
     module _ (two : Walk) (last : Interval) (passed_too : Does (last_test last_range) one visits two visits last) where
       last-goes : (new : Walk) (result : Result Way CheckFault) → Goes (from_last first last) two visits result new visits
-          → Goes (tested_way place way) old visits result new visits
+          → Goes (tested_way way) old visits result new visits
       last-goes new result then =
           first-goes new result
           (goes-then (tested_end start way.last) (from_last first) one two new visits visits visits last result
           (subst (λ r. Does (last_test r) one visits two visits last) last_is passed_too) then)
 
-      pub control-stopped : (new : Walk) (fault : CheckFault)
-          → Stops (bounds_fit place way.control way.first.fits.range way.last.fits.range) two visits visits fault
-          → Goes {A = Way} (tested_way place way) old visits (Err fault) new visits
-      control-stopped new fault stopped =
-          last-goes new (Err fault)
-          (goes-stopped (bounds_fit place way.control way.first.fits.range way.last.fits.range) (λ _. give (with_values first last way)) two new visits
-          visits fault stopped)
-
-      pub tests-done : (new : Walk) (tested : Way) → tested ≡ with_values first last way
-          → Does (bounds_fit place way.control way.first.fits.range way.last.fits.range) two visits new visits tt
-          → Does (tested_way place way) old visits new visits tested
-      tests-done new tested is done =
-          last-goes new (Ok tested)
-          (goes-then (bounds_fit place way.control way.first.fits.range way.last.fits.range) (λ _. give (with_values first last way)) two new new visits
-          visits visits tt (Ok tested) done
-          (subst (λ t. Does (give (with_values first last way)) new visits new visits t) (sym is)
-          (λ ready. walks-give (with_values first last way) new visits)))
+      pub tests-done : (tested : Way) → tested ≡ with_values first last way → Does (tested_way way) old visits two visits tested
+      tests-done tested is =
+          last-goes two (Ok tested)
+          (subst (λ t. Does (give (with_values first last way)) two visits two visits t) (sym is)
+          (λ ready. walks-give (with_values first last way) two visits))
 
 -- the control variable is the first bound, from where a first turn may begin
 module _ (way : Way) (old moved new : Walk) (visits : Visits) (is : IsMoved (over_variables (entered way) (state_of old.flow)) old moved) where
@@ -341,16 +328,16 @@ module _ (number : ℕ) (place : SourcePlace) (body : Walking (Unit {0})) (way :
   from_tests tested = begin_way tested >>= λ _. rounds_of number place body tested
 
   pub turns-not_tested : (new : Walk) (before after : Visits) (fault : CheckFault)
-      → Stops (tested_way place way) old before after fault
+      → Stops (tested_way way) old before after fault
       → Goes (for_turns number place body way) old before (Err fault) new after
-  turns-not_tested new before after fault stopped = goes-stopped (tested_way place way) from_tests old new before after fault stopped
+  turns-not_tested new before after fault stopped = goes-stopped (tested_way way) from_tests old new before after fault stopped
 
-  module _ (one : Walk) (before : Visits) (tested : Way) (done : Does (tested_way place way) old before one before tested) where
+  module _ (one : Walk) (before : Visits) (tested : Way) (done : Does (tested_way way) old before one before tested) where
     pub turns-not_begun : (new : Walk) (after : Visits) (fault : CheckFault)
         → Stops (begin_way tested) one before after fault
         → Goes (for_turns number place body way) old before (Err fault) new after
     turns-not_begun new after fault stopped =
-        goes-then (tested_way place way) from_tests old one new before before after tested (Err fault) done
+        goes-then (tested_way way) from_tests old one new before before after tested (Err fault) done
         (goes-stopped (begin_way tested) (λ _. rounds_of number place body tested) one new before after
         fault stopped)
 
@@ -358,7 +345,7 @@ module _ (number : ℕ) (place : SourcePlace) (body : Walking (Unit {0})) (way :
         → Does (begin_way tested) one before two before tt
         → Goes (rounds_of number place body tested) two before result new after → Goes (for_turns number place body way) old before result new after
     turns-done two new after result begun rounds =
-        goes-then (tested_way place way) from_tests old one new before before after tested result done
+        goes-then (tested_way way) from_tests old one new before before after tested result done
         (goes-then (begin_way tested) (λ _. rounds_of number place body tested) one two new before before
         after tt result begun rounds)
 

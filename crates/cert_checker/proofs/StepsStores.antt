@@ -1,13 +1,12 @@
 -- What the checker did where values are stored, from what it did over the parts of it.
-use Rattle.std.proofs.Common.{arith, ◌≡◌, refl, sym, subst, ap, ◌∙◌, ℕ, zero, suc, ◌+◌, ◌-◌, ◌<◌, ◌≤◌, Bool, true, false, ◌&&◌, List, [], ◌∷◌, ◌++◌}
-use Rattle.std.proofs.Common.{append_assoc, Option, Some, None, Result, length, drop, get_or, nat_eq}
+use Rattle.std.proofs.Common.{arith, ◌≡◌, refl, sym, subst, ap, ◌∙◌, ℕ, zero, suc, ◌+◌, ◌-◌, ◌<◌, ◌≤◌, true, false, List, [], ◌∷◌, ◌++◌}
+use Rattle.std.proofs.Common.{append_assoc, Option, Some, None, Result, length, drop, get_or}
 use Rattle.std.specs.Prelude.{slice_get}
 use Rattle.std.specs.Bool.{◌==◌}
 use Rattle.std.specs.List.{range_with_len}
 use Rattle.std.proofs.lemmas.Bool.{eqb-true}
 use Rattle.std.proofs.lemmas.Option.{none-some, same_Some}
 use Rattle.place.specs.declared.Place.{Place as SourcePlace}
-use Rattle.types.specs.declared.form.TypeId.{TypeId}
 use Rattle.typed_tree.specs.declared.tree.Access.{Access}
 use Rattle.typed_tree.specs.declared.tree.Expr.{Expr}
 use Rattle.typed_tree.specs.declared.tree.RangeTest.{RangeTest}
@@ -17,7 +16,6 @@ use Rattle.domain.specs.Facts.{Bound}
 use Rattle.domain.specs.Interval.{Interval}
 use Rattle.abstract_state.specs.declared.known.Known.{Known}
 use Rattle.abstract_state.specs.declared.known.Known.TheVariants.{Ordinal}
-use Rattle.abstract_state.specs.State.{limits_of}
 use Rattle.abstract_state.specs.Conditions.{bound_form}
 use Rattle.leaf_rows.specs.Rows.{rows_accessed, rows_of}
 use Rattle.component_states.specs.Components.{Reach, all_stored, stored}
@@ -27,7 +25,7 @@ use Rattle.structured_states.proofs.Rowed.{rows_to, rows-next}
 use Rattle.expression_checker.specs.declared.fault.CheckFault.{CheckFault}
 use Rattle.expression_checker.specs.Visits.{Visits}
 use Rattle.typed_tree.specs.Calls.{holds_call, whole_holds_call}
-use Rattle.expression_checker.specs.Walk.{◌>>=◌, access_walk, fits_whole, fitting, index_pieces, value_walk, whole_walk}
+use Rattle.expression_checker.specs.Walk.{◌>>=◌, access_walk, fitting, index_pieces, value_walk, whole_walk}
 use Rattle.cert_checker.specs.declared.walk.Walk.{Walk}
 use Rattle.cert_checker.specs.View.{Goes, context_of}
 use Rattle.cert_checker.specs.Walk.{Stores, alike, assign, assign_component, assign_to, assignment, change, copy_to, copying, paired, reach_stored, store_to}
@@ -35,80 +33,73 @@ use Rattle.cert_checker.proofs.Steps.{Does, goes-here, goes-then}
 use Rattle.expression_checker.specs.View.{state_of}
 
 -- an assignment from the access of its target on
-pub assignment-done : (becomes : SourcePlace) (target : Access) (indexes : List Expr) (fits : RangeTest) (value : Expr) (values : Interval)
+pub assignment-done : (becomes : SourcePlace) (target : Access) (indexes : List Expr) (fits : RangeTest) (value : Expr)
     (reach before_value : Reach) (old reached valued : Walk) (before entries after : Visits) (known : Known) (result : Result (Unit {0}) CheckFault)
     (new : Walk)
-    → values ≡ limits_of fits.range → before_value ≡ reach_stored target.selectors.items (holds_call value) reach
+    → before_value ≡ reach_stored target.selectors.items (holds_call value) reach
     → Does (access_walk target (index_pieces indexes)) old before reached entries reach → Does (value_walk value) reached entries valued after known
-    → Goes (fitting fits known >>= assign_to becomes target.root target.selectors.items before_value values (bound_form value)) valued after result new after
+    → Goes (fitting fits known >>= assign_to becomes target.root target.selectors.items before_value (bound_form value)) valued after result new after
     → Goes (assignment becomes target (index_pieces indexes) fits value) old before result new after
-assignment-done becomes target indexes fits value values reach before_value old reached valued before entries after known result new is before_is one two
-    three =
-    let stored = λ (values : Interval) (reach : Reach) (known : Known).
-    fitting fits known >>= assign_to becomes target.root target.selectors.items reach values (bound_form value) in
-    let rest = λ (reach : Reach). value_walk value >>= stored (limits_of fits.range) (reach_stored target.selectors.items (holds_call value) reach) in
-    goes-then (access_walk target (index_pieces indexes)) rest old reached new before entries after reach result one
-    (goes-then (value_walk value) (stored (limits_of fits.range) (reach_stored target.selectors.items (holds_call value) reach)) reached valued new entries after after known result
-    two
-    (subst (λ (v : Interval). Goes (stored v (reach_stored target.selectors.items (holds_call value) reach) known) valued after result new after) is
-    (subst (λ (r : Reach). Goes (stored values r known) valued after result new after) before_is three)))
+assignment-done becomes target indexes fits value reach before_value old reached valued before entries after known result new before_is one two three =
+    let held = reach_stored target.selectors.items (holds_call value) in
+    let stored = λ (reach : Reach) (known : Known).
+    fitting fits known >>= assign_to becomes target.root target.selectors.items reach (bound_form value) in
+    goes-then (access_walk target (index_pieces indexes)) (λ reach. value_walk value >>= stored (held reach)) old reached new before entries after reach result
+    one
+    (goes-then (value_walk value) (stored (held reach)) reached valued new entries after after known result two
+    (subst (λ (r : Reach). Goes (stored r known) valued after result new after) before_is three))
 
 -- an assignment of a whole value from the access of its target on
-pub copying-done : (becomes : SourcePlace) (target : Access) (indexes : List Expr) (type_id : TypeId) (value : Whole) (value_indexes : List Expr)
+pub copying-done : (becomes : SourcePlace) (target : Access) (indexes : List Expr) (value : Whole) (value_indexes : List Expr)
     (reach before_value : Reach) (old reached valued : Walk) (before entries after : Visits) (ranges : List Interval)
     (result : Result (Unit {0}) CheckFault) (new : Walk)
     → before_value ≡ reach_stored target.selectors.items (whole_holds_call value value_indexes) reach
     → Does (access_walk target (index_pieces indexes)) old before reached entries reach
     → Does (whole_walk value (index_pieces value_indexes)) reached entries valued after ranges
-    → Goes (copy_to becomes target.root target.selectors.items before_value type_id value ranges) valued after result new after
-    → Goes (copying becomes target (index_pieces indexes) type_id value value_indexes) old before result new after
-copying-done becomes target indexes type_id value value_indexes reach before_value old reached valued before entries after ranges result new before_is one two
-    three =
-    let stored = λ (reach : Reach) (ranges : List Interval). copy_to becomes target.root target.selectors.items reach type_id value ranges in
-    let rest = λ (reach : Reach). whole_walk value (index_pieces value_indexes) >>= stored (reach_stored target.selectors.items (whole_holds_call value value_indexes) reach) in
-    goes-then (access_walk target (index_pieces indexes)) rest old reached new before entries after reach result one
-    (goes-then (whole_walk value (index_pieces value_indexes)) (stored (reach_stored target.selectors.items (whole_holds_call value value_indexes) reach)) reached valued new entries
-    after after ranges result two
+    → Goes (copy_to becomes target.root target.selectors.items before_value ranges) valued after result new after
+    → Goes (copying becomes target (index_pieces indexes) value value_indexes) old before result new after
+copying-done becomes target indexes value value_indexes reach before_value old reached valued before entries after ranges result new before_is one two three =
+    let held = reach_stored target.selectors.items (whole_holds_call value value_indexes) in
+    let stored = λ (reach : Reach) (ranges : List Interval). copy_to becomes target.root target.selectors.items reach ranges in
+    let walking = whole_walk value (index_pieces value_indexes) in
+    goes-then (access_walk target (index_pieces indexes)) (λ reach. walking >>= stored (held reach)) old reached new before entries after reach result one
+    (goes-then walking (stored (held reach)) reached valued new entries after after ranges result two
     (subst (λ (r : Reach). Goes (stored r ranges) valued after result new after) before_is three))
 
 -- an access without selectors is to an entire variable
-pub assigned-entire : (place : SourcePlace) (root : ℕ) (selectors : List Selector) (reach : Reach) (values : Interval) (form : Option Bound) (passed : Known)
+pub assigned-entire : (place : SourcePlace) (root : ℕ) (selectors : List Selector) (reach : Reach) (form : Option Bound) (passed : Known)
     → (length selectors == 0) ≡ true
-    → assign_to place root selectors reach values form passed ≡ (change place root values >>= λ _. assign root form passed)
-assigned-entire place root [] reach values form passed is = refl
-assigned-entire place root (selector ∷ selectors) reach values form passed is =
+    → assign_to place root selectors reach form passed ≡ (change place root >>= λ _. assign root form passed)
+assigned-entire place root [] reach form passed is = refl
+assigned-entire place root (selector ∷ selectors) reach form passed is =
     let none = eqb-true (length (selector ∷ selectors)) 0 is in absurd (omega (arith, none))
 
 -- one with selectors is to components
-pub assigned-component : (place : SourcePlace) (root : ℕ) (selectors : List Selector) (reach : Reach) (values : Interval) (form : Option Bound) (passed : Known)
-    → (length selectors == 0) ≡ false → assign_to place root selectors reach values form passed ≡ assign_component place root selectors reach passed
-assigned-component place root [] reach values form passed is = cc
-assigned-component place root (selector ∷ selectors) reach values form passed is = refl
+pub assigned-component : (place : SourcePlace) (root : ℕ) (selectors : List Selector) (reach : Reach) (form : Option Bound) (passed : Known)
+    → (length selectors == 0) ≡ false → assign_to place root selectors reach form passed ≡ assign_component place root selectors reach passed
+assigned-component place root [] reach form passed is = cc
+assigned-component place root (selector ∷ selectors) reach form passed is = refl
 
 module _ (place : SourcePlace) (root : ℕ) (selectors : List Selector) (reach : Reach) (rows : List ℕ) (stores : Stores) (old new : Walk) (visits : Visits)
     (result : Result (Unit {0}) CheckFault)
     (rows_are : rows ≡ rows_accessed (rows_of (context_of old).tree) root selectors) where
   -- a value is stored to the rows that are accessed
   pub component-goes : (passed : Known) (range : Interval) → passed ≡ Ordinal range → stores ≡ alike range rows
-      → Goes (store_to place root reach true stores) old visits result new visits
+      → Goes (store_to place root reach stores) old visits result new visits
       → Goes (assign_component place root selectors reach passed) old visits result new visits
   component-goes passed range passed_is stores_are goes =
-      goes-here (assign_component place root selectors reach passed) (store_to place root reach true stores) old new visits visits result
+      goes-here (assign_component place root selectors reach passed) (store_to place root reach stores) old new visits visits result
       (ap (λ known. assign_component place root selectors reach known (context_of old) (state_of old.flow)) passed_is
-      ∙ ap (λ r. store_to place root reach true (alike range r) (context_of old) (state_of old.flow)) (sym rows_are)
-      ∙ ap (λ s. store_to place root reach true s (context_of old) (state_of old.flow)) (sym stores_are)) goes
+      ∙ ap (λ r. store_to place root reach (alike range r) (context_of old) (state_of old.flow)) (sym rows_are)
+      ∙ ap (λ s. store_to place root reach s (context_of old) (state_of old.flow)) (sym stores_are)) goes
 
   -- so are the components of a whole value
-  pub copy-goes : (type_id : TypeId) (value : Whole) (ranges : List Interval) (fits : Bool)
-      → fits ≡ (fits_whole (context_of old).tree.types type_id value && nat_eq (length rows) (length ranges)) → stores ≡ paired rows ranges
-      → Goes (store_to place root reach fits stores) old visits result new visits
-      → Goes (copy_to place root selectors reach type_id value ranges) old visits result new visits
-  copy-goes type_id value ranges fits fits_is stores_are goes =
-      let may = fits_whole (context_of old).tree.types type_id value in
-      goes-here (copy_to place root selectors reach type_id value ranges) (store_to place root reach fits stores) old new visits visits result
-      (ap (λ r. store_to place root reach (may && nat_eq (length r) (length ranges)) (paired r ranges) (context_of old) (state_of old.flow)) (sym rows_are)
-      ∙ ap (λ f. store_to place root reach f (paired rows ranges) (context_of old) (state_of old.flow)) (sym fits_is)
-      ∙ ap (λ s. store_to place root reach fits s (context_of old) (state_of old.flow)) (sym stores_are)) goes
+  pub copy-goes : (ranges : List Interval) → stores ≡ paired rows ranges → Goes (store_to place root reach stores) old visits result new visits
+      → Goes (copy_to place root selectors reach ranges) old visits result new visits
+  copy-goes ranges stores_are goes =
+      goes-here (copy_to place root selectors reach ranges) (store_to place root reach stores) old new visits visits result
+      (ap (λ r. store_to place root reach (paired r ranges) (context_of old) (state_of old.flow)) (sym rows_are)
+      ∙ ap (λ s. store_to place root reach s (context_of old) (state_of old.flow)) (sym stores_are)) goes
 
 -- ---- stores, from one of them on
 

@@ -1,79 +1,102 @@
--- What an access reaches of the rows under it, where numbers are stored to the components of a type there.
+-- What an access reaches of the rows under it, where values are stored to the components of a type there.
 use Rattle.std.proofs.Common.{arith, ◌≡◌, ⊎_elim, ◌∙◌, sym, ap, refl, subst, ℕ, suc, ℤ, true, List, [], ◌∷◌, ◌++◌, Some}
-use Rattle.std.proofs.Common.{length}
+use Rattle.std.proofs.Common.{length, Option}
 use Rattle.std.specs.Prelude.{slice_get}
 use Rattle.std.specs.List.{Contains}
-use Rattle.std.proofs.lemmas.Option.{slice_get-get_or}
+use Rattle.std.proofs.lemmas.Option.{same_Some, slice_get-get_or}
 use Rattle.types.specs.Components.{components_of}
 use Rattle.types.specs.declared.form.Step.{Step}
 use Rattle.types.specs.declared.form.Step.TheVariants as step
 use Rattle.types.specs.declared.form.TypeId.{TypeId}
-use Rattle.typed_tree.specs.Accesses.{index_count}
+use Rattle.types.specs.Types.{is_structured}
+use Rattle.typed_tree.specs.Accesses.{accessed, index_count}
 use Rattle.typed_tree.specs.declared.tree.Selector.{Selector}
 use Rattle.typed_tree.specs.declared.tree.Selector.TheVariants.{Element, Field}
 use Rattle.typed_tree.specs.declared.tree.Tree.{Tree}
-use Rattle.domain.specs.Interval.{HasMember, Interval}
-use Rattle.meaning.specs.Store.{Environment, Store}
+use Rattle.domain.specs.Interval.{Interval}
+use Rattle.meaning.specs.declared.store.Value.{Value}
+use Rattle.meaning.specs.Store.{Environment, Place, Store}
+use Rattle.meaning.specs.Store as store
+use Rattle.abstract_state.specs.Holds.{IsIn}
+use Rattle.abstract_state.proofs.Apart.{part}
 use Rattle.leaf_rows.specs.Leaves.{Leaf, is_named, leaves_of}
-use Rattle.leaf_rows.specs.Rows.{all_parts, first_index, is_structured, rows_accessed, rows_of}
+use Rattle.leaf_rows.specs.Rows.{all_parts, first_index, rows_accessed, rows_of}
 use Rattle.component_states.specs.Components.{At, Entire, Inside, Reach}
 use Rattle.component_states.specs.Holds.{IsOfRow}
 use Rattle.component_states.specs.Laws.{IsReach, IsReached}
+use Rattle.call_states.specs.Environments.{Proper, place_type}
 use Rattle.expression_checker.proofs.Fitting.{contains-at}
-use Rattle.expression_checker.proofs.SoundRows.{IsReachedBy, LieIn, Matches, RowsAre, first-then, one-way}
+use Rattle.expression_checker.proofs.SoundRows.{AreComponentsOf, IsReachedBy, LieIn, Matches, RowsAre, first-then, one-way}
 use Rattle.cert_checker.specs.Walk.{Stores, alike, paired}
 use Rattle.cert_checker.proofs.SoundStores.{AreReached, AreTargets, IsFormed, bound-once}
 use Rattle.call_states.proofs.AliasedStores.{Pairs, at-head, head-or_tail, in-tail}
+use Rattle.call_states.proofs.AliasedTypes.{AreTyped}
+use Rattle.call_states.proofs.Fitting.{part-accessed}
 
 -- ---- lists
 
 pub at-contained : {X : Type 0} (xs : List X) (x : X) → Contains xs x → (k : ℕ) × (slice_get xs k ≡ Some x)
 at-contained xs x (k, within, is) = (k, slice_get-get_or xs k x within ∙ ap (λ (y : _). Some y) is)
 
--- ---- components with numbers
+-- ---- components with values
 
--- the components of a type behind a way, each with its number
-abbrev pub zipped : List Step → List (List Step) → List ℤ → Pairs
-zipped way [] numbers = []
+-- the components of a type behind a way, each with its value
+abbrev pub zipped : List Step → List (List Step) → List Value → Pairs
+zipped way [] values = []
 zipped way (rest ∷ components) [] = []
-zipped way (rest ∷ components) (n ∷ numbers) = (way ++ rest, n) ∷ zipped way components numbers
+zipped way (rest ∷ components) (v ∷ values) = (way ++ rest, v) ∷ zipped way components values
 
-pub record IsZipped (way : List Step) (components : List (List Step)) (numbers : List ℤ) (pair : List Step × ℤ) : Type 0 where
+pub record IsZipped (way : List Step) (components : List (List Step)) (values : List Value) (pair : List Step × Value) : Type 0 where
   pub k : ℕ
   pub rest : List Step
   pub rest_is : slice_get components k ≡ Some rest
-  pub number_is : slice_get numbers k ≡ Some pair.1
+  pub value_is : slice_get values k ≡ Some pair.1
   pub steps_are : pair.0 ≡ way ++ rest
 
-pub zipped-at : (way : List Step) (components : List (List Step)) (numbers : List ℤ) (pair : List Step × ℤ) → Contains (zipped way components numbers) pair
-    → IsZipped way components numbers pair
-zipped-at way [] numbers pair inside = absurd (omega (arith, inside.1))
+pub zipped-at : (way : List Step) (components : List (List Step)) (values : List Value) (pair : List Step × Value)
+    → Contains (zipped way components values) pair → IsZipped way components values pair
+zipped-at way [] values pair inside = absurd (omega (arith, inside.1))
 zipped-at way (rest ∷ components) [] pair inside = absurd (omega (arith, inside.1))
-zipped-at way (rest ∷ components) (n ∷ numbers) pair inside =
+zipped-at way (rest ∷ components) (v ∷ values) pair inside =
     ⊎_elim
     (λ same. record {
       k = 0;
       rest = rest;
       rest_is = refl;
-      number_is = ap (λ (p : List Step × ℤ). Some p.1) same;
-      steps_are = ap (λ (p : List Step × ℤ). p.0) (sym same);
+      value_is = ap (λ (p : List Step × Value). Some p.1) same;
+      steps_are = ap (λ (p : List Step × Value). p.0) (sym same);
     })
     (λ later.
-    let at = zipped-at way components numbers pair later in
-    record { k = suc at.k; rest = at.rest; rest_is = at.rest_is; number_is = at.number_is; steps_are = at.steps_are })
-    (head-or_tail (way ++ rest, n) pair (zipped way components numbers) inside)
+    let at = zipped-at way components values pair later in
+    record { k = suc at.k; rest = at.rest; rest_is = at.rest_is; value_is = at.value_is; steps_are = at.steps_are })
+    (head-or_tail (way ++ rest, v) pair (zipped way components values) inside)
 
-pub zipped-has : (way : List Step) (components : List (List Step)) (numbers : List ℤ) → length components ≡ length numbers → (rest : List Step)
-    → Contains components rest → (pair : List Step × ℤ) × Contains (zipped way components numbers) pair × (pair.0 ≡ way ++ rest)
-zipped-has way [] numbers same rest inside = absurd (omega (arith, inside.1))
+pub zipped-has : (way : List Step) (components : List (List Step)) (values : List Value) → length components ≡ length values → (rest : List Step)
+    → Contains components rest → (pair : List Step × Value) × Contains (zipped way components values) pair × (pair.0 ≡ way ++ rest)
+zipped-has way [] values same rest inside = absurd (omega (arith, inside.1))
 zipped-has way (first ∷ components) [] same rest inside = absurd (omega (arith, same))
-zipped-has way (first ∷ components) (n ∷ numbers) same rest inside =
+zipped-has way (first ∷ components) (v ∷ values) same rest inside =
     ⊎_elim
-    (λ is. ((way ++ first, n), at-head (way ++ first, n) (zipped way components numbers), ap (λ (r : List Step). way ++ r) is))
+    (λ is. ((way ++ first, v), at-head (way ++ first, v) (zipped way components values), ap (λ (r : List Step). way ++ r) is))
     (λ later.
-    let found = zipped-has way components numbers (omega (arith, same)) rest later in
-    (found.0, in-tail (way ++ first, n) found.0 (zipped way components numbers) found.1, found.2))
+    let found = zipped-has way components values (omega (arith, same)) rest later in
+    (found.0, in-tail (way ++ first, v) found.0 (zipped way components values) found.1, found.2))
     (head-or_tail first rest components inside)
+
+-- such values are ones of the types of their places
+pub zipped-typed : (tree : Tree) (pairs : List (ℕ × ℕ)) (block activations : ℕ) (env : Environment) → Proper tree pairs block activations env → (root : ℕ)
+    (home : Place) → env.variables root ≡ Some home → (selectors : List Selector) (id : TypeId)
+    → accessed tree.variables.items tree.types root selectors ≡ Some id → (way : List Step) → Matches selectors way → (values : List Value)
+    → AreComponentsOf tree.types id values → AreTyped tree env root (zipped way (components_of tree.types id) values)
+zipped-typed tree pairs block activations env proper root home at selectors id typed way matches values components pair place inside place_is =
+    let of = zipped-at way (components_of tree.types id) values pair inside in
+    let own = components.each of.k of.rest pair.1 of.rest_is of.value_is in
+    let there : Some (part home (way ++ of.rest)) ≡ Some place =
+    ap (λ (found : Option Place). store.part found (way ++ of.rest)) (sym at)
+    ∙ ap (λ (steps : List Step). store.part (env.variables root) steps) (sym of.steps_are) ∙ place_is in
+    let same = same_Some (part home (way ++ of.rest)) place there in
+    let led = part-accessed tree pairs block activations env proper root selectors id typed home at way of.rest matches in
+    (own.0, ap (place_type tree) (sym same) ∙ led ∙ own.1, own.2)
 
 -- ---- rows with ranges
 
@@ -195,28 +218,28 @@ module _ (tree : Tree) (root : ℕ) (selectors : List Selector) (id : TypeId) (r
   is-reach (At index) (one, on) = (on.number, record { of_form = on.of_form })
   is-reach (Inside index) on = tt
 
-  -- ---- numbers for the components of the type
+  -- ---- values for the components of the type
 
-  module _ (numbers : List ℤ) (many : length (components_of tree.types id) ≡ length numbers)
+  module _ (values : List Value) (many : length (components_of tree.types id) ≡ length values)
       (structured : selectors ≡ [] → is_structured tree.types id ≡ true) where
     abbrev pairs : Pairs
-    pairs = zipped way (components_of tree.types id) numbers
+    pairs = zipped way (components_of tree.types id) values
 
     pub zipped-reached : (stores : Stores) → ((one : ℕ × Interval) → Contains stores one → Contains touched one.0) → (reach : Reach)
         → IsReachedBy env store selectors way reach → IsFormed reach → AreReached (all_parts tree) env reach pairs stores store
     zipped-reached stores are reach reached formed one steps inside of_row is =
         let behind = reached-behind reach reached formed one.0 steps (are one inside) of_row is in
-        let found = zipped-has way (components_of tree.types id) numbers many behind.0 behind.2 in
+        let found = zipped-has way (components_of tree.types id) values many behind.0 behind.2 in
         (found.0, found.1, found.2 ∙ sym behind.1)
 
-    zipped-row : (pair : List Step × ℤ) → Contains pairs pair → (row : ℕ) × Contains touched row × IsOfRow (all_parts tree) row pair.0
+    zipped-row : (pair : List Step × Value) → Contains pairs pair → (row : ℕ) × Contains touched row × IsOfRow (all_parts tree) row pair.0
     zipped-row pair inside =
-        let at = zipped-at way (components_of tree.types id) numbers pair inside in
+        let at = zipped-at way (components_of tree.types id) values pair inside in
         let found = rows.covers way at.rest structured matches (contains-at (components_of tree.types id) at.k at.rest at.rest_is) in
         (found.0, found.1, subst (IsOfRow (all_parts tree) found.0) (sym at.steps_are) found.2)
 
     -- each row with the same range
-    pub alike-targets : (range : Interval) → ((n : ℤ) → Contains numbers n → HasMember range n)
+    pub alike-targets : (range : Interval) → ((v : Value) → Contains values v → IsIn range v)
         → AreTargets (all_parts tree) root pairs (alike range touched)
     alike-targets range each = record {
       roots = λ one inside. rows.root_is one.0 (alike-at range touched one inside).0;
@@ -224,13 +247,13 @@ module _ (tree : Tree) (root : ℕ) (selectors : List Selector) (id : TypeId) (r
           let found = zipped-row pair inside in
           ((found.0, range), alike-has range touched found.0 found.1, found.2);
       in_ranges = λ pair one inside listed of_row.
-          let at = zipped-at way (components_of tree.types id) numbers pair inside in
-          subst (λ (r : Interval). HasMember r pair.1) (sym (alike-at range touched one listed).1)
-          (each pair.1 (contains-at numbers at.k pair.1 at.number_is));
+          let at = zipped-at way (components_of tree.types id) values pair inside in
+          subst (λ (r : Interval). IsIn r pair.1) (sym (alike-at range touched one listed).1)
+          (each pair.1 (contains-at values at.k pair.1 at.value_is));
     }
 
     -- each with its own
-    pub paired-targets : (ranges : List Interval) → length touched ≡ length ranges → LieIn tree.types id ranges numbers
+    pub paired-targets : (ranges : List Interval) → length touched ≡ length ranges → LieIn tree.types id ranges values
         → ((rest : List Step) (j row : ℕ) → slice_get touched j ≡ Some row → IsOfRow (all_parts tree) row (way ++ rest)
         → (leaf : Leaf) × (slice_get (leaves_of tree.types id) j ≡ Some leaf) × (is_named leaf.steps rest ≡ true))
         → AreTargets (all_parts tree) root pairs (paired touched ranges)
@@ -241,8 +264,8 @@ module _ (tree : Tree) (root : ℕ) (selectors : List Selector) (id : TypeId) (r
           let range = paired-has touched ranges same found.0 found.1 in
           ((found.0, range.0), range.1, found.2);
       in_ranges = λ pair one inside listed of_row.
-          let at = zipped-at way (components_of tree.types id) numbers pair inside in
+          let at = zipped-at way (components_of tree.types id) values pair inside in
           let pairing = paired-at touched ranges one listed in
           let leaf = named at.rest pairing.j one.0 pairing.row_is (subst (IsOfRow (all_parts tree) one.0) at.steps_are of_row) in
-          lie at.k pairing.j at.rest leaf.0 pair.1 one.1 at.rest_is leaf.1 leaf.2 at.number_is pairing.range_is;
+          lie at.k pairing.j at.rest leaf.0 pair.1 one.1 at.rest_is leaf.1 leaf.2 at.value_is pairing.range_is;
     }

@@ -1,18 +1,21 @@
--- What a run leaves that stores a value, or the numbers of components one after another; and that the walk over such stores foretells it.
-use Rattle.std.proofs.Common.{arith, ◌≡◌, ⊎_elim, ◌∙◌, sym, ap, ap₂, refl, subst, ℕ, ◌≤◌, ℤ, Bool, true, false, ◌&&◌, ◌||◌, length, List, [], ◌∷◌}
+-- What a run leaves that stores a value, or the values of components one after another; and that the walk over such stores foretells it.
+use Rattle.std.proofs.Common.{arith, ◌≡◌, ⊎_elim, ◌∙◌, sym, ap, ap₂, refl, subst, ℕ, ◌≤◌, ℤ, Bool, true, false, ◌||◌, length, List, [], ◌∷◌}
 use Rattle.std.proofs.Common.{◌++◌, Option, Some}
-use Rattle.std.specs.List.{Contains, list_all}
+use Rattle.std.specs.List.{Contains}
 use Rattle.std.specs.Prelude.{is_some, map, slice_get}
 use Rattle.std.proofs.lemmas.Bool.{and_parts}
 use Rattle.types.specs.Components.{components_of}
 use Rattle.types.specs.declared.form.Step.{Step}
 use Rattle.types.specs.declared.form.TypeId.{TypeId}
+use Rattle.types.specs.Types.{is_structured}
 use Rattle.place.specs.declared.Place.{Place}
 use Rattle.typed_tree.specs.declared.tree.Selector.{Selector}
 use Rattle.typed_tree.specs.declared.tree.Tree.{Tree}
+use Rattle.typed_tree.specs.Accesses.{accessed}
 use Rattle.typed_tree.specs.WellFormed.{of_one}
 use Rattle.domain.specs.Facts.{Bound}
 use Rattle.domain.specs.Interval.{HasMember, Interval}
+use Rattle.meaning.specs.declared.store.Value.{Value}
 use Rattle.meaning.specs.declared.store.Value.TheVariants.{Number}
 use Rattle.meaning.specs.Store.{Environment, Place as StorePlace, Store, part, written}
 use Rattle.meaning.specs.Effect as effect
@@ -22,14 +25,13 @@ use Rattle.abstract_state.specs.Loops.{with_touched}
 use Rattle.abstract_state.specs.Knows.{IsKept, IsOfForm, moment}
 use Rattle.abstract_state.proofs.Apart.{part as part_at}
 use Rattle.leaf_rows.specs.Limits.{all_limits, limits_at}
-use Rattle.leaf_rows.specs.Rows.{is_structured, rows_accessed, rows_of, type_at, values_at}
+use Rattle.leaf_rows.specs.Rows.{rows_accessed, rows_of, type_at}
 use Rattle.component_states.specs.Components.{Reach, all_stored}
 use Rattle.component_states.specs.Holds.{Knows}
 use Rattle.component_states.specs.States.{State}
 use Rattle.structured_states.proofs.Touched.{all_control}
 use Rattle.structured_states.specs.Loops.{Round, all_list}
 use Rattle.structured_states.specs.Pairs.{aliases_of, Listed, aliases_in}
-use Rattle.call_states.specs.Actuals.{lies_among}
 use Rattle.call_states.specs.Aliases.{reach_unless_alias, unless_alias, variable_type, variable_values, with_aliases_stored}
 use Rattle.call_states.specs.Starts.{is_own}
 use Rattle.call_states.specs.Environments.{Fine, Proper}
@@ -43,15 +45,15 @@ use Rattle.expression_checker.specs.Walk.{Context, Walked, breach_unless, follow
 use Rattle.expression_checker.specs.Walk as flow
 use Rattle.expression_checker.proofs.Keeping.{Keeps}
 use Rattle.expression_checker.proofs.Sound.{Any_value, Good, Here, IsForetold, World, good-give, good-then, good-weaker, nothing-new, parts_in}
-use Rattle.expression_checker.proofs.Sound.{listed_in, types_in, unbroken-left, variables_in}
+use Rattle.expression_checker.proofs.Sound.{declared_in, listed_in, types_in, unbroken-left, variables_in}
 use Rattle.cert_checker.proofs.Rounds.{kept-wider}
 use Rattle.expression_checker.proofs.SoundAccesses.{part-then}
-use Rattle.expression_checker.proofs.SoundRows.{IsReachedBy, Matches, RowsAre}
+use Rattle.expression_checker.proofs.SoundRows.{AreComponentsOf, IsReachedBy, Matches, RowsAre}
 use Rattle.cert_checker.specs.Walk as walk
 use Rattle.cert_checker.specs.Walk.{Stores}
 use Rattle.cert_checker.proofs.Changes.{assigned-knows, whole, whole-typed, whole-written}
-use Rattle.cert_checker.proofs.SoundStores.{AreTargets, made-knows, reached-unless, targets-typed}
-use Rattle.cert_checker.proofs.Targets.{is-reach, zipped, zipped-reached}
+use Rattle.cert_checker.proofs.SoundStores.{AreTargets, made-knows, reached-unless}
+use Rattle.cert_checker.proofs.Targets.{is-reach, zipped, zipped-reached, zipped-typed}
 
 -- what a walk over a statement foretells
 abbrev pub Foretold : World → Environment → Context → Walked (Unit {0}) → Store → Unit {0} → Store → Type 0
@@ -161,19 +163,19 @@ module _ (world : World) (limits_are : world.limits ≡ all_limits world.tree) (
     abbrev Leaves : Pairs → Store → Unit {0} → Store → Type 0
     Leaves pairs before done after = AreWritten env (aliases root) root pairs before after
 
-    one-left : (way rest : List Step) (place : Option StorePlace) → place ≡ part (env.variables root) way → (n : ℤ) (t : effect.State)
-        → AreTyped world.tree env root ((way ++ rest, n) ∷ []) → activations ≤ t.activations → Fine world.tree t
-        → Good world (Leaves ((way ++ rest, n) ∷ []) t.store) t (effect.store (part place rest) (Number n) t)
-    one-left way rest place place_is n t typed grown fine =
-        let pairs : Pairs = (way ++ rest, n) ∷ [] in
+    one-left : (way rest : List Step) (place : Option StorePlace) → place ≡ part (env.variables root) way → (v : Value) (t : effect.State)
+        → AreTyped world.tree env root ((way ++ rest, v) ∷ []) → activations ≤ t.activations → Fine world.tree t
+        → Good world (Leaves ((way ++ rest, v) ∷ []) t.store) t (effect.store (part place rest) v t)
+    one-left way rest place place_is v t typed grown fine =
+        let pairs : Pairs = (way ++ rest, v) ∷ [] in
         let there : part place rest ≡ Some (part_at home (way ++ rest)) =
         ap (λ (p : Option StorePlace). part p rest) place_is ∙ part-then (env.variables root) way rest
         ∙ ap (λ (p : Option StorePlace). part p (way ++ rest)) at in
         let apart = apart-seen world.tree world.pairs block activations env proper root home at in
-        let are = one-written env (aliases root) root home at apart t.store (way ++ rest) n in
-        let after = written t.store (part_at home (way ++ rest)) (Number n) in
+        let are = one-written env (aliases root) root home at apart t.store (way ++ rest) v in
+        let after = written t.store (part_at home (way ++ rest)) v in
         let young = proper.begun root home at in
-        subst (λ (p : Option StorePlace). Good world (Leaves pairs t.store) t (effect.store p (Number n) t)) (sym there)
+        subst (λ (p : Option StorePlace). Good world (Leaves pairs t.store) t (effect.store p v t)) (sym there)
         (record {
           errs = tt;
           new = nothing-new world t.visited;
@@ -187,54 +189,47 @@ module _ (world : World) (limits_are : world.limits ≡ all_limits world.tree) (
           };
         })
 
-    first-typed : (pair : List Step × ℤ) (pairs : Pairs) → AreTyped world.tree env root (pair ∷ pairs) → AreTyped world.tree env root (pair ∷ [])
+    first-typed : (pair : List Step × Value) (pairs : Pairs) → AreTyped world.tree env root (pair ∷ pairs) → AreTyped world.tree env root (pair ∷ [])
     first-typed pair pairs typed one place inside place_is =
         ⊎_elim (λ same. typed one place (subst (Contains (pair ∷ pairs)) same (at-head pair pairs)) place_is)
         (λ none. absurd (omega (arith, none.1))) (head-or_tail pair one [] inside)
 
-    pub all-left : (way : List Step) (place : Option StorePlace) → place ≡ part (env.variables root) way → (components : List (List Step)) (numbers : List ℤ)
-        (t : effect.State) → AreTyped world.tree env root (zipped way components numbers) → activations ≤ t.activations → Fine world.tree t
-        → Good world (Leaves (zipped way components numbers) t.store) t (effect.store_all place components numbers t)
-    all-left way place place_is [] numbers t typed grown fine =
+    pub all-left : (way : List Step) (place : Option StorePlace) → place ≡ part (env.variables root) way → (components : List (List Step)) (values : List Value)
+        (t : effect.State) → AreTyped world.tree env root (zipped way components values) → activations ≤ t.activations → Fine world.tree t
+        → Good world (Leaves (zipped way components values) t.store) t (effect.store_all place components values t)
+    all-left way place place_is [] values t typed grown fine =
         good-give {A = Unit {0}} world (Leaves [] t.store) tt t fine (none-written env (aliases root) root t.store)
     all-left way place place_is (rest ∷ components) [] t typed grown fine =
         good-give {A = Unit {0}} world (Leaves [] t.store) tt t fine (none-written env (aliases root) root t.store)
-    all-left way place place_is (rest ∷ components) (n ∷ numbers) t typed grown fine =
-        let pair : List Step × ℤ = (way ++ rest, n) in
-        let pairs = zipped way components numbers in
-        good-then world (Leaves (pair ∷ []) t.store) (Leaves (pair ∷ pairs) t.store) t (effect.store (part place rest) (Number n) t)
-        (λ done. effect.store_all place components numbers) (one-left way rest place place_is n t (first-typed pair pairs typed) grown fine)
+    all-left way place place_is (rest ∷ components) (v ∷ values) t typed grown fine =
+        let pair : List Step × Value = (way ++ rest, v) in
+        let pairs = zipped way components values in
+        good-then world (Leaves (pair ∷ []) t.store) (Leaves (pair ∷ pairs) t.store) t (effect.store (part place rest) v t)
+        (λ done. effect.store_all place components values) (one-left way rest place place_is v t (first-typed pair pairs typed) grown fine)
         (λ done u is first.
         let more = first.grown in
-        good-weaker world (Leaves pairs u.store) (Leaves (pair ∷ pairs) t.store) u (effect.store_all place components numbers u)
+        good-weaker world (Leaves pairs u.store) (Leaves (pair ∷ pairs) t.store) u (effect.store_all place components values u)
         (λ again w gives rest_left.
         written-then env (aliases root) root pair pairs t.store u.store w.store first.so rest_left.so home at)
-        (all-left way place place_is components numbers u
+        (all-left way place place_is components values u
         (λ one place inside place_is. typed one place (in-tail pair one pairs inside) place_is) (omega (arith, grown, more)) first.fine))
 
   -- ---- what the walk foretells of that
 
   module _ (root : ℕ) (home : StorePlace) (at : env.variables root ≡ Some home) (selectors : List Selector) (id : TypeId)
-      (rows : RowsAre world.tree root selectors id) (reach : Reach) (way : List Step) (matches : Matches selectors way) (numbers : List ℤ)
-      (many : length (components_of (types_in world) id) ≡ length numbers) where
+      (rows : RowsAre world.tree root selectors id) (reach : Reach) (way : List Step) (matches : Matches selectors way) (values : List Value)
+      (many : length (components_of (types_in world) id) ≡ length values) where
     abbrev touched : List ℕ
     touched = rows_accessed (rows_of world.tree) root selectors
 
     abbrev pairs : Pairs
-    pairs = zipped way (components_of (types_in world) id) numbers
+    pairs = zipped way (components_of (types_in world) id) values
 
-    -- where values fit, stores have rows under the access as their targets
+    -- stores have rows under the access as their targets
     pub record Fit (stores : Stores) : Type 0 where
       pub structured : selectors ≡ [] → is_structured (types_in world) id ≡ true
       pub are : (one : ℕ × Interval) → Contains stores one → Contains touched one.0
       pub targets : AreTargets (parts_in world) root pairs stores
-
-    stores-typed : (stores : Stores) → Fit stores → (context : Context) (state : State) (s : effect.State) → Here world block env context state s
-        → walk.are_typed context stores ≡ true → AreTyped world.tree env root pairs
-    stores-typed stores fit context state s here typed =
-        let lies = λ (tree : Tree). list_all (λ (one : ℕ × Interval). lies_among (values_at (rows_of tree) one.0) one.1) stores in
-        targets-typed world.tree world.pairs block s.activations env here.proper root home at pairs stores fit.targets
-        (subst (λ (tree : Tree). lies tree ≡ true) here.stands.goes.tree_is typed)
 
     left-known : (stores : Stores) → Fit stores → (context : Context) (state : State) (s : effect.State) (after : Store)
         → Here world block env context state s → AreTyped world.tree env root pairs → IsReachedBy env s.store selectors way reach
@@ -259,37 +254,34 @@ module _ (world : World) (limits_are : world.limits ≡ all_limits world.tree) (
         (made-knows world.tree world.pairs block s.activations env here.proper root home at pairs stores fit.targets s.store after are typed here.fine.typed
         reach (is-reach world.tree root selectors id rows env s.store way matches (reach_unless_alias own reach) reached_own)
         (λ formed.
-        zipped-reached world.tree root selectors id rows env s.store way matches numbers many fit.structured stores fit.are (reach_unless_alias own reach)
+        zipped-reached world.tree root selectors id rows env s.store way matches values many fit.structured stores fit.are (reach_unless_alias own reach)
         reached_own formed)
         state here.stands.known)))
 
-    -- the stores of a walk, where they break no rule
-    pub stores-good : (becomes : Place) (fits : Bool) (stores : Stores) → (fits ≡ true → Fit stores) → (context : Context) (state : State)
-        (s : effect.State) → IsReachedBy env s.store selectors way reach → (walk.store_to becomes root reach fits stores context state).broken ≡ []
+    -- the stores of a walk, where they break no rule, of values that are components of the type
+    pub stores-good : accessed (declared_in world) (types_in world) root selectors ≡ Some id → AreComponentsOf (types_in world) id values
+        → (becomes : Place) (stores : Stores) → Fit stores → (context : Context) (state : State) (s : effect.State)
+        → IsReachedBy env s.store selectors way reach → (walk.store_to becomes root reach stores context state).broken ≡ []
         → Here world block env context state s → (place : Option StorePlace) → place ≡ part (env.variables root) way
-        → Good world (Foretold world env context (walk.store_to becomes root reach fits stores context state) s.store) s
-        (effect.store_all place (components_of (types_in world) id) numbers s)
-    stores-good becomes fits stores fit context state s reached unbroken here place place_is =
-        let of_types = walk.are_typed context stores in
-        let may = flow.may_change context root in
-        let asked = walk.component_change becomes root fits stores context state in
+        → Good world (Foretold world env context (walk.store_to becomes root reach stores context state) s.store) s
+        (effect.store_all place (components_of (types_in world) id) values s)
+    stores-good of_type components becomes stores fit context state s reached unbroken here place place_is =
+        let asked = walk.change becomes root context state in
         let made = walk.stores_made root reach stores context state in
-        let kept = and_parts may (fits && of_types) (kept-rule (may && (fits && of_types)) Changes becomes (unbroken-left asked.broken made.broken unbroken)) in
-        let both = and_parts fits of_types kept.1 in
-        let fitting = fit both.0 in
-        let typed = stores-typed stores fitting context state s here both.1 in
-        let listed = changes-listed context kept.0 in
+        let may = kept-rule (flow.may_change context root) Changes becomes (unbroken-left asked.broken made.broken unbroken) in
+        let typed = zipped-typed world.tree world.pairs block s.activations env here.proper root home at selectors id of_type way matches values components in
+        let listed = changes-listed context may in
         good-weaker world (Leaves root home at s.activations here.proper pairs s.store)
         (Foretold world env context (followed asked made) s.store) s
-        (effect.store_all place (components_of (types_in world) id) numbers s)
+        (effect.store_all place (components_of (types_in world) id) values s)
         (λ done u is left. record {
           tie = tt;
-          stands = record { goes = here.stands.goes; known = left-known stores fitting context state s u.store here typed reached left.so };
+          stands = record { goes = here.stands.goes; known = left-known stores fit context state s u.store here typed reached left.so };
           kept =
               listed-keeps world.tree world.pairs block s.activations env here.proper root home at context.rounds (closed-here context state s here) s.store
               u.store (wider root s.store u.store (one-kept env (aliases root) root pairs s.store u.store left.so)) listed;
         })
-        (all-left root home at s.activations here.proper way place place_is (components_of (types_in world) id) numbers s typed (omega arith) here.fine)
+        (all-left root home at s.activations here.proper way place place_is (components_of (types_in world) id) values s typed (omega arith) here.fine)
       where
         changes-listed : (context : Context) → flow.may_change context root ≡ true → all_list root context.rounds ≡ true
         changes-listed context may =

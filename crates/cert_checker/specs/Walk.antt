@@ -1,15 +1,12 @@
 -- The walk of the checker over a program, one equation a form: the state after it, the sites that it leaves open, the
 -- rules that are broken, and the state at each entry into a statement or expression (ISO 7185:1990, 6.7, 6.8).
 -- It does not say that a program does what the walk says of it.
-use Rattle.std.specs.Prelude.{ℕ, suc, ℤ, drop, slice_get, Bool, true, false, ◌&&◌, List, [], ◌∷◌, ◌++◌, Option, Some}
-use Rattle.std.specs.Prelude.{None, if◌then◌else◌, map, length, nat_eq, ◌-◌}
-use Rattle.std.specs.List.{list_all}
+use Rattle.std.specs.Prelude.{ℕ, suc, ℤ, drop, slice_get, Bool, true, false, List, [], ◌∷◌, ◌++◌, Option, Some}
+use Rattle.std.specs.Prelude.{None, if◌then◌else◌, map, length, ◌-◌}
 use Rattle.std.specs.declared.alloc.Global.{Global}
 use Rattle.std.specs.declared.boxed.Box.{Box}
 use Rattle.std.specs.declared.vec.Vec.{Vec}
 use Rattle.place.specs.declared.Place.{Place}
-use Rattle.types.specs.declared.form.OrdinalRange.{OrdinalRange}
-use Rattle.types.specs.declared.form.TypeId.{TypeId}
 use Rattle.certificate.specs.declared.Certificate.{Certificate}
 use Rattle.typed_tree.specs.declared.tree.Tree.{Tree}
 use Rattle.typed_tree.specs.declared.tree.Block.{Block}
@@ -26,7 +23,7 @@ use Rattle.typed_tree.specs.declared.tree.Stmt.TheOpen.Stmt-F.{Empty, Assign, Wr
 use Rattle.typed_tree.specs.declared.tree.Stmt.TheOpen.Stmt-F.{Case, Copy, Call}
 use Rattle.typed_tree.specs.declared.tree.Stmt.TheFolds.{fold-Stmt}
 use Rattle.typed_tree.specs.Calls.{holds_call, whole_holds_call}
-use Rattle.domain.specs.Interval.{Interval, is_included, common}
+use Rattle.domain.specs.Interval.{Interval, common}
 use Rattle.domain.specs.Numbers.{hull, is_covered}
 use Rattle.domain.specs.Facts.{Bound, Fact}
 use Rattle.abstract_state.specs.declared.known.Known.{Known}
@@ -37,7 +34,7 @@ use Rattle.abstract_state.specs.Conditions.{bound_form, branched, condition_of}
 use Rattle.abstract_state.specs.Forms.{root_of}
 use Rattle.abstract_state.specs.Loops.{with_touched, with_undefined}
 use Rattle.leaf_rows.specs.Limits.{all_limits, limits_at}
-use Rattle.leaf_rows.specs.Rows.{rows_accessed, rows_of, type_at, values_at}
+use Rattle.leaf_rows.specs.Rows.{rows_accessed, rows_of, type_at}
 use Rattle.component_states.specs.Components.{At, Inside, Reach, all_stored}
 use Rattle.component_states.specs.States.{State, dead, joined_states, over_bound, over_change, over_variables}
 use Rattle.structured_states.specs.Cases.{arm_start, constants_before}
@@ -49,20 +46,18 @@ use Rattle.structured_states.specs.Pairs.{aliases_in}
 use Rattle.call_states.specs.Sections.{BlockClaims, all_block_claims, all_pairs, block_claims_at}
 use Rattle.call_states.specs.Starts.{block_start}
 use Rattle.call_states.specs.Aliases.{Stored, reach_unless_alias, unless_alias, variable_type, with_aliases_stored}
-use Rattle.call_states.specs.Actuals.{lies_among, unknown_reach}
+use Rattle.call_states.specs.Actuals.{unknown_reach}
 use Rattle.expression_checker.specs.declared.fault.Rule.{Rule}
 use Rattle.expression_checker.specs.declared.fault.Rule.TheVariants.{LoopEntry, LoopTurn, Exit, Changes}
 use Rattle.expression_checker.specs.Walk.{Context, Piece, Walked, Walking, ◌>>=◌, access_walk, asked, call_walk}
-use Rattle.expression_checker.specs.Walk.{changed_by, enter, fits_whole, fitting, followed, give, index_pieces}
+use Rattle.expression_checker.specs.Walk.{changed_by, enter, fitting, followed, give, index_pieces}
 use Rattle.expression_checker.specs.Walk.{left_open}
 use Rattle.expression_checker.specs.Walk.{may_change, parameter_walk, passed_piece_of, tested, value_walk, whole_walk}
 use Rattle.expression_checker.specs.Walk.{with_state, within}
 
--- a variable is changed at a place by values of a range, which are ones of its type. Each loop round the place lists
--- it, and so does the block, if need be
-abbrev pub change : Place → ℕ → Interval → Walking (Unit {0})
-change place root values context =
-    asked (may_change context root && is_included values (limits_at context.limits root)) Changes place context
+-- a variable is changed at a place: each loop round the place lists it, and so does the block, if need be
+abbrev pub change : Place → ℕ → Walking (Unit {0})
+change place root context = asked (may_change context root) Changes place context
 
 -- the aliases of a variable that are visible in the block
 abbrev pub aliases_here : Context → ℕ → List ℕ
@@ -92,17 +87,6 @@ assign root form (Ordinal range) context =
 abbrev pub Stores : Type 0
 Stores = List (ℕ × Interval)
 
--- the values of stores are ones of the types of their rows
-abbrev pub are_typed : Context → Stores → Bool
-are_typed context stores =
-    list_all (λ one. lies_among (values_at (rows_of context.tree) one.0) one.1) stores
-
--- components of a variable are changed at a place. Each loop round the place lists it, and so does the block, if need
--- be
-abbrev pub component_change : Place → ℕ → Bool → Stores → Walking (Unit {0})
-component_change place root fits stores context =
-    asked (may_change context root && (fits && are_typed context stores)) Changes place context
-
 -- ordinals of the types of rows
 abbrev pub stored_in_rows : Context → Stores → List Stored
 stored_in_rows context stores =
@@ -121,10 +105,10 @@ stores_made root reach stores context =
     (λ state. stored_to root (reach_unless_alias (aliases_here context root) reach) stores context
     (with_aliases context root (stored_in_rows context stores) state)) context
 
--- values are stored at a place, if they fit
-abbrev pub store_to : Place → ℕ → Reach → Bool → Stores → Walking (Unit {0})
-store_to place root reach fits stores = do
-  _ ← component_change place root fits stores
+-- values are stored at a place
+abbrev pub store_to : Place → ℕ → Reach → Stores → Walking (Unit {0})
+store_to place root reach stores = do
+  _ ← change place root
   stores_made root reach stores
 
 -- the rows under what is accessed
@@ -138,14 +122,14 @@ alike range rows = map (λ row. (row, range)) rows
 -- the assignment of a value to a component
 abbrev pub assign_component : Place → ℕ → List Selector → Reach → Known → Walking (Unit {0})
 assign_component place root selectors reach (Ordinal range) context =
-    store_to place root reach true (alike range (target_rows context root selectors)) context
+    store_to place root reach (alike range (target_rows context root selectors)) context
 
--- the assignment of a value, which lies in a range, to what is accessed
-abbrev pub assign_to : Place → ℕ → List Selector → Reach → Interval → Option Bound → Known → Walking (Unit {0})
-assign_to place root [] reach values form passed = do
-  _ ← change place root values
+-- the assignment of a value to what is accessed
+abbrev pub assign_to : Place → ℕ → List Selector → Reach → Option Bound → Known → Walking (Unit {0})
+assign_to place root [] reach form passed = do
+  _ ← change place root
   assign root form passed
-assign_to place root (selector ∷ selectors) reach values form passed =
+assign_to place root (selector ∷ selectors) reach form passed =
     assign_component place root (selector ∷ selectors) reach passed
 
 -- rows with their ranges
@@ -154,16 +138,10 @@ paired [] ranges = []
 paired (row ∷ rows) [] = []
 paired (row ∷ rows) (range ∷ ranges) = (row, range) ∷ paired rows ranges
 
--- components of these ranges are copied to rows
-abbrev pub copy_rows : Place → ℕ → Reach → Bool → List ℕ → List Interval → Walking (Unit {0})
-copy_rows place root reach fits rows ranges =
-    store_to place root reach (fits && nat_eq (length rows) (length ranges)) (paired rows ranges)
-
--- a whole value is copied to what is accessed
-abbrev pub copy_to : Place → ℕ → List Selector → Reach → TypeId → Whole → List Interval → Walking (Unit {0})
-copy_to place root selectors reach type_id value ranges context =
-    copy_rows place root reach (fits_whole context.tree.types type_id value) (target_rows context root selectors)
-    ranges context
+-- components of these ranges are copied to what is accessed
+abbrev pub copy_to : Place → ℕ → List Selector → Reach → List Interval → Walking (Unit {0})
+copy_to place root selectors reach ranges context =
+    store_to place root reach (paired (target_rows context root selectors) ranges) context
 
 -- the start of a block of a number, of which these facts are claimed
 abbrev pub begin : ℕ → List Fact → Walking (Unit {0})
@@ -204,15 +182,15 @@ assignment becomes target indexes fits value = do
   known ← value_walk value
   passed ← fitting fits known
   assign_to becomes target.root target.selectors.items
-      (reach_stored target.selectors.items (holds_call value) reach) (limits_of fits.range) (bound_form value) passed
+      (reach_stored target.selectors.items (holds_call value) reach) (bound_form value) passed
 
 -- an assignment of a whole value: the target is accessed, and then come the components, one after another
-abbrev pub copying : Place → Access → List Piece → TypeId → Whole → List Expr → Walking (Unit {0})
-copying becomes target indexes type_id value value_indexes = do
+abbrev pub copying : Place → Access → List Piece → Whole → List Expr → Walking (Unit {0})
+copying becomes target indexes value value_indexes = do
   reach ← access_walk target indexes
   ranges ← whole_walk value (index_pieces value_indexes)
   copy_to becomes target.root target.selectors.items
-      (reach_stored target.selectors.items (whole_holds_call value value_indexes) reach) type_id value ranges
+      (reach_stored target.selectors.items (whole_holds_call value value_indexes) reach) ranges
 
 -- two pieces of which a run takes one, each walked from its own state; behind them the states are joined
 abbrev pub either_of : Walked (Unit {0}) → Walked (Unit {0}) → Walked (Unit {0})
@@ -292,26 +270,16 @@ loop_walk number place control walking context =
 
 -- ---- for statements
 
--- the bounds of a for statement at a place are tested for values of its control variable's type
-abbrev pub fit_control : Context → ℕ → (first last : OrdinalRange) → Bool
-fit_control context root first last =
-    let limits = limits_at context.limits root in
-    is_included (limits_of first) limits && is_included (limits_of last) limits
-
-abbrev pub bounds_fit : Place → ℕ → (first last : OrdinalRange) → Walking (Unit {0})
-bounds_fit place root first last context = asked (fit_control context root first last) Changes place context
-
 -- the test of a bound: where its value lies that passes
 abbrev pub tested_end : State → End → Walking Interval
 tested_end start end = within (limits_of end.fits.range) end.fits.site (met end.form start.variables end.values)
 
 -- the tests of both bounds, by what is known where there are values
-abbrev pub tested_way : Place → Way → Walking Way
-tested_way place way = do
+abbrev pub tested_way : Way → Walking Way
+tested_way way = do
   start ← here
   first ← tested_end start way.first
   last ← tested_end start way.last
-  _ ← bounds_fit place way.control way.first.fits.range way.last.fits.range
   give (with_values first last way)
 
 -- a round of a for: a turn, and then the control variable is the last bound, or has its next value
@@ -341,7 +309,7 @@ begin_way way context state =
 -- a for where there are values: the bounds are tested, and the control variable is the first
 abbrev pub for_turns : ℕ → Place → Walking (Unit {0}) → Way → Walking (Unit {0})
 for_turns number place body way = do
-  tested ← tested_way place way
+  tested ← tested_way way
   _ ← begin_way tested
   rounds_of number place body tested
 
@@ -393,7 +361,7 @@ statement_step (Assign number becomes target indexes fits value) = do
   assignment becomes target (index_pieces indexes.items) fits value
 statement_step (Copy number becomes target indexes type_id value value_indexes) = do
   _ ← enter number
-  copying becomes target (index_pieces indexes.items) type_id value value_indexes.items
+  copying becomes target (index_pieces indexes.items) value value_indexes.items
 statement_step (Write number name parameters ends_line) = do
   _ ← enter number
   all_of (map parameter_walk parameters.items)

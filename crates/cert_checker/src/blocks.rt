@@ -1,5 +1,6 @@
-ghost use Rattle.std.specs.Prelude.{◌≡◌, ◌≤◌, ◌^◌, IfOk, MatchResult, length, map};
+ghost use Rattle.std.specs.Prelude.{◌≡◌, ◌≤◌, ◌^◌, IfOk, IsOk, MatchResult, length, map};
 ghost use Rattle.std.specs.List.{list_all};
+ghost use Rattle.typed_tree.specs.WellFormed.{IsWellFormed};
 ghost use Rattle.domain.specs.Facts.{said};
 ghost use Rattle.abstract_state.specs.State.{gives_fact};
 ghost use Rattle.certificate.specs.Contents.{said_fact};
@@ -125,10 +126,11 @@ impl<'a> Walk<'a> {
     }
 }
 
-/// How many blocks there are, if 32 bits hold their number: more fit no memory.
+/// How many blocks there are, if 32 bits hold their number, as of each well formed tree: more fit no memory.
 fn block_count(tree: &Tree) -> Result<u32, AllocError>
-    ensures { MatchResult result (λ count. count ≡ length tree.now.blocks.items)
+    ensures count { MatchResult result (λ count. count ≡ length tree.now.blocks.items)
         (λ _. 2 ^ 32 ≤ length tree.now.blocks.items) }
+    ensures few { IsWellFormed tree.now → IsOk result }
 {
     let count = tree.blocks.len();
     if count > u32::MAX as usize {

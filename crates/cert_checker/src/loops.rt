@@ -11,16 +11,14 @@ ghost use Rattle.expression_checker.specs.Walk.{within};
 ghost use Rattle.cert_checker.specs.View.{AreLoops, EntersLoop, Goes, IsLoop, IsMoved, LeavesLoop, Moves, Parts};
 ghost use Rattle.cert_checker.specs.View.{context_of, said_tested, viewed_in};
 ghost use Rattle.expression_checker.specs.View.{state_of};
-ghost use Rattle.cert_checker.specs.Walk.{begin_way, bounds_fit, fit_control, steady_in, tested_way};
+ghost use Rattle.cert_checker.specs.Walk.{begin_way, steady_in, tested_way};
 
 use crate::walk::Walk;
 use abstract_state::limits;
 use component_states::State;
-use domain::Domain;
 use domain::interval::Interval;
 use expression_checker::fault::{CheckFault, Rule};
 use expression_checker::flow::asked;
-use leaf_rows::limits_at;
 use place::Place;
 use structured_states::rounds::Round;
 use structured_states::ways::Way;
@@ -104,16 +102,15 @@ impl<'a> Walk<'a> {
     }
 
     /// The tests of both bounds.
-    pub(crate) fn tested_way(&mut self, place: Place, way: Way) -> Result<Way, CheckFault>
+    pub(crate) fn tested_way(&mut self, way: Way) -> Result<Way, CheckFault>
         ensures { (visits : Visits)
-            → Goes (tested_way place (said_way way)) self.old visits (said_tested result) self.new visits }
+            → Goes (tested_way (said_way way)) self.old visits (said_tested result) self.new visits }
     {
         let rows = self.flow.grounds.rows;
         let first = way.first.met(rows, &self.flow.state.variables);
         let last = way.last.met(rows, &self.flow.state.variables);
         let first = self.tested_end(way.first.fits, first)?;
         let last = self.tested_end(way.last.fits, last)?;
-        self.bounds_fit(place, &way)?;
         Ok(way.with_values(first, last))
     }
 
@@ -123,23 +120,6 @@ impl<'a> Walk<'a> {
             → Goes (within (limits_of fits.range) fits.site range) self.old visits result self.new visits }
     {
         self.flow.within(limits(fits.range), fits.site, range)
-    }
-
-    /// Both bounds are tested for values of the control variable's type.
-    fn bounds_fit(&self, place: Place, way: &Way) -> Result<(), CheckFault>
-        ensures { (visits : Visits) → Goes (bounds_fit place way.now.control way.now.first.fits.range
-            way.now.last.fits.range) self.now visits result self.now visits }
-    {
-        asked(self.fits(way), Rule::Changes, place)
-    }
-
-    /// Whether both bounds are tested for the control variable's type.
-    fn fits(&self, way: &Way) -> bool
-        ensures { result ≡ fit_control (context_of self.now) way.now.control way.now.first.fits.range
-            way.now.last.fits.range }
-    {
-        let own = limits_at(self.flow.grounds.rows.limits(), way.control);
-        limits(way.first.fits.range).leq(&own) && limits(way.last.fits.range).leq(&own)
     }
 
     /// The control variable is the first bound, where a first turn may begin.

@@ -1,44 +1,36 @@
-ghost use Rattle.std.specs.Prelude.{◌≡◌, ◌∷◌, [], ◌&&◌, IfOk, map, nat_eq, length, slice_get};
-ghost use Rattle.std.specs.List.{list_all};
-ghost use Rattle.domain.specs.Interval.{is_included};
+ghost use Rattle.std.specs.Prelude.{◌≡◌, ◌∷◌, [], IfOk, map, slice_get};
 ghost use Rattle.typed_tree.specs.Calls.{holds_call};
 ghost use Rattle.abstract_state.specs.declared.known.Known.TheVariants.{Ordinal};
 ghost use Rattle.abstract_state.specs.Conditions.{bound_form};
 ghost use Rattle.abstract_state.specs.View.{said_form};
-ghost use Rattle.leaf_rows.specs.Limits.{limits_at};
-ghost use Rattle.leaf_rows.specs.Rows.{rows_of, values_at};
 ghost use Rattle.leaf_rows.specs.View.{numbers};
 ghost use Rattle.component_states.specs.Components.{At, all_stored};
 ghost use Rattle.component_states.specs.States.{over_components};
 ghost use Rattle.component_states.specs.View.{said_index, said_reach, viewed};
-ghost use Rattle.call_states.specs.Actuals.{lies_among};
 ghost use Rattle.call_states.specs.View.{said_stored};
 ghost use Rattle.expression_checker.specs.Visits.{Visits};
-ghost use Rattle.expression_checker.specs.Walk.{fits_whole, index_pieces, may_change};
-ghost use Rattle.cert_checker.specs.View.{Goes, context_of, row_stored};
-ghost use Rattle.cert_checker.specs.Walk.{alike, are_typed, assign, assign_component, assign_to, assignment, change};
-ghost use Rattle.cert_checker.specs.Walk.{component_change, copy_to, copying, ends_at_index, paired, reach_before};
+ghost use Rattle.expression_checker.specs.Walk.{index_pieces};
+ghost use Rattle.cert_checker.specs.View.{Goes, row_stored};
+ghost use Rattle.cert_checker.specs.Walk.{alike, assign, assign_component, assign_to, assignment, change, copy_to};
+ghost use Rattle.cert_checker.specs.Walk.{copying, ends_at_index, paired, reach_before};
 ghost use Rattle.cert_checker.specs.Walk.{reach_of_store, reach_stored, store_to, stores_made};
 
 use crate::walk::Walk;
-use abstract_state::{Known, bound_form, limits};
-use call_states::actuals::{lies_among, unknown_reach};
+use abstract_state::{Known, bound_form};
+use call_states::actuals::unknown_reach;
 use call_states::aliases;
 use call_states::aliases::{Stored, form_unless_alias, reach_unless_alias, variable_type};
 use component_states::{Index, Reach, State};
-use domain::Domain;
 use domain::facts::Bound;
 use domain::interval::Interval;
 use expression_checker::fault::{CheckFault, Rule};
 use expression_checker::flow::asked;
-use expression_checker::grounds::Grounds;
 use expression_checker::visits::Visits;
 use leaf_rows::{Rows, Span, limits_at};
 use place::Place;
 use std::alloc::{AllocError, Global};
 use typed_tree::calls::{holds_call, whole_holds_call};
 use typed_tree::tree::{Access, Expr, RangeTest, Selector, Whole};
-use types::TypeId;
 
 // What statements store to variables and to components.
 impl<'a> Walk<'a> {
@@ -59,7 +51,7 @@ impl<'a> Walk<'a> {
         let known = self.expression(value, visits)?;
         let passed = self.flow.fitting(fits, known)?;
         let reach = reach_stored(&target.selectors, holds_call(value), reach);
-        self.assign_to(becomes, target, reach, limits(fits.range), value, passed)
+        self.assign_to(becomes, target, reach, value, passed)
     }
 
     /// What is accessed gets the value of an expression.
@@ -68,15 +60,14 @@ impl<'a> Walk<'a> {
         becomes: Place,
         target: &Access,
         reach: Reach,
-        values: Interval,
         value: &Expr,
         passed: Known,
     ) -> Result<(), CheckFault>
         ensures { (visits : Visits) → Goes (assign_to becomes target.now.root target.now.selectors.items
-            (said_reach reach) values (bound_form value.now) passed) self.old visits result self.new visits }
+            (said_reach reach) (bound_form value.now) passed) self.old visits result self.new visits }
     {
         if target.selectors.is_empty() {
-            self.change(becomes, target.root, values)?;
+            self.change(becomes, target.root)?;
             self.assign(target.root, value, passed)
         } else {
             self.assign_component(becomes, target, reach, passed)
@@ -100,7 +91,7 @@ impl<'a> Walk<'a> {
             .rows
             .accessed(target.root, &target.selectors);
         let stores = alike(self.alloc, passed.range(), rows)?;
-        self.store_to(becomes, target.root, reach, true, &stores)
+        self.store_to(becomes, target.root, reach, &stores)
     }
 
     /// An assignment of a whole value.
@@ -109,33 +100,30 @@ impl<'a> Walk<'a> {
         becomes: Place,
         target: &Access,
         indexes: &[Expr],
-        type_id: TypeId,
         value: &Whole,
         value_indexes: &[Expr],
         visits: &mut Visits,
     ) -> Result<(), CheckFault>
-        ensures { Goes (copying becomes target.now (index_pieces indexes.now) type_id value.now
+        ensures { Goes (copying becomes target.now (index_pieces indexes.now) value.now
             value_indexes.now) self.old visits.old result self.new visits.new }
     {
         let reach = self.access(target, indexes, visits)?;
         let ranges = self.whole_value(value, value_indexes, visits)?;
         let holds_call = whole_holds_call(value, value_indexes);
         let reach = reach_stored(&target.selectors, holds_call, reach);
-        self.copy_to(becomes, target, reach, type_id, value, &ranges)
+        self.copy_to(becomes, target, reach, &ranges)
     }
 
-    /// A whole value is copied to what is accessed.
+    /// Components of these ranges are copied to what is accessed.
     fn copy_to(
         &mut self,
         becomes: Place,
         target: &Access,
         reach: Reach,
-        type_id: TypeId,
-        value: &Whole,
         ranges: &[Interval],
     ) -> Result<(), CheckFault>
         ensures { (visits : Visits) → Goes (copy_to becomes target.now.root target.now.selectors.items
-            (said_reach reach) type_id value.now ranges.now) self.old visits result self.new visits }
+            (said_reach reach) ranges.now) self.old visits result self.new visits }
     {
         let rows = self
             .flow
@@ -143,23 +131,21 @@ impl<'a> Walk<'a> {
             .rows
             .accessed(target.root, &target.selectors);
         let stores = paired(self.alloc, rows, ranges)?;
-        let fits = fits_rows(&self.flow.grounds, type_id, value, rows, ranges);
-        self.store_to(becomes, target.root, reach, fits, &stores)
+        self.store_to(becomes, target.root, reach, &stores)
     }
 
-    /// Values are stored to what is reached of a variable, if they fit.
+    /// Values are stored to what is reached of a variable.
     fn store_to(
         &mut self,
         place: Place,
         root: u32,
         reach: Reach,
-        fits: bool,
-        stores: &[(u32, Interval)],
+        stores: &[(usize, Interval)],
     ) -> Result<(), CheckFault>
         ensures { (visits : Visits)
-            → Goes (store_to place root (said_reach reach) fits stores.now) self.old visits result self.new visits }
+            → Goes (store_to place root (said_reach reach) stores.now) self.old visits result self.new visits }
     {
-        self.component_change(place, root, fits, stores)?;
+        self.change(place, root)?;
         self.store(root, reach, stores)
     }
 
@@ -169,7 +155,7 @@ impl<'a> Walk<'a> {
         &mut self,
         root: u32,
         reach: Reach,
-        stores: &[(u32, Interval)],
+        stores: &[(usize, Interval)],
     ) -> Result<(), CheckFault>
         ensures { (visits : Visits)
             → Goes (stores_made root (said_reach reach) stores.now) self.old visits result self.new visits }
@@ -222,43 +208,11 @@ impl<'a> Walk<'a> {
 
 // What each store asks for.
 impl<'a> Walk<'a> {
-    /// A variable that may be changed is changed by values of its type.
-    fn change(&self, place: Place, root: u32, values: Interval) -> Result<(), CheckFault>
-        ensures { (visits : Visits) → Goes (change place root values) self.now visits result self.now visits }
+    /// A variable is changed: each loop round the walk has to list it, and the block, if need be.
+    fn change(&self, place: Place, root: u32) -> Result<(), CheckFault>
+        ensures { (visits : Visits) → Goes (change place root) self.now visits result self.now visits }
     {
-        asked(self.may_assign(root, values), Rule::Changes, place)
-    }
-
-    /// Whether it is so.
-    fn may_assign(&self, root: u32, values: Interval) -> bool
-        ensures { result ≡ (may_change (context_of self.now) root
-            && is_included values (limits_at (context_of self.now).limits root)) }
-    {
-        let grounds = &self.flow.grounds;
-        grounds.may_change(root) && values.leq(&limits_at(grounds.rows.limits(), root))
-    }
-
-    /// Components of a variable that may be changed are changed by values of their types.
-    fn component_change(
-        &self,
-        place: Place,
-        root: u32,
-        fits: bool,
-        stores: &[(u32, Interval)],
-    ) -> Result<(), CheckFault>
-        ensures { (visits : Visits)
-            → Goes (component_change place root fits stores.now) self.now visits result self.now visits }
-    {
-        asked(self.may_store(root, fits, stores), Rule::Changes, place)
-    }
-
-    /// Whether it is so.
-    fn may_store(&self, root: u32, fits: bool, stores: &[(u32, Interval)]) -> bool
-        ensures { result
-            ≡ (may_change (context_of self.now) root && (fits && are_typed (context_of self.now) stores.now)) }
-    {
-        let grounds = &self.flow.grounds;
-        grounds.may_change(root) && fits && are_typed(grounds.rows, stores)
+        asked(self.flow.grounds.may_change(root), Rule::Changes, place)
     }
 }
 
@@ -315,7 +269,7 @@ fn reach_before(holds_call: bool, reach: Reach) -> Reach
 fn stored_in_rows(
     alloc: Global,
     rows: &Rows,
-    stores: &[(u32, Interval)],
+    stores: &[(usize, Interval)],
 ) -> Result<Vec<Stored>, AllocError>
     ensures { IfOk result (λ stored. map said_stored stored.items ≡ map (row_stored rows.now) stores.now) }
 {
@@ -336,7 +290,7 @@ fn store_all(
     rows: &Rows,
     state: &mut State,
     reach: &Reach,
-    stores: &[(u32, Interval)],
+    stores: &[(usize, Interval)],
 ) -> Result<(), AllocError>
     ensures { IfOk result (λ _. viewed rows.now state.new
         ≡ over_components (λ known. all_stored known (said_reach reach.now) stores.now) (viewed rows.now state.old)) }
@@ -348,22 +302,8 @@ fn store_all(
     Ok(())
 }
 
-/// Whether the values of stores are ones of the types of their rows.
-fn are_typed(rows: &Rows, stores: &[(u32, Interval)]) -> bool
-    ensures { result ≡ list_all (λ one. lies_among (values_at (rows_of rows.now) one.0) one.1) stores.now }
-{
-    stores.iter().all(|store| is_typed(rows, store))
-}
-
-fn is_typed(rows: &Rows, store: &(u32, Interval)) -> bool
-    ensures { result ≡ lies_among (values_at (rows_of rows.now) store.now.0) store.now.1 }
-{
-    let (row, range) = *store;
-    lies_among(rows.values(row), range)
-}
-
 /// The same range for each of some rows.
-fn alike(alloc: Global, range: Interval, rows: Span) -> Result<Vec<(u32, Interval)>, AllocError>
+fn alike(alloc: Global, range: Interval, rows: Span) -> Result<Vec<(usize, Interval)>, AllocError>
     ensures { IfOk result (λ stores. stores.items ≡ alike range (numbers rows)) }
 {
     let mut stores = Vec::new(alloc);
@@ -378,7 +318,7 @@ fn paired(
     alloc: Global,
     rows: Span,
     ranges: &[Interval],
-) -> Result<Vec<(u32, Interval)>, AllocError>
+) -> Result<Vec<(usize, Interval)>, AllocError>
     ensures { IfOk result (λ stores. stores.items ≡ paired (numbers rows) ranges.now) }
 {
     let mut stores = Vec::new(alloc);
@@ -390,22 +330,8 @@ fn paired(
     Ok(stores)
 }
 
-fn range_at(ranges: &[Interval], place: u32) -> Option<Interval>
+fn range_at(ranges: &[Interval], place: usize) -> Option<Interval>
     ensures { result ≡ slice_get ranges.now place }
 {
-    ranges.get(place as usize).copied()
-}
-
-/// Whether a whole value, with the ranges of its components, may be copied to rows of a type.
-fn fits_rows(
-    grounds: &Grounds,
-    target: TypeId,
-    value: &Whole,
-    span: Span,
-    ranges: &[Interval],
-) -> bool
-    ensures { result ≡ (fits_whole grounds.now.rows.now.types target value.now
-        && nat_eq (length (numbers span)) (length ranges.now)) }
-{
-    grounds.may_copy(target, value) && span.count as usize == ranges.len()
+    ranges.get(place).copied()
 }

@@ -131,20 +131,12 @@ impl<'a> Walk<'a> {
                 becomes,
                 target,
                 indexes,
-                type_id,
                 value,
                 value_indexes,
+                ..
             } => {
                 visits.tick(*number);
-                self.copying(
-                    *becomes,
-                    target,
-                    indexes,
-                    *type_id,
-                    value,
-                    value_indexes,
-                    visits,
-                )
+                self.copying(*becomes, target, indexes, value, value_indexes, visits)
             }
             Stmt::Write {
                 number,
@@ -311,7 +303,7 @@ impl<'a> Walk<'a> {
         ensures { Goes (for_turns number place (statement_walk body.now) (said_way way))
             self.old visits.old result self.new visits.new }
     {
-        let tested = self.tested_way(place, way)?;
+        let tested = self.tested_way(way)?;
         self.begin_way(&tested)?;
         self.rounds_of(number, place, body, tested, visits)
     }

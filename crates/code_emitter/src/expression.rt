@@ -1,27 +1,24 @@
 ghost use Rattle.std.specs.Prelude.{◌≡◌, pos, [], ◌∷◌, ◌++◌, OnOk, map};
 ghost use Rattle.pcode_assembler.specs.declared.instr.Instr.TheVariants.{CallProcedure, CheckDefined, Compare};
 ghost use Rattle.pcode_assembler.specs.declared.instr.Instr.TheVariants.{IndexAddress, LoadConstant, LoadMany};
-ghost use Rattle.code_scheme.specs.Code.{address_code, call_code, dyadic_code, expr_code, fetch_code, field_code};
-ghost use Rattle.code_scheme.specs.Code.{index_codes, link_code, monadic_code, passed_code, range_check, reached};
-ghost use Rattle.code_scheme.specs.Code.{relation_instr, selectors_code, variable_code, whole_code};
+ghost use Rattle.code_scheme.specs.Code.{address_code, calculation_code, call_code, dyadic_code, expr_code};
+ghost use Rattle.code_scheme.specs.Code.{fetch_code, field_code, index_codes, link_code, monadic_code, passed_code};
+ghost use Rattle.code_scheme.specs.Code.{range_check, reached, relation_instr, selectors_code, shift_code};
+ghost use Rattle.code_scheme.specs.Code.{variable_code, whole_code};
 ghost use Rattle.code_scheme.specs.Scopes.{row_length as length_of_row};
 ghost use Rattle.typed_tree.specs.WellFormed.{length_of};
 
 use crate::access::{Cell, address_in, cell_in_frame};
-use crate::instrs::{
-    MAXINT, check_of, check_range, comparison_of, positive_at, put, put_checked, put_step,
-};
+use crate::instrs::{check_of, comparison_of, positive_at, put, put_checked, put_step};
 use code_scheme::depth::cells_of_whole;
 use code_scheme::routine::Routine;
 use code_scheme::scope::{GREATEST_OFFSET, Scope, selectors_from};
 use pcode_assembler::instr::Instr;
 use std::alloc::AllocError;
 use typed_tree::tree::{
-    Access, Call, Dyadic, Expr, Link, Monadic, Passed, RangeTest, Relation, Selector, Whole,
+    Access, Calculation, Call, Dyadic, Expr, Link, Monadic, Passed, RangeTest, Relation, Selector,
+    Shift, Whole,
 };
-
-/// The greatest value of the type char (ISO 7185:1990, 6.4.2.2).
-const LAST_CHAR: i32 = 127;
 
 /// The greatest length that an instruction may have.
 const GREATEST_LENGTH: u32 = 65536;
@@ -294,31 +291,43 @@ pub fn row_length(value: &Whole) -> u32
     cells_of_whole(value).min(GREATEST_LENGTH)
 }
 
-/// What an operation does to the value before it, checked.
+/// What an operation does to the value before it.
 fn emit_monadic(code: &mut Vec<Instr>, operation: Monadic) -> Result<(), AllocError>
     ensures { OnOk result (code.new.items ≡ code.old.items ++ monadic_code operation) }
 {
     match operation {
-        Monadic::Plus | Monadic::Ord => Ok(()),
-        Monadic::Minus => put(code, Instr::Negate),
-        Monadic::Not => put(code, Instr::Not),
-        Monadic::Abs => put(code, Instr::Absolute),
-        Monadic::Sqr { overflow: site } => {
+        Monadic::Plain(does) => emit_calculation(code, does),
+        Monadic::Tested { fits, does } => {
+            put(code, check_of(fits))?;
+            emit_shift(code, does)
+        }
+    }
+}
+
+/// What is calculated from the value before it, checked where it may be no integer.
+fn emit_calculation(code: &mut Vec<Instr>, does: Calculation) -> Result<(), AllocError>
+    ensures { OnOk result (code.new.items ≡ code.old.items ++ calculation_code does) }
+{
+    match does {
+        Calculation::Same | Calculation::Ordinal => Ok(()),
+        Calculation::Negative => put(code, Instr::Negate),
+        Calculation::Complement => put(code, Instr::Not),
+        Calculation::Absolute => put(code, Instr::Absolute),
+        Calculation::Square { overflow: site } => {
             put_checked(code, Instr::CheckSquare { site }, Instr::Square)
         }
-        Monadic::Odd => put(code, Instr::Odd),
-        Monadic::Chr { no_char } => put(code, check_range(no_char, 0, LAST_CHAR)),
-        Monadic::Succ { no_successor, last } => {
-            let check = check_range(no_successor, -MAXINT, last);
-            put_step(code, Instr::Add, check)
-        }
-        Monadic::Pred {
-            no_predecessor,
-            first,
-        } => {
-            let check = check_range(no_predecessor, first, MAXINT);
-            put_step(code, Instr::Subtract, check)
-        }
+        Calculation::Parity => put(code, Instr::Odd),
+    }
+}
+
+/// From a value that passed a test to the result.
+fn emit_shift(code: &mut Vec<Instr>, does: Shift) -> Result<(), AllocError>
+    ensures { OnOk result (code.new.items ≡ code.old.items ++ shift_code does) }
+{
+    match does {
+        Shift::Same => Ok(()),
+        Shift::Next => put_step(code, Instr::Add),
+        Shift::Previous => put_step(code, Instr::Subtract),
     }
 }
 

@@ -8,7 +8,7 @@ use std::alloc::AllocError;
 use typed_tree::tree::{RangeTest, Relation};
 
 /// The greatest value of the type integer (ISO 7185:1990, 6.4.2.2).
-pub const MAXINT: i32 = 2147483647;
+const MAXINT: i32 = 2147483647;
 
 /// The push of the value of a cell of the block's own frame.
 pub fn load(offset: u32) -> Instr
@@ -32,7 +32,7 @@ pub fn check_of(fits: RangeTest) -> Instr
 }
 
 /// A check that the number on top lies within two bounds.
-pub fn check_range(site: u32, low: i32, high: i32) -> Instr
+fn check_range(site: u32, low: i32, high: i32) -> Instr
     ensures { result ≡ CheckRange site low high }
 {
     Instr::CheckRange { site, low, high }
@@ -73,13 +73,12 @@ pub fn place_behind(code: &Vec<Instr>, more: u32) -> u32
     place_of(code).saturating_add(1).saturating_add(more)
 }
 
-/// What makes the number beside the one on top, and its check.
-pub fn put_step(code: &mut Vec<Instr>, step: Instr, check: Instr) -> Result<(), AllocError>
-    ensures { OnOk result (
-        code.new.items ≡ code.old.items ++ LoadConstant (pos 1) ∷ step ∷ check ∷ []) }
+/// What makes the number beside the one on top.
+pub fn put_step(code: &mut Vec<Instr>, step: Instr) -> Result<(), AllocError>
+    ensures { OnOk result (code.new.items ≡ code.old.items ++ LoadConstant (pos 1) ∷ step ∷ []) }
 {
     let one = Instr::LoadConstant { value: 1 };
-    code.extend_from_slice(&[one, step, check])
+    code.extend_from_slice(&[one, step])
 }
 
 /// A check, and the instruction that it is for.

@@ -24,10 +24,9 @@ use Rattle.typed_tree.specs.Accesses.{index_count, led, is_type}
 use Rattle.typed_tree.specs.Accesses.{selected as chosen}
 use Rattle.typed_tree.specs.WellFormed.{is_visible, all_hold, is_well_formed_expr, is_well_formed_selector, is_well_formed_test, is_whole, leads_to}
 use Rattle.meaning.specs.declared.store.Value.{Value}
-use Rattle.meaning.specs.declared.store.Value.TheVariants as value
 use Rattle.meaning.specs.Store.{Place, stored}
 use Rattle.meaning.specs.Effect as effect
-use Rattle.meaning.specs.Effect.{Reply, Gives, Action, ◌>>=◌, fetch, require}
+use Rattle.meaning.specs.Effect.{Reply, Gives, Action, ◌>>=◌, fetch, number_of, require}
 use Rattle.meaning.specs.Meaning.{Evaluation, selected, value_of}
 use Rattle.meaning.specs.Laws.{UsesTurnsExactly}
 use Rattle.meaning.specs.Meaning as meaning
@@ -126,21 +125,20 @@ module _ (g : Setting) where
   -- an address behind an index
   index_addresses : (m : State) (held held' : List Cell) (place place' : ℕ) (t : TypeId) (first : Action Value) (next : Value → Action (Option Place))
       (s : effect.State) → UsesTurnsExactly first → Evaluates g m held place first s
-      → ((base : List Cell) (n : ℤ) (u : effect.State) → Based g u base → Fits n → g.below + length held < g.limit
-      → Addresses (on g ((base ++ held) ++ Number n ∷ []) place u.output) held' place' t (next (value.Number n)) u)
+      → ((base : List Cell) (v : Value) (u : effect.State) → Based g u base → Fits (number_of v) → g.below + length held < g.limit
+      → Addresses (on g ((base ++ held) ++ Number (number_of v) ∷ []) place u.output) held' place' t (next v) u)
       → Addresses m held' place' t (first >>= next) s
   index_addresses m held held' place place' t first next s exact (inl x) h = inl (starves_first g m first next s x)
   index_addresses m held held' place place' t first next s exact (inr e) h = by (first s) refl e
     where
-      behind : (u : effect.State) (n : ℤ) (there : State) → first s ≡ Gives (value.Number n) u → u.turns ≤ s.turns → Comes g.target (s.turns - u.turns) m there
-          → Addresses there held' place' t (next (value.Number n)) u
-          → Starves g m (first >>= next) s ⊎ Addressed s.turns m held' place' t (next (value.Number n) u)
-      behind u n there is le l (inl x) = inl (starves_behind g (s.turns - u.turns) m there first next s u (value.Number n) exact is l x)
-      behind u n there is le l (inr d) = inr (addressed_on s.turns u.turns m there held' place' t (next (value.Number n) u) le l d)
+      behind : (u : effect.State) (v : Value) (there : State) → first s ≡ Gives v u → u.turns ≤ s.turns → Comes g.target (s.turns - u.turns) m there
+          → Addresses there held' place' t (next v) u → Starves g m (first >>= next) s ⊎ Addressed s.turns m held' place' t (next v u)
+      behind u v there is le l (inl x) = inl (starves_behind g (s.turns - u.turns) m there first next s u v exact is l x)
+      behind u v there is le l (inr d) = inr (addressed_on s.turns u.turns m there held' place' t (next v u) le l d)
 
       by : (r : Reply Value) → first s ≡ r → Valued g s.turns m held place r
           → Starves g m (first >>= next) s ⊎ Addressed s.turns m held' place' t (effect.and_then r next)
-      by (Gives (value.Number n) u) is e = behind u n _ is e.5 e.2 (h e.0 n u e.1 e.3 e.4)
+      by (Gives v u) is e = behind u v _ is e.5 e.2 (h e.0 v u e.1 e.3 e.4)
       by (effect.Stops end u) is e = inr e
 
   -- a value behind an address
@@ -341,18 +339,19 @@ module _ (g : Setting) where
       let end = place + length c + 1 + 1 + length (selectors_code selectors (codes indexes)) in
       let e : end ≡ place + length (c ++ rest) = omega (arith, length-append c rest) in
       let next : Value → Action (Option Place) = λ v. require (effect.is_in fits.range v) fits.site >>= λ _.
-      selected selectors (map value_of (expressions indexes)) (around g) (Some (inner p (step.Element (effect.number_of v) ∷ []))) in
+      selected selectors (map value_of (expressions indexes)) (around g) (Some (inner p (step.Element (number_of v) ∷ []))) in
       let evaluated = index.1 place base above s (stands_front g.target place c rest stands) parts.0 based (omega arith) in
       subst (λ there. Addresses (on g ((base ++ held) ++ Number (pos d) ∷ []) place s.output) held there last (value_of index.0 (around g) >>= next) s) e
       (subst (λ cells. Addresses (on g cells place s.output) held end last (value_of index.0 (around g) >>= next) s)
       (one_held g base held (pos d))
       (index_addresses _ above held (place + length c) end last (value_of index.0 (around g)) next s ((exact_around g).values index.0) evaluated
-      (λ base2 n s2 based2 fit2 room2.
-      subst (λ cs. Addresses (on g (cs ++ Number n ∷ []) (place + length c) s2.output) held end last (next (value.Number n)) s2)
+      (λ base2 v s2 based2 fit2 room2.
+      let n = number_of v in
+      subst (λ cs. Addresses (on g (cs ++ Number n ∷ []) (place + length c) s2.output) held end last (next v) s2)
       (sym (one_held g base2 held (pos d)))
       (subst (λ test. Addresses (on g (((base2 ++ held) ++ Number (pos d) ∷ []) ++ Number n ∷ []) (place + length c) s2.output) held end last
       (require test fits.site >>= (λ _. selected selectors (map value_of (expressions indexes)) (around g)
-      (Some (inner p (step.Element n ∷ []))))) s2) (sym (same_range fits.range n fit2))
+      (Some (inner p (step.Element n ∷ []))))) s2) (sym (same_range fits.range v fit2))
       (indexed_by _ fits cells selectors indexes (max depth (expr_depth index.0 + 1)) (place + length c) d base2 held n p t on_led.0 last s2 refl
       (selectors_run selectors indexes) (stands_back g.target place c rest stands) parts.1 selector_parts.0 selector_parts.1
       (omega arith) on_led.1 on_led.2 whole

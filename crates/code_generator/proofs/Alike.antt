@@ -7,7 +7,7 @@ use Rattle.std.specs.Prelude.{slice_get, slice_set, pos, if◌then◌else◌}
 use Rattle.std.proofs.lemmas.Bool.{cases_eq, lt-ltb}
 use Rattle.std.proofs.lemmas.Option.{slice_get_within}
 use Rattle.meaning.specs.declared.store.Value.{Value}
-use Rattle.meaning.specs.declared.store.Value.TheVariants as value
+use Rattle.meaning.specs.Effect.{number_of}
 use Rattle.types.specs.Components.{Steps}
 use Rattle.meaning.specs.Store.{Place, Store, place_eq, stored}
 use Rattle.stack_machine.specs.declared.cell.Cell.{Cell}
@@ -19,12 +19,12 @@ use Rattle.code_generator.proofs.Numbers.{Fits}
 -- what a cell holds for a scalar
 abbrev pub cell_of : Option Value → Cell
 cell_of None = Undefined
-cell_of (Some (value.Number n)) = Number n
+cell_of (Some v) = Number (number_of v)
 
 -- a value of a scalar is of its type, which is integer
 abbrev pub HasFit : Option Value → Type 0
 HasFit None = Unit {0}
-HasFit (Some (value.Number n)) = Fits n
+HasFit (Some v) = Fits (number_of v)
 
 -- a variable of a frame
 pub record Extent : Type 0 where

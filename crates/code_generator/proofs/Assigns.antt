@@ -3,7 +3,7 @@
 use Rattle.std.proofs.Common.{◌≡◌, ℕ, ◌+◌, ◌<◌, ◌≤◌, max, List, [], ◌∷◌, ◌++◌, length, map, Option, Some, Ok, inr, refl, sym, ap, ◌∙◌, subst, arith}
 use Rattle.std.proofs.Common.{length-append, Bool, true, false}
 use Rattle.std.specs.Prelude.{slice_set, ℤ, pos, int_le, nat_lt, not, ◌&&◌}
-use Rattle.std.proofs.lemmas.Bool.{and_parts, eqb-true, ltb-true}
+use Rattle.std.proofs.lemmas.Bool.{and_parts, ltb-true}
 use Rattle.pcode_assembler.specs.declared.instr.Instr.{Instr}
 use Rattle.pcode_assembler.specs.declared.instr.Instr.TheVariants as instr
 use Rattle.types.specs.Forms.{Form}
@@ -15,14 +15,12 @@ use Rattle.typed_tree.specs.declared.tree.Expr.{Expr}
 use Rattle.typed_tree.specs.declared.tree.RangeTest.{RangeTest}
 use Rattle.typed_tree.specs.declared.tree.Whole.{Whole}
 use Rattle.typed_tree.specs.Accesses.{index_count}
-use Rattle.typed_tree.specs.WellFormed.{all_hold, is_well_formed_expr, is_well_formed_test, is_well_formed_whole, is_whole}
-use Rattle.typed_tree.specs.WellFormed.{leads_to_ordinal}
-use Rattle.typed_tree.specs.WellFormed.{leads_to_whole, length_of, may_copy, whole_indexes}
+use Rattle.typed_tree.specs.WellFormed.{all_hold, fits_target, is_well_formed_expr, is_well_formed_test, is_well_formed_whole, is_whole}
+use Rattle.typed_tree.specs.WellFormed.{leads_to_ordinal, leads_to_whole, length_of, may_copy, source_of, whole_indexes}
 use Rattle.meaning.specs.declared.store.Value.{Value}
-use Rattle.meaning.specs.declared.store.Value.TheVariants as value
 use Rattle.meaning.specs.Store.{Place, kept}
 use Rattle.meaning.specs.Effect as effect
-use Rattle.meaning.specs.Effect.{Action, ◌>>=◌, require, store_all}
+use Rattle.meaning.specs.Effect.{Action, ◌>>=◌, number_of, require, store_all}
 use Rattle.meaning.specs.Meaning.{accessed, selected, value_of, whole_of}
 use Rattle.stack_machine.specs.declared.cell.Cell.{Cell}
 use Rattle.stack_machine.specs.declared.cell.Cell.TheVariants.{Number}
@@ -45,11 +43,11 @@ use Rattle.code_generator.proofs.Held.{set_front, scalar_kept}
 use Rattle.code_generator.proofs.Numbers.{Fits, same_range}
 use Rattle.code_generator.proofs.Parts.{ordinal_part}
 use Rattle.code_generator.proofs.Reach.{Comes, Stands, stands_front, stands_back}
-use Rattle.code_generator.proofs.Rows.{cells_of as number_cells, length-cells_of}
+use Rattle.code_generator.proofs.Rows.{cells_of as value_cells, length-cells_of}
 use Rattle.code_generator.proofs.Setting.{Setting, outline, around, exact_around, on, Based, linked, Here, acts, passes, fails, Executes, Executed}
 use Rattle.code_generator.proofs.Setting.{executes_from, done, after_value}
 use Rattle.code_generator.proofs.Wholes.{set_row, set_row_front, stores_many, stored_all, store_all_is, row_kept, row_executes, whole_runs}
-use Rattle.code_generator.proofs.Wholes.{few_components, same_type, AllFit}
+use Rattle.code_generator.proofs.Wholes.{copied_cells, few_components, same_type, AllFit}
 
 module _ (g : Setting) (known : CallsAt g) where
   -- index expressions with what is shown of them
@@ -86,8 +84,8 @@ module _ (g : Setting) (known : CallsAt g) where
     -- a value, its test, and what comes then
     value_stored : (place end : ℕ) (base held held' : List Cell) (s : effect.State) (next : Value → Action (Unit {0})) → Stands g.target place value_code
         → Based g s base → g.below + length held + expr_depth v ≤ g.limit
-        → ((base2 : List Cell) (n : ℤ) (t : effect.State) → Based g t base2 → Fits n
-        → Executes g (on g ((base2 ++ held) ++ Number n ∷ []) (place + length value_code) t.output) held' end (next (value.Number n)) t)
+        → ((base2 : List Cell) (w : Value) (t : effect.State) → Based g t base2 → Fits (number_of w)
+        → Executes g (on g ((base2 ++ held) ++ Number (number_of w) ∷ []) (place + length value_code) t.output) held' end (next w) t)
         → Executes g (on g (base ++ held) place s.output) held' end (value_of v (around g) >>= (tested next)) s
     value_stored place end base held held' s next stands based deep stored =
         let c = expr_code g.scope v in
@@ -95,13 +93,14 @@ module _ (g : Setting) (known : CallsAt g) where
         let e : place + length (c ++ check) ≡ place + length c + 1 = omega (arith, length-append c check) in
         after_value g _ held held' (place + length c) end (value_of v (around g)) (tested next) s ((exact_around g).values v)
         (expr_runs g known v place base held s (stands_front g.target place c check stands) good based deep)
-        (λ base2 n t based2 fit.
+        (λ base2 w t based2 fit.
+        let n = number_of w in
         subst (λ test. Executes g (on g ((base2 ++ held) ++ Number n ∷ []) (place + length c) t.output) held' end
-        (require test fits.site >>= (λ _. next (value.Number n))) t) (sym (same_range fits.range n fit))
-        (tested_by _ fits (place + length c) end (base2 ++ held) held' n t (next (value.Number n)) refl (stands_back g.target place c check stands) site_within
+        (require test fits.site >>= (λ _. next w)) t) (sym (same_range fits.range w fit))
+        (tested_by _ fits (place + length c) end (base2 ++ held) held' n t (next w) refl (stands_back g.target place c check stands) site_within
         (linked g t base2 held based2)
-        (subst (λ p. Executes g (on g ((base2 ++ held) ++ Number n ∷ []) p t.output) held' end (next (value.Number n)) t) e
-        (stored base2 n t based2 fit))))
+        (subst (λ p. Executes g (on g ((base2 ++ held) ++ Number n ∷ []) p t.output) held' end (next w) t) e
+        (stored base2 w t based2 fit))))
 
     -- a number on top is stored into a scalar in a frame
     stores_there : (level start owner : ℕ) (p : Place) (place : ℕ) (base held : List Cell) (n : ℤ) (s : effect.State) → Leads g.fixed level g.frame owner
@@ -143,9 +142,10 @@ module _ (g : Setting) (known : CallsAt g) where
           (subst (λ q. Executes g (on g (base ++ held) place s.output) held q (next (Some start.there)) s) e
           (value_stored place (place + length value_code + 1) base held held s (effect.store (Some start.there))
           (stands_front g.target place value_code store stands) based (omega arith)
-          (λ base2 n t based2 fit.
+          (λ base2 w t based2 fit.
+          let n = number_of w in
           inr (done g 1 _ (slice_set base2 (r.0 + first) (Number n)) held (place + length value_code + 1)
-          (record t { store = kept t.store (Some start.there) (value.Number n) }) (scalar_kept g start.there (r.0 + first) t base2 n lies based2 fit)
+          (record t { store = kept t.store (Some start.there) w }) (scalar_kept g start.there (r.0 + first) t base2 w lies based2 fit)
           (stores_there level first r.0 start.there (place + length value_code) base2 held n t r.1 lies here.0 based2)))))
       store_by (By c) r address place base held s stands based deep =
           let store = instr.StoreIndirect ∷ [] in
@@ -165,7 +165,8 @@ module _ (g : Setting) (known : CallsAt g) where
           let high = length_one held (Number (pos d)) in
           subst (λ cells. Executes g (on g cells from s1.output) held end (next (Some p)) s1) (one_held g base1 held (pos d))
           (value_stored from end base1 above held s1 (effect.store (Some p)) (stands_front g.target from value_code store behind) based1 (omega arith)
-          (λ base2 n t based2 fit.
+          (λ base2 w t based2 fit.
+          let n = number_of w in
           let cells = base2 ++ held in
           let inside = cell_within g.world t.store base2 p d based2.alike lies in
           let long = length-append base2 held in
@@ -174,10 +175,10 @@ module _ (g : Setting) (known : CallsAt g) where
           t.output (store_indirect (frames_of g ((cells ++ Number (pos d) ∷ []) ++ Number n ∷ []))) here.0 refl
           (stores_indirect g.frame g.limit g.size cells (linked g t base2 held based2) d n (omega arith)
           ∙ ap (λ cs. Ok (frames_of g cs)) (set_front base2 held d (Number n) inside)) in
-          subst (λ cs. Executes g (on g (cs ++ Number n ∷ []) (from + length value_code) t.output) held end (effect.store (Some p) (value.Number n)) t)
+          subst (λ cs. Executes g (on g (cs ++ Number n ∷ []) (from + length value_code) t.output) held end (effect.store (Some p) w) t)
           (sym (one_held g base2 held (pos d)))
-          (inr (done g 1 _ (slice_set base2 d (Number n)) held end (record t { store = kept t.store (Some p) (value.Number n) })
-          (scalar_kept g p d t base2 n lies based2 fit) stored))))))
+          (inr (done g 1 _ (slice_set base2 d (Number n)) held end (record t { store = kept t.store (Some p) w })
+          (scalar_kept g p d t base2 w lies based2 fit) stored))))))
 
       store_runs : (place : ℕ) (base held : List Cell) (s : effect.State)
           → Stands g.target place (store_code value_code (reached g.scope target (codes g indexes))) → Based g s base
@@ -198,7 +199,7 @@ module _ (g : Setting) (known : CallsAt g) where
         (store_depth (map expr_depth es) (expr_depth v))
         (all_hold (map (is_well_formed_expr (outline g) g.number) es)
         && (leads_to_ordinal (outline g) g.number target.root target.selectors.items (length es)
-        && (is_well_formed_expr (outline g) g.number v && is_well_formed_test (outline g) g.number fits)))
+        && (is_well_formed_expr (outline g) g.number v && fits_target (outline g) g.number fits target.root target.selectors.items)))
         (λ env. effect.enter number env.visible >>= λ _. accessed target (map value_of es) env >>= λ q. value_of v env >>= λ w.
         require (effect.is_in fits.range w) fits.site >>= λ _. effect.store q w)
 
@@ -206,14 +207,15 @@ module _ (g : Setting) (known : CallsAt g) where
     assigned indexes place base held s stands good based high deep =
         let count = length (expressions g indexes) in
         let one = and_parts (are_well_formed_indexes g indexes) (leads_to_ordinal (outline g) g.number target.root target.selectors.items
-        count && (is_well_formed_expr (outline g) g.number v && is_well_formed_test (outline g) g.number fits))
+        count && (is_well_formed_expr (outline g) g.number v && fits_target (outline g) g.number fits target.root target.selectors.items))
         good in
         let two = and_parts (leads_to_ordinal (outline g) g.number target.root target.selectors.items count)
-        (is_well_formed_expr (outline g) g.number v && is_well_formed_test (outline g) g.number fits) one.1 in
+        (is_well_formed_expr (outline g) g.number v && fits_target (outline g) g.number fits target.root target.selectors.items) one.1 in
         let three = and_parts (is_well_formed_expr (outline g) g.number v)
-        (is_well_formed_test (outline g) g.number fits) two.1 in
+        (fits_target (outline g) g.number fits target.root target.selectors.items) two.1 in
+        let four = and_parts (is_well_formed_test (outline g) g.number fits) _ three.1 in
         let site_within = ltb-true fits.site (sites g) (and_parts (nat_lt fits.site (sites g)) (is_whole fits.range.first
-        && is_whole fits.range.last) three.1).0 in
+        && is_whole fits.range.last) four.0).0 in
         let led_to = leads g (is_ordinal g.tree.types) target.root target.selectors.items count two.0 in
         let start = begins g target (is_ordinal g.tree.types) count (codes g indexes) led_to in
         let s2 = entered g target.number (entered g number s) in
@@ -230,32 +232,27 @@ module _ (g : Setting) (known : CallsAt g) where
 
   -- ---- whole values
 
-  -- a value is copied to as many cells as it has
-  copied_cells : (target : TypeId) (cells : ℕ) → may_copy (outline g) g.number target cells ≡ true
-      → cells_of g.tree.types target ≡ cells
-  copied_cells target cells e = eqb-true (cells_of g.tree.types target) cells e
-
   -- a row gives way to the components that got it
-  row_stored : (p : Place) (type_id : TypeId) (d count place : ℕ) (base held : List Cell) (ns : List ℤ) (s : effect.State) → PartAt g p type_id d
-      → cells_of g.tree.types type_id ≡ count → length ns ≡ count → AllFit ns → Stands g.target place (instr.StoreMany count ∷ []) → Based g s base
-      → Executes g (on g (((base ++ held) ++ Number (pos d) ∷ []) ++ number_cells ns) place s.output) held (place + 1)
-      (store_all (Some p) (components_of g.tree.types type_id) ns) s
-  row_stored p type_id d count place base held ns s part cells long fit stands based =
+  row_stored : (p : Place) (type_id : TypeId) (d count place : ℕ) (base held : List Cell) (vs : List Value) (s : effect.State) → PartAt g p type_id d
+      → cells_of g.tree.types type_id ≡ count → length vs ≡ count → AllFit vs → Stands g.target place (instr.StoreMany count ∷ []) → Based g s base
+      → Executes g (on g (((base ++ held) ++ Number (pos d) ∷ []) ++ value_cells vs) place s.output) held (place + 1)
+      (store_all (Some p) (components_of g.tree.types type_id) vs) s
+  row_stored p type_id d count place base held vs s part cells long fit stands based =
       let below = base ++ held in
       let components = components_of g.tree.types type_id in
-      let row = number_cells ns in
-      let wide = length-cells_of ns in
+      let row = value_cells vs in
+      let wide = length-cells_of vs in
       let high = length-append base held in
       let inside = part.within in
       let full = based.full in
       let many = g.known.cells g.tree.types type_id in
-      let kept_base = row_kept g p components d ns s base part.from.each (omega arith) fit based in
+      let kept_base = row_kept g p components d vs s base part.from.each (omega arith) fit based in
       let stored = acts g (instr.StoreMany count) ((below ++ Number (pos d) ∷ []) ++ row) (set_row base d row ++ held) place s.output _ stands.0 refl
       (stores_many g.frame g.limit g.size below (linked g s base held based) row count d (omega arith) (omega arith)
       ∙ ap (λ cs. Ok (frames_of g cs)) (set_row_front base held d row (omega arith))) in
       inr (subst (λ r. Executed g s.turns (on g ((below ++ Number (pos d) ∷ []) ++ row) place s.output) held (place + 1) r)
-      (sym (store_all_is p components ns s))
-      (done g 1 _ (set_row base d row) held (place + 1) (record s { store = stored_all s.store p components ns }) kept_base stored))
+      (sym (store_all_is p components vs s))
+      (done g 1 _ (set_row base d row) held (place + 1) (record s { store = stored_all s.store p components vs }) kept_base stored))
 
   -- an assignment of a whole value
   module _ (number : ℕ) (target : Access) (type_id : TypeId) (v : Whole) where
@@ -271,9 +268,9 @@ module _ (g : Setting) (known : CallsAt g) where
         && (leads_to_whole (outline g) g.number type_id target.root target.selectors.items (length es)
         && ((all_hold (whole_indexes v (map (is_well_formed_expr (outline g) g.number) vs))
         && is_well_formed_whole (outline g) g.number v (length vs))
-        && may_copy (outline g) g.number type_id (length_of v))))
-        (λ env. effect.enter number env.visible >>= λ _. accessed target (map value_of es) env >>= λ q. whole_of v (map value_of vs) env >>= λ ns.
-        store_all q (components_of env.visible.types type_id) ns)
+        && may_copy (outline g) g.number type_id (source_of v) (length_of v))))
+        (λ env. effect.enter number env.visible >>= λ _. accessed target (map value_of es) env >>= λ q. whole_of v (map value_of vs) env >>= λ values.
+        store_all q (components_of env.visible.types type_id) values)
 
     copied : (indexes value_indexes : Indexes g) → CopyRuns (expressions g indexes) (expressions g value_indexes)
     copied indexes value_indexes place base held s stands good based high deep =
@@ -281,7 +278,7 @@ module _ (g : Setting) (known : CallsAt g) where
         let n = length_of v in
         let wf_value = all_hold (whole_indexes v (wells g value_indexes))
         && is_well_formed_whole (outline g) g.number v (length (expressions g value_indexes)) in
-        let may = may_copy (outline g) g.number type_id n in
+        let may = may_copy (outline g) g.number type_id (source_of v) n in
         let one = and_parts (are_well_formed_indexes g indexes)
         (leads_to_whole (outline g) g.number type_id target.root target.selectors.items count && (wf_value && may)) good in
         let two = and_parts (leads_to_whole (outline g) g.number type_id target.root target.selectors.items count) (wf_value
@@ -290,7 +287,7 @@ module _ (g : Setting) (known : CallsAt g) where
         let three = and_parts wf_value may two.1 in
         let four = and_parts (all_hold (whole_indexes v (wells g value_indexes)))
         (is_well_formed_whole (outline g) g.number v (length (expressions g value_indexes))) three.0 in
-        let cells = copied_cells type_id n three.1 in
+        let cells = copied_cells g type_id (source_of v) n three.1 in
         let same : n ≡ row_length n = few_components g v (length (expressions g value_indexes)) four.1 in
         let more = start_within 1 (map (λ i. i + 1) (depths g indexes)) in
         let led_to = leads g wanted target.root target.selectors.items count two.0 in
@@ -307,7 +304,7 @@ module _ (g : Setting) (known : CallsAt g) where
         let s2 = entered g target.number (entered g number s) in
         let from_there = place_found g target indexes led_to.last start one.0 led_to.counts in
         let next : List Form → Option Place → Action (Unit {0}) = λ types q.
-        whole_of v (map value_of (expressions g value_indexes)) (around g) >>= λ ns. store_all q (components_of types type_id) ns in
+        whole_of v (map value_of (expressions g value_indexes)) (around g) >>= λ values. store_all q (components_of types type_id) values in
         subst (λ action. Executes g (on g (base ++ held) place s.output) held (place + length (c ++ (d ++ store))) (action >>= next g.environment.types)
         (entered g number s)) (sym (start.meant (map value_of (expressions g indexes))))
         (subst (λ types. Executes g (on g (base ++ held) place s.output) held (place + length (c ++ (d ++ store))) (from_there >>= next types) s2)
@@ -323,12 +320,13 @@ module _ (g : Setting) (known : CallsAt g) where
         let part = subst (λ t. PartAt g p t a) its part1 in
         subst (λ cs. Executes g (on g cs from s1.output) held (there + 1) (next g.tree.types (Some p)) s1) (one_held g base1 held (pos a))
         (row_executes g _ above held there (there + 1) n (whole_of v (map value_of (expressions g value_indexes)) (around g))
-        (λ ns. store_all (Some p) (components_of g.tree.types type_id) ns) s1 ((exact_around g).wholes v (expressions g value_indexes))
+        (λ values. store_all (Some p) (components_of g.tree.types type_id) values) s1 ((exact_around g).wholes v (expressions g value_indexes))
         (whole_runs g v value_indexes from base1 above s1 (stands_front g.target from d store behind) four.0 four.1 based1 (omega arith))
-        (λ base2 ns t based2 long fit.
-        subst (λ cs. Executes g (on g (cs ++ number_cells ns) there t.output) held (there + 1) (store_all (Some p) (components_of g.tree.types type_id) ns) t)
+        (λ base2 values t based2 long fit.
+        subst (λ cs. Executes g (on g (cs ++ value_cells values) there t.output) held (there + 1)
+        (store_all (Some p) (components_of g.tree.types type_id) values) t)
         (sym (one_held g base2 held (pos a)))
-        (row_stored p type_id a n there base2 held ns t part cells long fit storing based2)))))))
+        (row_stored p type_id a n there base2 held values t part cells long fit storing based2)))))))
 
     pub copy_runs : (es vs : List Expr) → CopyRuns es vs
     copy_runs es vs =

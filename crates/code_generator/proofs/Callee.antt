@@ -16,7 +16,6 @@ use Rattle.typed_tree.specs.declared.tree.VariableKind.{VariableKind}
 use Rattle.typed_tree.specs.declared.tree.VariableKind.TheVariants as kinds
 use Rattle.typed_tree.specs.WellFormed.{encloses, heading_of, is_one_of, is_parameter_kind, is_round, is_variable_kind, is_visible, of_one}
 use Rattle.typed_tree.specs.WellFormed.{outline_of, roots_where}
-use Rattle.meaning.specs.declared.store.Value.TheVariants as value
 use Rattle.meaning.specs.Store.{Environment, Place, place_eq}
 use Rattle.meaning.specs.Meaning.{Activation as Begun, Argument, OfValue, OfRow, OfPlace, environment_of, home_of as home_in, own_place, place_for}
 use Rattle.meaning.specs.Meaning.{place_passed}
@@ -471,8 +470,8 @@ module _ (g : Setting) (number : ℕ) (block : Block) (block_is : slice_get g.tr
     reference : (argument : Argument) (first : List Cell) → is_variable_kind v.kind ≡ true → Fitted g v argument first
         → (p : Place) × (address : ℕ) × (place_passed argument ≡ Some p) × (first ≡ Number (pos address) ∷ [])
         × IsPart g.tree.types g.world g.below p v.type_id address
-    reference (OfValue (value.Number n)) first refers f = absurd (false≢true (sym (no_reference v.kind f.0) ∙ refers))
-    reference (OfRow ns) first refers f = absurd (false≢true (sym (no_reference v.kind f.0) ∙ refers))
+    reference (OfValue w) first refers f = absurd (false≢true (sym (no_reference v.kind f.0) ∙ refers))
+    reference (OfRow vs) first refers f = absurd (false≢true (sym (no_reference v.kind f.0) ∙ refers))
     reference (OfPlace None) first refers f = absurd f
     reference (OfPlace (Some p)) first refers f = (p, f.0, refl, f.3, f.2)
 

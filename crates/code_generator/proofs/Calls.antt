@@ -13,9 +13,8 @@ use Rattle.typed_tree.specs.WellFormed.{heading_of, is_callable, is_kind_of}
 use Rattle.meaning.specs.declared.outcome.Ending.{Ending}
 use Rattle.meaning.specs.declared.outcome.Ending.TheVariants as ending
 use Rattle.meaning.specs.declared.store.Value.{Value}
-use Rattle.meaning.specs.declared.store.Value.TheVariants as value
 use Rattle.meaning.specs.Effect as effect
-use Rattle.meaning.specs.Effect.{Reply, Gives, Action, ◌>>=◌, give}
+use Rattle.meaning.specs.Effect.{Reply, Gives, Action, ◌>>=◌, give, number_of}
 use Rattle.meaning.specs.Meaning.{Activation as Begun, Argument, activated, assign_all, calls_of, effect_of, executed, result_of}
 use Rattle.stack_machine.specs.declared.stop.Stop.TheVariants as stop
 use Rattle.stack_machine.specs.declared.cell.Cell.{Cell}
@@ -322,8 +321,9 @@ module _ (g : Setting) (depth : ℕ) (known : CallsRun depth) (depth_is : g.dept
         depth
         depth_is room laid fits is_function behind_body) is_function r
         → Returned g s.turns call_place held (place + 1) is_function (effect.and_then r ends_so)
-    returned (Gives (value.Number n) t) e =
+    returned (Gives v t) e =
         let last = e.0 in
+        let n = number_of v in
         let back = back_place g number block block_is callable outer way base held cells arguments s based return depth depth_is room laid fits is_function
         behind_body in
         let came = subst (λ l. Comes g.target (left - t.turns) arrived (on its (l ++ left_by its is_function n) back t.output)) (append-nil last) e.2 in

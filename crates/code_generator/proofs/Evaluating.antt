@@ -8,9 +8,8 @@ use Rattle.typed_tree.specs.declared.tree.Expr.{Expr}
 use Rattle.typed_tree.specs.declared.tree.Link.{Link}
 use Rattle.typed_tree.specs.WellFormed.{is_well_formed_expr, is_well_formed_link}
 use Rattle.meaning.specs.declared.store.Value.{Value}
-use Rattle.meaning.specs.declared.store.Value.TheVariants as value
 use Rattle.meaning.specs.Effect as effect
-use Rattle.meaning.specs.Effect.{fetched}
+use Rattle.meaning.specs.Effect.{fetched, number_of}
 use Rattle.meaning.specs.Laws.{UsesTurnsExactly}
 use Rattle.meaning.specs.Meaning.{Evaluation, Combination, Execution, value_of, link_of}
 use Rattle.stack_machine.specs.declared.cell.Cell.{Cell}
@@ -47,9 +46,9 @@ module _ (g : Setting) where
   -- the code c of an operator and its right operand
   abbrev pub CombinesAs : List Instr → ℕ → Bool → Combination → Type 0
   CombinesAs c depth well combination =
-      (place : ℕ) (base held : List Cell) (a : ℤ) (s : effect.State) → Stands g.target place c → well ≡ true → Based g s base
-      → g.below + length held + depth ≤ g.limit → Fits a
-      → Evaluates g (on g ((base ++ held) ++ Number a ∷ []) place s.output) held (place + length c) (combination (around g) (value.Number a)) s
+      (place : ℕ) (base held : List Cell) (left : Value) (s : effect.State) → Stands g.target place c → well ≡ true → Based g s base
+      → g.below + length held + depth ≤ g.limit → Fits (number_of left)
+      → Evaluates g (on g ((base ++ held) ++ Number (number_of left) ∷ []) place s.output) held (place + length c) (combination (around g) left) s
 
   -- the code c of an execution
   abbrev pub ExecutesAs : Placed → ℕ → Bool → Execution → Type 0
@@ -79,8 +78,8 @@ module _ (g : Setting) where
   fetched_runs place defined base held s None stands within based room fit =
       inr (fails g (instr.CheckDefined defined 1) ((base ++ held) ++ Undefined ∷ []) place defined s.output _ refl refl s.turns stands within
       (defines g.frame g.limit g.size (base ++ held) (linked g s base held based) Undefined))
-  fetched_runs place defined base held s (Some (value.Number n)) stands within based room fit =
-      inr (gives g 0 _ base held (place + 1) n s based
-      (passes g (instr.CheckDefined defined 1) ((base ++ held) ++ Number n ∷ []) place defined s.output _ refl refl stands
-      (defines g.frame g.limit g.size (base ++ held) (linked g s base held based) (Number n)))
+  fetched_runs place defined base held s (Some v) stands within based room fit =
+      inr (gives g 0 _ base held (place + 1) v s based
+      (passes g (instr.CheckDefined defined 1) ((base ++ held) ++ Number (number_of v) ∷ []) place defined s.output _ refl refl stands
+      (defines g.frame g.limit g.size (base ++ held) (linked g s base held based) (Number (number_of v))))
       fit room)

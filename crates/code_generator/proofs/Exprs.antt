@@ -9,6 +9,7 @@ use Rattle.std.proofs.lemmas.List.{length-map}
 use Rattle.std.proofs.lemmas.Option.{none-some, same_Some}
 use Rattle.pcode_assembler.specs.declared.instr.Instr.{Instr}
 use Rattle.pcode_assembler.specs.declared.instr.Instr.TheVariants as instr
+use Rattle.types.specs.declared.form.OrdinalRange.{OrdinalRange}
 use Rattle.types.specs.declared.form.TypeId.{TypeId}
 use Rattle.types.specs.Types.{is_ordinal, is_same, cells_of as type_cells}
 use Rattle.types.specs.Forms.{Form}
@@ -16,6 +17,10 @@ use Rattle.typed_tree.specs.declared.tree.Access.{Access}
 use Rattle.typed_tree.specs.declared.tree.Variable.{Variable as DeclaredVariable}
 use Rattle.typed_tree.specs.declared.tree.Monadic.{Monadic}
 use Rattle.typed_tree.specs.declared.tree.Monadic.TheVariants as monadic
+use Rattle.typed_tree.specs.declared.tree.Calculation.{Calculation}
+use Rattle.typed_tree.specs.declared.tree.Calculation.TheVariants as calculation
+use Rattle.typed_tree.specs.declared.tree.Shift.{Shift}
+use Rattle.typed_tree.specs.declared.tree.Shift.TheVariants as shift
 use Rattle.typed_tree.specs.declared.tree.Dyadic.{Dyadic}
 use Rattle.typed_tree.specs.declared.tree.Dyadic.TheVariants as dyadic
 use Rattle.typed_tree.specs.declared.tree.Relation.{Relation}
@@ -41,11 +46,13 @@ use Rattle.meaning.specs.declared.store.Value.TheVariants as value
 use Rattle.meaning.specs.Store.{Place}
 use Rattle.meaning.specs.Effect as effect
 use Rattle.meaning.specs.Laws.{UsesTurnsExactly}
-use Rattle.meaning.specs.Effect.{Action, ◌>>=◌, fetch, require, give}
+use Rattle.meaning.specs.Effect.{Action, ◌>>=◌, fetch, number_of, require, give}
 use Rattle.meaning.specs.Meaning.{Evaluation, Combination, value_of, link_of, value_step, operated, combined, relates, in_turn, width_of, order_of}
+use Rattle.meaning.specs.Meaning.{calculated, overflow_of, shifted, unless_overflow}
+use Rattle.meaning.proofs.Replies.{and_then-and_then}
 use Rattle.meaning.specs.Meaning.{Argument, OfValue, OfRow, OfPlace, Passing, all_passed, calls_of, passing_of}
 use Rattle.meaning.specs.Meaning as meaning
-use Rattle.meaning.specs.Integers.{is_within, magnitude, truth}
+use Rattle.meaning.specs.Integers.{magnitude, truth}
 use Rattle.stack_machine.specs.declared.cell.Cell.{Cell}
 use Rattle.stack_machine.specs.declared.cell.Cell.TheVariants.{Number}
 use Rattle.stack_machine.specs.Calls as calls
@@ -54,17 +61,19 @@ use Rattle.stack_machine.specs.Frames.{Attempt}
 use Rattle.stack_machine.specs.Rows as rows
 use Rattle.machine_arithmetic.specs.Arithmetic.{is_odd}
 use Rattle.stack_machine.specs.Machine.{State, and_then, checked, with_frames}
-use Rattle.code_scheme.specs.Code.{joined, monadic_code, dyadic_code, relation_instr, variable_code, width_code, check_positive, expr_code, link_code}
+use Rattle.code_scheme.specs.Code.{calculation_code, monadic_code, shift_code}
+use Rattle.code_scheme.specs.Code.{joined, dyadic_code, relation_instr, variable_code, width_code, check_positive, expr_code, link_code}
 use Rattle.code_scheme.specs.Code.{address_code, call_code, expr_step, passed_code, passed_step as passed_code_step, range_check}
 use Rattle.code_scheme.specs.Code.{link_step, compare_code, default_width, whole_code}
 use Rattle.code_scheme.specs.Depth.{access_depth, expr_depth, link_depth, expr_depth_step, link_depth_step, width_depth, monadic_depth, whole_depth}
-use Rattle.code_scheme.specs.Depth.{PassedDepth, actuals_depth, call_depth, passed_depth, passed_depth_step}
+use Rattle.code_scheme.specs.Depth.{PassedDepth, actuals_depth, call_depth, passed_depth, passed_depth_step, shift_depth}
 use Rattle.code_scheme.specs.Scopes.{called_routine, links_to, row_length}
+use Rattle.typed_tree.specs.WellFormed.{calculation_is_well_formed, shift_is_well_formed}
 use Rattle.typed_tree.specs.WellFormed.{all_hold, monadic_is_well_formed, dyadic_is_well_formed, expr_is_well_formed, link_is_well_formed, is_well_formed_expr}
 use Rattle.typed_tree.specs.WellFormed.{is_well_formed_link, is_well_formed_width, is_well_formed_whole, is_whole, leads_to_ordinal, length_of, whole_indexes}
 use Rattle.typed_tree.specs.WellFormed.{formal_of, heading_of, is_callable, is_passed_to, is_well_formed_call, is_well_formed_passed, is_well_formed_test}
-use Rattle.typed_tree.specs.WellFormed.{leads_to_type, may_call, of_one, passed_is_well_formed, passes_value, passes_variable, passes_whole}
-use Rattle.typed_tree.specs.WellFormed.{placed as placed_for, takes_value, takes_variable, takes_whole}
+use Rattle.typed_tree.specs.WellFormed.{leads_to_type, may_call, may_copy, of_one, passed_is_well_formed, passes_value, passes_variable, passes_whole}
+use Rattle.typed_tree.specs.WellFormed.{placed as placed_for, source_of, takes_value, takes_variable, takes_whole}
 use Rattle.check_remover.specs.Strip.{moved}
 use Rattle.code_scheme.proofs.Pieces.{start_within}
 use Rattle.code_generator.proofs.Alike.{Leads, leads_split}
@@ -73,18 +82,17 @@ use Rattle.code_generator.proofs.Exact.{exact_link, exact_passed}
 use Rattle.code_generator.proofs.Passing.{AllPass, CallsAt, PassedRuns, Passes, PassesAs, Returns, address_passes, function_evaluates, links_of, passed_then}
 use Rattle.code_generator.proofs.Passing.{returns_from, row_passes, then_pass, then_returns, value_passes}
 use Rattle.code_generator.proofs.Reach.{StandsAt, Stands, obeys, stands_front, stands_back, Comes, comes_less, comes_on, stays_here}
-use Rattle.code_generator.proofs.Rows.{cells_of, length-cells_of, compares, same_order, order_fits}
+use Rattle.code_generator.proofs.Rows.{cells_of, length-cells_of, compares, numbers_of, same_order, order_fits}
 use Rattle.code_generator.proofs.Setting.{Setting, outline, around, exact_around, on, Based, linked, Here, acts, passes, fails, Evaluates, gives}
-use Rattle.code_generator.proofs.Setting.{evaluates_from, then_evaluates}
+use Rattle.code_generator.proofs.Setting.{as_value, evaluates_from, evaluates_same, then_evaluates}
 use Rattle.code_generator.proofs.Accesses.{Indexes, expressions, wells, as_many_wells, codes, depths, leads, begins, entered, fetch_runs, found as place_found}
 use Rattle.code_generator.proofs.Accesses.{PartAt, address_runs, exact_found, frame_found}
 use Rattle.code_generator.proofs.Evaluating.{sites, frames_of, fetched_at, RunsAs, CombinesAs, ExprRuns, LinkRuns, one_held}
-use Rattle.code_generator.proofs.Wholes.{few_components, row_evaluates, same_type, whole_runs}
+use Rattle.code_generator.proofs.Wholes.{copied_cells, few_components, row_evaluates, same_type, whole_runs}
 use Rattle.code_generator.proofs.Acts.{length_one, pushes, on_one_is, is_in_range, is_not_zero, squares, sums, differs, multiplies}
 use Rattle.code_generator.proofs.Acts.{on_two_is, divides, leaves}
 use Rattle.code_generator.proofs.Numbers.{Fits, sum_is, difference_is, product_is, fits_negated, negated_is, fits_magnitude, magnitude_is, fits_quotient}
-use Rattle.code_generator.proofs.Numbers.{quotient_is, fits_remainder, fits_truth, same_truth, same_test, same_positive, fits_next, fits_previous, same_below}
-use Rattle.code_generator.proofs.Numbers.{same_above, same_char, same_range}
+use Rattle.code_generator.proofs.Numbers.{quotient_is, fits_remainder, fits_truth, same_truth, same_test, same_positive, fits_next, fits_previous, same_range}
 
 -- a heading of a table is that of a block
 heading_there : (blocks : List Block) (number : ℕ) (heading : Heading) → slice_get (map heading_of blocks) number ≡ Some heading
@@ -111,8 +119,8 @@ module _ (g : Setting) where
   number_runs n place base held s here fit based room =
       let full = based.full in
       let long = length-append base held in
-      inr (gives g 1 _ base held (place + 1) n s based (acts g (instr.LoadConstant n) (base ++ held) ((base ++ held) ++ Number n ∷ []) place s.output _ here
-      refl
+      inr (gives g 1 _ base held (place + 1) (value.Number n) s based
+      (acts g (instr.LoadConstant n) (base ++ held) ((base ++ held) ++ Number n ∷ []) place s.output _ here refl
       (pushes g.frame g.limit g.size (base ++ held) n (omega arith))) fit (omega arith))
 
   -- a constant
@@ -145,21 +153,20 @@ module _ (g : Setting) where
       → attempt ≡ Ok (frames_of g ((base ++ held) ++ Number d ∷ [])) → d ≡ c → Fits c → Based g s base → g.below + length held < g.limit
       → Evaluates g (on g stack place s.output) held (place + 1) (give (value.Number c)) s
   given_runs apply place stack base held c d s attempt here rule does same fit based room =
-      inr (gives g 1 _ base held (place + 1) c s based (acts g apply stack ((base ++ held) ++ Number c ∷ []) place s.output attempt here rule
+      inr (gives g 1 _ base held (place + 1) (value.Number c) s based (acts g apply stack ((base ++ held) ++ Number c ∷ []) place s.output attempt here rule
       (does ∙ ap (λ v. Ok
       (frames_of g ((base ++ held) ++ Number v ∷ []))) same)) fit room)
 
-  -- a test of the number on top, which stays there
-  tested_runs : (check : Instr) (site place : ℕ) (base held : List Cell) (n : ℤ) (s : effect.State) (holds : Attempt Bool) (good : Bool)
+  -- a check, behind which more comes where it holds
+  checked_then : (check : Instr) (site place end : ℕ) (stack held : List Cell) (s : effect.State) (next : Action ℤ) (holds : Attempt Bool) (good : Bool)
       → StandsAt g.target place check (g.target.is_open site) → moved g.target.to check ≡ check
-      → obeys g.target check (fetched_at g ((base ++ held) ++ Number n ∷ []) place s.output) ≡ checked g.target.sites site
-      (fetched_at g ((base ++ held) ++ Number n ∷ []) place s.output) holds → holds ≡ Ok good → site < (sites g) → Based g s base
-      → g.below + length held < g.limit → Fits n
-      → Evaluates g (on g ((base ++ held) ++ Number n ∷ []) place s.output) held (place + 1) (require good site >>= (λ _. give (value.Number n))) s
-  tested_runs check site place base held n s holds true stands same rule e within based room fit =
-      inr (gives g 0 _ base held (place + 1) n s based (passes g check ((base ++ held) ++ Number n ∷ []) place site s.output holds same rule stands e) fit room)
-  tested_runs check site place base held n s holds false stands same rule e within based room fit =
-      inr (fails g check ((base ++ held) ++ Number n ∷ []) place site s.output holds same rule s.turns stands within e)
+      → obeys g.target check (fetched_at g stack place s.output) ≡ checked g.target.sites site (fetched_at g stack place s.output) holds
+      → holds ≡ Ok good → site < sites g → (good ≡ true → Evaluates g (on g stack (place + 1) s.output) held end (as_value next) s)
+      → Evaluates g (on g stack place s.output) held end (as_value (require good site >>= (λ _. next))) s
+  checked_then check site place end stack held s next holds true stands same rule e within rest =
+      evaluates_from g 0 _ _ held end (as_value next) s (passes g check stack place site s.output holds same rule stands e) (rest refl)
+  checked_then check site place end stack held s next holds false stands same rule e within rest =
+      inr (fails g check stack place site s.output holds same rule s.turns stands within e)
 
   -- an operation behind a check of its result or of its operand
   checked_runs : (check apply : Instr) (site place : ℕ) (stack base held : List Cell) (c d : ℤ) (s : effect.State) (holds : Attempt Bool)
@@ -170,16 +177,14 @@ module _ (g : Setting) where
       → holds ≡ Ok good
       → (good ≡ true → (attempt ≡ Ok (frames_of g ((base ++ held) ++ Number d ∷ []))) × (d ≡ c) × Fits c) → site < (sites g) → Based g s base
       → g.below + length held < g.limit
-      → Evaluates g (on g stack place s.output) held (place + 2) (require good site >>= (λ _. give (value.Number c))) s
-  checked_runs check apply site place stack base held c d s holds attempt true stands here same rule rule' e does within based room =
-      let d' = does refl in
-      let l = passes g check stack place site s.output holds same rule stands e in
-      let m = given_runs apply (place + 1) stack base held c d s attempt here rule' d'.0 d'.1 d'.2 based room in
+      → Evaluates g (on g stack place s.output) held (place + 2) (as_value (require good site >>= (λ _. give c))) s
+  checked_runs check apply site place stack base held c d s holds attempt good stands here same rule rule' e does within based room =
+      checked_then check site place (place + 2) stack held s (give c) holds good stands same rule e within
+      (λ so.
+      let d' = does so in
       let p : place + 1 + 1 ≡ place + 2 = omega arith in
-      subst (λ q. Evaluates g (on g stack place s.output) held q (give (value.Number c)) s) p
-      (evaluates_from g 0 _ _ held (place + 1 + 1) (give (value.Number c)) s l m)
-  checked_runs check apply site place stack base held c d s holds attempt false stands here same rule rule' e does within based room =
-      inr (fails g check stack place site s.output holds same rule s.turns stands within e)
+      subst (λ q. Evaluates g (on g stack (place + 1) s.output) held q (give (value.Number c)) s) p
+      (given_runs apply (place + 1) stack base held c d s attempt here rule' d'.0 d'.1 d'.2 based room))
 
   -- a result that is checked to be of type integer
   result_runs : (check apply : Instr) (overflow place : ℕ) (stack base held : List Cell) (c d : ℤ) (s : effect.State) (holds : Attempt Bool)
@@ -189,9 +194,9 @@ module _ (g : Setting) where
       → holds ≡ Ok (frames.is_integer c)
       → attempt ≡ Ok (frames_of g ((base ++ held) ++ Number d ∷ [])) → (Fits c → d ≡ c) → overflow < (sites g) → Based g s base
       → g.below + length held < g.limit
-      → Evaluates g (on g stack place s.output) held (place + 2) (meaning.whole overflow c) s
+      → Evaluates g (on g stack place s.output) held (place + 2) (as_value (unless_overflow (Some overflow) c)) s
   result_runs check apply overflow place stack base held c d s holds attempt stands here same rule rule' e does is within based room =
-      subst (λ t. Evaluates g (on g stack place s.output) held (place + 2) (require t overflow >>= (λ _. give (value.Number c))) s)
+      subst (λ t. Evaluates g (on g stack place s.output) held (place + 2) (as_value (require t overflow >>= (λ _. give c))) s)
       (sym (same_test c))
       (checked_runs check apply overflow place stack base held c d s holds attempt (frames.is_integer c) stands here same rule rule' e
       (λ good. let fit : Fits c = record { is = good } in (does, is fit, fit)) within based room)
@@ -227,106 +232,105 @@ module _ (g : Setting) where
         one_given apply (λ v. frames.truth (test v)) (truth (test n)) here rule (same_truth (test n)) (subst Fits (same_truth (test n)) (fits_truth (test n)))
 
     -- nothing changes
-    left_as_it_is : Evaluates g (on g one place s.output) held (place + 0) (give (value.Number n)) s
-    left_as_it_is =
-        let e : place ≡ place + 0 = omega arith in
-        inr (gives g 0 _ base held (place + 0) n s based
-        (subst (λ p. Comes g.target 0 (on g one place s.output) (on g one p s.output)) e (stays_here g.target (on g one place s.output))) fit room)
+    left_as_it_is : Evaluates g (on g one place s.output) held place (give (value.Number n)) s
+    left_as_it_is = inr (gives g 0 _ base held place (value.Number n) s based (stays_here g.target (on g one place s.output)) fit room)
 
-    -- a test of a number that is meant where the test holds
-    step_tested : (check : Instr) (site : ℕ) (d c : ℤ) (there : ℕ) (good : Bool) → StandsAt g.target there check (g.target.is_open site)
-        → moved g.target.to check ≡ check
-        → obeys g.target check (fetched_at g (cells ++ Number d ∷ []) there s.output) ≡ checked g.target.sites site
-        (fetched_at g (cells ++ Number d ∷ []) there s.output) (Ok good)
-        → (good ≡ true → (d ≡ c) × Fits c) → site < sites g
-        → Evaluates g (on g (cells ++ Number d ∷ []) there s.output) held (there + 1) (require good site >>= (λ _. give (value.Number c))) s
-    step_tested check site d c there true stands same rule does within =
-        let e = does refl in
-        inr (gives g 0 _ base held (there + 1) c s based
-        (subst (λ v. Comes g.target 0 (on g (cells ++ Number d ∷ []) there s.output) (on g (cells ++ Number v ∷ []) (there + 1) s.output)) e.0
-        (passes g check (cells ++ Number d ∷ []) there site s.output (Ok true) same rule stands refl)) e.1 room)
-    step_tested check site d c there false stands same rule does within =
-        inr (fails g check (cells ++ Number d ∷ []) there site s.output (Ok false) same rule s.turns stands within refl)
-
-    -- a step to the number beside it, which is tested then
-    stepped_runs : (step check : Instr) (site : ℕ) (f : ℤ → ℤ → ℤ) (c : ℤ) (good : Bool) → Here g place (instr.LoadConstant (pos 1))
-        → Here g (place + 1) step → StandsAt g.target (place + 1 + 1) check (g.target.is_open site)
-        → ((m : State) → obeys g.target step m ≡ and_then (frames.on_two f m.frames) (with_frames m)) → moved g.target.to check ≡ check
-        → obeys g.target check (fetched_at g (cells ++ Number (f n (pos 1)) ∷ []) (place + 1 + 1) s.output) ≡ checked g.target.sites site
-        (fetched_at g (cells ++ Number (f n (pos 1)) ∷ []) (place + 1 + 1) s.output) (Ok good)
-        → (good ≡ true → (f n (pos 1) ≡ c) × Fits c) → site < (sites g) → g.below + length held + 2 ≤ g.limit
-        → Evaluates g (on g one place s.output) held (place + 3) (require good site >>= (λ _. give (value.Number c))) s
-    stepped_runs step check site f c good at1 at2 at3 rule same rule' does within deep =
+    -- a step to the number beside it
+    stepped_runs : (step : Instr) (f : ℤ → ℤ → ℤ) (c : ℤ) → Here g place (instr.LoadConstant (pos 1)) → Here g (place + 1) step
+        → ((m : State) → obeys g.target step m ≡ and_then (frames.on_two f m.frames) (with_frames m)) → f n (pos 1) ≡ c → Fits c
+        → g.below + length held + 2 ≤ g.limit → Evaluates g (on g one place s.output) held (place + 2) (give (value.Number c)) s
+    stepped_runs step f c at1 at2 rule same fit' deep =
         let full = based.full in
         let two = one ++ Number (pos 1) ∷ [] in
-        let after = cells ++ Number (f n (pos 1)) ∷ [] in
         let pushed = acts g (instr.LoadConstant (pos 1)) one two place s.output _ at1 refl
         (pushes g.frame g.limit g.size one (pos 1) (omega (arith, length_one cells (Number n), length-append base held))) in
-        let stepped = acts g step two after (place + 1) s.output (frames.on_two f (frames_of g two)) at2 (rule (fetched_at g two (place + 1) s.output))
-        (on_two_is g.frame g.limit g.size cells within_frame n (pos 1) f below_limit) in
-        let p : place + 1 + 1 + 1 ≡ place + 3 = omega arith in
-        subst (λ q. Evaluates g (on g one place s.output) held q (require good site >>= (λ _. give (value.Number c))) s) p
-        (evaluates_from g 2 _ _ held (place + 1 + 1 + 1) (require good site >>= (λ _. give (value.Number c))) s
-        (comes_on g.target 1 1 _ _ _ pushed stepped) (step_tested check site (f n (pos 1)) c (place + 1 + 1) good at3 same rule' does within))
+        let p : place + 1 + 1 ≡ place + 2 = omega arith in
+        subst (λ q. Evaluates g (on g one place s.output) held q (give (value.Number c)) s) p
+        (evaluates_from g 1 _ _ held (place + 1 + 1) (give (value.Number c)) s pushed
+        (given_runs step (place + 1) two base held c (f n (pos 1)) s (frames.on_two f (frames_of g two)) at2 (rule (fetched_at g two (place + 1) s.output))
+        (on_two_is g.frame g.limit g.size cells within_frame n (pos 1) f below_limit) same fit' based room))
 
-    operated_runs : (operation : Monadic) → Stands g.target place (monadic_code operation) → monadic_is_well_formed (outline g) g.number operation ≡ true
-        → g.below + length held + monadic_depth operation ≤ g.limit
-        → Evaluates g (on g one place s.output) held (place + length (monadic_code operation)) (operated operation (value.Number n)) s
-    operated_runs monadic.Plus stands well deep = left_as_it_is
-    operated_runs monadic.Minus stands well deep =
+    -- what is calculated from a number
+    calculation_runs : (does : Calculation) → Stands g.target place (calculation_code does) → calculation_is_well_formed (outline g) g.number does ≡ true
+        → Evaluates g (on g one place s.output) held (place + length (calculation_code does))
+        (as_value (unless_overflow (overflow_of does) (calculated does n))) s
+    calculation_runs calculation.Same stands well =
+        let e : place ≡ place + 0 = omega arith in
+        subst (λ p. Evaluates g (on g one place s.output) held p (give (value.Number n)) s) e left_as_it_is
+    calculation_runs calculation.Negative stands well =
         one_given instr.Negate (int_wrapping_neg w32) (neg_ℤ n) stands.0 refl (negated_is n fit) (fits_negated n fit)
-    operated_runs monadic.Not stands well deep = truth_given instr.Not (λ v. not (frames.is_true v)) stands.0 refl
-    operated_runs monadic.Abs stands well deep =
+    calculation_runs calculation.Complement stands well = truth_given instr.Not (λ v. not (frames.is_true v)) stands.0 refl
+    calculation_runs calculation.Absolute stands well =
         one_given instr.Absolute (λ v. cast_signed w32 (unsigned_abs v)) (magnitude n) stands.0 refl (magnitude_is n fit) (fits_magnitude n fit)
-    operated_runs (monadic.Sqr overflow) stands well deep =
+    calculation_runs (calculation.Square overflow) stands well =
         result_runs (instr.CheckSquare overflow) instr.Square overflow place one base held (n *ℤ n) (int_wrapping_mul w32 n n) s _ _ stands.0 stands.1.0 refl
         refl refl
         (squares g.frame g.limit g.size cells within_frame n)
         (on_one_is g.frame g.limit g.size cells within_frame (λ v. int_wrapping_mul w32 v v) n below_limit) (product_is n n fit fit)
         (ltb-true overflow (sites g) well) based room
-    operated_runs monadic.Odd stands well deep = truth_given instr.Odd is_odd stands.0 refl
-    operated_runs monadic.Ord stands well deep = left_as_it_is
-    operated_runs (monadic.Chr no_char) stands well deep =
-        tested_runs (instr.CheckRange no_char (pos 0) (pos 127)) no_char place base held n s _ (is_within (pos 0) (pos 127) n) stands.0 refl refl
-        (is_in_range g.frame g.limit g.size cells within_frame (pos 0) (pos 127) n ∙ ap Ok (same_char n)) (ltb-true no_char
-        (sites g) well) based room fit
-    operated_runs (monadic.Succ no_successor last) stands well deep =
-        let parts = and_parts (nat_lt no_successor (sites g)) (is_whole last) well in
-        let good : Fits last = record { is = parts.1 } in
-        let low = neg_ℤ (pos 2147483647) in
-        let m = int_wrapping_add w32 n (pos 1) in
-        let tested = is_in_range g.frame g.limit g.size cells within_frame low last m ∙ ap Ok (same_below n last fit good) in
-        stepped_runs instr.Add (instr.CheckRange no_successor low last) no_successor (int_wrapping_add w32) (n +ℤ pos 1) (int_lt n last) stands.0 stands.1.0
-        stands.1.1.0 (λ m. refl) refl (ap (checked g.target.sites no_successor (fetched_at g (cells ++ Number m ∷ []) (place + 1 + 1) s.output)) tested)
-        (λ less. let f = fits_next n last fit good less in (sum_is n (pos 1) fit (record { is = refl }) f, f))
-        (ltb-true no_successor (sites g) parts.0) deep
-    operated_runs (monadic.Pred no_predecessor first) stands well deep =
-        let parts = and_parts (nat_lt no_predecessor (sites g)) (is_whole first) well in
-        let good : Fits first = record { is = parts.1 } in
-        let high = pos 2147483647 in
-        let m = int_wrapping_sub w32 n (pos 1) in
-        let tested = is_in_range g.frame g.limit g.size cells within_frame first high m ∙ ap Ok (same_above n first fit good) in
-        stepped_runs instr.Subtract (instr.CheckRange no_predecessor first high) no_predecessor (int_wrapping_sub w32) (n -ℤ pos 1) (int_lt first n) stands.0
-        stands.1.0 stands.1.1.0 (λ m. refl) refl
-        (ap (checked g.target.sites no_predecessor (fetched_at g (cells ++ Number m ∷ []) (place + 1 + 1) s.output)) tested)
-        (λ more. let f = fits_previous n first fit good more in (difference_is n (pos 1) fit (record { is = refl }) f, f))
-        (ltb-true no_predecessor (sites g) parts.0) deep
+    calculation_runs calculation.Parity stands well = truth_given instr.Odd is_odd stands.0 refl
+    calculation_runs calculation.Ordinal stands well =
+        let e : place ≡ place + 0 = omega arith in
+        subst (λ p. Evaluates g (on g one place s.output) held p (give (value.Number n)) s) e left_as_it_is
+
+    -- what comes of a number that lies in a range
+    shift_runs : (range : OrdinalRange) (does : Shift) → Stands g.target place (shift_code does)
+        → shift_is_well_formed (outline g) g.number range does ≡ true → int_le range.first n ≡ true → int_le n range.last ≡ true
+        → g.below + length held + shift_depth does ≤ g.limit
+        → Evaluates g (on g one place s.output) held (place + length (shift_code does)) (give (value.Number (shifted does n))) s
+    shift_runs range shift.Same stands well above below deep =
+        let e : place ≡ place + 0 = omega arith in
+        subst (λ p. Evaluates g (on g one place s.output) held p (give (value.Number n)) s) e left_as_it_is
+    shift_runs range shift.Next stands well above below deep =
+        let f = fits_next n range.last fit (record { is = well }) below in
+        stepped_runs instr.Add (int_wrapping_add w32) (n +ℤ pos 1) stands.0 stands.1.0 (λ m. refl) (sum_is n (pos 1) fit (record { is = refl }) f) f deep
+    shift_runs range shift.Previous stands well above below deep =
+        let f = fits_previous n range.first fit (record { is = well }) above in
+        stepped_runs instr.Subtract (int_wrapping_sub w32) (n -ℤ pos 1) stands.0 stands.1.0 (λ m. refl)
+        (difference_is n (pos 1) fit (record { is = refl }) f) f deep
+
+  -- what an operation makes of a number
+  operated_runs : (place : ℕ) (base held : List Cell) (n : ℤ) (s : effect.State) → Based g s base → g.below + length held < g.limit → Fits n
+      → (operation : Monadic) → Stands g.target place (monadic_code operation) → monadic_is_well_formed (outline g) g.number operation ≡ true
+      → g.below + length held + monadic_depth operation ≤ g.limit
+      → Evaluates g (on g ((base ++ held) ++ Number n ∷ []) place s.output) held (place + length (monadic_code operation))
+      (as_value (operated operation n)) s
+  operated_runs place base held n s based room fit (monadic.Plain does) stands well deep =
+      calculation_runs place base held n s based room fit does stands well
+  operated_runs place base held n s based room fit (monadic.Tested fits does) stands well deep =
+      let cells = base ++ held in
+      let range = fits.range in
+      let parts = and_parts (is_well_formed_test (outline g) g.number fits) (shift_is_well_formed (outline g) g.number range does) well in
+      let within = and_parts (nat_lt fits.site (sites g)) (is_whole range.first && is_whole range.last) parts.0 in
+      let same = same_range range (value.Number n) fit in
+      let end = place + 1 + length (shift_code does) in
+      let e : end ≡ place + length (monadic_code (monadic.Tested fits does)) = omega arith in
+      subst (λ p. Evaluates g (on g (cells ++ Number n ∷ []) place s.output) held p (as_value (operated (monadic.Tested fits does) n)) s) e
+      (checked_then (range_check fits) fits.site place end (cells ++ Number n ∷ []) held s (give (shifted does n)) _
+      (effect.is_in range (value.Number n)) stands.0 refl refl
+      (is_in_range g.frame g.limit g.size cells (linked g s base held based) range.first range.last n ∙ ap Ok (sym same))
+      (ltb-true fits.site (sites g) within.0)
+      (λ so.
+      let both = and_parts (int_le range.first n) (int_le n range.last) (sym same ∙ so) in
+      shift_runs (place + 1) base held n s based room fit range does stands.1 parts.1 both.0 both.1 deep))
 
   -- an operation on one operand
   monadic_runs : (number : ℕ) (operation : Monadic) (c : List Instr) (depth : ℕ) (well : Bool) (v : Evaluation) → UsesTurnsExactly (v (around g))
       → RunsAs g c depth well v
-      → RunsAs g (c ++ monadic_code operation) (max depth (monadic_depth operation)) (monadic_is_well_formed (outline g) g.number operation && well)
-      (λ e. effect.enter number e.visible >>= λ _. v e >>= operated operation)
+      → RunsAs g (c ++ monadic_code operation) (max depth (monadic_depth operation))
+      (monadic_is_well_formed (outline g) g.number operation && well)
+      (λ e. effect.enter number e.visible >>= λ _. v e >>= λ w. as_value (operated operation (number_of w)))
   monadic_runs number operation c depth well v exact runs place base held s stands good based room =
       let s' : effect.State = record s { visited = s.visited ++ record { number = number; environment = g.environment; store = s.store } ∷ [] } in
       let parts = and_parts (monadic_is_well_formed (outline g) g.number operation) well good in
       let e : place + length c + length (monadic_code operation) ≡ place + length (c ++ monadic_code operation) = omega
       (arith, length-append c (monadic_code operation)) in
       let rest = stands_back g.target place c (monadic_code operation) stands in
-      subst (λ p. Evaluates g (on g (base ++ held) place s.output) held p (v (around g) >>= (operated operation)) s') e
-      (then_evaluates g _ held held (place + length c) (place + length c + length (monadic_code operation)) (v (around g)) (operated operation) s' exact
+      let next : Value → Action Value = λ w. as_value (operated operation (number_of w)) in
+      subst (λ p. Evaluates g (on g (base ++ held) place s.output) held p (v (around g) >>= next) s') e
+      (then_evaluates g _ held held (place + length c) (place + length c + length (monadic_code operation)) (v (around g)) next s' exact
       (runs place base held s' (stands_front g.target place c (monadic_code operation) stands) parts.1 based (omega arith))
-      (λ base2 n s2 based2 fit2 room2. operated_runs (place + length c) base2 held n s2 based2 room2 fit2 operation rest parts.0 (omega arith)))
+      (λ base2 w s2 based2 fit2 room2. operated_runs (place + length c) base2 held (number_of w) s2 based2 room2 fit2 operation rest parts.0 (omega arith)))
 
   -- two numbers give way to a third
   module _ (place : ℕ) (base held : List Cell) (a b : ℤ) (s : effect.State) (based : Based g s base) (room : g.below + length held < g.limit)
@@ -371,13 +375,13 @@ module _ (g : Setting) where
         → obeys g.target check (fetched_at g two place s.output) ≡ checked g.target.sites overflow (fetched_at g two place s.output) holds
         → obeys g.target apply (fetched_at g two (place + 1) s.output) ≡ and_then attempt (with_frames (fetched_at g two (place + 1) s.output))
         → holds ≡ Ok (frames.is_integer c) → attempt ≡ Ok (frames_of g ((base ++ held) ++ Number d ∷ [])) → (Fits c → d ≡ c) → nat_lt overflow (sites g) ≡ true
-        → Evaluates g (on g two place s.output) held (place + 2) (meaning.whole overflow c) s
+        → Evaluates g (on g two place s.output) held (place + 2) (as_value (unless_overflow (Some overflow) c)) s
     both_checked check apply overflow c d holds attempt stands here same rule rule' e does is well =
         result_runs check apply overflow place two base held c d s holds attempt stands here same rule rule' e does is (ltb-true overflow
         (sites g) well) based room
 
     combined_runs : (operation : Dyadic) → Stands g.target place (dyadic_code operation) → dyadic_is_well_formed (outline g) g.number operation ≡ true
-        → Evaluates g (on g two place s.output) held (place + length (dyadic_code operation)) (combined operation (value.Number a) (value.Number b)) s
+        → Evaluates g (on g two place s.output) held (place + length (dyadic_code operation)) (as_value (combined operation a b)) s
     combined_runs (dyadic.Plus overflow) stands well =
         both_checked (instr.CheckSum overflow) instr.Add overflow (a +ℤ b) (int_wrapping_add w32 a b) _ _ stands.0 stands.1.0 refl refl refl
         (sums g.frame g.limit g.size (base ++ held) in_frame a b)
@@ -407,28 +411,31 @@ module _ (g : Setting) where
     combined_runs (dyadic.Relation r) stands well = relation_runs r stands
 
   -- two rows give way to their order, and that is compared with 0
-  ordered_runs : (r : Relation) (count place : ℕ) (base held : List Cell) (ns ms : List ℤ) (s : effect.State) → length ns ≡ count → length ms ≡ count
+  ordered_runs : (r : Relation) (count place : ℕ) (base held : List Cell) (vs ws : List Value) (s : effect.State) → length vs ≡ count → length ws ≡ count
       → Stands g.target place (instr.Compare count ∷ instr.LoadConstant (pos 0) ∷ relation_instr r ∷ []) → Based g s base
       → g.below + length held + 2 ≤ g.limit
-      → Evaluates g (on g (((base ++ held) ++ cells_of ns) ++ cells_of ms) place s.output) held (place + 3) (give (meaning.compared r ns ms)) s
-  ordered_runs r count place base held ns ms s long as_long stands based deep =
+      → Evaluates g (on g (((base ++ held) ++ cells_of vs) ++ cells_of ws) place s.output) held (place + 3) (give (value.Number (meaning.compared r vs ws))) s
+  ordered_runs r count place base held vs ws s long as_long stands based deep =
       let cells = base ++ held in
       let full = based.full in
       let few = length-append base held in
-      let both = (cells ++ cells_of ns) ++ cells_of ms in
-      let order = rows.order ns ms in
+      let both = (cells ++ cells_of vs) ++ cells_of ws in
+      let left = numbers_of vs in
+      let right = numbers_of ws in
+      let order = rows.order left right in
       let ordered = cells ++ Number order ∷ [] in
-      let is_order : order ≡ order_of ns ms = same_order ns ms (long ∙ sym as_long) in
+      let is_order : order ≡ order_of left right =
+      same_order left right (length-map vs number_of ∙ long ∙ sym as_long ∙ sym (length-map ws number_of)) in
       let compared = acts g (instr.Compare count) both ordered place s.output _ stands.0 refl
-      (compares g.frame g.limit g.size cells (linked g s base held based) ns ms count long as_long (omega arith)) in
+      (compares g.frame g.limit g.size cells (linked g s base held based) vs ws count long as_long (omega arith)) in
       let zero = acts g (instr.LoadConstant (pos 0)) ordered (ordered ++ Number (pos 0) ∷ []) (place + 1) s.output _ stands.1.0 refl
       (pushes g.frame g.limit g.size ordered (pos 0) (omega (arith, length_one cells (Number order)))) in
-      let fit : Fits order = subst Fits (sym is_order) (order_fits ns ms) in
+      let fit : Fits order = subst Fits (sym is_order) (order_fits left right) in
       let related = relation_runs (place + 1 + 1) base held order (pos 0) s based (omega arith) fit (record { is = refl }) r stands.1.1 in
       let whole = evaluates_from g 2 _ _ held (place + 1 + 1 + 1) (give (value.Number (truth (relates r order (pos 0))))) s
       (comes_on g.target 1 1 _ _ _ compared zero) related in
       let e : place + 1 + 1 + 1 ≡ place + 3 = omega arith in
-      subst (λ p. Evaluates g (on g both place s.output) held p (give (meaning.compared r ns ms)) s) e
+      subst (λ p. Evaluates g (on g both place s.output) held p (give (value.Number (meaning.compared r vs ws))) s) e
       (subst (λ o. Evaluates g (on g both place s.output) held (place + 1 + 1 + 1) (give (value.Number (truth (relates r o
       (pos 0))))) s) is_order whole)
 
@@ -440,8 +447,8 @@ module _ (g : Setting) where
       (all_hold (whole_indexes left (wells g left_indexes)) && (is_well_formed_whole (outline g) g.number left (length (wells g left_indexes))
       && (all_hold (whole_indexes right (wells g right_indexes))
       && (is_well_formed_whole (outline g) g.number right (length (wells g right_indexes)) && nat_eq (length_of left) (length_of right)))))
-      (λ env. meaning.whole_of left (map value_of (expressions g left_indexes)) env >>= λ ns. effect.enter number env.visible >>= λ _.
-      meaning.whole_of right (map value_of (expressions g right_indexes)) env >>= λ ms. give (meaning.compared r ns ms))
+      (λ env. meaning.whole_of left (map value_of (expressions g left_indexes)) env >>= λ vs. effect.enter number env.visible >>= λ _.
+      meaning.whole_of right (map value_of (expressions g right_indexes)) env >>= λ ws. give (value.Number (meaning.compared r vs ws)))
   compare_runs number r left left_indexes right right_indexes place base held s stands good based deep =
       let n = length_of left in
       let c = whole_code g.scope left (codes g left_indexes) in
@@ -459,87 +466,87 @@ module _ (g : Setting) where
       let there = place + length c in
       let end = there + length d + 3 in
       let e : end ≡ place + length (c ++ (d ++ last)) = omega (arith, length-append c (d ++ last), length-append d last) in
-      let next' : List ℤ → List ℤ → Action Value = λ ns ms. give (meaning.compared r ns ms) in
-      let next : List ℤ → Action Value = λ ns. effect.enter number g.environment >>= λ _.
-      meaning.whole_of right (map value_of (expressions g right_indexes)) (around g) >>= next' ns in
+      let next' : List Value → List Value → Action Value = λ vs ws. give (value.Number (meaning.compared r vs ws)) in
+      let next : List Value → Action Value = λ vs. effect.enter number g.environment >>= λ _.
+      meaning.whole_of right (map value_of (expressions g right_indexes)) (around g) >>= next' vs in
       subst (λ p. Evaluates g (on g (base ++ held) place s.output) held p
       (meaning.whole_of left (map value_of (expressions g left_indexes)) (around g) >>= next) s) e
       (row_evaluates g _ held held there end n (meaning.whole_of left (map value_of (expressions g left_indexes)) (around g)) next s
       ((exact_around g).wholes left (expressions g left_indexes))
       (whole_runs g left left_indexes place base held s (stands_front g.target place c (d ++ last) stands) one.0 left_well based (omega arith))
-      (λ base2 ns s2 based2 long fits.
-      let above = held ++ cells_of ns in
-      let high = length-append held (cells_of ns) in
+      (λ base2 vs s2 based2 long fits.
+      let above = held ++ cells_of vs in
+      let high = length-append held (cells_of vs) in
       let s3 = entered g number s2 in
-      let wide = length-cells_of ns in
-      subst (λ cells. Evaluates g (on g cells there s2.output) held end (next ns) s2) (sym (append_assoc base2 held (cells_of ns)))
+      let wide = length-cells_of vs in
+      subst (λ cells. Evaluates g (on g cells there s2.output) held end (next vs) s2) (sym (append_assoc base2 held (cells_of vs)))
       (row_evaluates g _ above held (there + length d) end (length_of right) (meaning.whole_of right (map value_of (expressions g right_indexes)) (around g))
-      (next' ns) s3 ((exact_around g).wholes right (expressions g right_indexes))
+      (next' vs) s3 ((exact_around g).wholes right (expressions g right_indexes))
       (whole_runs g right right_indexes there base2 above s3 (stands_front g.target there d last behind) three.0 right_well
       based2 (omega arith))
-      (λ base3 ms s4 based4 long' fits'.
-      subst (λ cells. Evaluates g (on g (cells ++ cells_of ms) (there + length d) s4.output) held end (next' ns ms) s4) (append_assoc base3 held
-      (cells_of ns))
-      (ordered_runs r (row_length n) (there + length d) base3 held ns ms s4 (long ∙ same) (long' ∙ sym as_long ∙ same)
+      (λ base3 ws s4 based4 long' fits'.
+      subst (λ cells. Evaluates g (on g (cells ++ cells_of ws) (there + length d) s4.output) held end (next' vs ws) s4) (append_assoc base3 held
+      (cells_of vs))
+      (ordered_runs r (row_length n) (there + length d) base3 held vs ws s4 (long ∙ same) (long' ∙ sym as_long ∙ same)
       (stands_back g.target there d last behind)
       based4 (omega arith))))))
 
   -- a value above what is held and one number more
   above_one : (m : State) (held : List Cell) (a : ℤ) (held' : List Cell) (place place' : ℕ) (first : Action Value) (next : Value → Action Value)
       (s : effect.State) → UsesTurnsExactly first → Evaluates g m (held ++ Number a ∷ []) place first s
-      → ((base : List Cell) (n : ℤ) (t : effect.State) → Based g t base → Fits n → g.below + length held < g.limit
-      → Evaluates g (on g (((base ++ held) ++ Number a ∷ []) ++ Number n ∷ []) place t.output) held' place' (next (value.Number n)) t)
+      → ((base : List Cell) (v : Value) (t : effect.State) → Based g t base → Fits (number_of v) → g.below + length held < g.limit
+      → Evaluates g (on g (((base ++ held) ++ Number a ∷ []) ++ Number (number_of v) ∷ []) place t.output) held' place' (next v) t)
       → Evaluates g m held' place' (first >>= next) s
   above_one m held a held' place place' first next s exact e h =
       then_evaluates g m (held ++ Number a ∷ []) held' place place' first next s exact e
-      (λ base n t based fit room.
+      (λ base v t based fit room.
       let one = length_one held (Number a) in
-      subst (λ cells. Evaluates g (on g (cells ++ Number n ∷ []) place t.output) held' place' (next (value.Number n)) t) (sym (one_held g base held a))
-      (h base n t based fit (omega arith)))
+      subst (λ cells. Evaluates g (on g (cells ++ Number (number_of v) ∷ []) place t.output) held' place' (next v) t) (sym (one_held g base held a))
+      (h base v t based fit (omega arith)))
 
   -- an operator and its right operand
   link_runs : (number : ℕ) (operation : Dyadic) (c : List Instr) (depth : ℕ) (well : Bool) (v : Evaluation) → UsesTurnsExactly (v (around g))
       → RunsAs g c depth well v
       → CombinesAs g (c ++ dyadic_code operation) (depth + 1) (dyadic_is_well_formed (outline g) g.number operation && well)
       (meaning.link_step (record { number = number; operation = operation; operand = v }))
-  link_runs number operation c depth well v exact runs place base held a s stands good based room fit =
+  link_runs number operation c depth well v exact runs place base held left s stands good based room fit =
+      let a = number_of left in
       let s' : effect.State = record s { visited = s.visited ++ record { number = number; environment = g.environment; store = s.store } ∷ [] } in
       let parts = and_parts (dyadic_is_well_formed (outline g) g.number operation) well good in
       let one = length_one held (Number a) in
       let e : place + length c + length (dyadic_code operation) ≡ place + length (c ++ dyadic_code operation) = omega
       (arith, length-append c (dyadic_code operation)) in
       let rest = stands_back g.target place c (dyadic_code operation) stands in
-      let next : Value → Action Value = combined operation (value.Number a) in
+      let next : Value → Action Value = λ w. as_value (combined operation a (number_of w)) in
       let operand = runs place base (held ++ Number a ∷ []) s' (stands_front g.target place c (dyadic_code operation) stands) parts.1 based (omega arith) in
       subst (λ p. Evaluates g (on g ((base ++ held) ++ Number a ∷ []) place s.output) held p (v (around g) >>= next) s') e
       (subst (λ cells. Evaluates g (on g cells place s.output) held (place + length c + length (dyadic_code operation)) (v (around g) >>= next) s')
       (one_held g base held a)
       (above_one _ held a held (place + length c) (place + length c + length (dyadic_code operation)) (v (around g)) next s' exact operand
-      (λ base2 n s2 based2 fit2 room2. combined_runs (place + length c) base2 held a n s2 based2 room2 fit fit2 operation rest parts.0)))
+      (λ base2 w s2 based2 fit2 room2.
+      combined_runs (place + length c) base2 held a (number_of w) s2 based2 room2 fit fit2 operation rest parts.0)))
 
   -- the operators of a chain, from left to right
-  links_run : (links : List ((l : Link) × LinkRuns g l)) (depth place : ℕ) (base held : List Cell) (a : ℤ) (s : effect.State)
+  links_run : (links : List ((l : Link) × LinkRuns g l)) (depth place : ℕ) (base held : List Cell) (left : Value) (s : effect.State)
       → Stands g.target place (joined (map (link_code g.scope) (map (λ l. l.0) links)))
       → all_hold (map (is_well_formed_link (outline g) g.number) (map (λ l. l.0) links)) ≡ true → Based g s base
-      → g.below + length held + fold max depth (map link_depth (map (λ l. l.0) links)) ≤ g.limit → g.below + length held < g.limit → Fits a
-      → Evaluates g (on g ((base ++ held) ++ Number a ∷ []) place s.output) held (place + length (joined (map (link_code g.scope) (map (λ l. l.0) links))))
-      (in_turn (map link_of (map (λ l. l.0) links)) (around g) (value.Number a)) s
-  links_run [] depth place base held a s stands good based deep room fit =
+      → g.below + length held + fold max depth (map link_depth (map (λ l. l.0) links)) ≤ g.limit → g.below + length held < g.limit → Fits (number_of left)
+      → Evaluates g (on g ((base ++ held) ++ Number (number_of left) ∷ []) place s.output) held
+      (place + length (joined (map (link_code g.scope) (map (λ l. l.0) links)))) (in_turn (map link_of (map (λ l. l.0) links)) (around g) left) s
+  links_run [] depth place base held left s stands good based deep room fit =
       let e : place ≡ place + 0 = omega arith in
-      inr (gives g 0 _ base held (place + 0) a s based (subst (λ p. Comes g.target 0 (on g ((base ++ held) ++ Number a ∷ []) place s.output) (on g ((base ++
-      held)
-      ++ Number a ∷ []) p s.output)) e (stays_here g.target _)) fit room)
-  links_run (l ∷ links) depth place base held a s stands good based deep room fit =
+      subst (λ p. Evaluates g (on g ((base ++ held) ++ Number (number_of left) ∷ []) place s.output) held p (give left) s) e
+      (inr (gives g 0 _ base held place left s based (stays_here g.target _) fit room))
+  links_run (l ∷ links) depth place base held left s stands good based deep room fit =
       let c = link_code g.scope l.0 in
       let rest = joined (map (link_code g.scope) (map (λ k. k.0) links)) in
       let d = start_within (max depth (link_depth l.0)) (map link_depth (map (λ k. k.0) links)) in
       let e : place + length c + length rest ≡ place + length (c ++ rest) = omega (arith, length-append c rest) in
       let next : Value → Action Value = λ w. in_turn (map link_of (map (λ k. k.0) links)) (around g) w in
-      subst (λ p. Evaluates g (on g ((base ++ held) ++ Number a ∷ []) place s.output) held p (link_of l.0 (around g) (value.Number a) >>= next) s) e
-      (then_evaluates g _ held held (place + length c) (place + length c + length rest) (link_of l.0 (around g) (value.Number a)) next s
-      (l.1.1 (value.Number a))
-      (l.1.0 place base held a s (stands_front g.target place c rest stands) (and_parts _ _ good).0 based (omega arith) fit)
-      (λ base2 n s2 based2 fit2 room2. links_run links (max depth (link_depth l.0)) (place + length c) base2 held n s2
+      subst (λ p. Evaluates g (on g ((base ++ held) ++ Number (number_of left) ∷ []) place s.output) held p (link_of l.0 (around g) left >>= next) s) e
+      (then_evaluates g _ held held (place + length c) (place + length c + length rest) (link_of l.0 (around g) left) next s (l.1.1 left)
+      (l.1.0 place base held left s (stands_front g.target place c rest stands) (and_parts _ _ good).0 based (omega arith) fit)
+      (λ base2 w s2 based2 fit2 room2. links_run links (max depth (link_depth l.0)) (place + length c) base2 held w s2
       (stands_back g.target place c rest stands) (and_parts _ _ good).1 based2 deep room2 fit2))
 
   chain_runs : (first : (e : Expr) × ExprRuns g e) (links : List ((l : Link) × LinkRuns g l))
@@ -557,7 +564,7 @@ module _ (g : Setting) where
       (then_evaluates g _ held held (place + length c) (place + length c + length rest) (value_of first.0 (around g)) next s
       ((exact_around g).values first.0)
       (first.1 place base held s (stands_front g.target place c rest stands) (and_parts _ _ good).0 based (omega arith))
-      (λ base2 n s2 based2 fit2 room2. links_run links (expr_depth first.0) (place + length c) base2 held n s2 (stands_back g.target place c rest stands)
+      (λ base2 w s2 based2 fit2 room2. links_run links (expr_depth first.0) (place + length c) base2 held w s2 (stands_back g.target place c rest stands)
       (and_parts _ _ good).1 based2 deep room2 fit2))
 
   same_runs : (c c' : List Instr) (d d' : ℕ) (w w' : Bool) (v v' : Evaluation) → c ≡ c' → d ≡ d' → w ≡ w' → v ≡ v' → RunsAs g c' d' w' v' → RunsAs g c d w v
@@ -587,12 +594,14 @@ module _ (g : Setting) where
   one_there test (Some x) e = (x, refl, e)
 
   -- a value that is passed, on top, and its test
-  tested_passes : (good : Bool) (fits : RangeTest) (callee position place : ℕ) (base held : List Cell) (n : ℤ) (s : effect.State) (formal : DeclaredVariable)
-      → (int_le fits.range.first n && int_le n fits.range.last) ≡ good → StandsAt g.target place (range_check fits) (g.target.is_open fits.site)
-      → fits.site < sites g → formal_of (outline g) callee position ≡ Some formal → takes_value (outline g) fits formal ≡ true → Based g s base → Fits n
-      → Passes g (on g ((base ++ held) ++ Number n ∷ []) place s.output) held (place + 1) 1 callee position
-      (require good fits.site >>= λ _. give (OfValue (value.Number n))) s
-  tested_passes true fits callee position place base held n s formal holds stands within is takes based fit =
+  tested_passes : (good : Bool) (fits : RangeTest) (callee position place : ℕ) (base held : List Cell) (w : Value) (s : effect.State)
+      (formal : DeclaredVariable) → (int_le fits.range.first (number_of w) && int_le (number_of w) fits.range.last) ≡ good
+      → StandsAt g.target place (range_check fits) (g.target.is_open fits.site) → fits.site < sites g
+      → formal_of (outline g) callee position ≡ Some formal → takes_value (outline g) fits formal ≡ true → Based g s base → Fits (number_of w)
+      → Passes g (on g ((base ++ held) ++ Number (number_of w) ∷ []) place s.output) held (place + 1) 1 callee position
+      (require good fits.site >>= λ _. give (OfValue w)) s
+  tested_passes true fits callee position place base held w s formal holds stands within is takes based fit =
+      let n = number_of w in
       let parts = and_parts _ _ takes in
       let parts' = and_parts _ _ parts.1 in
       let passed = passes g (range_check fits) ((base ++ held) ++ Number n ∷ []) place fits.site s.output _ refl refl stands
@@ -608,7 +617,8 @@ module _ (g : Setting) where
         comes_less g.target (s.turns - s.turns) 0 _ _ (omega arith) passed,
         omega arith,
       )
-  tested_passes false fits callee position place base held n s formal holds stands within is takes based fit =
+  tested_passes false fits callee position place base held w s formal holds stands within is takes based fit =
+      let n = number_of w in
       inr (fails g (range_check fits) ((base ++ held) ++ Number n ∷ []) place fits.site s.output _ refl refl s.turns stands within
       (is_in_range g.frame g.limit g.size (base ++ held) (linked g s base held based) fits.range.first fits.range.last n ∙ ap Ok holds))
 
@@ -629,42 +639,42 @@ module _ (g : Setting) where
       subst (λ p. Passes g (on g (base ++ held) place s.output) held p 1 callee position (value_of v.0 (around g) >>= next) s) e
       (value_passes g _ held held (place + length c) (place + length c + 1) 1 callee position (value_of v.0 (around g)) next s
       ((exact_around g).values v.0) (v.1 place base held s (stands_front g.target place c check stands) parts.0 based deep)
-      (λ base2 n t based2 fit.
-      subst (λ test. Passes g (on g ((base2 ++ held) ++ Number n ∷ []) (place + length c) t.output) held (place + length c + 1) 1 callee position
-      (require test fits.site >>= λ _. give (OfValue (value.Number n))) t) (sym (same_range fits.range n fit))
-      (tested_passes _ fits callee position (place + length c) base2 held n t formal.0 refl (stands_back g.target place c check stands).0 within formal.1
+      (λ base2 w t based2 fit.
+      subst (λ test. Passes g (on g ((base2 ++ held) ++ Number (number_of w) ∷ []) (place + length c) t.output) held (place + length c + 1) 1 callee position
+      (require test fits.site >>= λ _. give (OfValue w)) t) (sym (same_range fits.range w fit))
+      (tested_passes _ fits callee position (place + length c) base2 held w t formal.0 refl (stands_back g.target place c check stands).0 within formal.1
       formal.2 based2 fit)))
 
   whole_is_passed : (type_id : TypeId) (v : Whole) (indexes : Indexes g)
       → PassesAs g (whole_code g.scope v (codes g indexes)) (record { depth = whole_depth v (depths g indexes); cells = length_of v })
       (λ callee position. all_hold (whole_indexes v (wells g indexes)) && (is_well_formed_whole (outline g) g.number v (length (wells g indexes))
-      && passes_whole (outline g) g.number type_id (length_of v) callee position))
-      (λ env. meaning.whole_of v (map value_of (expressions g indexes)) env >>= λ ns. give (OfRow ns))
+      && passes_whole (outline g) g.number type_id (source_of v) (length_of v) callee position))
+      (λ env. meaning.whole_of v (map value_of (expressions g indexes)) env >>= λ vs. give (OfRow vs))
   whole_is_passed type_id v indexes callee position place base held s stands good based deep =
       let c = whole_code g.scope v (codes g indexes) in
       let n = length_of v in
       let one = and_parts (all_hold (whole_indexes v (wells g indexes))) _ good in
-      let two = and_parts (is_well_formed_whole (outline g) g.number v (length (wells g indexes))) (passes_whole (outline g) g.number type_id n callee position)
-      one.1 in
+      let two = and_parts (is_well_formed_whole (outline g) g.number v (length (wells g indexes)))
+      (passes_whole (outline g) g.number type_id (source_of v) n callee position) one.1 in
       let well = subst (λ k. is_well_formed_whole (outline g) g.number v k ≡ true) (as_many_wells g indexes) two.0 in
-      let formal = one_there (takes_whole (outline g) type_id n) (formal_of (outline g) callee position) two.1 in
+      let copied = and_parts (may_copy (outline g) g.number type_id (source_of v) n) (is_passed_to (outline g) g.number (takes_whole type_id) callee position)
+      two.1 in
+      let formal = one_there (takes_whole type_id) (formal_of (outline g) callee position) copied.1 in
       let takes = and_parts _ _ formal.2 in
-      let same = and_parts _ _ takes.1 in
-      let sizes = and_parts _ _ same.1 in
       let many : type_cells types formal.0.type_id ≡ n =
-      ap (λ (id : TypeId). type_cells types id) (sym (same_type g type_id formal.0.type_id same.0)) ∙ eqb-true (type_cells types type_id) n sizes.1 in
+      ap (λ (id : TypeId). type_cells types id) (sym (same_type g type_id formal.0.type_id takes.1)) ∙ copied_cells g type_id (source_of v) n copied.0 in
       row_passes g _ held held (place + length c) (place + length c) n n callee position (meaning.whole_of v (map value_of (expressions g indexes)) (around g))
-      (λ ns. give (OfRow ns)) s ((exact_around g).wholes v (expressions g indexes))
+      (λ vs. give (OfRow vs)) s ((exact_around g).wholes v (expressions g indexes))
       (whole_runs g v indexes place base held s stands one.0 well based deep)
-      (λ base2 ns t based2 long fits.
+      (λ base2 vs t based2 long fits.
       inr (
         base2,
         based2,
-        cells_of ns,
+        cells_of vs,
         formal.0,
         formal.1,
         (takes.0, long ∙ sym many, fits, refl),
-        length-cells_of ns ∙ long,
+        length-cells_of vs ∙ long,
         comes_less g.target (t.turns - t.turns) 0 _ _ (omega arith) (stays_here g.target _),
         omega arith,
       ))
@@ -959,7 +969,8 @@ module _ (g : Setting) where
 
     -- the code of a width leaves it on top, or stops as the width does; a value has this one where none is given
     pub width_runs : (width : Option Width) (v : Written) (default : ℤ) → default_width v ≡ instr.LoadConstant default → Fits default
-        → RunsAs g (width_code g.scope width v) (width_depth width) (is_well_formed_width (outline g) g.number width) (width_of width default)
+        → RunsAs g (width_code g.scope width v) (width_depth width) (is_well_formed_width (outline g) g.number width)
+        (λ env. as_value (width_of width default env))
     width_runs None v default is fit place base held s stands good based room =
         number_runs default place base held s (subst (λ i. Stands g.target place (i ∷ [])) is stands).0 fit based room
     width_runs (Some width) v default is fit place base held s stands good based room =
@@ -967,12 +978,19 @@ module _ (g : Setting) where
         let check = check_positive width.site in
         let parts = and_parts (nat_lt width.site (sites g)) (is_well_formed_expr (outline g) g.number width.value) good in
         let e : place + length c + 1 ≡ place + length (c ++ check ∷ []) = omega (arith, length-append c (check ∷ [])) in
-        let next : Value → Action Value = λ w. require (effect.is_positive w) width.site >>= λ _. give w in
-        subst (λ p. Evaluates g (on g (base ++ held) place s.output) held p (value_of width.value (around g) >>= next) s) e
-        (then_evaluates g _ held held (place + length c) (place + length c + 1) (value_of width.value (around g)) next s
+        let next : Value → Action ℤ = λ w. require (effect.is_positive (number_of w)) width.site >>= λ _. give (number_of w) in
+        let width_then : Value → Action Value = λ w. as_value (next w) in
+        evaluates_same g _ held (place + length (c ++ check ∷ [])) (as_value (value_of width.value (around g) >>= next))
+        (value_of width.value (around g) >>= width_then) s
+        (λ t. and_then-and_then (value_of width.value (around g) t) next (λ n. give (value.Number n)))
+        (subst (λ p. Evaluates g (on g (base ++ held) place s.output) held p (value_of width.value (around g) >>= width_then) s) e
+        (then_evaluates g _ held held (place + length c) (place + length c + 1) (value_of width.value (around g)) width_then s
         ((exact_around g).values width.value)
         (expr_runs width.value place base held s (stands_front g.target place c (check ∷ []) stands) parts.1 based room)
-        (λ base2 n s2 based2 fit room2.
-        tested_runs check width.site (place + length c) base2 held n s2 _ (int_le (pos 1) n) (stands_back g.target place c (check ∷ []) stands).0 refl refl
+        (λ base2 w s2 based2 fit room2.
+        let n = number_of w in
+        checked_then check width.site (place + length c) (place + length c + 1) ((base2 ++ held) ++ Number n ∷ []) held s2 (give n) _ (int_le (pos 1) n)
+        (stands_back g.target place c (check ∷ []) stands).0 refl refl
         (is_in_range g.frame g.limit g.size (base2 ++ held) (linked g s2 base2 held based2) (pos 1) (pos 2147483647) n
-        ∙ ap Ok (same_positive n fit)) (ltb-true width.site (sites g) parts.0) based2 room2 fit))
+        ∙ ap Ok (same_positive n fit)) (ltb-true width.site (sites g) parts.0)
+        (λ _. left_as_it_is (place + length c + 1) base2 held n s2 based2 room2 fit))))

@@ -25,7 +25,7 @@ use Rattle.meaning.specs.Store.{Place, kept, forgotten, stored}
 use Rattle.meaning.specs.Counting.{has_values, next_value}
 use Rattle.meaning.specs.Meaning.{is_among}
 use Rattle.meaning.specs.Effect as effect
-use Rattle.meaning.specs.Effect.{Action, ◌>>=◌, require}
+use Rattle.meaning.specs.Effect.{Action, ◌>>=◌, number_of, require}
 use Rattle.stack_machine.specs.declared.cell.Cell.{Cell}
 use Rattle.stack_machine.specs.declared.cell.Cell.TheVariants.{Undefined, Number}
 use Rattle.machine_arithmetic.specs.declared.arithmetic.Dyadic.TheVariants as dyadic
@@ -118,9 +118,9 @@ module _ (g : Setting) where
     deep = based.deep;
   }
 
-  pub scalar_kept : (p : Place) (cell : ℕ) (s : effect.State) (base : List Cell) (n : ℤ) → LiesIn g.world p cell → Based g s base → Fits n
-      → Based g (record s { store = kept s.store (Some p) (value.Number n) }) (slice_set base cell (Number n))
-  scalar_kept p cell s base n lies based fit = scalar_set p cell (Some (value.Number n)) s base fit lies based
+  pub scalar_kept : (p : Place) (cell : ℕ) (s : effect.State) (base : List Cell) (v : Value) → LiesIn g.world p cell → Based g s base → Fits (number_of v)
+      → Based g (record s { store = kept s.store (Some p) v }) (slice_set base cell (Number (number_of v)))
+  scalar_kept p cell s base v lies based fit = scalar_set p cell (Some v) s base fit lies based
 
   -- a variable that is an ordinal and lies where the code finds it
   pub record IsScalar (root : ℕ) : Type 0 where
@@ -193,7 +193,7 @@ module _ (g : Setting) where
         → Based g (record s { store = kept s.store (g.environment.variables root) (value.Number n) }) (slice_set base slot (Number n))
     variable_kept s base n based fit =
         subst (λ home. Based g (record s { store = kept s.store home (value.Number n) }) (slice_set base slot (Number n))) (sym scalar.home_is)
-        (scalar_kept scalar.home slot s base n scalar.lies based fit)
+        (scalar_kept scalar.home slot s base (value.Number n) scalar.lies based fit)
 
     pub variable_forgotten : (s : effect.State) (base : List Cell) → Based g s base
         → Based g (record s { store = forgotten s.store (g.environment.variables root) }) (slice_set base slot Undefined)
@@ -430,7 +430,7 @@ module _ (g : Setting) where
       → Executes g (on g (below ++ Number n ∷ []) place s.output) held end (require (effect.is_in fits.range (value.Number n)) fits.site >>= (λ _. next)) s
   tests fits below held n place end s next fit stands site in_frame then' =
       subst (λ test. Executes g (on g (below ++ Number n ∷ []) place s.output) held end (require test fits.site >>= (λ _. next)) s)
-      (sym (same_range fits.range n fit)) (tests_by fits below held n place end s next _ refl stands site in_frame then')
+      (sym (same_range fits.range (value.Number n) fit)) (tests_by fits below held n place end s next _ refl stands site in_frame then')
 
 -- ---- the values of a control variable
 

@@ -13,7 +13,6 @@ use Rattle.typed_tree.specs.declared.tree.Variable.{Variable}
 use Rattle.typed_tree.specs.declared.tree.VariableKind.{VariableKind}
 use Rattle.typed_tree.specs.declared.tree.VariableKind.TheVariants as kinds
 use Rattle.typed_tree.specs.WellFormed.{formal_of, is_value_kind, is_variable_kind, roots_where}
-use Rattle.meaning.specs.declared.store.Value.TheVariants as value
 use Rattle.meaning.specs.Meaning.{Argument, OfValue, OfRow, OfPlace, place_for, place_passed}
 use Rattle.stack_machine.specs.declared.cell.Cell.{Cell}
 use Rattle.code_scheme.specs.Scopes.{cells_where, is_parameter_of, slot_cells}
@@ -35,18 +34,18 @@ module _ (g : Setting) (number : ℕ) where
 
   -- what is passed has as many cells as its parameter
   pub fitted_length : (v : Variable) (argument : Argument) (first : List Cell) → Fitted g v argument first → length first ≡ slot_cells g.tree.types v
-  fitted_length v (OfValue (value.Number n)) first f =
+  fitted_length v (OfValue w) first f =
       let slot : slot_cells g.tree.types v ≡ cells_of g.tree.types v.type_id =
       ap (λ b. if b then 1 else cells_of g.tree.types v.type_id) (no_reference v.kind f.0) in
       let one = ap length (g.known.ordinals g.tree.types v.type_id f.1) in
       let cells = ap length f.3 in
       let many = g.known.cells g.tree.types v.type_id in
       omega (arith, slot, one, cells, many)
-  fitted_length v (OfRow ns) first f =
+  fitted_length v (OfRow vs) first f =
       let slot : slot_cells g.tree.types v ≡ cells_of g.tree.types v.type_id =
       ap (λ b. if b then 1 else cells_of g.tree.types v.type_id) (no_reference v.kind f.0) in
       let cells = ap length f.3 in
-      let many = length-cells_of ns in
+      let many = length-cells_of vs in
       omega (arith, slot, cells, many, f.1)
   fitted_length v (OfPlace None) first f = absurd f
   fitted_length v (OfPlace (Some p)) first f =

@@ -1,13 +1,11 @@
 -- Loops: a head where each round begins, and a round that comes back to it or leaves the loop. Each round behind which
 -- another follows uses a turn, so a run with as many turns as a bound takes no more rounds than that.
 use Rattle.std.proofs.Common.{◌≡◌, ℕ, zero, suc, ◌+◌, ◌-◌, ◌<◌, ◌≤◌, ◌⊎◌, List, ◌++◌, [], ◌∷◌, Option, Some, None, inl, inr, refl, arith}
-use Rattle.std.specs.Prelude.{ℤ}
 use Rattle.meaning.specs.declared.outcome.Ending.{Ending}
 use Rattle.meaning.specs.declared.outcome.Ending.TheVariants as ending
 use Rattle.meaning.specs.declared.store.Value.{Value}
-use Rattle.meaning.specs.declared.store.Value.TheVariants as value
 use Rattle.meaning.specs.Effect as effect
-use Rattle.meaning.specs.Effect.{Reply, Gives, Action, Round, ◌>>=◌, use_turn}
+use Rattle.meaning.specs.Effect.{Reply, Gives, Action, Round, ◌>>=◌, number_of, use_turn}
 use Rattle.meaning.specs.Laws.{GoesRoundByRound, UsesTurnsExactly}
 use Rattle.stack_machine.specs.declared.cell.Cell.{Cell}
 use Rattle.stack_machine.specs.declared.cell.Cell.TheVariants.{Number}
@@ -80,15 +78,15 @@ module _ (g : Setting) {A : Type 0} (fit : A → Type 0) (hold : A → List Cell
   -- what comes behind a value
   pub value_rounds : (gain bound : ℕ) (m : State) (here : List Cell) (place : ℕ) (first : Action Value) (next : Value → Action (Option A))
       (s : effect.State) → UsesTurnsExactly first → Evaluates g m here place first s
-      → ((base : List Cell) (n : ℤ) (t : effect.State) → Based g t base → Fits n → t.turns ≤ s.turns
-      → Rounds gain bound (on g ((base ++ here) ++ Number n ∷ []) place t.output) (next (value.Number n)) t)
+      → ((base : List Cell) (v : Value) (t : effect.State) → Based g t base → Fits (number_of v) → t.turns ≤ s.turns
+      → Rounds gain bound (on g ((base ++ here) ++ Number (number_of v) ∷ []) place t.output) (next v) t)
       → Rounds gain bound m (first >>= next) s
   value_rounds gain bound m here place first next s exact (inl x) h = inl (starves_first g m first next s x)
   value_rounds gain bound m here place first next s exact (inr e) h = by (first s) refl e
     where
       by : (r : Reply Value) → first s ≡ r → Valued g s.turns m here place r
           → Starves g m (first >>= next) s ⊎ Rounded gain bound s.turns m (effect.and_then r next)
-      by (Gives (value.Number n) t) is e = rounds_behind gain bound m _ first next s t (value.Number n) exact is e.5 e.2 (h e.0 n t e.1 e.3 e.5)
+      by (Gives v t) is e = rounds_behind gain bound m _ first next s t v exact is e.5 e.2 (h e.0 v t e.1 e.3 e.5)
       by (effect.Stops why t) is e = inr e
 
   -- what a piece does behind a turn that was used before it

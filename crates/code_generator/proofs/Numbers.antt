@@ -1,16 +1,16 @@
 -- Numbers of type integer: what the machine's operations give of them, in 32 bits, is what the program means, and all
 -- but a checked result is of type integer again.
 use Rattle.std.proofs.Common.{◌≡◌, ℕ, zero, suc, ◌<◌, ◌≤◌, refl, sym, ap, ◌∙◌, subst, arith, Bool, true, false}
-use Rattle.std.specs.Prelude.{ℤ, pos, negsuc, neg_ℤ, ◌+ℤ◌, ◌-ℤ◌, ◌*ℤ◌, ◌/◌, ◌%◌, ◌-◌, int_le, int_lt, int_div, unsigned_abs, ◌&&◌, if◌then◌else◌}
+use Rattle.std.specs.Prelude.{ℤ, pos, negsuc, neg_ℤ, ◌+ℤ◌, ◌-ℤ◌, ◌*ℤ◌, ◌/◌, ◌%◌, ◌-◌, int_le, int_div, unsigned_abs, ◌&&◌, if◌then◌else◌}
 use Rattle.std.specs.Int.{w32, cast_signed, int_rem_euclid, int_wrapping_add, int_wrapping_sub, int_wrapping_mul, int_wrapping_div, int_wrapping_neg}
 use Rattle.std.specs.Int.RustNames.{FitsSigned}
-use Rattle.std.specs.Cmp.{both_ways}
 use Rattle.std.proofs.Math.Nat.{div-le_self, mod-lt}
 use Rattle.std.proofs.lemmas.Bool.{and_parts}
 use Rattle.std.proofs.lemmas.Int.{ints, int_wrap_fits, to_z-of_z, to_z_pos, wrapping_add_is, wrapping_sub_is, wrapping_mul_is, wrapping_neg_is}
 use Rattle.types.specs.declared.form.OrdinalRange.{OrdinalRange}
+use Rattle.meaning.specs.declared.store.Value.{Value}
 use Rattle.meaning.specs.declared.store.Value.TheVariants as value
-use Rattle.meaning.specs.Effect.{is_in}
+use Rattle.meaning.specs.Effect.{is_in, number_of}
 use Rattle.meaning.specs.Integers.{is_integer_number, is_within, magnitude, maxint}
 use Rattle.meaning.specs.Integers as meant
 use Rattle.stack_machine.specs.Frames.{is_integer, is_true}
@@ -95,12 +95,12 @@ fits_remainder a (pos b) h positive =
     remainder_within a b (grind (arith, ints)) within
 fits_remainder a (negsuc b) h positive = absurd (grind (arith, ints))
 
--- the number behind one below the last, and the number before one above the first
-pub fits_next : (n last : ℤ) → Fits n → Fits last → int_lt n last ≡ true → Fits (n +ℤ pos 1)
-fits_next n last h k less = let e = h.is in let f = k.is in record { is = grind (arith, ints) }
+-- the number behind one that isn't behind the last, and the number before one that isn't before the first
+pub fits_next : (n last : ℤ) → Fits n → Fits (last +ℤ pos 1) → int_le n last ≡ true → Fits (n +ℤ pos 1)
+fits_next n last h k low = let e = h.is in let f = k.is in record { is = grind (arith, ints) }
 
-pub fits_previous : (n first : ℤ) → Fits n → Fits first → int_lt first n ≡ true → Fits (n -ℤ pos 1)
-fits_previous n first h k less = let e = h.is in let f = k.is in record { is = grind (arith, ints) }
+pub fits_previous : (n first : ℤ) → Fits n → Fits (first -ℤ pos 1) → int_le first n ≡ true → Fits (n -ℤ pos 1)
+fits_previous n first h k high = let e = h.is in let f = k.is in record { is = grind (arith, ints) }
 
 -- truth values
 pub fits_truth : (b : Bool) → Fits (frames.truth b)
@@ -120,8 +120,9 @@ pub same_test : (n : ℤ) → is_integer_number n ≡ is_integer n
 same_test n = both_or_none (int_le (neg_ℤ maxint) n) (int_le n maxint)
 
 -- a number of type integer lies in a range as the machine tests it
-pub same_range : (range : OrdinalRange) (n : ℤ) → Fits n → is_in range (value.Number n) ≡ (int_le range.first n && int_le n range.last)
-same_range range n h = ap (λ b. b && is_within range.first range.last n) (same_test n ∙ h.is) ∙ both_or_none (int_le range.first n) (int_le n range.last)
+pub same_range : (range : OrdinalRange) (v : Value) → Fits (number_of v) → is_in range v ≡ (int_le range.first (number_of v) && int_le (number_of v) range.last)
+same_range range (value.Number n) h =
+    ap (λ b. b && is_within range.first range.last n) (same_test n ∙ h.is) ∙ both_or_none (int_le range.first n) (int_le n range.last)
 
 and_true : (b : Bool) → (b && true) ≡ b
 and_true true = refl
@@ -131,51 +132,3 @@ and_true false = refl
 pub same_positive : (n : ℤ) → Fits n → (int_le (pos 1) n && int_le n (pos 2147483647)) ≡ int_le (pos 1) n
 same_positive n h =
     ap (λ b. int_le (pos 1) n && b) (and_parts _ _ h.is).1 ∙ and_true (int_le (pos 1) n)
-
--- the number behind one that lies below the last, and no other, is in range; and so is the number before one that lies
--- above the first
-in_range_behind : (n last : ℤ) → Fits n → Fits last
-    → (int_le (neg_ℤ (pos 2147483647)) (n +ℤ pos 1) && int_le (n +ℤ pos 1) last) ≡ int_lt n last
-in_range_behind n last h k =
-    let e = h.is in
-    both_ways (int_le (neg_ℤ (pos 2147483647)) (n +ℤ pos 1) && int_le (n +ℤ pos 1) last) (int_lt n last) (λ both. grind (arith, ints))
-    (λ less. grind (arith, ints))
-
-next_by : (n last : ℤ) (less : Bool) → int_lt n (pos 2147483647) ≡ less → Fits n → Fits last
-    → (int_le (neg_ℤ (pos 2147483647)) (int_wrapping_add w32 n (pos 1)) && int_le (int_wrapping_add w32 n (pos 1)) last) ≡ int_lt n last
-next_by n last true less h k =
-    ap (λ m. int_le (neg_ℤ (pos 2147483647)) m && int_le m last)
-    (sum_is n (pos 1) h (record { is = refl }) (fits_next n (pos 2147483647) h (record { is = refl }) less))
-    ∙ in_range_behind n last h k
-next_by n last false less h k =
-    let e = h.is in
-    let f = k.is in
-    let greatest : n ≡ pos 2147483647 = grind (arith, ints) in
-    let no : int_lt n last ≡ false = grind (arith, ints) in
-    ap (λ m. int_le (neg_ℤ (pos 2147483647)) (int_wrapping_add w32 m (pos 1)) && int_le (int_wrapping_add w32 m (pos 1)) last) greatest ∙ sym no
-
-pub same_below : (n last : ℤ) → Fits n → Fits last
-    → (int_le (neg_ℤ (pos 2147483647)) (int_wrapping_add w32 n (pos 1)) && int_le (int_wrapping_add w32 n (pos 1)) last) ≡ int_lt n last
-same_below n last h k = next_by n last (int_lt n (pos 2147483647)) refl h k
-
-before_fits : (n : ℤ) → Fits n → FitsSigned w32 (n -ℤ pos 1)
-before_fits n h = let e = h.is in grind (arith, ints)
-
-previous_is : (n : ℤ) → Fits n → int_wrapping_sub w32 n (pos 1) ≡ n -ℤ pos 1
-previous_is n h =
-    wrapping_sub_is w32 n (pos 1) (fits_signed n h) (fits_signed (pos 1) (record { is = refl })) ∙ int_wrap_fits w32 (n -ℤ pos 1) (before_fits n h)
-
-in_range_before : (n first : ℤ) → Fits n → Fits first → (int_le first (n -ℤ pos 1) && int_le (n -ℤ pos 1) (pos 2147483647)) ≡ int_lt first n
-in_range_before n first h k =
-    let e = h.is in
-    both_ways (int_le first (n -ℤ pos 1) && int_le (n -ℤ pos 1) (pos 2147483647)) (int_lt first n) (λ both. grind (arith, ints))
-    (λ more. grind (arith, ints))
-
-pub same_above : (n first : ℤ) → Fits n → Fits first
-    → (int_le first (int_wrapping_sub w32 n (pos 1)) && int_le (int_wrapping_sub w32 n (pos 1)) (pos 2147483647)) ≡ int_lt first n
-same_above n first h k =
-    ap (λ m. int_le first m && int_le m (pos 2147483647)) (previous_is n h) ∙ in_range_before n first h k
-
--- a char
-pub same_char : (n : ℤ) → (int_le (pos 0) n && int_le n (pos 127)) ≡ is_within (pos 0) (pos 127) n
-same_char n = sym (both_or_none (int_le (pos 0) n) (int_le n (pos 127)))

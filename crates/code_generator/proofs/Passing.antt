@@ -12,10 +12,9 @@ use Rattle.typed_tree.specs.declared.tree.Passed.{Passed}
 use Rattle.typed_tree.specs.declared.tree.Variable.{Variable}
 use Rattle.typed_tree.specs.WellFormed.{formal_of, heading_of, is_callable, is_value_kind, is_variable_kind, is_well_formed_passed}
 use Rattle.meaning.specs.declared.store.Value.{Value}
-use Rattle.meaning.specs.declared.store.Value.TheVariants as value
 use Rattle.meaning.specs.Store.{Place}
 use Rattle.meaning.specs.Effect as effect
-use Rattle.meaning.specs.Effect.{Reply, Gives, Action, ◌>>=◌}
+use Rattle.meaning.specs.Effect.{Reply, Gives, Action, ◌>>=◌, number_of}
 use Rattle.meaning.specs.Laws.{UsesTurnsExactly}
 use Rattle.meaning.specs.Meaning.{Argument, OfValue, OfRow, OfPlace, Passing, calls_of, passing_of}
 use Rattle.stack_machine.specs.declared.cell.Cell.{Cell}
@@ -28,7 +27,7 @@ use Rattle.code_generator.proofs.Accesses.{Addressed, Addresses, PartAt}
 use Rattle.code_generator.proofs.Alike.{Leads}
 use Rattle.code_generator.proofs.Numbers.{Fits}
 use Rattle.code_generator.proofs.Reach.{Stands, StandsAt, Comes, comes_on, comes_less}
-use Rattle.code_generator.proofs.Rows.{cells_of as number_cells}
+use Rattle.code_generator.proofs.Rows.{cells_of as value_cells}
 use Rattle.code_generator.proofs.Setting.{Setting, outline, around, on, Based, Ends, ends_on, Starves, starves_on, starves_first, starves_behind, Evaluates}
 use Rattle.code_generator.proofs.Setting.{Valued}
 use Rattle.code_generator.proofs.Setting.{Executes, Executed}
@@ -39,10 +38,10 @@ module _ (g : Setting) where
 
   -- cells hold what is passed to a formal parameter, as it takes it
   abbrev pub Fitted : Variable → Argument → List Cell → Type 0
-  Fitted formal (OfValue (value.Number n)) cells =
-      (is_value_kind formal.kind ≡ true) × (is_ordinal g.tree.types formal.type_id ≡ true) × Fits n × (cells ≡ Number n ∷ [])
-  Fitted formal (OfRow ns) cells =
-      (is_value_kind formal.kind ≡ true) × (length ns ≡ cells_of g.tree.types formal.type_id) × AllFit ns × (cells ≡ number_cells ns)
+  Fitted formal (OfValue v) cells =
+      (is_value_kind formal.kind ≡ true) × (is_ordinal g.tree.types formal.type_id ≡ true) × Fits (number_of v) × (cells ≡ Number (number_of v) ∷ [])
+  Fitted formal (OfRow vs) cells =
+      (is_value_kind formal.kind ≡ true) × (length vs ≡ cells_of g.tree.types formal.type_id) × AllFit vs × (cells ≡ value_cells vs)
   Fitted formal (OfPlace None) cells = ⊥
   Fitted formal (OfPlace (Some p)) cells =
       (address : ℕ) × (is_variable_kind formal.kind ≡ true) × PartAt g p formal.type_id address × (cells ≡ Number (pos address) ∷ [])
@@ -110,29 +109,28 @@ module _ (g : Setting) where
   -- behind a value, a row or an address
   pub value_passes : (m : State) (held held' : List Cell) (place place' count callee position : ℕ) (first : Action Value) (next : Value → Action Argument)
       (s : effect.State) → UsesTurnsExactly first → Evaluates g m held place first s
-      → ((base : List Cell) (n : ℤ) (t : effect.State) → Based g t base → Fits n
-      → Passes (on g ((base ++ held) ++ Number n ∷ []) place t.output) held' place' count callee position (next (value.Number n)) t)
+      → ((base : List Cell) (v : Value) (t : effect.State) → Based g t base → Fits (number_of v)
+      → Passes (on g ((base ++ held) ++ Number (number_of v) ∷ []) place t.output) held' place' count callee position (next v) t)
       → Passes m held' place' count callee position (first >>= next) s
   value_passes m held held' place place' count callee position first next s exact (inl x) h = inl (starves_first g m first next s x)
   value_passes m held held' place place' count callee position first next s exact (inr e) h = by (first s) refl e
     where
       by : (r : Reply Value) → first s ≡ r → Valued g s.turns m held place r
           → Starves g m (first >>= next) s ⊎ PassedOn s.turns m held' place' count callee position (effect.and_then r next)
-      by (Gives (value.Number n) t) is e =
-          passes_behind m _ held' place' count callee position first next s t (value.Number n) exact is e.5 e.2 (h e.0 n t e.1 e.3)
+      by (Gives v t) is e = passes_behind m _ held' place' count callee position first next s t v exact is e.5 e.2 (h e.0 v t e.1 e.3)
       by (effect.Stops end t) is e = inr e
 
-  pub row_passes : (m : State) (held held' : List Cell) (place place' long count callee position : ℕ) (first : Action (List ℤ))
-      (next : List ℤ → Action Argument) (s : effect.State) → UsesTurnsExactly first → Pushes g m held place long first s
-      → ((base : List Cell) (ns : List ℤ) (t : effect.State) → Based g t base → length ns ≡ long → AllFit ns
-      → Passes (on g ((base ++ held) ++ number_cells ns) place t.output) held' place' count callee position (next ns) t)
+  pub row_passes : (m : State) (held held' : List Cell) (place place' long count callee position : ℕ) (first : Action (List Value))
+      (next : List Value → Action Argument) (s : effect.State) → UsesTurnsExactly first → Pushes g m held place long first s
+      → ((base : List Cell) (vs : List Value) (t : effect.State) → Based g t base → length vs ≡ long → AllFit vs
+      → Passes (on g ((base ++ held) ++ value_cells vs) place t.output) held' place' count callee position (next vs) t)
       → Passes m held' place' count callee position (first >>= next) s
   row_passes m held held' place place' long count callee position first next s exact (inl x) h = inl (starves_first g m first next s x)
   row_passes m held held' place place' long count callee position first next s exact (inr e) h = by (first s) refl e
     where
-      by : (r : Reply (List ℤ)) → first s ≡ r → Pushed g s.turns m held place long r
+      by : (r : Reply (List Value)) → first s ≡ r → Pushed g s.turns m held place long r
           → Starves g m (first >>= next) s ⊎ PassedOn s.turns m held' place' count callee position (effect.and_then r next)
-      by (Gives ns t) is e = passes_behind m _ held' place' count callee position first next s t ns exact is e.5 e.2 (h e.0 ns t e.1 e.3 e.4)
+      by (Gives vs t) is e = passes_behind m _ held' place' count callee position first next s t vs exact is e.5 e.2 (h e.0 vs t e.1 e.3 e.4)
       by (effect.Stops end t) is e = inr e
 
   pub address_passes : (m : State) (held held' : List Cell) (place place' : ℕ) (type_id : TypeId) (count callee position : ℕ)
@@ -228,9 +226,9 @@ module _ (g : Setting) where
 
   -- what a call does, with so many turns left here: what is held stays, and its value is on top if it is that of a function
   abbrev pub Returned : ℕ → State → List Cell → ℕ → Bool → Reply Value → Type 0
-  Returned turns m held place is_function (Gives (value.Number n) s) =
-      (base : List Cell) × Based g s base × Comes g.target (turns - s.turns) m (on g ((base ++ held) ++ left_by is_function n) place s.output)
-      × Fits n × (s.turns ≤ turns)
+  Returned turns m held place is_function (Gives v s) =
+      (base : List Cell) × Based g s base × Comes g.target (turns - s.turns) m (on g ((base ++ held) ++ left_by is_function (number_of v)) place s.output)
+      × Fits (number_of v) × (s.turns ≤ turns)
   Returned turns m held place is_function (effect.Stops end s) = Ends g turns m end s.output
 
   abbrev pub Returns : State → List Cell → ℕ → Bool → Action Value → effect.State → Type 0
@@ -238,7 +236,7 @@ module _ (g : Setting) where
 
   pub returned_on : (turns left : ℕ) (a b : State) (held : List Cell) (place : ℕ) (is_function : Bool) (r : Reply Value) → left ≤ turns
       → Comes g.target (turns - left) a b → Returned left b held place is_function r → Returned turns a held place is_function r
-  returned_on turns left a b held place is_function (Gives (value.Number n) s) le l e = (
+  returned_on turns left a b held place is_function (Gives v s) le l e = (
     e.0,
     e.1,
     comes_less g.target (turns - s.turns) (turns - left + (left - s.turns)) a _ (omega arith)
@@ -306,7 +304,7 @@ module _ (g : Setting) where
   evaluated_returns m held place action s (inr e) = inr (by (action s) e)
     where
       by : (r : Reply Value) → Valued g s.turns m held place r → Returned s.turns m held place true r
-      by (Gives (value.Number n) t) e = (e.0, e.1, e.2, e.3, e.5)
+      by (Gives v t) e = (e.0, e.1, e.2, e.3, e.5)
       by (effect.Stops end t) e = e
 
   -- the call of a function is a value
@@ -316,7 +314,7 @@ module _ (g : Setting) where
   function_evaluates m held place action s room (inr e) = inr (by (action s) e)
     where
       by : (r : Reply Value) → Returned s.turns m held place true r → Valued g s.turns m held place r
-      by (Gives (value.Number n) t) e = (e.0, e.1, e.2, e.3, room, e.4)
+      by (Gives v t) e = (e.0, e.1, e.2, e.3, room, e.4)
       by (effect.Stops end t) e = e
 
   -- the call of a procedure is a statement
@@ -326,7 +324,7 @@ module _ (g : Setting) where
   returns_executes m held place action s exact (inr e) = inr (by (action s) e)
     where
       by : (r : Reply Value) → Returned s.turns m held place false r → Executed g s.turns m held place (effect.and_then r (λ _. effect.give tt))
-      by (Gives (value.Number n) t) e =
+      by (Gives v t) e =
           (e.0, e.1, subst (λ cells. Comes g.target (s.turns - t.turns) m (on g cells place t.output)) (append-nil (e.0 ++ held)) e.2, e.4)
       by (effect.Stops end t) e = e
 

@@ -1,4 +1,4 @@
--- Rows of numbers in cells: what the instructions that take them do to a store on top of which they are known, and that
+-- Rows of values in cells: what the instructions that take them do to a store on top of which they are known, and that
 -- they compare and write them as the program does.
 use Rattle.std.proofs.Common.{◌≡◌, ℕ, ◌+◌, ◌-◌, ◌*◌, ◌<◌, ◌≤◌, List, [], ◌∷◌, ◌++◌, length, map, take, drop, Ok, refl, sym, ap, ◌∙◌, arith}
 use Rattle.std.proofs.Common.{append_assoc, append-nil, length-append, Bool, true, false}
@@ -6,6 +6,8 @@ use Rattle.std.specs.Prelude.{ℤ, pos, negsuc, int_lt, if◌then◌else◌}
 use Rattle.std.proofs.Math.Seq.{take-append_seam, drop-append_seam}
 use Rattle.std.proofs.lemmas.List.{length-map}
 use Rattle.std.proofs.lemmas.Int.{ints}
+use Rattle.meaning.specs.declared.store.Value.{Value}
+use Rattle.meaning.specs.Effect.{number_of}
 use Rattle.meaning.specs.Meaning.{order_of}
 use Rattle.meaning.specs.Integers as meant
 use Rattle.stack_machine.specs.declared.cell.Cell.{Cell}
@@ -17,16 +19,20 @@ use Rattle.stack_machine.specs.Texts as texts
 use Rattle.code_generator.proofs.Acts.{framed, has_some, has_room, top_at}
 use Rattle.code_generator.proofs.Numbers.{Fits}
 
--- the cells of a row of numbers
-abbrev pub cells_of : List ℤ → List Cell
-cells_of ns = map Number ns
+-- the cells of a row of values
+abbrev pub cells_of : List Value → List Cell
+cells_of vs = map (λ v. Number (number_of v)) vs
 
-pub length-cells_of : (ns : List ℤ) → length (cells_of ns) ≡ length ns
-length-cells_of ns = length-map ns Number
+pub length-cells_of : (vs : List Value) → length (cells_of vs) ≡ length vs
+length-cells_of vs = length-map vs (λ v. Number (number_of v))
 
-numbers_are : (ns : List ℤ) → rows.numbers (cells_of ns) ≡ Ok ns
+-- and their numbers
+abbrev pub numbers_of : List Value → List ℤ
+numbers_of vs = map number_of vs
+
+numbers_are : (vs : List Value) → rows.numbers (cells_of vs) ≡ Ok (numbers_of vs)
 numbers_are [] = refl
-numbers_are (n ∷ ns) = ap (λ r. r >>= λ others. Ok (n ∷ others)) (numbers_are ns)
+numbers_are (v ∷ vs) = ap (λ r. r >>= λ others. Ok (number_of v ∷ others)) (numbers_are vs)
 
 module _ (frame limit size : ℕ) where
   -- a row below others, and below nothing
@@ -51,7 +57,7 @@ module _ (frame limit size : ℕ) where
       ap (λ m. take m cells) start ∙ ap (take (length below)) (append_assoc below row above) ∙ take-append_seam below (row ++ above)
 
   -- two rows give way to their order
-  module _ (below : List Cell) (linked : frame + 4 ≤ length below) (left right : List ℤ) (n : ℕ) (long : length left ≡ n) (as_long : length right ≡ n) where
+  module _ (below : List Cell) (linked : frame + 4 ≤ length below) (left right : List Value) (n : ℕ) (long : length left ≡ n) (as_long : length right ≡ n) where
     abbrev both : List Cell
     both = (below ++ cells_of left) ++ cells_of right
 
@@ -67,7 +73,10 @@ module _ (frame limit size : ℕ) where
     abbrev left_read : Attempt Frames
     left_read = rows.numbers (rows.row (2 * n) n store) >>= right_read
 
-    pub compares : length below < limit → rows.compared n store ≡ Ok (framed frame limit size (below ++ Number (rows.order left right) ∷ []))
+    abbrev order : ℤ
+    order = rows.order (numbers_of left) (numbers_of right)
+
+    pub compares : length below < limit → rows.compared n store ≡ Ok (framed frame limit size (below ++ Number order ∷ []))
     compares room =
         let l = length-cells_of left in
         let r = length-cells_of right in
@@ -78,13 +87,13 @@ module _ (frame limit size : ℕ) where
         ∙ ap (λ x. x >>= λ _. left_read) (has_room frame limit size (2 * n) both (omega arith))
         ∙ ap (λ cs. rows.numbers cs >>= right_read) (row_is below (cells_of left) (cells_of right) (2 * n) n two (l ∙ long))
         ∙ ap (λ x. x >>= right_read) (numbers_are left)
-        ∙ ap (λ cs. rows.numbers cs >>= order_pushed left) (top_row_is (below ++ cells_of left) (cells_of right) n (r ∙ as_long))
-        ∙ ap (λ x. x >>= order_pushed left) (numbers_are right)
-        ∙ ap (λ cs. Ok (framed frame limit size (cs ++ Number (rows.order left right) ∷ [])))
+        ∙ ap (λ cs. rows.numbers cs >>= order_pushed (numbers_of left)) (top_row_is (below ++ cells_of left) (cells_of right) n (r ∙ as_long))
+        ∙ ap (λ x. x >>= order_pushed (numbers_of left)) (numbers_are right)
+        ∙ ap (λ cs. Ok (framed frame limit size (cs ++ Number order ∷ [])))
         (popped_is below (cells_of left) (cells_of right) (2 * n) two)
 
   -- a row and a width give way to a text
-  module _ (below : List Cell) (linked : frame + 4 ≤ length below) (row : List ℤ) (width : ℤ) (n : ℕ) (long : length row ≡ n) where
+  module _ (below : List Cell) (linked : frame + 4 ≤ length below) (row : List Value) (width : ℤ) (n : ℕ) (long : length row ≡ n) where
     abbrev string : List Cell
     string = (below ++ cells_of row) ++ Number width ∷ []
 
@@ -94,7 +103,7 @@ module _ (frame limit size : ℕ) where
     abbrev width_read : List ℤ → Attempt (List ℤ × ℤ)
     width_read ns = number_at 1 string_store >>= λ w. Ok (ns, w)
 
-    string_is : rows.string n string_store ≡ Ok (row, width)
+    string_is : rows.string n string_store ≡ Ok (numbers_of row, width)
     string_is =
         let l = length-cells_of row in
         let all : length string ≡ length below + n + 1 = omega (
@@ -106,14 +115,17 @@ module _ (frame limit size : ℕ) where
         ap (λ x. x >>= λ _. rows.numbers (rows.row (n + 1) n string_store) >>= width_read) (has_some frame limit size (n + 1) string (omega arith))
         ∙ ap (λ cs. rows.numbers cs >>= width_read) (row_is below (cells_of row) (Number width ∷ []) (n + 1) n (omega arith) (l ∙ long))
         ∙ ap (λ x. x >>= width_read) (numbers_are row)
-        ∙ ap (λ o. number o >>= λ w. Ok (row, w))
+        ∙ ap (λ o. number o >>= λ w. Ok (numbers_of row, w))
         (top_at frame limit size (below ++ cells_of row) (omega (arith, length-append below (cells_of row))) (Number width))
 
-    pub writes_string : string_written n string_store ≡ Ok (framed frame limit size below, texts.string_text (map texts.byte_of row) width)
+    abbrev text : List ℕ
+    text = texts.string_text (map texts.byte_of (numbers_of row)) width
+
+    pub writes_string : string_written n string_store ≡ Ok (framed frame limit size below, text)
     writes_string =
         let l = length-cells_of row in
         ap (λ x. x >>= λ s. Ok (popped (n + 1) string_store, texts.string_text (map texts.byte_of s.0) s.1)) string_is
-        ∙ ap (λ cs. Ok (framed frame limit size cs, texts.string_text (map texts.byte_of row) width))
+        ∙ ap (λ cs. Ok (framed frame limit size cs, text))
         (popped_is below (cells_of row) (Number width ∷ []) (n + 1) (omega arith))
 
 -- ---- what is meant of them

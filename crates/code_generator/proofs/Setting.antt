@@ -17,9 +17,10 @@ use Rattle.meaning.specs.declared.store.Value.TheVariants as value
 use Rattle.meaning.specs.Store as meant
 use Rattle.meaning.specs.Store.{Environment, Place, stored}
 use Rattle.meaning.specs.Effect as effect
-use Rattle.meaning.specs.Effect.{Reply, Gives, Action, ◌>>=◌}
+use Rattle.meaning.specs.Effect.{Reply, Gives, Action, ◌>>=◌, number_of}
 use Rattle.meaning.specs.Laws.{AllGoRoundByRound, AllUseTurnsExactly, UsesTurnsExactly}
 use Rattle.meaning.specs.Meaning.{Surroundings, calls_of}
+use Rattle.meaning.proofs.Replies.{and_then-and_then}
 use Rattle.stack_machine.specs.declared.stop.Stop.{Stop}
 use Rattle.stack_machine.specs.declared.stop.Stop.TheVariants as stop
 use Rattle.stack_machine.specs.declared.cell.Cell.{Cell}
@@ -38,6 +39,7 @@ use Rattle.code_generator.specs.Large.{is_too_large}
 use Rattle.code_generator.specs.Tables.{site_table, in_plain_numbers}
 use Rattle.code_generator.proofs.Reach.{Target, Stands, StandsAt, Comes, obeys, Stops, comes_on, comes_less, stays_here, comes_by, stops_on, stops_by}
 use Rattle.code_generator.proofs.Acts.{framed, branches}
+use Rattle.code_generator.proofs.Exact.{exact_give, exact_then}
 use Rattle.code_generator.proofs.Alike.{World, Lives, Fixed, IsApart, Alike, Keeps, Leads, Activation}
 use Rattle.code_generator.proofs.Numbers.{Fits}
 use Rattle.code_generator.proofs.Parts.{IsPart}
@@ -131,6 +133,10 @@ found_at : {A B : Type 0} (f : A → B) (xs : List A) (i : ℕ) → i < length x
 found_at f [] i h = absurd (omega arith)
 found_at f (x ∷ xs) zero h = (x, refl, refl)
 found_at f (x ∷ xs) (suc i) h = found_at f xs i (omega arith)
+
+-- what gives a number, where a value is wanted
+abbrev pub as_value : Action ℤ → Action Value
+as_value action = action >>= λ n. effect.give (value.Number n)
 
 module _ (g : Setting) where
   -- by what the program's forms are measured
@@ -324,6 +330,11 @@ module _ (g : Setting) where
       → Starves a action s
   starves_on least a b action s l x = (x.0, x.1, x.2, stops_on g.target least a b _ l x.3, x.4, x.5)
 
+  -- the same action
+  starves_same : {A : Type 0} (m : State) (action other : Action A) (s : effect.State) → ((t : effect.State) → action t ≡ other t) → Starves m other s
+      → Starves m action s
+  starves_same m action other s same x = (x.0, x.1, same (record s { turns = x.0 }) ∙ x.2, x.3, x.4, x.5)
+
   -- the first of two pieces
   pub starves_first : {A B : Type 0} (m : State) (first : Action A) (next : A → Action B) (s : effect.State) → Starves m first s
       → Starves m (first >>= next) s
@@ -347,9 +358,9 @@ module _ (g : Setting) where
   -- what the code of an expression does, with so many turns left here: its value comes on top of what is held, over
   -- cells alike to the store; or the expression ends
   abbrev pub Valued : ℕ → State → List Cell → ℕ → Reply Value → Type 0
-  Valued turns m held place (Gives (value.Number n) s) =
-      (base : List Cell) × Based s base × Comes g.target (turns - s.turns) m (on ((base ++ held) ++ Number n ∷ []) place s.output) × Fits n ×
-      (g.below + length held < g.limit) × (s.turns ≤ turns)
+  Valued turns m held place (Gives v s) =
+      (base : List Cell) × Based s base × Comes g.target (turns - s.turns) m (on ((base ++ held) ++ Number (number_of v) ∷ []) place s.output)
+      × Fits (number_of v) × (g.below + length held < g.limit) × (s.turns ≤ turns)
   Valued turns m held place (effect.Stops end s) = Ends turns m end s.output
 
   -- or the store is full
@@ -357,15 +368,15 @@ module _ (g : Setting) where
   Evaluates m held place action s = Starves m action s ⊎ Valued s.turns m held place (action s)
 
   -- a value that is there after some instructions
-  pub gives : (least : ℕ) (m : State) (base held : List Cell) (place : ℕ) (n : ℤ) (s : effect.State) → Based s base
-      → Comes g.target least m (on ((base ++ held) ++ Number n ∷ []) place s.output) → Fits n → g.below + length held < g.limit
-      → Valued s.turns m held place (Gives (value.Number n) s)
-  gives least m base held place n s based l fit room =
+  pub gives : (least : ℕ) (m : State) (base held : List Cell) (place : ℕ) (v : Value) (s : effect.State) → Based s base
+      → Comes g.target least m (on ((base ++ held) ++ Number (number_of v) ∷ []) place s.output) → Fits (number_of v) → g.below + length held < g.limit
+      → Valued s.turns m held place (Gives v s)
+  gives least m base held place v s based l fit room =
       (base, based, comes_less g.target (s.turns - s.turns) least m _ (omega arith) l, fit, room, omega arith)
 
   valued_on : (turns left : ℕ) (a b : State) (held : List Cell) (place : ℕ) (r : Reply Value) → left ≤ turns → Comes g.target (turns - left) a b
       → Valued left b held place r → Valued turns a held place r
-  valued_on turns left a b held place (Gives (value.Number n) s) le l e = (
+  valued_on turns left a b held place (Gives v s) le l e = (
     e.0,
     e.1,
     comes_less g.target (turns - s.turns) (turns - left + (left - s.turns)) a _ (omega arith)
@@ -383,6 +394,12 @@ module _ (g : Setting) where
   evaluates_from least a b held place action s l (inr e) =
       inr (valued_on s.turns s.turns a b held place (action s) (omega arith) (comes_less g.target (s.turns - s.turns) least a b (omega arith) l) e)
 
+  -- the same action
+  pub evaluates_same : (m : State) (held : List Cell) (place : ℕ) (action other : Action Value) (s : effect.State)
+      → ((t : effect.State) → action t ≡ other t) → Evaluates m held place other s → Evaluates m held place action s
+  evaluates_same m held place action other s same (inl x) = inl (starves_same m action other s same x)
+  evaluates_same m held place action other s same (inr e) = inr (subst (Valued s.turns m held place) (sym (same s)) e)
+
   -- behind a piece that gave something
   pub evaluates_behind : {A : Type 0} (m there : State) (held : List Cell) (place : ℕ) (first : Action A) (next : A → Action Value) (s t : effect.State)
       (v : A) → UsesTurnsExactly first → first s ≡ Gives v t → t.turns ≤ s.turns → Comes g.target (s.turns - t.turns) m there
@@ -394,16 +411,15 @@ module _ (g : Setting) where
   -- one after another
   pub then_evaluates : (m : State) (held held' : List Cell) (place place' : ℕ) (first : Action Value) (next : Value → Action Value) (s : effect.State)
       → UsesTurnsExactly first → Evaluates m held place first s
-      → ((base : List Cell) (n : ℤ) (t : effect.State) → Based t base → Fits n → g.below + length held < g.limit
-      → Evaluates (on ((base ++ held) ++ Number n ∷ []) place t.output) held' place' (next (value.Number n)) t)
+      → ((base : List Cell) (v : Value) (t : effect.State) → Based t base → Fits (number_of v) → g.below + length held < g.limit
+      → Evaluates (on ((base ++ held) ++ Number (number_of v) ∷ []) place t.output) held' place' (next v) t)
       → Evaluates m held' place' (first >>= next) s
   then_evaluates m held held' place place' first next s exact (inl x) h = inl (starves_first m first next s x)
   then_evaluates m held held' place place' first next s exact (inr e) h = by (first s) refl e
     where
       by : (r : Reply Value) → first s ≡ r → Valued s.turns m held place r
           → Starves m (first >>= next) s ⊎ Valued s.turns m held' place' (effect.and_then r next)
-      by (Gives (value.Number n) t) is e =
-          evaluates_behind m _ held' place' first next s t (value.Number n) exact is e.5 e.2 (h e.0 n t e.1 e.3 e.4)
+      by (Gives v t) is e = evaluates_behind m _ held' place' first next s t v exact is e.5 e.2 (h e.0 v t e.1 e.3 e.4)
       by (effect.Stops end t) is e = inr e
 
   -- ---- the code of a statement
@@ -445,7 +461,7 @@ module _ (g : Setting) where
   -- the same action
   pub executes_same : (m : State) (held : List Cell) (place : ℕ) (action other : Action (Unit {0})) (s : effect.State)
       → ((t : effect.State) → action t ≡ other t) → Executes m held place other s → Executes m held place action s
-  executes_same m held place action other s same (inl x) = inl (x.0, x.1, same (record s { turns = x.0 }) ∙ x.2, x.3, x.4, x.5)
+  executes_same m held place action other s same (inl x) = inl (starves_same m action other s same x)
   executes_same m held place action other s same (inr e) = inr (subst (Executed s.turns m held place) (sym (same s)) e)
 
   -- behind a piece that gave something
@@ -489,14 +505,26 @@ module _ (g : Setting) where
   -- what comes after a value
   pub after_value : (m : State) (held held' : List Cell) (place place' : ℕ) (first : Action Value) (next : Value → Action (Unit {0})) (s : effect.State)
       → UsesTurnsExactly first → Evaluates m held place first s
-      → ((base : List Cell) (n : ℤ) (t : effect.State) → Based t base → Fits n
-      → Executes (on ((base ++ held) ++ Number n ∷ []) place t.output) held' place' (next (value.Number n)) t)
+      → ((base : List Cell) (v : Value) (t : effect.State) → Based t base → Fits (number_of v)
+      → Executes (on ((base ++ held) ++ Number (number_of v) ∷ []) place t.output) held' place' (next v) t)
       → Executes m held' place' (first >>= next) s
   after_value m held held' place place' first next s exact (inl x) h = inl (starves_first m first next s x)
   after_value m held held' place place' first next s exact (inr e) h = by (first s) refl e
     where
       by : (r : Reply Value) → first s ≡ r → Valued s.turns m held place r
           → Starves m (first >>= next) s ⊎ Executed s.turns m held' place' (effect.and_then r next)
-      by (Gives (value.Number n) t) is e =
-          executes_behind m _ held' place' first next s t (value.Number n) exact is e.5 e.2 (h e.0 n t e.1 e.3)
+      by (Gives v t) is e = executes_behind m _ held' place' first next s t v exact is e.5 e.2 (h e.0 v t e.1 e.3)
       by (effect.Stops end t) is e = inr e
+
+  -- what comes after a number
+  pub after_number : (m : State) (held held' : List Cell) (place place' : ℕ) (first : Action ℤ) (next : ℤ → Action (Unit {0})) (s : effect.State)
+      → UsesTurnsExactly first → Evaluates m held place (as_value first) s
+      → ((base : List Cell) (n : ℤ) (t : effect.State) → Based t base → Fits n
+      → Executes (on ((base ++ held) ++ Number n ∷ []) place t.output) held' place' (next n) t)
+      → Executes m held' place' (first >>= next) s
+  after_number m held held' place place' first next s exact e h =
+      executes_same m held' place' (first >>= next) (as_value first >>= λ v. next (number_of v)) s
+      (λ t. sym (and_then-and_then (first t) (λ n. effect.give (value.Number n)) (λ v. next (number_of v))))
+      (after_value m held held' place place' (as_value first) (λ v. next (number_of v)) s
+      (exact_then first (λ n. effect.give (value.Number n)) exact (λ n. exact_give (value.Number n))) e
+      (λ base v t based fit. h base (number_of v) t based fit))

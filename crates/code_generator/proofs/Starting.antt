@@ -14,11 +14,10 @@ use Rattle.typed_tree.specs.declared.tree.Variable.{Variable}
 use Rattle.typed_tree.specs.declared.tree.VariableKind.{VariableKind}
 use Rattle.typed_tree.specs.declared.tree.VariableKind.TheVariants as kinds
 use Rattle.typed_tree.specs.WellFormed.{is_parameter_kind, is_value_kind, is_variable_kind, roots_where}
-use Rattle.meaning.specs.declared.store.Value.TheVariants as value
 use Rattle.meaning.specs.Store as meant
 use Rattle.meaning.specs.Store.{Place, stored}
 use Rattle.meaning.specs.Effect as effect
-use Rattle.meaning.specs.Effect.{Gives, Action, ◌>>=◌}
+use Rattle.meaning.specs.Effect.{Gives, Action, ◌>>=◌, number_of}
 use Rattle.meaning.specs.Meaning.{Argument, OfValue, OfRow, OfPlace, assign, assign_all, home_of as home_in, own_place}
 use Rattle.stack_machine.specs.declared.cell.Cell.{Cell}
 use Rattle.stack_machine.specs.declared.cell.Cell.TheVariants.{Undefined, Number}
@@ -34,7 +33,7 @@ use Rattle.code_generator.proofs.Laying.{Laid, Takes, fitted_length, marked, mar
 use Rattle.code_generator.proofs.Nesting.{Callable}
 use Rattle.code_generator.proofs.Parts.{IsPart, ordinal_part}
 use Rattle.code_generator.proofs.Passing.{Fitted}
-use Rattle.code_generator.proofs.Rows.{cells_of as number_cells}
+use Rattle.code_generator.proofs.Rows.{cells_of as value_cells}
 use Rattle.code_generator.proofs.Setting.{Setting, Based}
 use Rattle.code_generator.proofs.Wholes.{row_kept, set_row, set_row_is, store_all_is, stored_all}
 
@@ -318,30 +317,31 @@ module _ (g : Setting) (number : ℕ) (block : Block) (block_is : slice_get g.tr
     one_assigned : (argument : Argument) (pre first post : List Cell) (t : effect.State) → Fitted g v argument first
         → length pre ≡ h.frame + 4 + cells_where types test (take k variables) → Based h t (pre ++ (map (blank_mark v) first ++ post))
         → OneAssigned argument pre first post t
-    one_assigned (OfValue (value.Number n)) pre first post t f long based' =
+    one_assigned (OfValue w) pre first post t f long based' =
+        let n = number_of w in
         let part = part_at f.0 (length pre) long in
         let lies = ordinal_part types h.world h.below g.known own_home v.type_id (length pre) f.1 part in
         let blank : map (blank_mark v) first ≡ Undefined ∷ [] =
         ap (map (blank_mark v)) f.3 ∙ ap (λ b. (if b then Number n else Undefined) ∷ []) (no_reference v.kind f.0) in
         let before = subst (λ l. Based h t (pre ++ (l ++ post))) blank based' in
-        let after = scalar_kept h own_home (length pre) t (pre ++ (Undefined ∷ post)) n lies before f.2 in (
-          meant.kept t.store (Some own_home) (value.Number n),
-          ap (λ o. effect.store o (value.Number n) t) (home_is_own f.0),
-          subst (λ l. Based h (record t { store = meant.kept t.store (Some own_home) (value.Number n) }) (pre ++ (l ++ post))) (sym f.3)
-              (subst (Based h (record t { store = meant.kept t.store (Some own_home) (value.Number n) })) (set_middle pre Undefined (Number n) post) after),
+        let after = scalar_kept h own_home (length pre) t (pre ++ (Undefined ∷ post)) w lies before f.2 in (
+          meant.kept t.store (Some own_home) w,
+          ap (λ o. effect.store o w t) (home_is_own f.0),
+          subst (λ l. Based h (record t { store = meant.kept t.store (Some own_home) w }) (pre ++ (l ++ post))) (sym f.3)
+              (subst (Based h (record t { store = meant.kept t.store (Some own_home) w })) (set_middle pre Undefined (Number n) post) after),
         )
-    one_assigned (OfRow ns) pre first post t f long based' =
+    one_assigned (OfRow vs) pre first post t f long based' =
         let part = part_at f.0 (length pre) long in
         let components = components_of types v.type_id in
         let many = g.known.cells types v.type_id in
-        let blank_long : length (map (blank_mark v) first) ≡ length (number_cells ns) = length-map first (blank_mark v) ∙ ap length f.3 in
-        let after = row_kept h own_home components (length pre) ns t (pre ++ (map (blank_mark v) first ++ post)) part.from.each (omega (arith, many, f.1)) f.2
+        let blank_long : length (map (blank_mark v) first) ≡ length (value_cells vs) = length-map first (blank_mark v) ∙ ap length f.3 in
+        let after = row_kept h own_home components (length pre) vs t (pre ++ (map (blank_mark v) first ++ post)) part.from.each (omega (arith, many, f.1)) f.2
         based' in (
-          stored_all t.store own_home components ns,
-          ap (λ o. effect.store_all o components ns t) (home_is_own f.0) ∙ store_all_is own_home components ns t,
-          subst (λ l. Based h (record t { store = stored_all t.store own_home components ns }) (pre ++ (l ++ post))) (sym f.3)
-              (subst (Based h (record t { store = stored_all t.store own_home components ns }))
-              (set_row_middle pre (map (blank_mark v) first) (number_cells ns) post blank_long) after),
+          stored_all t.store own_home components vs,
+          ap (λ o. effect.store_all o components vs t) (home_is_own f.0) ∙ store_all_is own_home components vs t,
+          subst (λ l. Based h (record t { store = stored_all t.store own_home components vs }) (pre ++ (l ++ post))) (sym f.3)
+              (subst (Based h (record t { store = stored_all t.store own_home components vs }))
+              (set_row_middle pre (map (blank_mark v) first) (value_cells vs) post blank_long) after),
         )
     one_assigned (OfPlace None) pre first post t f long based' = absurd f
     one_assigned (OfPlace (Some p)) pre first post t f long based' =

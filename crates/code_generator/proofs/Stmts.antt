@@ -54,12 +54,12 @@ use Rattle.code_scheme.specs.Code.{call_code, passed_code, write_code, stmt_code
 use Rattle.code_scheme.specs.Depth.{call_depth, greatest, passed_depth, stmt_depth, stmt_depth_step, arms_depth, expr_depth, parameter_depth, width_depth}
 use Rattle.code_scheme.specs.Depth.{whole_depth}
 use Rattle.typed_tree.specs.WellFormed.{all_hold, is_well_formed_expr, is_well_formed_width, is_well_formed_parameter, is_well_formed_test, is_well_formed_stmt}
-use Rattle.typed_tree.specs.WellFormed.{stmt_is_well_formed, is_control, is_well_formed_call, is_well_formed_passed, is_well_formed_whole, length_of}
-use Rattle.typed_tree.specs.WellFormed.{whole_indexes}
+use Rattle.typed_tree.specs.WellFormed.{fits_target, stmt_is_well_formed, is_control, is_well_formed_call, is_well_formed_passed, is_well_formed_whole}
+use Rattle.typed_tree.specs.WellFormed.{length_of, whole_indexes}
 use Rattle.code_generator.proofs.Reach.{Stands, StandsAt, obeys, stands_front, stands_back, Comes, comes_less, comes_on, stays_here}
 use Rattle.code_generator.proofs.Setting.{goes_around}
 use Rattle.code_generator.proofs.Setting.{Setting, outline, around, exact_around, on, Based, later, linked, limit_far, Here, goes_on, jumps, branches_on}
-use Rattle.code_generator.proofs.Setting.{behind_executes, fails, Executes, done, executes_from, then_executes, after_value}
+use Rattle.code_generator.proofs.Setting.{behind_executes, fails, Executes, done, executes_from, then_executes, after_number, after_value}
 use Rattle.code_generator.proofs.Loops.{Rounds, RoundsBehind, RoundRuns, rounds_later, then_rounds, value_rounds, turned, loops, reset, to_reset}
 use Rattle.code_generator.proofs.Loops.{rounds_from_reset, executes_from_reset}
 use Rattle.code_generator.proofs.Accesses.{Indexes, expressions, wells, codes as index_codes}
@@ -75,7 +75,7 @@ use Rattle.code_generator.proofs.Held.{compares_row, last_is, next_fits, one_fit
 use Rattle.code_scheme.proofs.Pieces.{length-For, start_within}
 use Rattle.code_generator.proofs.Acts.{length_one, writes}
 use Rattle.code_generator.proofs.Numbers.{Fits, fits_by_abs, sum_is, difference_is}
-use Rattle.code_generator.proofs.Rows.{cells_of, length-cells_of, same_byte, writes_string}
+use Rattle.code_generator.proofs.Rows.{cells_of, length-cells_of, numbers_of, same_byte, writes_string}
 use Rattle.code_generator.proofs.Exprs.{call_runs, expr_runs, width_runs}
 
 -- what the machine writes in a width is what the program writes
@@ -129,7 +129,7 @@ module _ (g : Setting) (known : CallsAt g) where
   ordinal_writes : (r : Representation) (place : ℕ) (cells : List Cell) (n w : ℤ) (output : List ℕ) → Fits n → Stands g.target place (ordinal_instr r ∷ [])
       → g.frame + 4 ≤ length cells
       → Comes g.target 1 (on g ((cells ++ Number n ∷ []) ++ Number w ∷ []) place output)
-      (on g cells (place + 1) (output ++ effect.text_of r (value.Number n) (value.Number w)))
+      (on g cells (place + 1) (output ++ effect.text_of r n w))
   ordinal_writes representation.Char place cells n w output fit stands in_frame =
       let two = (cells ++ Number n ∷ []) ++ Number w ∷ [] in
       subst (λ t. Comes g.target 1 (on g two place output) (on g cells (place + 1) (output ++ t))) (same_char_text n w fit)
@@ -147,25 +147,25 @@ module _ (g : Setting) (known : CallsAt g) where
       (text_runs instr.WriteBoolean (texts.boolean_text n w) place two cells output _ stands.0 refl
       (writes g.frame g.limit g.size cells in_frame n w texts.boolean_text))
 
-  string_writes : (count : ℕ) (row : List ℤ) (place : ℕ) (cells : List Cell) (w : ℤ) (output : List ℕ) → length row ≡ count → AllFit row
+  string_writes : (count : ℕ) (row : List Value) (place : ℕ) (cells : List Cell) (w : ℤ) (output : List ℕ) → length row ≡ count → AllFit row
       → Stands g.target place (instr.WriteString count ∷ []) → g.frame + 4 ≤ length cells
       → Comes g.target 1 (on g ((cells ++ cells_of row) ++ Number w ∷ []) place output)
-      (on g cells (place + 1) (output ++ effect.row_text row (value.Number w)))
+      (on g cells (place + 1) (output ++ effect.row_text row w))
   string_writes count row place cells w output long fit stands in_frame =
       let string = (cells ++ cells_of row) ++ Number w ∷ [] in
       subst (λ t. Comes g.target 1 (on g string place output) (on g cells (place + 1) (output ++ t)))
-      (same_string_text (map texts.byte_of row) w ∙ ap (λ bytes. effect.string_text bytes w) (fitting_bytes row fit))
-      (text_runs (instr.WriteString count) (texts.string_text (map texts.byte_of row) w) place string cells output _ stands.0 refl
+      (same_string_text (map texts.byte_of (numbers_of row)) w ∙ ap (λ bytes. effect.string_text bytes w) (fitting_bytes row fit))
+      (text_runs (instr.WriteString count) (texts.string_text (map texts.byte_of (numbers_of row)) w) place string cells output _ stands.0 refl
       (writes_string g.frame g.limit g.size cells in_frame row w count long))
 
   -- a width above the cells of a value, with which it gives way to a text
-  width_writes : (width : Option Width) (v : Written) (default : ℤ) (row : List ℤ) (text : Value → List ℕ) (place : ℕ) (base held : List Cell)
+  width_writes : (width : Option Width) (v : Written) (default : ℤ) (row : List Value) (text : ℤ → List ℕ) (place : ℕ) (base held : List Cell)
       (s : effect.State) → default_width v ≡ instr.LoadConstant default → Fits default
       → Stands g.target place (width_code g.scope width v ++ (write_instr v ∷ [])) → is_well_formed_width (outline g) g.number width ≡ true
       → Based g s base
       → g.below + length held + (width_depth width + length row) ≤ g.limit
       → ((there : ℕ) (cells : List Cell) (w : ℤ) (output : List ℕ) → Stands g.target there (write_instr v ∷ []) → g.frame + 4 ≤ length cells
-      → Comes g.target 1 (on g ((cells ++ cells_of row) ++ Number w ∷ []) there output) (on g cells (there + 1) (output ++ text (value.Number w))))
+      → Comes g.target 1 (on g ((cells ++ cells_of row) ++ Number w ∷ []) there output) (on g cells (there + 1) (output ++ text w)))
       → Executes g (on g ((base ++ held) ++ cells_of row) place s.output) held (place + length (width_code g.scope width v) + 1)
       (width_of width default (around g) >>= (λ w. effect.write (text w))) s
   width_writes width v default row text place base held s is fit stands good based deep writes =
@@ -173,18 +173,18 @@ module _ (g : Setting) (known : CallsAt g) where
       let writing = write_instr v ∷ [] in
       let more = held ++ cells_of row in
       let long = length-append held (cells_of row) in
-      let next : Value → Action (Unit {0}) = λ w. effect.write (text w) in
+      let next : ℤ → Action (Unit {0}) = λ w. effect.write (text w) in
       let end = place + length wide + 1 in
       let runs = width_runs g known width v default is fit place base more s (stands_front g.target place wide writing stands) good based
       (omega (arith, length-cells_of row)) in
       subst (λ cells. Executes g (on g cells place s.output) held end (width_of width default (around g) >>= next) s)
       (sym (append_assoc base held (cells_of row)))
-      (after_value g _ more held (place + length wide) end (width_of width default (around g)) next s ((exact_around g).widths width default)
+      (after_number g _ more held (place + length wide) end (width_of width default (around g)) next s ((exact_around g).widths width default)
       runs
       (λ base2 w u based2 fit2.
-      subst (λ cells. Executes g (on g (cells ++ Number w ∷ []) (place + length wide) u.output) held end (next (value.Number w)) u)
+      subst (λ cells. Executes g (on g (cells ++ Number w ∷ []) (place + length wide) u.output) held end (next w) u)
       (append_assoc base2 held (cells_of row))
-      (inr (done g 1 _ base2 held end (record u { output = u.output ++ text (value.Number w) }) based2
+      (inr (done g 1 _ base2 held end (record u { output = u.output ++ text w }) based2
       (writes (place + length wide) (base2 ++ held) w u.output (stands_back g.target place wide writing stands) (linked g u base2 held based2))))))
 
   -- a value that is written, and its width
@@ -215,7 +215,7 @@ module _ (g : Setting) (known : CallsAt g) where
       let behind = stands_back g.target place c (wide ++ writing) stands in
       let e : place + length c + length wide + 1 ≡ place + length (c ++ (wide ++ writing)) = omega
       (arith, length-append c (wide ++ writing), length-append wide writing) in
-      let next : List ℤ → Action (Unit {0}) = λ row. width_of width (pos n) (around g) >>= λ w. effect.write (effect.row_text row w) in
+      let next : List Value → Action (Unit {0}) = λ row. width_of width (pos n) (around g) >>= λ w. effect.write (effect.row_text row w) in
       let meant = whole_of v (map value_of (expressions g indexes)) (around g) in
       subst (λ q. Executes g (on g (base ++ held) place s.output) held q (meant >>= next) s) e
       (row_executes g _ held held (place + length c) (place + length c + length wide + 1) n meant next s
@@ -236,14 +236,14 @@ module _ (g : Setting) (known : CallsAt g) where
       let e : place + length c + length wide + 1 ≡ place + length (c ++ (wide ++ writing)) = omega
       (arith, length-append c (wide ++ writing), length-append wide writing) in
       let default = default_width_of r in
-      let next : Value → Action (Unit {0}) = λ x. width_of width default (around g) >>= λ w. effect.write (effect.text_of r x w) in
+      let next : Value → Action (Unit {0}) = λ x. width_of width default (around g) >>= λ w. effect.write (effect.text_of r (number_of x) w) in
       subst (λ q. Executes g (on g (base ++ held) place s.output) held q (value_of v (around g) >>= next) s) e
       (after_value g _ held held (place + length c) (place + length c + length wide + 1) (value_of v (around g)) next s
       ((exact_around g).values v)
       (expr_runs g known v place base held s (stands_front g.target place c (wide ++ writing) stands) parts.0 based (omega arith))
-      (λ base2 n t based2 fit.
-      width_writes width (Ordinal v r) default (n ∷ []) (effect.text_of r (value.Number n)) (place + length c) base2 held t (same_default r) (default_fits r)
-      behind parts.1 based2 (omega arith) (λ there cells w output here in_frame. ordinal_writes r there cells n w output fit here in_frame)))
+      (λ base2 x t based2 fit.
+      width_writes width (Ordinal v r) default (x ∷ []) (effect.text_of r (number_of x)) (place + length c) base2 held t (same_default r) (default_fits r)
+      behind parts.1 based2 (omega arith) (λ there cells w output here in_frame. ordinal_writes r there cells (number_of x) w output fit here in_frame)))
   written_runs (String v indexes) width place base held s stands good based high deep =
       let runs = subst (StringRuns v indexes width) (told_back g known indexes.items) (string_runs v indexes width (told g known indexes.items)) in
       runs place base held s stands good based high deep
@@ -330,10 +330,10 @@ module _ (g : Setting) (known : CallsAt g) where
       after_value g _ held held (place + length test) end (value_of condition (around g)) (λ v. next (is_so v)) s
       ((exact_around g).values condition)
       (expr_runs g known condition place base held s (stands_front g.target place test (instr.JumpIfFalse target ∷ []) stands) good based room)
-      (λ base2 n t based2 fit.
-      executes_from g 1 _ _ held end (next (frames.is_true n)) t
-      (branches_on g target (base2 ++ held) n (place + length test) t.output here.0 (linked g t base2 held based2))
-      (goes_on (frames.is_true n) base2 t based2))
+      (λ base2 v t based2 fit.
+      executes_from g 1 _ _ held end (next (is_so v)) t
+      (branches_on g target (base2 ++ held) (number_of v) (place + length test) t.output here.0 (linked g t base2 held based2))
+      (goes_on (is_so v) base2 t based2))
 
   -- a call of a procedure
   calling_runs : (call : Call) (actuals : List Passed)
@@ -499,9 +499,9 @@ while_runs g known number condition body few place base held s stands good based
     value_rounds g (λ _. Unit {0}) hold place end held 0 t.turns _ held (place + length test) (value_of condition (around g))
     (λ v. turn_if (is_so v) (effect_of body.0 (around g))) t ((exact_around g).values condition)
     (expr_runs g (known g refl) condition place base2 held t front parts.0 based2 (omega arith))
-    (λ base3 n u based3 fit fewer.
-    turns_on t.turns (frames.is_true n) base3 u based3 fewer _ refl
-    (branches_on g end (base3 ++ held) n (place + length test) u.output here.0 (linked g u base3 held based3))) in
+    (λ base3 v u based3 fit fewer.
+    turns_on t.turns (is_so v) base3 u based3 fewer _ refl
+    (branches_on g end (base3 ++ held) (number_of v) (place + length test) u.output here.0 (linked g u base3 held based3))) in
     let goes = (goes_around g).whiles condition body.0 in
     subst (λ p. Executes g (on g (base ++ held) place s.output) held p (effect.looped round tt) s1) e
     (loops g (λ _. Unit {0}) hold place end held round goes (λ start. exact_while_round (around g) (exact_around g) condition body.0) runs tt base s1 tt based)
@@ -554,7 +554,7 @@ repeat_runs g known number condition ss few place base held s stands good based 
     value_rounds h (λ _. Unit {0}) hold place end held 1 (suc left) _ held (last + length test) (value_of condition (around g)) until u
     ((exact_around g).values condition)
     (expr_runs h known_there condition last base3 held u (stands_front g.target last test back behind) parts.1 based3 (omega arith))
-    (λ base4 n w based4 fit fewest. decides (suc left) n base4 w based4 (omega (arith, is, fewer, fewest)))) in
+    (λ base4 v w based4 fit fewest. decides (suc left) (number_of v) base4 w based4 (omega (arith, is, fewer, fewest)))) in
     let runs : RoundRuns g (λ _. Unit {0}) hold place end held round =
     λ start base2 t fits based2.
     turned g (λ _. Unit {0}) hold place end held t.turns t _ (λ _. rest) refl (λ left is.
@@ -756,7 +756,7 @@ module _ (g : Setting) (known : CallsRun g.depth) (control : ℕ) (scalar : IsSc
 
       for_between_runs : (n : ℤ) (base : List Cell) (s : effect.State) → Fits n → Based g s base
           → Executes g (on g (base ++ hold n) place s.output) held (out + 4)
-          ((for_between control first_fits way last_fits (effect_of body.0) (around g) (value.Number n) (value.Number l) >>= λ _. effect.undefine
+          ((for_between control first_fits way last_fits (effect_of body.0) (around g) n l >>= λ _. effect.undefine
           (g.environment.variables control))) s
       for_between_runs n base s fits based =
           from_bounds n base s (has_values way n l) refl fits based
@@ -767,14 +767,12 @@ for_runs : (g : Setting) (known : CallsRun g.depth) (number control : ℕ) (firs
     (body : (s : Stmt) × StmtRuns s) → repeats body.0 ≤ g.slack
     → ExecutesAs g (λ scope. for_code control (expr_code scope first) first_fits way (expr_code scope last) last_fits (stmt_code body.0) scope)
     (max (max (expr_depth first) (expr_depth last + 1)) (max 4 (stmt_depth body.0 + 2)))
-    (is_control (outline g) g.number control && (is_well_formed_expr (outline g) g.number first && (is_well_formed_test
-    (outline g) g.number first_fits &&
-    (is_well_formed_expr (outline g) g.number last && (is_well_formed_test (outline g) g.number last_fits && is_well_formed_stmt
-    (outline g) g.number
-    body.0)))))
+    (is_control (outline g) g.number control && (is_well_formed_expr (outline g) g.number first
+    && (fits_target (outline g) g.number first_fits control [] && (is_well_formed_expr (outline g) g.number last
+    && (fits_target (outline g) g.number last_fits control [] && is_well_formed_stmt (outline g) g.number body.0)))))
     (λ e. effect.enter number e.visible >>= λ _. value_of first e >>= λ a. value_of last e >>= λ b. for_between control first_fits way last_fits
     (effect_of body.0) e
-    a b
+    (number_of a) (number_of b)
     >>= λ _. effect.undefine (e.visible.variables control))
 for_runs g known number control first first_fits way last last_fits body few place base held s stands good based high deep =
     let s1 : effect.State = record s { visited = s.visited ++ record { number = number; environment = g.environment; store = s.store } ∷ [] } in
@@ -804,29 +802,35 @@ for_runs g known number control first first_fits way last last_fits body few pla
     omega (arith, length-For control a first_fits way b last_fits (stmt_code body.0) g.scope place) in
     let p1 = and_parts (is_control (outline g) g.number control) _ good in
     let p2 = and_parts (is_well_formed_expr (outline g) g.number first) _ p1.1 in
-    let p3 = and_parts (is_well_formed_test (outline g) g.number first_fits) _ p2.1 in
+    let p3 = and_parts (fits_target (outline g) g.number first_fits control []) _ p2.1 in
     let p4 = and_parts (is_well_formed_expr (outline g) g.number last) _ p3.1 in
-    let p5 = and_parts (is_well_formed_test (outline g) g.number last_fits) (is_well_formed_stmt (outline g) g.number body.0) p4.1 in
-    let site_first = ltb-true first_fits.site (sites g) (and_parts (nat_lt first_fits.site (sites g)) _ p3.0).0 in
-    let site_last = ltb-true last_fits.site (sites g) (and_parts (nat_lt last_fits.site (sites g)) _ p5.0).0 in
+    let p5 = and_parts (fits_target (outline g) g.number last_fits control []) (is_well_formed_stmt (outline g) g.number body.0) p4.1 in
+    let site_of : (fits : RangeTest) → fits_target (outline g) g.number fits control [] ≡ true → fits.site < sites g =
+    λ fits well. ltb-true fits.site (sites g)
+    (and_parts (nat_lt fits.site (sites g)) _ (and_parts (is_well_formed_test (outline g) g.number fits) _ well).0).0 in
+    let site_first = site_of first_fits p3.0 in
+    let site_last = site_of last_fits p5.0 in
     let scalar = is_scalar g control p1.0 in
-    let rest : Value → Value → Action (Unit {0}) = λ v w. for_between control first_fits way last_fits (effect_of body.0) (around g) v w >>= λ _.
+    let rest : Value → Value → Action (Unit {0}) =
+    λ v w. for_between control first_fits way last_fits (effect_of body.0) (around g) (number_of v) (number_of w) >>= λ _.
     effect.undefine (g.environment.variables control) in
     subst (λ q. Executes g (on g (base ++ held) place s.output) held q (value_of first (around g) >>= (λ v. value_of last (around g) >>= λ w. rest v w)) s1) e
     (after_value g _ held held (place + length a) (out' + 4) (value_of first (around g)) (λ v. value_of last (around g) >>= λ w. rest v w) s1
     ((exact_around g).values first)
     (expr_runs g (known g refl) first place base held s1 at_a p2.0 based (omega arith))
-    (λ base2 n t based2 fit.
+    (λ base2 v t based2 fit.
+    let n = number_of v in
     let more : length (held ++ Number n ∷ []) ≡ length held + 1 = length_one held (Number n) in
-    subst (λ cells. Executes g (on g cells (place + length a) t.output) held (out' + 4) (value_of last (around g) >>= (rest (value.Number n))) t)
+    subst (λ cells. Executes g (on g cells (place + length a) t.output) held (out' + 4) (value_of last (around g) >>= (rest v)) t)
     (one_held g base2 held n)
-    (after_value g _ (held ++ Number n ∷ []) held test (out' + 4) (value_of last (around g)) (rest (value.Number n)) t
+    (after_value g _ (held ++ Number n ∷ []) held test (out' + 4) (value_of last (around g)) (rest v) t
     ((exact_around g).values last)
     (expr_runs g (known g refl) last (place + length a) base2 (held ++ Number n ∷ []) t at_b p4.0 based2 (omega (arith, more)))
-    (λ base3 l u based3 fit'.
+    (λ base3 w u based3 fit'.
+    let l = number_of w in
     let two : (base3 ++ (held ++ Number n ∷ [])) ++ Number l ∷ [] ≡ base3 ++ (held ++ Number n ∷ Number l ∷ []) =
     append_assoc base3 (held ++ Number n ∷ []) (Number l ∷ []) ∙ ap (λ cs. base3 ++ cs) (append_assoc held (Number n ∷ []) (Number l ∷ [])) in
-    subst (λ cells. Executes g (on g cells test u.output) held (out' + 4) (rest (value.Number n) (value.Number l)) u) (sym two)
+    subst (λ cells. Executes g (on g cells test u.output) held (out' + 4) (rest v w) u) (sym two)
     (for_between_runs g known control scalar way body few p5.1 head held high (omega arith) l fit' at_end first_fits last_fits site_first site_last test refl
     at_entry
     at_begin at_inside at_next n base3 u fit based3)))))
@@ -959,10 +963,11 @@ case_runs g known number site index rows arms well few place base held s stands 
     subst (λ q. Executes g (on g (base ++ held) place s.output) held q (value_of index (around g) >>= next) s1) e
     (after_value g _ held held first (out + 1) (value_of index (around g)) next s1 ((exact_around g).values index)
     (expr_runs g (known g refl) index place base held s1 at_test p2.0 based (omega arith))
-    (λ base2 n t based2 fit.
+    (λ base2 v t based2 fit.
+    let n = number_of v in
     let here = held ++ Number n ∷ [] in
-    subst (λ cells. Executes g (on g cells first t.output) held (out + 1) (next (value.Number n)) t) (one_held g base2 held n)
-    (behind_executes g _ here held out (out + 1) (next (value.Number n)) t
+    subst (λ cells. Executes g (on g cells first t.output) held (out + 1) (next v) t) (one_held g base2 held n)
+    (behind_executes g _ here held out (out + 1) (next v) t
     (arms_run g known site within out pop held high n rows arms 0 first base2 t few p3.1 (omega arith) based2 from_arms)
     (λ base3 u based3.
     subst (λ cells. Comes g.target 0 (on g cells out u.output) (on g (base3 ++ held) (out + 1) u.output)) (sym (one_held g base3 held n))

@@ -1,9 +1,9 @@
--- The code of a whole value leaves the row of its numbers on top, or stops as the value does; and a row of cells that is
+-- The code of a whole value leaves the row of its components on top, or stops as the value does; and a row of cells that is
 -- stored from an address on is what the program writes to the components there.
 use Rattle.std.proofs.Common.{◌≡◌, ℕ, zero, suc, ◌+◌, ◌-◌, ◌<◌, ◌≤◌, ◌⊎◌, inl, inr, List, [], ◌∷◌, ◌++◌, length, map, take, drop, Option, Some}
 use Rattle.std.proofs.Common.{None, Ok}
 use Rattle.std.proofs.Common.{refl, sym, ap, ◌∙◌, subst, arith, length-append, append_assoc, append-nil, Bool, true, false}
-use Rattle.std.specs.Prelude.{slice_get, slice_set, ℤ, pos, nat_eq, nat_le, nat_lt, not, ◌&&◌}
+use Rattle.std.specs.Prelude.{slice_get, slice_set, pos, nat_eq, nat_le, nat_lt, not, ◌&&◌}
 use Rattle.std.specs.List.{list_all}
 use Rattle.std.proofs.lemmas.Bool.{and_parts, eqb-true, leb-true, ltb-true}
 use Rattle.std.proofs.lemmas.List.{length-map, length-set}
@@ -11,13 +11,12 @@ use Rattle.std.proofs.lemmas.Option.{none-some, same_Some}
 use Rattle.typed_tree.specs.declared.tree.Whole.{Whole}
 use Rattle.typed_tree.specs.declared.tree.Whole.TheVariants.{Text, Variable as VariableOf}
 use Rattle.typed_tree.specs.WellFormed.{all_hold, is_character, is_value_of, is_well_formed_whole, leads_to_whole}
-use Rattle.typed_tree.specs.WellFormed.{length_of}
-use Rattle.typed_tree.specs.WellFormed.{whole_indexes}
+use Rattle.typed_tree.specs.WellFormed.{is_alike, length_of, may_copy, whole_indexes}
 use Rattle.pcode_assembler.specs.declared.instr.Instr.TheVariants as instr
 use Rattle.types.specs.declared.form.TypeId.{TypeId}
 use Rattle.types.specs.Components.{Steps, components_of}
 use Rattle.types.specs.Forms.{Form}
-use Rattle.types.specs.Types.{cells_of, is_ordinal, is_same}
+use Rattle.types.specs.Types.{cells_of, is_ordinal, is_same, is_structured}
 use Rattle.meaning.specs.declared.outcome.Ending.TheVariants as ending
 use Rattle.meaning.specs.declared.store.Value.{Value}
 use Rattle.meaning.specs.declared.store.Value.TheVariants as value
@@ -25,7 +24,7 @@ use Rattle.meaning.specs.Store as meant
 use Rattle.meaning.specs.Store.{Place, stored, written}
 use Rattle.meaning.specs.Effect as effect
 use Rattle.meaning.specs.Laws.{UsesTurnsExactly}
-use Rattle.meaning.specs.Effect.{Reply, Gives, Action, ◌>>=◌, fetched, fetch_all, store_all}
+use Rattle.meaning.specs.Effect.{Reply, Gives, Action, ◌>>=◌, fetched, fetch_all, number_of, store_all}
 use Rattle.meaning.specs.Meaning.{value_of, whole_of}
 use Rattle.stack_machine.specs.declared.cell.Cell.{Cell}
 use Rattle.stack_machine.specs.declared.cell.Cell.TheVariants.{Number}
@@ -51,17 +50,19 @@ use Rattle.code_generator.proofs.Setting.{starves_first, starves_behind, Valued,
 use Rattle.code_generator.proofs.Alike.{LiesIn, cell_of, HasFit, alike_above}
 use Rattle.code_generator.proofs.Numbers.{Fits, fits_by_abs}
 use Rattle.code_generator.proofs.Parts.{inner}
-use Rattle.code_generator.proofs.Rows.{cells_of as number_cells, length-cells_of, same_byte}
+use Rattle.code_generator.proofs.Rows.{cells_of as value_cells, length-cells_of, numbers_of, same_byte}
 
--- numbers of type integer
-abbrev pub AllFit : List ℤ → Type 0
+-- values whose numbers are of type integer
+abbrev pub AllFit : List Value → Type 0
 AllFit [] = Unit {0}
-AllFit (n ∷ ns) = Fits n × AllFit ns
+AllFit (v ∷ vs) = Fits (number_of v) × AllFit vs
 
 -- their bytes
-pub fitting_bytes : (ns : List ℤ) → AllFit ns → map texts.byte_of ns ≡ map integers.byte_of ns
+pub fitting_bytes : (vs : List Value) → AllFit vs → map texts.byte_of (numbers_of vs) ≡ map (λ v. integers.byte_of (number_of v)) vs
 fitting_bytes [] fit = refl
-fitting_bytes (n ∷ ns) fit = ap (λ b. b ∷ map texts.byte_of ns) (same_byte n fit.0) ∙ ap (λ bs. integers.byte_of n ∷ bs) (fitting_bytes ns fit.1)
+fitting_bytes (v ∷ vs) fit =
+    ap (λ b. b ∷ map texts.byte_of (numbers_of vs)) (same_byte (number_of v) fit.0)
+    ∙ ap (λ bs. integers.byte_of (number_of v) ∷ bs) (fitting_bytes vs fit.1)
 
 -- ---- rows in a list of cells
 
@@ -87,10 +88,10 @@ module _ (store : meant.Store) (p : Place) where
 
   -- all are defined
   pub record AreDefined (components : List Steps) (site : ℕ) : Type 0 where
-    pub numbers : List ℤ
-    pub gives : (s : effect.State) → s.store ≡ store → fetch_all (Some p) components site s ≡ Gives numbers s
-    pub cells : map cell_at components ≡ number_cells numbers
-    pub fit : AllFit numbers
+    pub values : List Value
+    pub gives : (s : effect.State) → s.store ≡ store → fetch_all (Some p) components site s ≡ Gives values s
+    pub cells : map cell_at components ≡ value_cells values
+    pub fit : AllFit values
 
   -- one is undefined
   pub record OneUndefined (components : List Steps) (site : ℕ) : Type 0 where
@@ -102,8 +103,8 @@ module _ (store : meant.Store) (p : Place) where
 
   module _ (steps : Steps) (components : List Steps) (site : ℕ) where
     -- the first component, by what it holds
-    abbrev next : Value → Action (List ℤ)
-    next v s = effect.and_then (fetch_all (Some p) components site s) (λ numbers. effect.give (effect.number_of v ∷ numbers))
+    abbrev next : Value → Action (List Value)
+    next v s = effect.and_then (fetch_all (Some p) components site s) (λ values. effect.give (v ∷ values))
 
     meant_by : (found : Option Value) → stored store (inner p steps) ≡ found → (s : effect.State) → s.store ≡ store
         → fetch_all (Some p) (steps ∷ components) site s ≡ effect.and_then (fetched found site s) next
@@ -116,29 +117,27 @@ module _ (store : meant.Store) (p : Place) where
       stops = λ s same. meant_by None is s same;
       cells = ap (λ o. list_all is_defined (cell_of o ∷ map cell_at components)) is;
     })
-    first_fetched (Some (value.Number n)) is fit (inl rest) = inl (record {
-      numbers = n ∷ rest.numbers;
-      gives = λ s same. meant_by (Some (value.Number n)) is s same
-          ∙ ap (λ r. effect.and_then r (λ numbers. effect.give (n ∷ numbers))) (rest.gives s same);
-      cells = ap (λ o. cell_of o ∷ map cell_at components) is ∙ ap (λ l. Number n ∷ l) rest.cells;
+    first_fetched (Some v) is fit (inl rest) = inl (record {
+      values = v ∷ rest.values;
+      gives = λ s same. meant_by (Some v) is s same ∙ ap (λ r. effect.and_then r (λ values. effect.give (v ∷ values))) (rest.gives s same);
+      cells = ap (λ o. cell_of o ∷ map cell_at components) is ∙ ap (λ l. Number (number_of v) ∷ l) rest.cells;
       fit = (fit, rest.fit);
     })
-    first_fetched (Some (value.Number n)) is fit (inr rest) = inr (record {
-      stops = λ s same. meant_by (Some (value.Number n)) is s same
-          ∙ ap (λ r. effect.and_then r (λ numbers. effect.give (n ∷ numbers))) (rest.stops s same);
+    first_fetched (Some v) is fit (inr rest) = inr (record {
+      stops = λ s same. meant_by (Some v) is s same ∙ ap (λ r. effect.and_then r (λ values. effect.give (v ∷ values))) (rest.stops s same);
       cells = ap (λ o. list_all is_defined (cell_of o ∷ map cell_at components)) is ∙ rest.cells;
     })
 
   pub row_fetched : (components : List Steps) (site : ℕ)
       → ((k : ℕ) (steps : Steps) → slice_get components k ≡ Some steps → HasFit (stored store (inner p steps))) → Fetched components site
-  row_fetched [] site fits = inl (record { numbers = []; gives = λ s same. refl; cells = refl; fit = tt })
+  row_fetched [] site fits = inl (record { values = []; gives = λ s same. refl; cells = refl; fit = tt })
   row_fetched (steps ∷ components) site fits =
       first_fetched steps components site (stored store (inner p steps)) refl (fits 0 steps refl)
       (row_fetched components site (λ k more at. fits (suc k) more at))
 
-pub all_are_defined : (ns : List ℤ) → list_all is_defined (number_cells ns) ≡ true
+pub all_are_defined : (vs : List Value) → list_all is_defined (value_cells vs) ≡ true
 all_are_defined [] = refl
-all_are_defined (n ∷ ns) = all_are_defined ns
+all_are_defined (v ∷ vs) = all_are_defined vs
 
 -- ---- rows that are written
 
@@ -205,58 +204,57 @@ stores_many frame limit size below linked new (suc more) d long h =
     stores_at frame limit size below linked new (suc more) d long d (row_place_is frame limit size below linked d more h)
     ∙ ap (λ cs. Ok (framed frame limit size cs)) (sym (set_row_is below d new (omega arith)))
 
--- the store after numbers were written to the components of a place
-abbrev pub stored_all : meant.Store → Place → List Steps → List ℤ → meant.Store
-stored_all store p [] ns = store
+-- the store after values were written to the components of a place
+abbrev pub stored_all : meant.Store → Place → List Steps → List Value → meant.Store
+stored_all store p [] vs = store
 stored_all store p (steps ∷ components) [] = store
-stored_all store p (steps ∷ components) (n ∷ ns) = stored_all (written store (inner p steps) (value.Number n)) p components ns
+stored_all store p (steps ∷ components) (v ∷ vs) = stored_all (written store (inner p steps) v) p components vs
 
-pub store_all_is : (p : Place) (components : List Steps) (ns : List ℤ) (s : effect.State)
-    → store_all (Some p) components ns s ≡ Gives tt (record s { store = stored_all s.store p components ns })
-store_all_is p [] ns s = refl
+pub store_all_is : (p : Place) (components : List Steps) (vs : List Value) (s : effect.State)
+    → store_all (Some p) components vs s ≡ Gives tt (record s { store = stored_all s.store p components vs })
+store_all_is p [] vs s = refl
 store_all_is p (steps ∷ components) [] s = refl
-store_all_is p (steps ∷ components) (n ∷ ns) s =
-    store_all_is p components ns (record s { store = written s.store (inner p steps) (value.Number n) })
+store_all_is p (steps ∷ components) (v ∷ vs) s = store_all_is p components vs (record s { store = written s.store (inner p steps) v })
 
 module _ (g : Setting) where
-  -- the components of a place get a row of numbers
-  pub row_kept : (p : Place) (components : List Steps) (d : ℕ) (ns : List ℤ) (s : effect.State) (base : List Cell)
-      → ((k : ℕ) (steps : Steps) → slice_get components k ≡ Some steps → LiesIn g.world (inner p steps) (d + k)) → length components ≡ length ns → AllFit ns
-      → Based g s base → Based g (record s { store = stored_all s.store p components ns }) (set_row base d (number_cells ns))
+  -- the components of a place get a row of values
+  pub row_kept : (p : Place) (components : List Steps) (d : ℕ) (vs : List Value) (s : effect.State) (base : List Cell)
+      → ((k : ℕ) (steps : Steps) → slice_get components k ≡ Some steps → LiesIn g.world (inner p steps) (d + k)) → length components ≡ length vs → AllFit vs
+      → Based g s base → Based g (record s { store = stored_all s.store p components vs }) (set_row base d (value_cells vs))
   row_kept p [] d [] s base each long fit based = based
-  row_kept p [] d (n ∷ ns) s base each long fit based = absurd (omega arith)
+  row_kept p [] d (v ∷ vs) s base each long fit based = absurd (omega arith)
   row_kept p (steps ∷ components) d [] s base each long fit based = absurd (omega arith)
-  row_kept p (steps ∷ components) d (n ∷ ns) s base each long fit based =
+  row_kept p (steps ∷ components) d (v ∷ vs) s base each long fit based =
       let here : d + 0 ≡ d = omega arith in
       let lies = subst (LiesIn g.world (inner p steps)) here (each 0 steps refl) in
-      row_kept p components (d + 1) ns (record s { store = written s.store (inner p steps) (value.Number n) }) (slice_set base d (Number n))
+      row_kept p components (d + 1) vs (record s { store = written s.store (inner p steps) v }) (slice_set base d (Number (number_of v)))
       (λ k more at. let e : d + suc k ≡ d + 1 + k = omega arith in subst (LiesIn g.world (inner p more)) e (each (suc k) more at)) (omega arith) fit.1
-      (scalar_kept g (inner p steps) d s base n lies based fit.0)
+      (scalar_kept g (inner p steps) d s base v lies based fit.0)
 
   -- ---- the code of a whole value
 
-  -- what the code of a whole value does, with so many turns left here: the row of its numbers comes on top of what is held,
-  -- over cells alike to the store; or the value ends the run
-  abbrev pub Pushed : ℕ → State → List Cell → ℕ → ℕ → Reply (List ℤ) → Type 0
-  Pushed turns m held place count (Gives ns s) =
-      (base : List Cell) × Based g s base × Comes g.target (turns - s.turns) m (on g ((base ++ held) ++ number_cells ns) place s.output)
-      × (length ns ≡ count) × AllFit ns × (s.turns ≤ turns)
+  -- what the code of a whole value does, with so many turns left here: the row of its components comes on top of what is
+  -- held, over cells alike to the store; or the value ends the run
+  abbrev pub Pushed : ℕ → State → List Cell → ℕ → ℕ → Reply (List Value) → Type 0
+  Pushed turns m held place count (Gives vs s) =
+      (base : List Cell) × Based g s base × Comes g.target (turns - s.turns) m (on g ((base ++ held) ++ value_cells vs) place s.output)
+      × (length vs ≡ count) × AllFit vs × (s.turns ≤ turns)
   Pushed turns m held place count (effect.Stops end s) = Ends g turns m end s.output
 
   -- or the store is full
-  abbrev pub Pushes : State → List Cell → ℕ → ℕ → Action (List ℤ) → effect.State → Type 0
+  abbrev pub Pushes : State → List Cell → ℕ → ℕ → Action (List Value) → effect.State → Type 0
   Pushes m held place count action s = Starves g m action s ⊎ Pushed s.turns m held place count (action s)
 
   -- a row that is there after some instructions
-  pub pushes_row : (least : ℕ) (m : State) (base held : List Cell) (place count : ℕ) (ns : List ℤ) (s : effect.State) → Based g s base
-      → Comes g.target least m (on g ((base ++ held) ++ number_cells ns) place s.output) → length ns ≡ count → AllFit ns
-      → Pushed s.turns m held place count (Gives ns s)
-  pushes_row least m base held place count ns s based l long fit =
+  pub pushes_row : (least : ℕ) (m : State) (base held : List Cell) (place count : ℕ) (vs : List Value) (s : effect.State) → Based g s base
+      → Comes g.target least m (on g ((base ++ held) ++ value_cells vs) place s.output) → length vs ≡ count → AllFit vs
+      → Pushed s.turns m held place count (Gives vs s)
+  pushes_row least m base held place count vs s based l long fit =
       (base, based, comes_less g.target (s.turns - s.turns) least m _ (omega arith) l, long, fit, omega arith)
 
-  pushed_on : (turns left : ℕ) (a b : State) (held : List Cell) (place count : ℕ) (r : Reply (List ℤ)) → left ≤ turns → Comes g.target (turns - left) a b
+  pushed_on : (turns left : ℕ) (a b : State) (held : List Cell) (place count : ℕ) (r : Reply (List Value)) → left ≤ turns → Comes g.target (turns - left) a b
       → Pushed left b held place count r → Pushed turns a held place count r
-  pushed_on turns left a b held place count (Gives ns s) le l e = (
+  pushed_on turns left a b held place count (Gives vs s) le l e = (
     e.0,
     e.1,
     comes_less g.target (turns - s.turns) (turns - left + (left - s.turns)) a _ (omega arith)
@@ -268,7 +266,7 @@ module _ (g : Setting) where
   pushed_on turns left a b held place count (effect.Stops end s) le l e = ends_on g turns left a b end s.output l e
 
   -- where no turn is used
-  pub pushes_from : (least : ℕ) (a b : State) (held : List Cell) (place count : ℕ) (action : Action (List ℤ)) (s : effect.State) → Comes g.target least a b
+  pub pushes_from : (least : ℕ) (a b : State) (held : List Cell) (place count : ℕ) (action : Action (List Value)) (s : effect.State) → Comes g.target least a b
       → Pushes b held place count action s → Pushes a held place count action s
   pushes_from least a b held place count action s l (inl x) = inl (starves_on g least a b action s l x)
   pushes_from least a b held place count action s l (inr e) =
@@ -276,7 +274,7 @@ module _ (g : Setting) where
 
   -- a row behind an address
   address_pushes : (m : State) (held held' : List Cell) (place place' : ℕ) (t : TypeId) (count : ℕ) (first : Action (Option Place))
-      (next : Option Place → Action (List ℤ)) (s : effect.State) → UsesTurnsExactly first → Addresses g m held place t first s
+      (next : Option Place → Action (List Value)) (s : effect.State) → UsesTurnsExactly first → Addresses g m held place t first s
       → ((base : List Cell) (d : ℕ) (p : Place) (u : effect.State) → Based g u base → PartAt g p t d → g.below + length held < g.limit
       → Pushes (on g ((base ++ held) ++ Number (pos d) ∷ []) place u.output) held' place' count (next (Some p)) u)
       → Pushes m held' place' count (first >>= next) s
@@ -296,36 +294,40 @@ module _ (g : Setting) where
       by (effect.Stops end u) is e = inr e
 
   -- a value, or a statement, behind a row
-  pub row_evaluates : (m : State) (held held' : List Cell) (place place' count : ℕ) (first : Action (List ℤ)) (next : List ℤ → Action Value)
+  pub row_evaluates : (m : State) (held held' : List Cell) (place place' count : ℕ) (first : Action (List Value)) (next : List Value → Action Value)
       (s : effect.State) → UsesTurnsExactly first → Pushes m held place count first s
-      → ((base : List Cell) (ns : List ℤ) (u : effect.State) → Based g u base → length ns ≡ count → AllFit ns
-      → Evaluates g (on g ((base ++ held) ++ number_cells ns) place u.output) held' place' (next ns) u)
+      → ((base : List Cell) (vs : List Value) (u : effect.State) → Based g u base → length vs ≡ count → AllFit vs
+      → Evaluates g (on g ((base ++ held) ++ value_cells vs) place u.output) held' place' (next vs) u)
       → Evaluates g m held' place' (first >>= next) s
   row_evaluates m held held' place place' count first next s exact (inl x) h = inl (starves_first g m first next s x)
   row_evaluates m held held' place place' count first next s exact (inr e) h = by (first s) refl e
     where
-      by : (r : Reply (List ℤ)) → first s ≡ r → Pushed s.turns m held place count r
+      by : (r : Reply (List Value)) → first s ≡ r → Pushed s.turns m held place count r
           → Starves g m (first >>= next) s ⊎ Valued g s.turns m held' place' (effect.and_then r next)
-      by (Gives ns u) is e = evaluates_behind g m _ held' place' first next s u ns exact is e.5 e.2 (h e.0 ns u e.1 e.3 e.4)
+      by (Gives vs u) is e = evaluates_behind g m _ held' place' first next s u vs exact is e.5 e.2 (h e.0 vs u e.1 e.3 e.4)
       by (effect.Stops end u) is e = inr e
 
-  pub row_executes : (m : State) (held held' : List Cell) (place place' count : ℕ) (first : Action (List ℤ)) (next : List ℤ → Action (Unit {0}))
+  pub row_executes : (m : State) (held held' : List Cell) (place place' count : ℕ) (first : Action (List Value)) (next : List Value → Action (Unit {0}))
       (s : effect.State) → UsesTurnsExactly first → Pushes m held place count first s
-      → ((base : List Cell) (ns : List ℤ) (u : effect.State) → Based g u base → length ns ≡ count → AllFit ns
-      → Executes g (on g ((base ++ held) ++ number_cells ns) place u.output) held' place' (next ns) u)
+      → ((base : List Cell) (vs : List Value) (u : effect.State) → Based g u base → length vs ≡ count → AllFit vs
+      → Executes g (on g ((base ++ held) ++ value_cells vs) place u.output) held' place' (next vs) u)
       → Executes g m held' place' (first >>= next) s
   row_executes m held held' place place' count first next s exact (inl x) h = inl (starves_first g m first next s x)
   row_executes m held held' place place' count first next s exact (inr e) h = by (first s) refl e
     where
-      by : (r : Reply (List ℤ)) → first s ≡ r → Pushed s.turns m held place count r
+      by : (r : Reply (List Value)) → first s ≡ r → Pushed s.turns m held place count r
           → Starves g m (first >>= next) s ⊎ Executed g s.turns m held' place' (effect.and_then r next)
-      by (Gives ns u) is e = executes_behind g m _ held' place' first next s u ns exact is e.5 e.2 (h e.0 ns u e.1 e.3 e.4)
+      by (Gives vs u) is e = executes_behind g m _ held' place' first next s u vs exact is e.5 e.2 (h e.0 vs u e.1 e.3 e.4)
       by (effect.Stops end u) is e = inr e
+
+  -- characters as values
+  abbrev characters_of : List ℕ → List Value
+  characters_of = map (λ c. value.Number (pos c))
 
   -- characters are pushed, the first one first
   pub characters_come : (characters : List ℕ) (place : ℕ) (cells : List Cell) (output : List ℕ)
       → Stands g.target place (map (λ c. instr.LoadConstant (pos c)) characters) → length cells + length characters ≤ g.limit
-      → Comes g.target 0 (on g cells place output) (on g (cells ++ number_cells (map pos characters)) (place + length characters) output)
+      → Comes g.target 0 (on g cells place output) (on g (cells ++ value_cells (characters_of characters)) (place + length characters) output)
   characters_come [] place cells output stands room =
       let e : place ≡ place + 0 = omega arith in
       subst (λ p. Comes g.target 0 (on g cells place output) (on g (cells ++ []) p output)) e
@@ -333,7 +335,7 @@ module _ (g : Setting) where
   characters_come (c ∷ characters) place cells output stands room =
       let one = cells ++ Number (pos c) ∷ [] in
       let long = length_one cells (Number (pos c)) in
-      let rest = number_cells (map pos characters) in
+      let rest = value_cells (characters_of characters) in
       let e : place + 1 + length characters ≡ place + length (c ∷ characters) = omega arith in
       let first = acts g (instr.LoadConstant (pos c)) cells one place output _ stands.0 refl
       (pushes g.frame g.limit g.size cells (pos c) (omega arith)) in
@@ -343,7 +345,7 @@ module _ (g : Setting) where
       (append_assoc cells (Number (pos c) ∷ []) rest)
       (subst (λ p. Comes g.target 0 (on g cells place output) (on g (one ++ rest) p output)) e all)
 
-  characters_fit : (characters : List ℕ) → list_all is_character characters ≡ true → AllFit (map pos characters)
+  characters_fit : (characters : List ℕ) → list_all is_character characters ≡ true → AllFit (characters_of characters)
   characters_fit [] well = tt
   characters_fit (c ∷ characters) well =
       let parts = and_parts (is_character c) (list_all is_character characters) well in
@@ -353,6 +355,15 @@ module _ (g : Setting) where
   -- what is known of the type of a whole value
   pub same_type : (t type_id : TypeId) → is_same t type_id ≡ true → t ≡ type_id
   same_type t type_id e = ap (λ n. record { index = n }) (eqb-true t.index type_id.index e)
+
+  -- what may be copied to a type has as many cells
+  pub copied_cells : (target : TypeId) (source : Option TypeId) (cells : ℕ) → may_copy (outline g) g.number target source cells ≡ true
+      → cells_of g.tree.types target ≡ cells
+  copied_cells target source cells e =
+      let as_many = nat_eq (cells_of g.tree.types target) cells in
+      let alike = is_alike g.tree.types target source cells in
+      let sized = and_parts (is_structured g.tree.types target) (as_many && alike) e in
+      eqb-true (cells_of g.tree.types target) cells (and_parts as_many alike sized.1).0
 
   -- the cells from the address of a part on, and their check
   checked_row : (p : Place) (type_id : TypeId) (count d defined place : ℕ) (base held : List Cell) (s : effect.State)
@@ -366,12 +377,12 @@ module _ (g : Setting) where
       let cells = base ++ held in
       let row = map (cell_at s.store p) components in
       let as_long : length row ≡ count = length-map components (cell_at s.store p) ∙ long in
-      let many : length all.numbers ≡ count = sym (length-cells_of all.numbers) ∙ ap length (sym all.cells) ∙ as_long in
-      let defined_all : list_all is_defined row ≡ true = ap (list_all is_defined) all.cells ∙ all_are_defined all.numbers in
+      let many : length all.values ≡ count = sym (length-cells_of all.values) ∙ ap length (sym all.cells) ∙ as_long in
+      let defined_all : list_all is_defined row ≡ true = ap (list_all is_defined) all.cells ∙ all_are_defined all.values in
       let passed = passes g (instr.CheckDefined defined count) (cells ++ row) place defined s.output _ refl refl stands
       (all_defined g.frame g.limit g.size cells (linked g s base held based) row count as_long ∙ ap Ok defined_all) in
       inr (subst (λ r. Pushed s.turns (on g (cells ++ row) place s.output) held (place + 1) count r) (sym (all.gives s refl))
-      (pushes_row 0 _ base held (place + 1) count all.numbers s based
+      (pushes_row 0 _ base held (place + 1) count all.values s based
       (subst (λ cs. Comes g.target 0 (on g (cells ++ row) place s.output) (on g (cells ++ cs) (place + 1) s.output)) all.cells passed) many all.fit))
   checked_row p type_id count d defined place base held s (inr one) stands within long based =
       let components = components_of g.tree.types type_id in
@@ -421,7 +432,7 @@ module _ (g : Setting) where
       let few = leb-true cells 65536 (and_parts (nat_eq cells (cells_of g.tree.types type_id)) (nat_le cells 65536) parts'.0).1 in
       omega arith
 
-  -- the code of a whole value pushes its numbers
+  -- the code of a whole value pushes its components
   pub whole_runs : (v : Whole) (indexes : Indexes g) (place : ℕ) (base held : List Cell) (s : effect.State)
       → Stands g.target place (whole_code g.scope v (codes g indexes))
       → all_hold (whole_indexes v (wells g indexes)) ≡ true
@@ -434,10 +445,10 @@ module _ (g : Setting) where
       let e : place + length characters.items ≡ place + length (map (λ x. instr.LoadConstant (pos x)) characters.items) = omega arith in
       let full = based.full in
       let pushed = characters_come characters.items place (base ++ held) s.output stands (omega (arith, length-append base held)) in
-      let ns = map pos characters.items in
-      subst (λ q. Pushes (on g (base ++ held) place s.output) held q (length characters.items) (effect.give ns) (entered g number s)) e
-      (inr (pushes_row 0 _ base held (place + length characters.items) (length characters.items) ns (entered g number s)
-      based pushed (length-map characters.items pos)
+      let vs = characters_of characters.items in
+      subst (λ q. Pushes (on g (base ++ held) place s.output) held q (length characters.items) (effect.give vs) (entered g number s)) e
+      (inr (pushes_row 0 _ base held (place + length characters.items) (length characters.items) vs (entered g number s)
+      based pushed (length-map characters.items (λ c. value.Number (pos c)))
       (characters_fit characters.items (and_parts (nat_le (length characters.items) 65536) (list_all is_character characters.items) well).1)))
   whole_runs (VariableOf access type_id cells defined) indexes place base held s stands good well based deep =
       let wanted : TypeId → Bool = λ id. is_same id type_id && not (is_ordinal g.tree.types id) in
@@ -458,7 +469,7 @@ module _ (g : Setting) where
       let loading = subst (λ n. Stands g.target (place + length c) (instr.LoadMany n ∷ instr.CheckDefined defined n ∷ [])) same
       (stands_back g.target place c load stands) in
       let e : place + length c + 1 + 1 ≡ place + length (c ++ load) = omega (arith, length-append c load) in
-      let next : List Form → Option Place → Action (List ℤ) = λ types q. fetch_all q (components_of types type_id) defined in
+      let next : List Form → Option Place → Action (List Value) = λ types q. fetch_all q (components_of types type_id) defined in
       let addressed = address_runs g access indexes led_to.last start good counts place base held (entered g access.number s)
       (stands_front g.target place c load stands) based (omega arith) in
       let from = place_found g access indexes led_to.last start good counts in

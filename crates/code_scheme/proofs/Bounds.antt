@@ -15,6 +15,10 @@ use Rattle.typed_tree.specs.declared.tree.Tree.{Tree}
 use Rattle.typed_tree.specs.declared.tree.Block.{Block}
 use Rattle.typed_tree.specs.declared.tree.Monadic.{Monadic}
 use Rattle.typed_tree.specs.declared.tree.Monadic.TheVariants as monadic
+use Rattle.typed_tree.specs.declared.tree.Calculation.{Calculation}
+use Rattle.typed_tree.specs.declared.tree.Calculation.TheVariants as calculation
+use Rattle.typed_tree.specs.declared.tree.Shift.{Shift}
+use Rattle.typed_tree.specs.declared.tree.Shift.TheVariants as shift
 use Rattle.typed_tree.specs.declared.tree.Dyadic.{Dyadic}
 use Rattle.typed_tree.specs.declared.tree.Dyadic.TheVariants as dyadic
 use Rattle.typed_tree.specs.declared.tree.Relation.{Relation}
@@ -55,7 +59,8 @@ use Rattle.code_scheme.specs.Scopes.{Scope, access_offset, behind_fields, block_
 use Rattle.code_scheme.specs.Scopes.{homes_from, links_to, other_cells, row_length, start_of, variable_home}
 use Rattle.code_scheme.specs.Code.{At, By, Reached, address_of, reached, reached_from, fetch_code, store_code, call_code, passed_code, passed_step}
 use Rattle.code_scheme.specs.Code.{field_code, selectors_code, address_code, variable_code, index_codes, assign_code, copy_code, control_offset}
-use Rattle.code_scheme.specs.Code.{joined, placed, Placed, monadic_code, relation_instr, dyadic_code, expr_code, link_code, expr_step, link_step}
+use Rattle.code_scheme.specs.Code.{joined, placed, Placed, calculation_code, shift_code, monadic_code, relation_instr, dyadic_code, expr_code, link_code}
+use Rattle.code_scheme.specs.Code.{expr_step, link_step}
 use Rattle.code_scheme.specs.Code.{width_code, parameter_code, write_instr, line_end_code, stmt_code, stmt_step, range_check, order_instr, next_instr}
 use Rattle.code_scheme.specs.Code.{row_code, arms_code, for_entry, for_begin, for_next, for_end, program_code, compare_code, whole_code}
 use Rattle.code_scheme.specs.Code.{written_code, block_code, blocks_code, end_code, routines_of}
@@ -76,17 +81,23 @@ append_in_bounds xs ys first second = list_all-append in_bounds xs ys ∙ ap (λ
 cut_at : (n bound : ℕ) → nat_le (min n bound) bound ≡ true
 cut_at n bound = le-leb (min n bound) bound (min-le_right n bound)
 
+calculation_in_bounds : (does : Calculation) → InBounds (calculation_code does)
+calculation_in_bounds calculation.Same = refl
+calculation_in_bounds calculation.Negative = refl
+calculation_in_bounds calculation.Complement = refl
+calculation_in_bounds calculation.Absolute = refl
+calculation_in_bounds (calculation.Square overflow) = refl
+calculation_in_bounds calculation.Parity = refl
+calculation_in_bounds calculation.Ordinal = refl
+
+shift_in_bounds : (does : Shift) → InBounds (shift_code does)
+shift_in_bounds shift.Same = refl
+shift_in_bounds shift.Next = refl
+shift_in_bounds shift.Previous = refl
+
 monadic_in_bounds : (operation : Monadic) → InBounds (monadic_code operation)
-monadic_in_bounds monadic.Plus = refl
-monadic_in_bounds monadic.Minus = refl
-monadic_in_bounds monadic.Not = refl
-monadic_in_bounds monadic.Abs = refl
-monadic_in_bounds (monadic.Sqr overflow) = refl
-monadic_in_bounds monadic.Odd = refl
-monadic_in_bounds monadic.Ord = refl
-monadic_in_bounds (monadic.Chr no_char) = refl
-monadic_in_bounds (monadic.Succ no_successor last) = refl
-monadic_in_bounds (monadic.Pred no_predecessor first) = refl
+monadic_in_bounds (monadic.Plain does) = calculation_in_bounds does
+monadic_in_bounds (monadic.Tested fits does) = shift_in_bounds does
 
 relation_in_bounds : (r : Relation) → InBounds (relation_instr r ∷ [])
 relation_in_bounds relation.Equal = refl

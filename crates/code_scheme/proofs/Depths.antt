@@ -6,6 +6,7 @@ use Rattle.std.specs.Global.{Vec}
 use Rattle.std.proofs.lemmas.List.Sums.{sum_by-cons}
 use Rattle.typed_tree.specs.declared.tree.Monadic.{Monadic}
 use Rattle.typed_tree.specs.declared.tree.Monadic.TheVariants as monadic
+use Rattle.typed_tree.specs.declared.tree.Shift.TheVariants as shift
 use Rattle.typed_tree.specs.declared.tree.Tree.{Tree}
 use Rattle.typed_tree.specs.declared.tree.Block.{Block}
 use Rattle.typed_tree.specs.declared.tree.FunctionResult.{FunctionResult}
@@ -68,16 +69,10 @@ indexes_within f g (x ∷ xs) depth need least h =
 
 -- an operation on one operand needs two cells at most
 monadic_within : (operation : Monadic) → monadic_depth operation ≤ 2
-monadic_within monadic.Plus = omega arith
-monadic_within monadic.Minus = omega arith
-monadic_within monadic.Not = omega arith
-monadic_within monadic.Abs = omega arith
-monadic_within (monadic.Sqr overflow) = omega arith
-monadic_within monadic.Odd = omega arith
-monadic_within monadic.Ord = omega arith
-monadic_within (monadic.Chr no_char) = omega arith
-monadic_within (monadic.Succ no_successor last) = omega arith
-monadic_within (monadic.Pred no_predecessor first) = omega arith
+monadic_within (monadic.Plain does) = omega arith
+monadic_within (monadic.Tested fits shift.Same) = omega arith
+monadic_within (monadic.Tested fits shift.Next) = omega arith
+monadic_within (monadic.Tested fits shift.Previous) = omega arith
 
 -- an expression needs a cell at least, that of its value
 abbrev NeedsOne : Expr → Type 0

@@ -1,7 +1,7 @@
 -- The code of a typed tree: of an expression (ISO 7185:1990, 6.7), of a statement (6.8) and of a program (6.10), as
 -- functions of the tree, of where in a frame its variables lie and, for a statement, of its place in the code. It does
 -- not say what the code does: that is for the machine to say.
-use Rattle.std.specs.Prelude.{ℕ, zero, suc, ℤ, pos, neg_ℤ, ◌+◌, ◌-◌, Bool, true, false, List, [], ◌∷◌, ◌++◌}
+use Rattle.std.specs.Prelude.{ℕ, zero, suc, ℤ, pos, ◌+◌, ◌-◌, Bool, true, false, List, [], ◌∷◌, ◌++◌}
 use Rattle.std.specs.Prelude.{Option, Some, None, if◌then◌else◌, length, map}
 use Rattle.std.specs.Global.{Vec}
 use Rattle.std.specs.List.{flat_map}
@@ -16,6 +16,10 @@ use Rattle.typed_tree.specs.declared.tree.Selector.{Selector}
 use Rattle.typed_tree.specs.declared.tree.Selector.TheVariants.{Element, Field}
 use Rattle.typed_tree.specs.declared.tree.Monadic.{Monadic}
 use Rattle.typed_tree.specs.declared.tree.Monadic.TheVariants as monadic
+use Rattle.typed_tree.specs.declared.tree.Calculation.{Calculation}
+use Rattle.typed_tree.specs.declared.tree.Calculation.TheVariants as calculation
+use Rattle.typed_tree.specs.declared.tree.Shift.{Shift}
+use Rattle.typed_tree.specs.declared.tree.Shift.TheVariants as shift
 use Rattle.typed_tree.specs.declared.tree.Dyadic.{Dyadic}
 use Rattle.typed_tree.specs.declared.tree.Dyadic.TheVariants as dyadic
 use Rattle.typed_tree.specs.declared.tree.Relation.{Relation}
@@ -60,21 +64,30 @@ abbrev pub placed : List (ℕ → List Instr) → ℕ → List Instr
 placed [] place = []
 placed (piece ∷ pieces) place = piece place ++ placed pieces (place + length (piece place))
 
--- what an operation does to the value before it, checked; succ and pred check the number beside it, which is out of
--- range too where it wraps at 32 bits
+-- the test of a value
+abbrev pub range_check : RangeTest → Instr
+range_check fits = instr.CheckRange fits.site fits.range.first fits.range.last
+
+-- what is calculated from the value before it, checked where it may be no integer
+abbrev pub calculation_code : Calculation → List Instr
+calculation_code calculation.Same = []
+calculation_code calculation.Negative = instr.Negate ∷ []
+calculation_code calculation.Complement = instr.Not ∷ []
+calculation_code calculation.Absolute = instr.Absolute ∷ []
+calculation_code (calculation.Square overflow) = instr.CheckSquare overflow ∷ instr.Square ∷ []
+calculation_code calculation.Parity = instr.Odd ∷ []
+calculation_code calculation.Ordinal = []
+
+-- from a value that passed a test to the result
+abbrev pub shift_code : Shift → List Instr
+shift_code shift.Same = []
+shift_code shift.Next = instr.LoadConstant (pos 1) ∷ instr.Add ∷ []
+shift_code shift.Previous = instr.LoadConstant (pos 1) ∷ instr.Subtract ∷ []
+
+-- what an operation does to the value before it
 abbrev pub monadic_code : Monadic → List Instr
-monadic_code monadic.Plus = []
-monadic_code monadic.Minus = instr.Negate ∷ []
-monadic_code monadic.Not = instr.Not ∷ []
-monadic_code monadic.Abs = instr.Absolute ∷ []
-monadic_code (monadic.Sqr overflow) = instr.CheckSquare overflow ∷ instr.Square ∷ []
-monadic_code monadic.Odd = instr.Odd ∷ []
-monadic_code monadic.Ord = []
-monadic_code (monadic.Chr no_char) = instr.CheckRange no_char (pos 0) (pos 127) ∷ []
-monadic_code (monadic.Succ no_successor last) =
-    instr.LoadConstant (pos 1) ∷ instr.Add ∷ instr.CheckRange no_successor (neg_ℤ (pos 2147483647)) last ∷ []
-monadic_code (monadic.Pred no_predecessor first) =
-    instr.LoadConstant (pos 1) ∷ instr.Subtract ∷ instr.CheckRange no_predecessor first (pos 2147483647) ∷ []
+monadic_code (monadic.Plain does) = calculation_code does
+monadic_code (monadic.Tested fits does) = range_check fits ∷ shift_code does
 
 -- the instruction of a relation
 abbrev pub relation_instr : Relation → Instr
@@ -99,10 +112,6 @@ dyadic_code (dyadic.Mod by_zero_or_less) = check_positive by_zero_or_less ∷ in
 dyadic_code dyadic.And = instr.And ∷ []
 dyadic_code dyadic.Or = instr.Or ∷ []
 dyadic_code (dyadic.Relation r) = relation_instr r ∷ []
-
--- the test of a value
-abbrev pub range_check : RangeTest → Instr
-range_check fits = instr.CheckRange fits.site fits.range.first fits.range.last
 
 -- a field behind so many cells of its record, whose address is on top
 abbrev pub field_code : ℕ → List Instr

@@ -6,6 +6,8 @@ use Rattle.std.specs.declared.alloc.Global.{Global}
 use Rattle.std.specs.declared.boxed.Box.{Box}
 use Rattle.typed_tree.specs.declared.tree.Monadic.{Monadic}
 use Rattle.typed_tree.specs.declared.tree.Monadic.TheVariants as monadic
+use Rattle.typed_tree.specs.declared.tree.Shift.{Shift}
+use Rattle.typed_tree.specs.declared.tree.Shift.TheVariants as shift
 use Rattle.typed_tree.specs.declared.tree.Width.{Width}
 use Rattle.typed_tree.specs.declared.tree.WriteParameter.{WriteParameter}
 use Rattle.typed_tree.specs.declared.tree.Written.{Written}
@@ -33,11 +35,17 @@ use Rattle.typed_tree.specs.WellFormed.{length_of}
 abbrev pub greatest : List ℕ → ℕ
 greatest depths = fold max 0 depths
 
--- how many cells an operation on one operand needs at once; succ and pred have a 1 beside it
+-- how many cells are needed at once behind the test of a number: the next number and the one before come with a 1
+-- beside it
+abbrev pub shift_depth : Shift → ℕ
+shift_depth shift.Same = 1
+shift_depth shift.Next = 2
+shift_depth shift.Previous = 2
+
+-- the same of an operation on one operand
 abbrev pub monadic_depth : Monadic → ℕ
-monadic_depth (monadic.Succ no_successor last) = 2
-monadic_depth (monadic.Pred no_predecessor first) = 2
-monadic_depth other = 1
+monadic_depth (monadic.Plain does) = 1
+monadic_depth (monadic.Tested fits does) = shift_depth does
 
 -- the same of an address: each index is evaluated beside it
 abbrev pub access_depth : List ℕ → ℕ

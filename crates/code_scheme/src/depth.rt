@@ -1,14 +1,14 @@
 ghost use Rattle.std.specs.Prelude.{◌≡◌, map};
 ghost use Rattle.code_scheme.specs.Depth.{access_depth, arms_depth, block_depth, call_depth, expr_depth, greatest};
 ghost use Rattle.code_scheme.specs.Depth.{index_depths, monadic_depth, parameter_depth, passed_depth, result_depth};
-ghost use Rattle.code_scheme.specs.Depth.{stmt_depth, store_depth, whole_depth, width_depth, written_cells};
-ghost use Rattle.code_scheme.specs.Depth.{written_depth};
+ghost use Rattle.code_scheme.specs.Depth.{shift_depth, stmt_depth, store_depth, whole_depth, width_depth};
+ghost use Rattle.code_scheme.specs.Depth.{written_cells, written_depth};
 ghost use Rattle.code_scheme.specs.Sizes.{capped};
 ghost use Rattle.typed_tree.specs.WellFormed.{length_of};
 
 use crate::scope::LINKS;
 use typed_tree::tree::{
-    Block, Expr, FunctionResult, Monadic, Passed, Stmt, Whole, WriteParameter, Written,
+    Block, Expr, FunctionResult, Monadic, Passed, Shift, Stmt, Whole, WriteParameter, Written,
 };
 
 /// How many cells the evaluation of the block needs at once, or the greatest number of 32 bits.
@@ -279,7 +279,17 @@ fn needed_by_monadic(operation: Monadic) -> u32
     ensures { result ≡ monadic_depth operation }
 {
     match operation {
-        Monadic::Succ { .. } | Monadic::Pred { .. } => 2,
-        _ => 1,
+        Monadic::Plain(_) => 1,
+        Monadic::Tested { does, .. } => needed_by_shift(does),
+    }
+}
+
+/// The same behind the test of a number: the next number and the one before come with a 1 beside it.
+fn needed_by_shift(does: Shift) -> u32
+    ensures { result ≡ shift_depth does }
+{
+    match does {
+        Shift::Same => 1,
+        Shift::Next | Shift::Previous => 2,
     }
 }

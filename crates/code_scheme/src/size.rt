@@ -2,11 +2,11 @@ ghost use Rattle.std.specs.Prelude.{◌≡◌, ◌+◌, ◌*◌, ℕ, List, leng
 ghost use Rattle.std.specs.List.{flat_map};
 ghost use Rattle.pcode_assembler.specs.declared.instr.Instr.{Instr};
 ghost use Rattle.code_scheme.specs.Scopes.{Scope};
-ghost use Rattle.code_scheme.specs.Code.{assign_code, address_code, block_code, call_code, copy_code, dyadic_code};
-ghost use Rattle.code_scheme.specs.Code.{end_code, expr_code, field_code, index_codes, line_end_code, monadic_code};
-ghost use Rattle.code_scheme.specs.Code.{parameter_code, passed_code, program_code, reached, selectors_code};
-ghost use Rattle.code_scheme.specs.Code.{statements_code, stmt_code, variable_code, whole_code, width_code, write_code};
-ghost use Rattle.code_scheme.specs.Code.{written_code};
+ghost use Rattle.code_scheme.specs.Code.{assign_code, address_code, block_code, calculation_code, call_code, copy_code};
+ghost use Rattle.code_scheme.specs.Code.{dyadic_code, end_code, expr_code, field_code, index_codes, line_end_code};
+ghost use Rattle.code_scheme.specs.Code.{monadic_code, parameter_code, passed_code, program_code, reached};
+ghost use Rattle.code_scheme.specs.Code.{selectors_code, shift_code, statements_code, stmt_code, variable_code};
+ghost use Rattle.code_scheme.specs.Code.{whole_code, width_code, write_code, written_code};
 ghost use Rattle.code_scheme.specs.Sizes.{arms_size as size_of_arms, capped, is_at, measured, refers as is_reference};
 ghost use Rattle.code_scheme.specs.Sizes.{table_of, AreTold, ArmsAreTold, IsScopeOf, IsTold};
 ghost use Rattle.typed_tree.specs.declared.tree.Call.{Call};
@@ -16,8 +16,8 @@ ghost use Rattle.typed_tree.specs.declared.tree.Tree.{Tree};
 use crate::scope::{behind_fields, selectors_from};
 use std::alloc::AllocError;
 use typed_tree::tree::{
-    Access, Block, Dyadic, Expr, FunctionResult, Monadic, Passed, Selector, Stmt, Tree, Variable,
-    VariableKind, Whole, WriteParameter, Written,
+    Access, Block, Calculation, Dyadic, Expr, FunctionResult, Monadic, Passed, Selector, Shift,
+    Stmt, Tree, Variable, VariableKind, Whole, WriteParameter, Written,
 };
 
 /// How many instructions the program has, or the greatest number of 32 bits.
@@ -611,10 +611,29 @@ fn monadic_size(operation: Monadic) -> u32
     ensures { result ≡ length (monadic_code operation) }
 {
     match operation {
-        Monadic::Plus | Monadic::Ord => 0,
-        Monadic::Minus | Monadic::Not | Monadic::Abs | Monadic::Odd | Monadic::Chr { .. } => 1,
-        Monadic::Sqr { .. } => 2,
-        Monadic::Succ { .. } | Monadic::Pred { .. } => 3,
+        Monadic::Plain(does) => calculation_size(does),
+        Monadic::Tested { does, .. } => 1 + shift_size(does),
+    }
+}
+
+/// How many instructions a calculation has.
+fn calculation_size(does: Calculation) -> u32
+    ensures { result ≡ length (calculation_code does) }
+{
+    match does {
+        Calculation::Same | Calculation::Ordinal => 0,
+        Calculation::Square { .. } => 2,
+        _ => 1,
+    }
+}
+
+/// The same behind the test of a number.
+fn shift_size(does: Shift) -> u32
+    ensures { result ≡ length (shift_code does) }
+{
+    match does {
+        Shift::Same => 0,
+        Shift::Next | Shift::Previous => 2,
     }
 }
 

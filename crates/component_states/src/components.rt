@@ -40,10 +40,10 @@ impl Components {
     }
 
     /// What is known of a row.
-    pub(crate) fn row(&self, rows: &Rows, row: u32) -> Row
+    pub(crate) fn row(&self, rows: &Rows, row: usize) -> Row
         ensures { said_row result ≡ row_at (viewed_components rows.now self.now) row }
     {
-        if row as usize >= rows.count() {
+        if row >= rows.count() {
             return Row::NONE;
         }
         match self.rows.get(row) {
@@ -53,7 +53,7 @@ impl Components {
     }
 
     /// What is known of a row from here on, if it is there.
-    pub(crate) fn set_row(&mut self, row: u32, state: Row) -> Result<(), AllocError>
+    pub(crate) fn set_row(&mut self, row: usize, state: Row) -> Result<(), AllocError>
         ensures { IfOk result
             (λ _. (tree : Tree) → viewed_components tree self.new
             ≡ with_row row (said_row state) (viewed_components tree self.old)) }
@@ -65,7 +65,7 @@ impl Components {
     pub(crate) fn set_range(
         &mut self,
         rows: &Rows,
-        row: u32,
+        row: usize,
         range: Interval,
     ) -> Result<(), AllocError>
         ensures { IfOk result
@@ -77,7 +77,7 @@ impl Components {
     }
 
     /// Each component of a row is defined from here on.
-    pub(crate) fn define(&mut self, rows: &Rows, row: u32) -> Result<(), AllocError>
+    pub(crate) fn define(&mut self, rows: &Rows, row: usize) -> Result<(), AllocError>
         ensures { IfOk result (λ _. viewed_components rows.now self.new
             ≡ with_defined row (viewed_components rows.now self.old)) }
     {
@@ -167,7 +167,7 @@ impl Components {
     }
 
     /// Whether each component of a row is known to be defined: it is held, or a stretch that is held has all indexes.
-    pub(crate) fn is_whole(&self, rows: &Rows, state: &State, row: u32) -> bool
+    pub(crate) fn is_whole(&self, rows: &Rows, state: &State, row: usize) -> bool
         ensures { result ≡ is_whole (viewed_variables rows.now state.now) (viewed_components rows.now self.now) row }
     {
         let known = self.row(rows, row);
@@ -227,7 +227,7 @@ impl Components {
         rows: &Rows,
         state: &State,
         reach: Reach,
-        row: u32,
+        row: usize,
         range: Interval,
     ) -> Result<(), AllocError>
         ensures { IfOk result (λ _. viewed_components rows.now self.new
@@ -248,7 +248,7 @@ impl Components {
     }
 
     /// Components of a row may have a value of a range from here on.
-    fn widen(&mut self, rows: &Rows, row: u32, range: Interval) -> Result<(), AllocError>
+    fn widen(&mut self, rows: &Rows, row: usize, range: Interval) -> Result<(), AllocError>
         ensures { IfOk result
             (λ _. viewed_components rows.now self.new ≡ with_joined row range (viewed_components rows.now self.old)) }
     {
@@ -262,7 +262,7 @@ impl Components {
         alloc: Global,
         rows: &Rows,
         state: &State,
-        row: u32,
+        row: usize,
         index: Option<Bound>,
     ) -> Result<(), AllocError>
         ensures { IfOk result (λ _. viewed_components rows.now self.new
@@ -282,7 +282,7 @@ impl Components {
         alloc: Global,
         rows: &Rows,
         state: &State,
-        row: u32,
+        row: usize,
         index: Bound,
     ) -> Result<(), AllocError>
         ensures { IfOk result (λ _. viewed_components rows.now self.new

@@ -4,7 +4,7 @@ use domain::interval::Interval;
 /// The components of a row whose first indexes lie between two bounds.
 #[derive(Clone, Copy)]
 pub struct Stretch {
-    pub row: u32,
+    pub row: usize,
     pub first: Bound,
     pub last: Bound,
 }
@@ -13,9 +13,9 @@ pub struct Stretch {
 #[derive(Clone, Copy)]
 pub enum ComponentFact {
     /// Their values lie in the range.
-    Range { row: u32, range: Interval },
+    Range { row: usize, range: Interval },
     /// Each is defined.
-    Defined { row: u32 },
+    Defined { row: usize },
     /// Those of a stretch are.
     Stretched(Stretch),
 }

@@ -29,7 +29,7 @@ impl Row {
     };
 
     /// That of a row of which nothing but the values of its type is known.
-    pub(crate) fn of_type(rows: &Rows, row: u32) -> Row
+    pub(crate) fn of_type(rows: &Rows, row: usize) -> Row
         ensures { (found : LeafRow) → slice_get (rows_of rows.now) row ≡ Some found → result ≡ type_row found }
     {
         Row {

@@ -118,7 +118,7 @@ impl State {
     }
 
     /// The values of a row lie in a range from here on.
-    pub fn touch_row(&mut self, rows: &Rows, row: u32, range: Interval) -> Result<(), AllocError>
+    pub fn touch_row(&mut self, rows: &Rows, row: usize, range: Interval) -> Result<(), AllocError>
         ensures { IfOk result
             (λ _. viewed rows.now self.new ≡ over_components (λ _. with_range row range) (viewed rows.now self.old)) }
     {
@@ -126,7 +126,7 @@ impl State {
     }
 
     /// Each component of a row is defined from here on.
-    pub fn define_row(&mut self, rows: &Rows, row: u32) -> Result<(), AllocError>
+    pub fn define_row(&mut self, rows: &Rows, row: usize) -> Result<(), AllocError>
         ensures { IfOk result (λ _. viewed rows.now self.new
             ≡ over_components (λ _. with_defined row) (viewed rows.now self.old)) }
     {
@@ -154,7 +154,7 @@ impl State {
         rows: &Rows,
         reach: Reach,
         range: Option<OrdinalRange>,
-        row: u32,
+        row: usize,
     ) -> bool
         ensures { result ≡ gives_reached (viewed rows.now self.now) (said_reach reach) range row }
     {
@@ -166,14 +166,14 @@ impl State {
     }
 
     /// Whether the components of a row at an index are defined, by its form or by where it lies.
-    fn gives_index(&self, rows: &Rows, row: u32, index: Index) -> bool
+    fn gives_index(&self, rows: &Rows, row: usize, index: Index) -> bool
         ensures { result ≡ gives_index (viewed rows.now self.now) row (said_index index) }
     {
         self.gives_form(rows, row, index.form)
             || self.gives_some(rows, range_stretch(row, index.range))
     }
 
-    fn gives_form(&self, rows: &Rows, row: u32, form: Option<Bound>) -> bool
+    fn gives_form(&self, rows: &Rows, row: usize, form: Option<Bound>) -> bool
         ensures { result ≡ gives_form (viewed rows.now self.now) row (said_form form) }
     {
         match form {
@@ -192,7 +192,7 @@ impl State {
     }
 
     /// The range of the values of a row.
-    pub fn row_range(&self, rows: &Rows, row: u32) -> Interval
+    pub fn row_range(&self, rows: &Rows, row: usize) -> Interval
         ensures { result ≡ (row_at (viewed rows.now self.now).components row).range }
     {
         self.components.row(rows, row).range
@@ -211,7 +211,7 @@ impl State {
         alloc: Global,
         rows: &Rows,
         reach: Reach,
-        row: u32,
+        row: usize,
         range: Interval,
     ) -> Result<(), AllocError>
         ensures { IfOk result (λ _. viewed rows.now self.new
@@ -289,7 +289,7 @@ impl State {
     }
 
     /// What is known of a row behind this way and another.
-    fn joined_row(&self, rows: &Rows, other: &State, row: u32) -> Row
+    fn joined_row(&self, rows: &Rows, other: &State, row: usize) -> Row
         ensures { said_row result ≡ joined_row (viewed rows.now self.now) (viewed rows.now other.now) row }
     {
         let one = self.components.row(rows, row);
@@ -300,7 +300,7 @@ impl State {
     }
 
     /// Whether each component of a row is known to be defined.
-    fn is_whole(&self, rows: &Rows, row: u32) -> bool
+    fn is_whole(&self, rows: &Rows, row: usize) -> bool
         ensures { result ≡ is_whole (viewed rows.now self.now).variables (viewed rows.now self.now).components row }
     {
         self.components.is_whole(rows, &self.variables, row)
@@ -308,7 +308,7 @@ impl State {
 }
 
 /// That each component of a row is defined: of one with indexes, those from the first index to the last are.
-pub fn all_of_row(range: Option<OrdinalRange>, row: u32) -> ComponentFact
+pub fn all_of_row(range: Option<OrdinalRange>, row: usize) -> ComponentFact
     ensures { said_component result ≡ all_of_row range row }
 {
     match range {
@@ -318,7 +318,7 @@ pub fn all_of_row(range: Option<OrdinalRange>, row: u32) -> ComponentFact
 }
 
 /// The stretch of a row's indexes in a range, if its ends are numbers that bounds have.
-fn range_stretch(row: u32, range: Interval) -> Option<Stretch>
+fn range_stretch(row: usize, range: Interval) -> Option<Stretch>
     ensures { said_some result ≡ range_stretch row range }
 {
     let first = bound_rules::of_number(range.first());

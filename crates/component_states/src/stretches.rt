@@ -18,7 +18,7 @@ use types::OrdinalRange;
 
 impl Stretch {
     /// That of a single index.
-    pub(crate) fn at(row: u32, index: Bound) -> Stretch
+    pub(crate) fn at(row: usize, index: Bound) -> Stretch
         ensures { said_stretch result ≡ at_index row (said_bound index) }
     {
         Stretch {
@@ -29,7 +29,7 @@ impl Stretch {
     }
 
     /// The stretch of two bounds, if both are there.
-    pub(crate) fn between(row: u32, first: Option<Bound>, last: Option<Bound>) -> Option<Stretch>
+    pub(crate) fn between(row: usize, first: Option<Bound>, last: Option<Bound>) -> Option<Stretch>
         ensures { said_some result ≡ between row (said_form first) (said_form last) }
     {
         match (first, last) {
@@ -82,7 +82,7 @@ impl Stretch {
     }
 
     /// The stretch of a row with an index more, if that lies just behind it or before it.
-    fn longer_in(self, rows: &Rows, state: &State, row: u32, index: Bound) -> Option<Stretch>
+    fn longer_in(self, rows: &Rows, state: &State, row: usize, index: Bound) -> Option<Stretch>
         ensures { said_some result
             ≡ longer_in (viewed_variables rows.now state.now) row (said_bound index) (said_stretch self) }
     {
@@ -116,7 +116,7 @@ impl Stretch {
 }
 
 /// The stretch of all indexes of a row.
-pub(crate) fn all_indexes(row: u32, range: OrdinalRange) -> Stretch
+pub(crate) fn all_indexes(row: usize, range: OrdinalRange) -> Stretch
     ensures { said_stretch result ≡ all_indexes row range }
 {
     Stretch {
@@ -131,7 +131,7 @@ pub(crate) fn span(
     stretches: &[Stretch],
     rows: &Rows,
     state: &State,
-    row: u32,
+    row: usize,
     index: Option<OrdinalRange>,
 ) -> bool
     ensures { result ≡ is_spanned (viewed_variables rows.now state.now) (map said_stretch stretches.now) row index }
@@ -253,7 +253,7 @@ pub(crate) fn longer_or_alone(
     stretches: &[Stretch],
     rows: &Rows,
     state: &State,
-    row: u32,
+    row: usize,
     index: Bound,
 ) -> Result<Vec<Stretch>, AllocError>
     ensures { IfOk result (λ more. map said_stretch more.items ≡ or_alone row (said_bound index) (filter_map
@@ -272,7 +272,7 @@ fn longer(
     stretches: &[Stretch],
     rows: &Rows,
     state: &State,
-    row: u32,
+    row: usize,
     index: Bound,
 ) -> Result<Vec<Stretch>, AllocError>
     ensures { IfOk result (λ more. map said_stretch more.items ≡ filter_map
@@ -292,7 +292,7 @@ pub(crate) fn others(
     stretches: &[Stretch],
     rows: &Rows,
     state: &State,
-    row: u32,
+    row: usize,
     index: Bound,
 ) -> Result<Vec<Stretch>, AllocError>
     ensures { IfOk result (λ others. map said_stretch others.items ≡ filter

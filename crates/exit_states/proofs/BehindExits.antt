@@ -127,7 +127,7 @@ module _ (tree : Tree) (pairs : List (ℕ × ℕ)) (number : ℕ) (block : Block
   touches = touches_of tree (listed_pairs tree pairs) from bindings claims
 
   abbrev IsOuterHere : ℕ → DeclaredVariable → Type 0
-  IsOuterHere root variable = IsOuter tree pairs number block arguments caller activations from back.call store actuals back.are back.of_types root variable
+  IsOuterHere root variable = IsOuter tree pairs number block arguments caller activations from back.call store actuals back.are root variable
 
   abbrev ParameterHere : ℕ → DeclaredVariable → Type 0
   ParameterHere root variable = IsParameter tree caller store activations block.heading.parameters.items actuals arguments root variable
@@ -137,7 +137,7 @@ module _ (tree : Tree) (pairs : List (ℕ × ℕ)) (number : ℕ) (block : Block
       (way : List Step) × LiesAt tree caller callee root other selectors way variable.type_id × IsReachedBy caller store selectors way reach
 
   cases : (root : ℕ) → (outward : IsOutward tree number root) → IsOuterHere root outward.0 ⊎ ParameterHere root outward.0
-  cases root outward = outward-cases tree pairs number block arguments caller activations from back.call store actuals back.are back.of_types root outward
+  cases root outward = outward-cases tree pairs number block arguments caller activations from back.call store actuals back.are root outward
 
   outer-same : (root : ℕ) (variable : DeclaredVariable) → IsOuterHere root variable → (steps : List Step)
       → value_at inner root steps ≡ value_at outer root steps
@@ -161,13 +161,13 @@ module _ (tree : Tree) (pairs : List (ℕ × ℕ)) (number : ℕ) (block : Block
       → p.argument ≡ meaning.OfValue v → is_value_kind variable.kind ≡ true → is_among root claims.changes ≡ false → (m : ℤ)
       → HasNumber inner root m → v ≡ Number m
   value-kept root variable is p v argument_is value apart m has =
-      let own = parameter-block tree pairs number block arguments caller activations from back.call store actuals back.are back.of_types root variable is p in
+      let own = parameter-block tree pairs number block arguments caller activations from back.call store actuals back.are root variable is p in
       let home = value-home tree pairs number block arguments caller activations from back.call root variable is own value in
       let kept = passed root variable [] is (and-true (nat_eq variable.block number) (is_value_kind variable.kind) (eq-eqb variable.block number own) value)
       apart in
       let got = subst (λ (a : Argument). Received tree activations activations callee root variable a
       (behind_assignments tree pairs number block arguments caller activations from back.call store)) argument_is
-      (value-received tree pairs number block arguments caller activations from back.call store back.begun actuals back.are back.of_types root variable is p
+      (value-received tree pairs number block arguments caller activations from back.call store back.begun actuals back.are root variable is p
       value) in
       let at : stored after (own_place activations root) ≡ Some (Number m) =
       sym (Rattle.abstract_state.proofs.Apart.entire-stored after (own_place activations root))
@@ -233,19 +233,19 @@ module _ (tree : Tree) (pairs : List (ℕ × ℕ)) (number : ℕ) (block : Block
       → place_for root block.heading.parameters.items arguments ≡ place_passed argument → IsArgument tree caller store variable actual argument
       → Fits tree activations argument variable → exit_bound_of tree touches root k (Some actual) ≡ Some b → IsBound outer b n
   parameter-bound root variable is p lasting k m n has n_is b (OfValue range form) (meaning.OfValue v) argument_is place_is known fits bound_is =
-      let own = parameter-block tree pairs number block arguments caller activations from back.call store actuals back.are back.of_types root variable is p in
+      let own = parameter-block tree pairs number block arguments caller activations from back.call store actuals back.are root variable is p in
       let passed_so : is_passed_value number variable ≡ true =
       ap (λ (b : Bool). b && is_value_kind variable.kind) (eq-eqb variable.block number own) ∙ fits.0 in
       let v_is = value-kept root variable is p v argument_is fits.0 (lasting passed_so) m has in
       subst (IsBound outer b) n_is (form-bound k m form v v_is known.1 b bound_is)
-  parameter-bound root variable is p lasting k m n has n_is b (OfValue range form) (meaning.OfRow numbers) argument_is place_is known fits bound_is = absurd
+  parameter-bound root variable is p lasting k m n has n_is b (OfValue range form) (meaning.OfRow values) argument_is place_is known fits bound_is = absurd
       known
   parameter-bound root variable is p lasting k m n has n_is b (OfValue range form) (meaning.OfPlace place) argument_is place_is known fits bound_is = absurd
       known
   parameter-bound root variable is p lasting k m n has n_is b (OfRows ranges) argument argument_is place_is known fits bound_is = absurd (none-some b bound_is)
   parameter-bound root variable is p lasting k m n has n_is b (OfVariable other selectors reach) (meaning.OfValue v) argument_is place_is known fits bound_is =
       absurd known
-  parameter-bound root variable is p lasting k m n has n_is b (OfVariable other selectors reach) (meaning.OfRow numbers) argument_is place_is known fits
+  parameter-bound root variable is p lasting k m n has n_is b (OfVariable other selectors reach) (meaning.OfRow values) argument_is place_is known fits
       bound_is = absurd known
   parameter-bound root variable is p lasting k m n has n_is b (OfVariable other selectors reach) (meaning.OfPlace None) argument_is place_is known fits
       bound_is =
@@ -406,7 +406,7 @@ module _ (tree : Tree) (pairs : List (ℕ × ℕ)) (number : ℕ) (block : Block
           let found = bearer-from (rows_named tree path) (rows_under (rows_of tree) path.root []) (map Passed ranges) bearer inside in
           passed-seen path ranges bearer (has-contains (map Passed ranges) bearer (found.0, found.4))
       rows-of (OfVariable other selectors reach) (meaning.OfValue v) place_is known fits plain inside = absurd known
-      rows-of (OfVariable other selectors reach) (meaning.OfRow numbers) place_is known fits plain inside = absurd known
+      rows-of (OfVariable other selectors reach) (meaning.OfRow values) place_is known fits plain inside = absurd known
       rows-of (OfVariable other selectors reach) (meaning.OfPlace None) place_is known fits plain inside = absurd fits
       rows-of (OfVariable other selectors reach) (meaning.OfPlace (Some place)) place_is known fits plain inside =
           let lies = lies-here path.root variable is p other selectors reach place place_is known fits in
@@ -424,7 +424,7 @@ module _ (tree : Tree) (pairs : List (ℕ × ℕ)) (number : ℕ) (block : Block
       whole-of (OfValue range form) argument place_is known fits ordinal inside = passed-seen path (range ∷ []) bearer inside
       whole-of (OfRows ranges) argument place_is known fits ordinal inside = passed-seen path ranges bearer inside
       whole-of (OfVariable other selectors reach) (meaning.OfValue v) place_is known fits ordinal inside = absurd known
-      whole-of (OfVariable other selectors reach) (meaning.OfRow numbers) place_is known fits ordinal inside = absurd known
+      whole-of (OfVariable other selectors reach) (meaning.OfRow values) place_is known fits ordinal inside = absurd known
       whole-of (OfVariable other selectors reach) (meaning.OfPlace None) place_is known fits ordinal inside = absurd fits
       whole-of (OfVariable other selectors reach) (meaning.OfPlace (Some place)) place_is known fits ordinal inside =
           ordinal-seen path variable is (entire ordinal) other selectors reach

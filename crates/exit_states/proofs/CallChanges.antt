@@ -19,7 +19,7 @@ use Rattle.abstract_state.specs.Holds.{HasValue, part_of, value_at}
 use Rattle.abstract_state.specs.Knows.{moment}
 use Rattle.abstract_state.specs.Loops.{is_among}
 use Rattle.structured_states.specs.Pairs.{all_aliases_in}
-use Rattle.call_states.specs.Actuals.{Actual, Binding, OfRows, OfValue, OfVariable, actual_of, are_of_types, bound_to}
+use Rattle.call_states.specs.Actuals.{Actual, Binding, OfRows, OfValue, OfVariable, actual_of, bound_to}
 use Rattle.call_states.specs.Environments.{Begun, Leaves, Proper, Typed}
 use Rattle.exit_states.specs.Exit.{root_changed, roots_changed}
 use Rattle.call_states.specs.Sections.{BlockClaims}
@@ -63,7 +63,6 @@ pub record HasLeft (tree : Tree) (pairs : List (ℕ × ℕ)) (number : ℕ) (blo
   pub call : IsCalled tree pairs number block arguments caller activations from
   pub begun : Begun activations store
   pub are : AreArguments tree caller store block.heading.parameters.items actuals arguments
-  pub of_types : are_of_types tree (bound_to block.heading.parameters.items actuals) ≡ true
   pub proper : Proper tree pairs number (suc activations) (environment_of tree (activation_of number block arguments caller activations))
   pub leaves : Leaves activations claims.changes (environment_of tree (activation_of number block arguments caller activations)) store after
   pub outward : (root : ℕ) → Contains claims.changes root → IsOutward tree number root
@@ -92,7 +91,7 @@ module _ (tree : Tree) (pairs : List (ℕ × ℕ)) (number : ℕ) (block : Block
   touched = changed ++ all_aliases_in (listed_pairs tree pairs) from changed
 
   abbrev IsOuterHere : ℕ → Variable → Type 0
-  IsOuterHere root variable = IsOuter tree pairs number block arguments caller activations from back.call store actuals back.are back.of_types root variable
+  IsOuterHere root variable = IsOuter tree pairs number block arguments caller activations from back.call store actuals back.are root variable
 
   abbrev ParameterHere : ℕ → Variable → Type 0
   ParameterHere root variable = IsParameter tree caller store activations block.heading.parameters.items actuals arguments root variable
@@ -164,11 +163,11 @@ module _ (tree : Tree) (pairs : List (ℕ × ℕ)) (number : ℕ) (block : Block
         home_is = there.2;
       }
   passed-lies root variable home is own listed home_is older (OfVariable other selectors reach) (meaning.OfValue v) actual_is place_is known fits = absurd known
-  passed-lies root variable home is own listed home_is older (OfVariable other selectors reach) (meaning.OfRow numbers) actual_is place_is known fits =
+  passed-lies root variable home is own listed home_is older (OfVariable other selectors reach) (meaning.OfRow values) actual_is place_is known fits =
       absurd known
   passed-lies root variable home is own listed home_is older actual (meaning.OfValue v) actual_is place_is known fits =
       absurd (own-older root variable home is own home_is older fits.0)
-  passed-lies root variable home is own listed home_is older actual (meaning.OfRow numbers) actual_is place_is known fits =
+  passed-lies root variable home is own listed home_is older actual (meaning.OfRow values) actual_is place_is known fits =
       absurd (own-older root variable home is own home_is older fits.0)
   passed-lies root variable home is own listed home_is older (OfValue range form) (meaning.OfPlace place) actual_is place_is known fits = absurd known
   passed-lies root variable home is own listed home_is older (OfRows ranges) (meaning.OfPlace place) actual_is place_is known fits = absurd known
@@ -190,9 +189,9 @@ module _ (tree : Tree) (pairs : List (ℕ × ℕ)) (number : ℕ) (block : Block
       })
       (λ (p : ParameterHere root outward.0).
       passed-lies root outward.0 home outward.1 (parameter-block tree pairs number block arguments caller activations from back.call store actuals back.are
-      back.of_types root outward.0 outward.1 p) listed home_is older p.actual p.argument p.actual_is p.place_is
+      root outward.0 outward.1 p) listed home_is older p.actual p.argument p.actual_is p.place_is
       p.known p.fits)
-      (outward-cases tree pairs number block arguments caller activations from back.call store actuals back.are back.of_types root outward)
+      (outward-cases tree pairs number block arguments caller activations from back.call store actuals back.are root outward)
 
   -- what changed for the caller lies in what the call changes, or in an alias of that
   pub record IsNear (root : ℕ) : Type 0 where

@@ -10,7 +10,7 @@ use Rattle.std.proofs.lemmas.List.{length-map}
 use Rattle.std.proofs.lemmas.List.Elements.{All-contains}
 use Rattle.std.proofs.lemmas.Option.{none-some, same_Some, slice_get_within}
 use Rattle.types.specs.Forms.{Form}
-use Rattle.types.specs.Types.{element_of, field_at, is_ordinal}
+use Rattle.types.specs.Types.{element_of, field_at, has_components, is_ordinal, is_structured}
 use Rattle.types.specs.declared.form.ArrayElement.{ArrayElement}
 use Rattle.types.specs.declared.form.RecordField.{RecordField}
 use Rattle.types.specs.declared.form.Step.{Step}
@@ -37,7 +37,7 @@ use Rattle.abstract_state.specs.State.{is_entire}
 use Rattle.abstract_state.proofs.Given.{entire-steps}
 use Rattle.abstract_state.proofs.Ranged.{common-in}
 use Rattle.leaf_rows.specs.Limits.{limits_or_integer}
-use Rattle.leaf_rows.specs.Rows.{all_parts, has_components, is_structured, rows_accessed, rows_of, rows_under, values_at}
+use Rattle.leaf_rows.specs.Rows.{all_parts, rows_accessed, rows_of, rows_under, values_at}
 use Rattle.leaf_rows.proofs.Accessed.{IsOf, contains-has, has-contains, rows-are}
 use Rattle.leaf_rows.proofs.Components.{mapped-at}
 use Rattle.component_states.specs.Components as components
@@ -126,7 +126,7 @@ module _ (tree : Tree) (pairs : List (ℕ × ℕ)) (number : ℕ) (block : Block
   outer = moment caller after
 
   abbrev IsOuterHere : ℕ → DeclaredVariable → Type 0
-  IsOuterHere root variable = IsOuter tree pairs number block arguments caller activations from back.call store actuals back.are back.of_types root variable
+  IsOuterHere root variable = IsOuter tree pairs number block arguments caller activations from back.call store actuals back.are root variable
 
   abbrev ParameterHere : ℕ → DeclaredVariable → Type 0
   ParameterHere root variable = IsParameter tree caller store activations block.heading.parameters.items actuals arguments root variable
@@ -329,8 +329,8 @@ module _ (tree : Tree) (pairs : List (ℕ × ℕ)) (number : ℕ) (block : Block
       → IsArgument tree caller store variable (OfVariable other selectors reach) (meaning.OfPlace (Some place))
       → Fits tree activations (meaning.OfPlace (Some place)) variable → Lies root variable other selectors reach
   passed-lies_at root variable is p other selectors reach place found known fits =
-      lies-at tree pairs number block arguments caller activations from back.call store back.begun actuals back.are back.of_types root variable is fits.0
-      (parameter-block tree pairs number block arguments caller activations from back.call store actuals back.are back.of_types root variable is p) place found
+      lies-at tree pairs number block arguments caller activations from back.call store back.begun actuals back.are root variable is fits.0
+      (parameter-block tree pairs number block arguments caller activations from back.call store actuals back.are root variable is p) place found
       other selectors
       reach known
 
@@ -351,17 +351,17 @@ module _ (tree : Tree) (pairs : List (ℕ × ℕ)) (number : ℕ) (block : Block
       (λ structured. passed-many root variable other selectors reach where_it structured) at leads lies
   passed-change root variable home rest own v is home_is older p (OfVariable other selectors reach) (meaning.OfValue w) place_is known fits at leads lies =
       absurd known
-  passed-change root variable home rest own v is home_is older p (OfVariable other selectors reach) (meaning.OfRow numbers) place_is known fits at leads lies =
+  passed-change root variable home rest own v is home_is older p (OfVariable other selectors reach) (meaning.OfRow values) place_is known fits at leads lies =
       absurd known
   passed-change root variable home rest own v is home_is older p actual (meaning.OfValue w) place_is known fits at leads lies =
       absurd
       (own-older tree pairs number block arguments caller activations from store actuals claims after back.left root variable home is
-      (parameter-block tree pairs number block arguments caller activations from back.call store actuals back.are back.of_types root variable is p) home_is
+      (parameter-block tree pairs number block arguments caller activations from back.call store actuals back.are root variable is p) home_is
       older fits.0)
-  passed-change root variable home rest own v is home_is older p actual (meaning.OfRow numbers) place_is known fits at leads lies =
+  passed-change root variable home rest own v is home_is older p actual (meaning.OfRow values) place_is known fits at leads lies =
       absurd
       (own-older tree pairs number block arguments caller activations from store actuals claims after back.left root variable home is
-      (parameter-block tree pairs number block arguments caller activations from back.call store actuals back.are back.of_types root variable is p) home_is
+      (parameter-block tree pairs number block arguments caller activations from back.call store actuals back.are root variable is p) home_is
       older fits.0)
   passed-change root variable home rest own v is home_is older p (OfValue range form) (meaning.OfPlace place) place_is known fits at leads lies = absurd known
   passed-change root variable home rest own v is home_is older p (OfRows ranges) (meaning.OfPlace place) place_is known fits at leads lies = absurd known
@@ -389,7 +389,7 @@ module _ (tree : Tree) (pairs : List (ℕ × ℕ)) (number : ℕ) (block : Block
       subst (λ (found : Option Actual). HasChange (changes_of tree claims.exit is.root found) own v) (sym p.actual_is)
       (passed-change is.root variable is.home is.rest own v outward.1 is.home_is (omega (arith, activation, older)) p p.actual p.argument p.place_is p.known
       p.fits value leads lies))
-      (outward-cases tree pairs number block arguments caller activations from back.call store actuals back.are back.of_types is.root outward))
+      (outward-cases tree pairs number block arguments caller activations from back.call store actuals back.are is.root outward))
 
   -- ---- what is changed just as it is
 
@@ -534,7 +534,7 @@ module _ (tree : Tree) (pairs : List (ℕ × ℕ)) (number : ℕ) (block : Block
   passed-exact root variable is p (OfValue range form) argument place_is known fits change inside = absurd (omega (arith, inside.1))
   passed-exact root variable is p (OfRows ranges) argument place_is known fits change inside = absurd (omega (arith, inside.1))
   passed-exact root variable is p (OfVariable other selectors reach) (meaning.OfValue v) place_is known fits change inside = absurd known
-  passed-exact root variable is p (OfVariable other selectors reach) (meaning.OfRow numbers) place_is known fits change inside = absurd known
+  passed-exact root variable is p (OfVariable other selectors reach) (meaning.OfRow values) place_is known fits change inside = absurd known
   passed-exact root variable is p (OfVariable other selectors reach) (meaning.OfPlace None) place_is known fits change inside = absurd fits
   passed-exact root variable is p (OfVariable other selectors reach) (meaning.OfPlace (Some place)) place_is known fits change inside =
       parameter-exact root variable other selectors reach is (passed-lies_at root variable is p other selectors reach place place_is known fits) change inside
@@ -551,4 +551,4 @@ module _ (tree : Tree) (pairs : List (ℕ × ℕ)) (number : ℕ) (block : Block
       (λ (p : ParameterHere found.0 outward.0).
       passed-exact found.0 outward.0 outward.1 p p.actual p.argument p.place_is p.known p.fits change
       (subst (λ (actual : Option Actual). Contains (changes_of tree claims.exit found.0 actual) change) p.actual_is found.2))
-      (outward-cases tree pairs number block arguments caller activations from back.call store actuals back.are back.of_types found.0 outward)
+      (outward-cases tree pairs number block arguments caller activations from back.call store actuals back.are found.0 outward)

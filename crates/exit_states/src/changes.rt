@@ -182,14 +182,14 @@ fn add_rows(
         ++ rows_changed rows.now (map said_fact exit.now) (numbers span) (map said_bearer bearers.now)) }
 {
     for row in span.first..span.end() {
-        if let Some(bearer) = bearers.get((row - span.first) as usize) {
+        if let Some(bearer) = bearers.get(row - span.first) {
             found.push(row_change(rows, exit, row, *bearer))?;
         }
     }
     Ok(())
 }
 
-fn row_change(rows: &Rows, exit: &[Claim], row: u32, bearer: Bearer) -> Change
+fn row_change(rows: &Rows, exit: &[Claim], row: usize, bearer: Bearer) -> Change
     ensures { said_change result ≡ row_change rows.now (map said_fact exit.now) row (said_bearer bearer) }
 {
     Change {
@@ -228,7 +228,7 @@ fn claimed_of_variable(tree: &Tree, root: u32, claim: &Claim, known: Interval) -
 }
 
 /// The same of a row.
-fn row_exit_range(rows: &Rows, row: u32, exit: &[Claim], limits: Interval) -> Interval
+fn row_exit_range(rows: &Rows, row: usize, exit: &[Claim], limits: Interval) -> Interval
     ensures { result ≡ row_exit_range rows.now row (map said_fact exit.now) limits }
 {
     let mut known = limits;
@@ -238,7 +238,7 @@ fn row_exit_range(rows: &Rows, row: u32, exit: &[Claim], limits: Interval) -> In
     known
 }
 
-fn claimed_of_row(rows: &Rows, row: u32, claim: &Claim, known: Interval) -> Interval
+fn claimed_of_row(rows: &Rows, row: usize, claim: &Claim, known: Interval) -> Interval
     ensures { result ≡ claimed_of_row rows.now row (said_fact claim.now) known }
 {
     match claim {

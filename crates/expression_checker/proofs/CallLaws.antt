@@ -1,8 +1,7 @@
 -- The laws of calls, by which the walk over expressions and statements goes: a call that breaks no rule may be made, and what is known behind it holds.
-use Rattle.std.proofs.Common.{◌≡◌, ⊎_elim, ◌∙◌, sym, refl, subst, ℕ, true, List, [], ◌∷◌, Some, None}
+use Rattle.std.proofs.Common.{◌≡◌, ⊎_elim, ◌∙◌, sym, refl, subst, ℕ, List, [], ◌∷◌, Some, None}
 use Rattle.std.specs.List.{Contains}
-use Rattle.std.specs.Prelude.{slice_get}
-use Rattle.std.proofs.lemmas.Bool.{and_parts, both_ways}
+use Rattle.std.proofs.lemmas.Bool.{both_ways}
 use Rattle.typed_tree.specs.WellFormed.{IsWellFormed}
 use Rattle.typed_tree.specs.declared.tree.Block.{Block}
 use Rattle.typed_tree.specs.declared.tree.Tree.{Tree}
@@ -20,7 +19,7 @@ use Rattle.abstract_state.specs.Loops.{is_among}
 use Rattle.component_states.specs.Holds.{Knows}
 use Rattle.component_states.specs.States.{State}
 use Rattle.structured_states.specs.Pairs.{aliases_of}
-use Rattle.call_states.specs.Actuals.{Actual, OfRows, OfValue, OfVariable, are_of_types, bound_to, is_of_type}
+use Rattle.call_states.specs.Actuals.{Actual, OfRows, OfValue, OfVariable, bound_to}
 use Rattle.call_states.specs.Environments.{Fine, Proper, Typed}
 use Rattle.exit_states.specs.Exit.{behind_call}
 use Rattle.call_states.specs.Sections.{block_claims_at}
@@ -31,7 +30,7 @@ use Rattle.exit_states.proofs.CallChanges.{HasLeft, IsNear, defined-kept, value-
 use Rattle.call_states.proofs.Callee.{IsCalled}
 use Rattle.call_states.proofs.Claimed.{AllHold}
 use Rattle.call_states.proofs.Entered.{behind_assignments}
-use Rattle.call_states.proofs.Fitting.{copy-fits, place-fits}
+use Rattle.call_states.proofs.Fitting.{place-fits}
 use Rattle.call_states.proofs.Given.{AreOutward, given-hold}
 use Rattle.call_states.proofs.Parameters.{IsOutward}
 use Rattle.call_states.proofs.Passed.{AllFit, AreArguments, Fits, IsArgument}
@@ -67,31 +66,26 @@ module _ (world : World) (well : IsWellFormed world.tree) (are_claims : AreClaim
       (formal, is, passed.known, arguments-are visible store roots actuals arguments others)
 
   module _ (block activations : ℕ) (visible : Environment) (proper : Proper tree world.pairs block activations visible) (store : Store) where
-    one-fits : (root : ℕ) (formal : Variable) (actual : Actual) (argument : Argument) → slice_get tree.variables.items root ≡ Some formal
-        → IsArgument tree visible store formal actual argument → IsOfKind world formal argument → is_of_type tree root actual ≡ true
-        → Fits tree activations argument formal
-    one-fits root formal actual (meaning.OfValue v) is known kind typed = kind
-    one-fits root formal (OfRows ranges) (meaning.OfRow numbers) is known kind typed =
-        (kind, copy-fits tree root formal ranges numbers is typed known.0 known.1)
-    one-fits root formal (OfValue range form) (meaning.OfRow numbers) is known kind typed = absurd known
-    one-fits root formal (OfVariable other selectors reach) (meaning.OfRow numbers) is known kind typed = absurd known
-    one-fits root formal actual (meaning.OfPlace None) is known kind typed = absurd kind
-    one-fits root formal (OfVariable other selectors reach) (meaning.OfPlace (Some place)) is known kind typed =
-        let fits = place-fits tree world.pairs block activations visible proper store other selectors reach formal.type_id place known.0 known.1 in
+    one-fits : (formal : Variable) (actual : Actual) (argument : Argument) → IsArgument tree visible store formal actual argument
+        → IsOfKind world formal argument → Fits tree activations argument formal
+    one-fits formal actual (meaning.OfValue v) known kind = kind
+    one-fits formal actual (meaning.OfRow values) known kind = kind
+    one-fits formal actual (meaning.OfPlace None) known kind = absurd kind
+    one-fits formal (OfVariable other selectors reach) (meaning.OfPlace (Some place)) known kind =
+        let fits = place-fits tree world.pairs block activations visible proper other selectors formal.type_id known.1 store reach place known.0 in
         (kind, fits.0, fits.1)
-    one-fits root formal (OfValue range form) (meaning.OfPlace (Some place)) is known kind typed = absurd known
-    one-fits root formal (OfRows ranges) (meaning.OfPlace (Some place)) is known kind typed = absurd known
+    one-fits formal (OfValue range form) (meaning.OfPlace (Some place)) known kind = absurd known
+    one-fits formal (OfRows ranges) (meaning.OfPlace (Some place)) known kind = absurd known
 
     all-fit : (roots : List ℕ) (actuals : List Actual) (arguments : List Argument) → ArePassed world visible roots actuals arguments store
-        → are_of_types tree (bound_to roots actuals) ≡ true → AllFit tree activations roots arguments
-    all-fit [] [] [] are typed = tt
-    all-fit [] [] (argument ∷ arguments) are typed = absurd are
-    all-fit [] (actual ∷ actuals) arguments are typed = absurd are
-    all-fit (root ∷ roots) [] arguments are typed = absurd are
-    all-fit (root ∷ roots) (actual ∷ actuals) [] are typed = absurd are
-    all-fit (root ∷ roots) (actual ∷ actuals) (argument ∷ arguments) (formal, is, passed, others) typed =
-        let parts = and_parts (is_of_type tree root actual) (are_of_types tree (bound_to roots actuals)) typed in
-        (formal, is, one-fits root formal actual argument is passed.known passed.kind parts.0, all-fit roots actuals arguments others parts.1)
+        → AllFit tree activations roots arguments
+    all-fit [] [] [] are = tt
+    all-fit [] [] (argument ∷ arguments) are = absurd are
+    all-fit [] (actual ∷ actuals) arguments are = absurd are
+    all-fit (root ∷ roots) [] arguments are = absurd are
+    all-fit (root ∷ roots) (actual ∷ actuals) [] are = absurd are
+    all-fit (root ∷ roots) (actual ∷ actuals) (argument ∷ arguments) (formal, is, passed, others) =
+        (formal, is, one-fits formal actual argument passed.known passed.kind, all-fit roots actuals arguments others)
 
   -- ---- a call that may be made
 
@@ -106,16 +100,13 @@ module _ (world : World) (well : IsWellFormed world.tree) (are_claims : AreClaim
     are-arguments : AreArguments tree visible s.store roots actuals arguments
     are-arguments = arguments-are visible s.store roots actuals arguments may.passed
 
-    of-types : are_of_types tree (bound_to roots actuals) ≡ true
-    of-types = may.typed
-
     is-called : IsCalled tree world.pairs number callee arguments visible s.activations block
     is-called = record {
       well = well;
       block_is = may.callee_is;
       proper = may.proper;
       callable = may.callable;
-      fit = all-fit block s.activations visible may.proper s.store roots actuals arguments may.passed of-types;
+      fit = all-fit block s.activations visible may.proper s.store roots actuals arguments may.passed;
     }
 
     -- the store where the callee's statement begins
@@ -126,7 +117,6 @@ module _ (world : World) (well : IsWellFormed world.tree) (are_claims : AreClaim
         → AllHold tree (block_claims_at world.blocks number).entry inner ready.store
     call-entry begun ready same is =
         let given = given-hold tree world.pairs number callee arguments visible s.activations block is-called s.store may.fine.begun actuals are-arguments
-        of-types
         state may.known (block_claims_at world.blocks number).entry (are_claims.entry number) may.given in
         let ready_is : record begun { store = all_assigned tree inner roots arguments begun.store } ≡ ready =
         gives-same tt tt (record begun { store = all_assigned tree inner roots arguments begun.store }) ready
@@ -154,7 +144,6 @@ module _ (world : World) (well : IsWellFormed world.tree) (are_claims : AreClaim
         call = is-called;
         begun = may.fine.begun;
         are = are-arguments;
-        of_types = of-types;
         proper = callee-stands tree world.pairs number callee arguments visible s.activations block is-called s.store actuals are-arguments may.separate;
         leaves = back.leaves;
         outward = are_claims.changes number;
@@ -195,6 +184,7 @@ module _ (world : World) (well : IsWellFormed world.tree) (are_claims : AreClaim
 
   pub call-laws : CallLaws world
   call-laws = record {
+    required = well.required;
     called = λ block number callee visible state actuals arguments s may. may-called block number callee visible state actuals arguments s may;
     behind = λ block number callee visible state actuals arguments s t v may fine back.
         state-behind block number callee visible state actuals arguments s may v t.store back t refl fine;

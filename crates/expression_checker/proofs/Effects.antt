@@ -1,6 +1,6 @@
 -- Expressions, actual parameters and values that are written leave what their block doesn't list as it was, where their walk
 -- breaks no rule.
-use Rattle.std.proofs.Common.{cond, ◌≡◌, ℕ, ℤ, pos, List, [], ◌∷◌, Option, Some, None, map, refl, sym, ap, subst}
+use Rattle.std.proofs.Common.{◌≡◌, ℕ, ℤ, pos, List, [], ◌∷◌, Option, Some, None, map, refl, sym, ap, subst}
 use Rattle.types.specs.Components.{components_of}
 use Rattle.types.specs.declared.form.Step.TheVariants as step
 use Rattle.typed_tree.specs.declared.tree.Tree.{Tree}
@@ -43,7 +43,7 @@ use Rattle.expression_checker.specs.Walk.{Context, Joint, PassedPiece, Piece, Wa
 use Rattle.expression_checker.specs.Walk as walk
 use Rattle.expression_checker.proofs.EffectsKept.{CanGive, IsUnder, Keeps, Standing, can-then, given-same, part-under, variable-under}
 use Rattle.expression_checker.proofs.EffectsKept.{keeps-combined, keeps-enter, keeps-fetch, keeps-fetch_all, keeps-give, keeps-operated, keeps-require}
-use Rattle.expression_checker.proofs.EffectsKept.{keeps-then, keeps-when, keeps-write}
+use Rattle.expression_checker.proofs.EffectsKept.{keeps-then, keeps-valued, keeps-when, keeps-write}
 use Rattle.expression_checker.proofs.EffectsCalls.{AllTied, CallsLeave, DeclareTheirs, Grounds, StandsIn, Ties, Yields, keeps-call, yields-then}
 
 -- ---- where an access leads
@@ -151,7 +151,7 @@ module _ (tree : Tree) (blocks : List BlockClaims) (declares : DeclareTheirs tre
   keeps-components : (value : Whole) (indexes : List KeptExpr) (context : Context) (ranges : List Interval) → In context
       → Yields context (walk.whole_walk value (pieces indexes)) ranges → Keeps at (whole_of value (values indexes) here)
   keeps-components (Text number characters) indexes context ranges stands yields =
-      keeps-then at _ _ (keeps-enter at number at.visible) (λ _. keeps-give at (map pos characters.items))
+      keeps-then at _ _ (keeps-enter at number at.visible) (λ _. keeps-give at (map (λ c. Number (pos c)) characters.items))
   keeps-components (VariableOf access type_id cells defined) indexes context ranges stands yields =
       let one = yields-then context (walk.access_walk access (pieces indexes))
       (λ reach. walk.whole_use type_id access.root access.selectors.items reach defined) ranges yields in
@@ -259,7 +259,7 @@ module _ (tree : Tree) (blocks : List BlockClaims) (declares : DeclareTheirs tre
       let one = yields-then context (walk.enter number) (λ _. walk.◌>>=◌ inner (walk.operated operation)) known yields in
       let two = yields-then context inner (walk.operated operation) known one.2 in
       keeps-then at _ _ (keeps-enter at number at.visible)
-      (λ _. keeps-then at _ _ (operand.value.1 context two.0 stands two.1) (λ v. keeps-operated at operation v))
+      (λ _. keeps-then at _ _ (operand.value.1 context two.0 stands two.1) (λ v. keeps-valued at _ (keeps-operated at operation (number_of v))))
   layer (Chain first rest) context known stands yields =
       let others = walk.in_turn (map (λ joint. joint.combination) (map walk.joint_of (map (λ l. l.0) rest.items))) in
       let one = yields-then context (walk.value_walk first.value.0) others known yields in
@@ -273,7 +273,7 @@ module _ (tree : Tree) (blocks : List BlockClaims) (declares : DeclareTheirs tre
       keeps-then at _ _ (keeps-components left left_indexes.items context one.0 stands one.1)
       (λ a. keeps-then at _ _ (keeps-enter at number at.visible)
       (λ _. keeps-then at _ _ (keeps-components right right_indexes.items context three.0 stands three.1)
-      (λ b. keeps-give at (compared relation a b))))
+      (λ b. keeps-give at (Number (compared relation a b)))))
   layer (CallOf call actuals) context known stands yields =
       let all = map walk.passed_piece_of (map (λ p. p.0) actuals.items) in
       let one = yields-then context (walk.call_walk call all)
@@ -303,12 +303,12 @@ module _ (tree : Tree) (blocks : List BlockClaims) (declares : DeclareTheirs tre
             (given-same (meaning.OfValue run.0) argument last_run.2) tt;
       }
   passed-layer (PassedWhole type_id value indexes) context actual stands yields =
-      let one = yields-then context (walk.whole_walk value (pieces indexes.items)) (walk.copied type_id value) actual yields in
+      let one = yields-then context (walk.whole_walk value (pieces indexes.items)) (λ ranges. walk.give (OfRows ranges)) actual yields in
       record {
-        kept = keeps-then at _ _ (keeps-components value indexes.items context one.0 stands one.1) (λ numbers. keeps-give at (OfRow numbers));
+        kept = keeps-then at _ _ (keeps-components value indexes.items context one.0 stands one.1) (λ row. keeps-give at (OfRow row));
         tied = λ argument given.
-            let run = can-then (whole_of value (values indexes.items) here) (λ numbers. give (OfRow numbers)) argument given in
-            tie-given (OfRows (cond (walk.fits_whole context.tree.types type_id value) one.0 [])) actual (OfRow run.0) argument one.2.value_is
+            let run = can-then (whole_of value (values indexes.items) here) (λ row. give (OfRow row)) argument given in
+            tie-given (OfRows one.0) actual (OfRow run.0) argument one.2.value_is
             (given-same (OfRow run.0) argument run.2) tt;
       }
   passed-layer (Reference type_id access indexes) context actual stands yields =
@@ -329,7 +329,7 @@ module _ (tree : Tree) (blocks : List BlockClaims) (declares : DeclareTheirs tre
       let one = yields-then context (walk.enter y.number) (λ _. walk.◌>>=◌ inner (walk.combined y.operation left)) known yields in
       let two = yields-then context inner (walk.combined y.operation left) known one.2 in
       keeps-then at _ _ (keeps-enter at y.number at.visible)
-      (λ _. keeps-then at _ _ (y.operand.1 context two.0 stands two.1) (λ w. keeps-combined at y.operation v w))
+      (λ _. keeps-then at _ _ (y.operand.1 context two.0 stands two.1) (λ w. keeps-valued at _ (keeps-combined at y.operation (number_of v) (number_of w))))
 
   -- ---- the whole
 
@@ -418,11 +418,11 @@ module _ (tree : Tree) (blocks : List BlockClaims) (declares : DeclareTheirs tre
 
   width-kept : (width : Option Width) (default : ℤ) (context : Context) → In context → Yields context (walk.width_walk width) tt
       → Keeps at (width_of width default here)
-  width-kept None default context stands yields = keeps-give at (Number default)
+  width-kept None default context stands yields = keeps-give at default
   width-kept (Some width) default context stands yields =
       let one = yields-then context (walk.value_walk width.value) (λ known. walk.width_test width.site known) tt yields in
       keeps-then at _ _ (value-kept width.value context one.0 stands one.1)
-      (λ w. keeps-then at _ _ (keeps-require at (is_positive w) width.site) (λ _. keeps-give at w))
+      (λ w. keeps-then at _ _ (keeps-require at (is_positive (number_of w)) width.site) (λ _. keeps-give at (number_of w)))
 
   written-kept : (value : Written) (width : Option Width) (context : Context) → In context → Yields context (walk.written_walk value) tt
       → Yields context (walk.width_walk width) tt → Keeps at (written_of value width here)
@@ -430,7 +430,7 @@ module _ (tree : Tree) (blocks : List BlockClaims) (declares : DeclareTheirs tre
       let one = yields-then context (walk.value_walk value) (λ _. walk.give tt) tt yields in
       keeps-then at _ _ (value-kept value context one.0 stands one.1)
       (λ v. keeps-then at _ _ (width-kept width (default_width representation) context stands widths)
-      (λ w. keeps-write at (text_of representation v w)))
+      (λ w. keeps-write at (text_of representation (number_of v) w)))
   written-kept (String value indexes) width context stands yields widths =
       let one = yields-then context (walk.whole_walk value (walk.index_pieces indexes.items)) (λ _. walk.give tt) tt yields in
       keeps-then at _ _ (whole-kept value indexes.items context one.0 stands one.1)

@@ -2,7 +2,7 @@
 -- listed by the caller, or lies in an activation that isn't earlier.
 use Rattle.std.specs.Prelude.{slice_get, if◌then◌else◌}
 use Rattle.std.specs.List.{Contains, list_all}
-use Rattle.std.proofs.Common.{arith, ◌≡◌, ◌⊎◌, inl, inr, ⊎_elim, ℕ, zero, suc, ◌<◌, ◌≤◌, List, [], ◌∷◌, ◌++◌, Bool, true, false, ◌&&◌, ◌||◌, Option}
+use Rattle.std.proofs.Common.{arith, ◌≡◌, ◌⊎◌, inl, inr, ⊎_elim, ℕ, zero, suc, ◌<◌, ◌≤◌, List, [], ◌∷◌, ◌++◌, Bool, true, false, ◌||◌, Option}
 use Rattle.std.proofs.Common.{Some, None, map, nat_eq, refl, sym, ap, ◌∙◌, subst}
 use Rattle.std.proofs.lemmas.Bool.{and_parts, cases_Bool, eqb-true, eq-eqb, false≢true, or_cases, or_parts}
 use Rattle.std.proofs.lemmas.List.Folds.{list_all-append}
@@ -26,8 +26,8 @@ use Rattle.component_states.specs.States.{State}
 use Rattle.structured_states.specs.Loops.{all_list}
 use Rattle.call_states.specs.Sections.{BlockClaims, block_claims_at}
 use Rattle.call_states.specs.Starts.{is_own}
-use Rattle.call_states.specs.Actuals.{Actual, Binding, OfRows, OfValue, OfVariable, actual_of, after_call, are_of_types, bound_to, settled}
-use Rattle.call_states.specs.Environments.{IsListed, LiesUnder}
+use Rattle.call_states.specs.Actuals.{Actual, Binding, OfRows, OfValue, OfVariable, actual_of, after_call, bound_to, settled}
+use Rattle.call_states.specs.Environments.{LiesUnder}
 use Rattle.exit_states.specs.Exit.{root_changed, roots_changed}
 use Rattle.expression_checker.specs.declared.fault.Rule.{Rule}
 use Rattle.expression_checker.specs.declared.fault.Rule.TheVariants.{Changes}
@@ -135,7 +135,7 @@ module _ (tree : Tree) (blocks : List BlockClaims) (block : ℕ) (at : Standing)
 -- what the walk knows of an actual parameter, and what a run passes: a variable lies under that of the access
 abbrev pub Ties : Environment → Actual → Argument → Type 0
 Ties visible (OfValue range form) (meaning.OfValue v) = Unit {0}
-Ties visible (OfRows ranges) (OfRow numbers) = Unit {0}
+Ties visible (OfRows ranges) (OfRow values) = Unit {0}
 Ties visible (OfVariable root selectors reach) (OfPlace found) =
     (place : Place) → found ≡ Some place → (home : Place) × (visible.variables root ≡ Some home) × LiesUnder home place
 Ties visible actual argument = ⊥
@@ -147,11 +147,11 @@ AllTied visible actuals arguments = ⊥
 
 tie-after : (visible : Environment) (actual : Actual) (argument : Argument) → Ties visible actual argument → Ties visible (after_call actual) argument
 tie-after visible (OfValue range form) (meaning.OfValue v) tie = tt
-tie-after visible (OfValue range form) (OfRow numbers) tie = tie
+tie-after visible (OfValue range form) (OfRow values) tie = tie
 tie-after visible (OfValue range form) (OfPlace found) tie = tie
 tie-after visible (OfRows ranges) argument tie = tie
 tie-after visible (OfVariable root selectors reach) (meaning.OfValue v) tie = tie
-tie-after visible (OfVariable root selectors reach) (OfRow numbers) tie = tie
+tie-after visible (OfVariable root selectors reach) (OfRow values) tie = tie
 tie-after visible (OfVariable root selectors reach) (OfPlace found) tie = tie
 
 tied-after : (visible : Environment) (actuals : List Actual) (arguments : List Argument) → AllTied visible actuals arguments
@@ -175,13 +175,13 @@ IsBorne visible home found =
 borne-passed : (visible : Environment) (home : Place) (actual : Actual) (argument : Argument) → Ties visible actual argument
     → place_passed argument ≡ Some home → IsBorne visible home (Some actual)
 borne-passed visible home (OfValue range form) (meaning.OfValue v) tie is = absurd (cc)
-borne-passed visible home (OfValue range form) (OfRow numbers) tie is = absurd tie
+borne-passed visible home (OfValue range form) (OfRow values) tie is = absurd tie
 borne-passed visible home (OfValue range form) (OfPlace found) tie is = absurd tie
 borne-passed visible home (OfRows ranges) (meaning.OfValue v) tie is = absurd tie
-borne-passed visible home (OfRows ranges) (OfRow numbers) tie is = absurd (cc)
+borne-passed visible home (OfRows ranges) (OfRow values) tie is = absurd (cc)
 borne-passed visible home (OfRows ranges) (OfPlace found) tie is = absurd tie
 borne-passed visible home (OfVariable root selectors reach) (meaning.OfValue v) tie is = absurd tie
-borne-passed visible home (OfVariable root selectors reach) (OfRow numbers) tie is = absurd tie
+borne-passed visible home (OfVariable root selectors reach) (OfRow values) tie is = absurd tie
 borne-passed visible home (OfVariable root selectors reach) (OfPlace found) tie is =
     let (outer, seen, lies) = tie home is in
     (root, selectors, reach, refl, outer, seen, lies)
@@ -383,10 +383,9 @@ module _ (tree : Tree) (blocks : List BlockClaims) (declares : DeclareTheirs tre
       (λ _. call_change call.name bound claims >>= λ _. call_behind call bound claims) tt one.2 in
       let three = yields-then context (call_change call.name bound claims) (λ _. call_behind call bound claims) tt two.2 in
       let changes = list_all (may_change context) (roots_changed bound claims.changes) in
-      let typed = are_of_types context.tree bound in
-      let rule : Yields context (asked (changes && typed) Changes call.name) three.0 =
+      let rule : Yields context (asked changes Changes call.name) three.0 =
       record { state = three.1.state; unbroken = three.1.unbroken; value_is = three.1.value_is } in
-      let kept = (and_parts changes typed (yields-asked context (changes && typed) Changes call.name three.0 rule)).0 in
+      let kept = yields-asked context changes Changes call.name three.0 rule in
       let actual = settled holds_call actuals in
       subst (λ (t : Tree). list_all (may_change context)
       (roots_changed (bound_to (parameters_of (slice_get t.blocks.items call.block)) actual) (block_claims_at blocks call.block).changes) ≡ true)

@@ -1,8 +1,7 @@
 -- What pieces of a program leave as it was: each action of which they are made, and one after the other.
-use Rattle.std.specs.Prelude.{int_div, int_le, int_lt, not, if◌then◌else◌}
-use Rattle.std.specs.Int.{int_rem_euclid}
+use Rattle.std.specs.Prelude.{int_le, not, if◌then◌else◌}
 use Rattle.std.specs.Ordering.{int_eq}
-use Rattle.std.proofs.Common.{arith, ◌≡◌, ◌⊎◌, inl, inr, ⊎_elim, ℕ, zero, suc, ℤ, pos, ◌+ℤ◌, ◌-ℤ◌, ◌*ℤ◌, ◌<◌, ◌≤◌, List, [], ◌∷◌, ◌++◌, Bool}
+use Rattle.std.proofs.Common.{arith, ◌≡◌, ◌⊎◌, inl, inr, ⊎_elim, ℕ, zero, suc, ℤ, pos, ◌<◌, ◌≤◌, List, [], ◌∷◌, ◌++◌, Bool}
 use Rattle.std.proofs.Common.{true, false, Option, Some, None, refl, sym, ap, ◌∙◌, subst}
 use Rattle.std.proofs.lemmas.Bool.{and_parts, and_from, eqb-true, eq-eqb}
 use Rattle.std.proofs.lemmas.Int.{ints}
@@ -17,11 +16,11 @@ use Rattle.meaning.specs.declared.outcome.Ending.{Ending}
 use Rattle.meaning.specs.declared.outcome.Ending.TheVariants as ending
 use Rattle.meaning.specs.declared.store.Value.{Value}
 use Rattle.meaning.specs.declared.store.Value.TheVariants.{Number}
-use Rattle.meaning.specs.Integers.{is_integer_number, is_within}
+use Rattle.meaning.specs.Integers.{is_integer_number}
 use Rattle.meaning.specs.Store.{Environment, Place, Store, forgotten, held, is_beginning, kept, part, place_eq, step_eq, stored}
 use Rattle.meaning.specs.Effect.{State, Reply, Gives, Stops, Action, Round, ◌>>=◌, and_then, give, stop, require, enter, use_turn, take_turn}
-use Rattle.meaning.specs.Effect.{another, looped, looping, fetch, fetch_all, fetched, store, store_all, undefine, write, number_of}
-use Rattle.meaning.specs.Meaning.{combined, line_ended, operated, whole}
+use Rattle.meaning.specs.Effect.{another, looped, looping, fetch, fetch_all, fetched, is_in, store, store_all, undefine, write}
+use Rattle.meaning.specs.Meaning.{calculated, combined, divides, line_ended, of_both, operated, overflow_of, overflow_of_both, shifted, unless_overflow}
 use Rattle.meaning.specs.Laws.{state_after}
 use Rattle.abstract_state.proofs.Apart.{place-same}
 use Rattle.call_states.specs.Environments.{IsListed, LiesUnder}
@@ -269,39 +268,40 @@ module _ (at : Standing) where
   keeps-fetch_all found [] site = keeps-give []
   keeps-fetch_all found (steps ∷ components) site =
       keeps-then _ _ (keeps-fetch (part found steps) site)
-      (λ v. keeps-then _ _ (keeps-fetch_all found components site) (λ numbers. keeps-give (number_of v ∷ numbers)))
+      (λ v. keeps-then _ _ (keeps-fetch_all found components site) (λ values. keeps-give (v ∷ values)))
 
   pub keeps-line_ended : (ends_line : Bool) → Keeps at (line_ended ends_line)
   keeps-line_ended true = keeps-write (10 ∷ [])
   keeps-line_ended false = keeps-give tt
 
-  keeps-tested : (holds : Bool) (site : ℕ) (v : Value) → Keeps at (require holds site >>= λ _. give v)
-  keeps-tested holds site v = keeps-then _ _ (keeps-require holds site) (λ _. keeps-give v)
+  -- ---- operations
 
-  keeps-whole : (overflow : ℕ) (n : ℤ) → Keeps at (whole overflow n)
-  keeps-whole overflow n = keeps-tested (is_integer_number n) overflow (Number n)
+  -- a number that is given as a value
+  pub keeps-valued : (action : Action ℤ) → Keeps at action → Keeps at (action >>= λ n. give (Number n))
+  keeps-valued action one = keeps-then action (λ n. give (Number n)) one (λ n. keeps-give (Number n))
 
-  pub keeps-operated : (operation : Monadic) (v : Value) → Keeps at (operated operation v)
-  keeps-operated monadic.Plus (Number a) = keeps-give _
-  keeps-operated monadic.Minus (Number a) = keeps-give _
-  keeps-operated monadic.Not (Number a) = keeps-give _
-  keeps-operated monadic.Abs (Number a) = keeps-give _
-  keeps-operated (monadic.Sqr overflow) (Number a) = keeps-whole overflow (a *ℤ a)
-  keeps-operated monadic.Odd (Number a) = keeps-give _
-  keeps-operated monadic.Ord (Number a) = keeps-give _
-  keeps-operated (monadic.Chr no_char) (Number a) = keeps-tested (is_within (pos 0) (pos 127) a) no_char (Number a)
-  keeps-operated (monadic.Succ no_successor last) (Number a) = keeps-tested (int_lt a last) no_successor (Number (a +ℤ pos 1))
-  keeps-operated (monadic.Pred no_predecessor first) (Number a) = keeps-tested (int_lt first a) no_predecessor (Number (a -ℤ pos 1))
+  keeps-unless_overflow : (overflow : Option ℕ) (n : ℤ) → Keeps at (unless_overflow overflow n)
+  keeps-unless_overflow None n = keeps-give n
+  keeps-unless_overflow (Some site) n = keeps-then _ _ (keeps-require (is_integer_number n) site) (λ _. keeps-give n)
 
-  pub keeps-combined : (operation : Dyadic) (left right : Value) → Keeps at (combined operation left right)
-  keeps-combined (dyadic.Plus overflow) (Number a) (Number b) = keeps-whole overflow (a +ℤ b)
-  keeps-combined (dyadic.Minus overflow) (Number a) (Number b) = keeps-whole overflow (a -ℤ b)
-  keeps-combined (dyadic.Times overflow) (Number a) (Number b) = keeps-whole overflow (a *ℤ b)
-  keeps-combined (dyadic.Div by_zero) (Number a) (Number b) = keeps-tested (not (int_eq b (pos 0))) by_zero (Number (int_div a b))
-  keeps-combined (dyadic.Mod by_zero_or_less) (Number a) (Number b) = keeps-tested (int_le (pos 1) b) by_zero_or_less (Number (int_rem_euclid a b))
-  keeps-combined dyadic.And (Number a) (Number b) = keeps-give _
-  keeps-combined dyadic.Or (Number a) (Number b) = keeps-give _
-  keeps-combined (dyadic.Relation r) (Number a) (Number b) = keeps-give _
+  pub keeps-operated : (operation : Monadic) (n : ℤ) → Keeps at (operated operation n)
+  keeps-operated (monadic.Plain does) n = keeps-unless_overflow (overflow_of does) (calculated does n)
+  keeps-operated (monadic.Tested fits does) n =
+      keeps-then _ _ (keeps-require (is_in fits.range (Number n)) fits.site) (λ _. keeps-give (shifted does n))
+
+  keeps-divides : (operation : Dyadic) (b : ℤ) → Keeps at (divides operation b)
+  keeps-divides (dyadic.Plus overflow) b = keeps-give tt
+  keeps-divides (dyadic.Minus overflow) b = keeps-give tt
+  keeps-divides (dyadic.Times overflow) b = keeps-give tt
+  keeps-divides (dyadic.Div by_zero) b = keeps-require (not (int_eq b (pos 0))) by_zero
+  keeps-divides (dyadic.Mod by_zero_or_less) b = keeps-require (int_le (pos 1) b) by_zero_or_less
+  keeps-divides dyadic.And b = keeps-give tt
+  keeps-divides dyadic.Or b = keeps-give tt
+  keeps-divides (dyadic.Relation r) b = keeps-give tt
+
+  pub keeps-combined : (operation : Dyadic) (a b : ℤ) → Keeps at (combined operation a b)
+  keeps-combined operation a b =
+      keeps-then _ _ (keeps-divides operation b) (λ _. keeps-unless_overflow (overflow_of_both operation) (of_both operation a b))
 
   -- ---- loops
 
@@ -346,13 +346,12 @@ module _ (at : Standing) where
   pub keeps-store : (found : Option Place) (v : Value) → MayWriteTo at found → Keeps at (store found v)
   keeps-store found v may = record { left = λ s begun. leaves-kept found v s may }
 
-  pub keeps-store_all : (found : Option Place) (components : List (List Step)) (numbers : List ℤ) → MayWriteTo at found
-      → Keeps at (store_all found components numbers)
-  keeps-store_all found [] numbers may = keeps-give tt
+  pub keeps-store_all : (found : Option Place) (components : List (List Step)) (values : List Value) → MayWriteTo at found
+      → Keeps at (store_all found components values)
+  keeps-store_all found [] values may = keeps-give tt
   keeps-store_all found (steps ∷ components) [] may = keeps-give tt
-  keeps-store_all found (steps ∷ components) (n ∷ numbers) may =
-      keeps-then _ _ (keeps-store (part found steps) (Number n) (part-write at found steps may))
-      (λ _. keeps-store_all found components numbers may)
+  keeps-store_all found (steps ∷ components) (v ∷ values) may =
+      keeps-then _ _ (keeps-store (part found steps) v (part-write at found steps may)) (λ _. keeps-store_all found components values may)
 
   -- what is found may be changed, and lies in no activation where what is defined stays so
   abbrev pub IsOwn : Option Place → Type 0

@@ -28,11 +28,14 @@ use Rattle.typed_tree.specs.declared.tree.Expr.TheFolds.{ind-Passed}
 use Rattle.typed_tree.specs.Entries.{joined, expression_entries, link_entries, entries_of_expression, entries_of_width, entries_of_parameter, access_entries}
 use Rattle.typed_tree.specs.Entries.{call_entries, entries_of_passed, passed_entries, whole_entries}
 use Rattle.typed_tree.specs.Entries.{entries_of_written, index_entries}
+use Rattle.domain.specs.Interval.{Interval}
+use Rattle.meaning.specs.Meaning.{overflow_of, overflow_of_both}
 use Rattle.abstract_state.specs.declared.known.Known.{Known}
 use Rattle.abstract_state.specs.declared.known.Known.TheVariants.{Ordinal}
 use Rattle.component_states.specs.Components.{Reach, Entire}
 use Rattle.component_states.specs.States.{State}
-use Rattle.expression_checker.specs.Walk.{Context, Joint, Linked, Piece, Walking, Combination, numbers_of, operated, combined, width_test}
+use Rattle.expression_checker.specs.Walk.{Context, Joint, Linked, Piece, Walking, Combination, numbers_of, calculated, combined, divides, of_both, operated}
+use Rattle.expression_checker.specs.Walk.{unless_overflow, width_test}
 use Rattle.expression_checker.specs.Walk.{PassedPiece, actuals_walk, call_walk, called_block, fitting, form_before, passed_piece_of, passed_step, result_of}
 use Rattle.expression_checker.specs.Walk.{result_walk}
 use Rattle.expression_checker.specs.Walk.{piece_step, link_step, piece_of, joint_of, value_walk}
@@ -65,28 +68,31 @@ and_then first second xs ys a b = map-append (λ (one : Linked). one.number) fir
 pub and_no_more : (first second : List Linked) (xs : List ℕ) → numbers_of first ≡ xs → numbers_of second ≡ [] → numbers_of (first ++ second) ≡ xs
 and_no_more first second xs a b = and_then first second xs [] a b ∙ append-nil xs
 
--- an operation itself enters nothing
+-- an operation itself enters nothing, nor does what it is made of
+unless-silent : (overflow : Option ℕ) (range : Interval) → Enters (unless_overflow overflow range) []
+unless-silent None range context state = refl
+unless-silent (Some site) range context state = refl
+
 operated-silent : (operation : Monadic) (known : Known) → Enters (operated operation known) []
-operated-silent monadic.Plus (Ordinal range) context state = refl
-operated-silent monadic.Minus (Ordinal range) context state = refl
-operated-silent monadic.Not (Ordinal range) context state = refl
-operated-silent monadic.Abs (Ordinal range) context state = refl
-operated-silent (monadic.Sqr overflow) (Ordinal range) context state = refl
-operated-silent monadic.Odd (Ordinal range) context state = refl
-operated-silent monadic.Ord (Ordinal range) context state = refl
-operated-silent (monadic.Chr no_char) (Ordinal range) context state = refl
-operated-silent (monadic.Succ no_successor last) (Ordinal range) context state = refl
-operated-silent (monadic.Pred no_predecessor first) (Ordinal range) context state = refl
+operated-silent (monadic.Plain does) (Ordinal range) context state = unless-silent (overflow_of does) (calculated does range) context state
+operated-silent (monadic.Tested fits does) (Ordinal range) context state = refl
+
+divides-silent : (operation : Dyadic) (range : Interval) → Enters (divides operation range) []
+divides-silent (dyadic.Plus overflow) range context state = refl
+divides-silent (dyadic.Minus overflow) range context state = refl
+divides-silent (dyadic.Times overflow) range context state = refl
+divides-silent (dyadic.Div by_zero) range context state = refl
+divides-silent (dyadic.Mod by_zero_or_less) range context state = refl
+divides-silent dyadic.And range context state = refl
+divides-silent dyadic.Or range context state = refl
+divides-silent (dyadic.Relation relation) range context state = refl
 
 combined-silent : (operation : Dyadic) (left right : Known) → Enters (combined operation left right) []
-combined-silent (dyadic.Plus overflow) (Ordinal left) (Ordinal right) context state = refl
-combined-silent (dyadic.Minus overflow) (Ordinal left) (Ordinal right) context state = refl
-combined-silent (dyadic.Times overflow) (Ordinal left) (Ordinal right) context state = refl
-combined-silent (dyadic.Div by_zero) (Ordinal left) (Ordinal right) context state = refl
-combined-silent (dyadic.Mod by_zero_or_less) (Ordinal left) (Ordinal right) context state = refl
-combined-silent dyadic.And (Ordinal left) (Ordinal right) context state = refl
-combined-silent dyadic.Or (Ordinal left) (Ordinal right) context state = refl
-combined-silent (dyadic.Relation relation) (Ordinal left) (Ordinal right) context state = refl
+combined-silent operation (Ordinal left) (Ordinal right) context state =
+    let first = divides operation right context state in
+    let second = unless_overflow (overflow_of_both operation) (of_both operation left first.value) context first.after in
+    and_no_more first.linked second.linked [] (divides-silent operation right context state)
+    (unless-silent (overflow_of_both operation) (of_both operation left first.value) context first.after)
 
 -- the walks of operators with their operands
 abbrev combinations : List EnteredLink → List Combination

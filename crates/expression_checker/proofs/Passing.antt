@@ -1,27 +1,25 @@
 -- What the checker did over actual parameters, behind those that were passed already.
-use Rattle.std.proofs.Common.{◌≡◌, ◌∙◌, ap, ap₂, sym, refl, cond, ◌||◌, map, Option, None, Some, ℕ, ◌+◌, ◌<◌, ◌≤◌, List, [], ◌∷◌, ◌++◌, length, get_or, Result}
+use Rattle.std.proofs.Common.{◌≡◌, ◌∙◌, ap, ap₂, sym, refl, ◌||◌, map, Option, None, Some, ℕ, ◌+◌, ◌<◌, ◌≤◌, List, [], ◌∷◌, ◌++◌, length, get_or, Result}
 use Rattle.std.proofs.Common.{Ok, Err, append_assoc, append-nil}
 use Rattle.typed_tree.specs.declared.tree.Call.{Call}
 use Rattle.typed_tree.specs.declared.tree.Expr.{Expr}
 use Rattle.typed_tree.specs.declared.tree.FunctionResult.{FunctionResult}
 use Rattle.typed_tree.specs.declared.tree.RangeTest.{RangeTest}
 use Rattle.typed_tree.specs.declared.tree.Passed.{Passed}
-use Rattle.typed_tree.specs.declared.tree.Whole.{Whole}
 use Rattle.typed_tree.specs.Calls as calls
-use Rattle.types.specs.declared.form.TypeId.{TypeId}
 use Rattle.domain.specs.Interval.{Interval}
 use Rattle.abstract_state.specs.State.{unless_empty}
 use Rattle.abstract_state.specs.declared.known.Known.TheVariants.{Ordinal}
 use Rattle.abstract_state.specs.declared.known.Known.{Known}
 use Rattle.abstract_state.specs.Forms.{bound_of}
-use Rattle.call_states.specs.Actuals.{Actual, OfRows, OfValue}
+use Rattle.call_states.specs.Actuals.{Actual, OfValue}
 use Rattle.component_states.specs.States.{State, over_variables}
 use Rattle.expression_checker.specs.declared.fault.CheckFault.{CheckFault}
 use Rattle.expression_checker.specs.declared.flow.Flow.{Flow}
 use Rattle.expression_checker.specs.View.{Flows, Goes, call_range, context_of, range_of_result, state_of}
 use Rattle.expression_checker.specs.Visits.{Visits, all_counted}
 use Rattle.expression_checker.specs.Walk as walk
-use Rattle.expression_checker.specs.Walk.{called_block, copied, fits_whole, fitting, piece_of, range_in, result_of, result_walk}
+use Rattle.expression_checker.specs.Walk.{called_block, fitting, piece_of, range_in, result_of, result_walk}
 use Rattle.expression_checker.specs.Walk.{Breach, Context, Linked, Walked, Walking, ◌>>=◌, actuals_walk, give, numbers_of, passed_piece_of}
 use Rattle.expression_checker.proofs.Forms.{passed-holds}
 use Rattle.expression_checker.proofs.Steps.{Stops, actual-cut, actual-end, actual-stopped, actuals_from, goes-then, left-same}
@@ -128,23 +126,11 @@ passing-end items i passed old visits past = λ claims.
       unbroken = f.unbroken;
     }
 
--- ---- values, copies, and whether one holds a call
+-- ---- values, and whether one holds a call
 
 -- what is passed for a value, by what is known of it
 abbrev pub value_given : Expr → RangeTest → Known → Walking Actual
 value_given value fits known = fitting fits known >>= λ passed. give (OfValue (range_in passed) (bound_of (piece_of value).form))
-
-pub copied-goes : (type_id : TypeId) (value : Whole) (ranges : List Interval) (actual : Actual) (flow : Flow) (visits : Visits)
-    → actual ≡ OfRows (cond (fits_whole flow.grounds.rows.now.types type_id value) ranges [])
-    → Goes (copied type_id value ranges) flow visits (Ok actual) flow visits
-copied-goes type_id value ranges actual flow visits is = λ claims. record {
-  grounds_are = refl;
-  value_is = is;
-  state_is = refl;
-  open_is = sym (append-nil flow.open_ids.items);
-  visits_are = refl;
-  unbroken = refl;
-}
 
 pub actuals-hold : (actuals : List Passed) → walk.actuals_hold_call (map passed_piece_of actuals) ≡ calls.actuals_hold_call actuals
 actuals-hold [] = refl

@@ -2,6 +2,7 @@
 use Rattle.std.proofs.Common.{arith, ◌≡◌, ◌∙◌, sym, ap, refl, ℕ, suc, ◌+◌, ◌-◌, ◌<◌, ◌≤◌, Bool, ◌&&◌, ◌||◌, List, [], ◌∷◌, ◌++◌, Ok, Err}
 use Rattle.std.specs.List.{range_with_len}
 use Rattle.types.specs.declared.form.TypeId.{TypeId}
+use Rattle.types.specs.Types.{is_structured}
 use Rattle.typed_tree.specs.declared.tree.Selector.{Selector}
 use Rattle.typed_tree.specs.declared.tree.Tree.{Tree}
 use Rattle.domain.specs.Interval.{Interval}
@@ -9,7 +10,7 @@ use Rattle.abstract_state.specs.declared.known.Known.{Known}
 use Rattle.abstract_state.specs.declared.known.Known.TheVariants.{Ordinal}
 use Rattle.abstract_state.specs.State.{unless_empty}
 use Rattle.leaf_rows.specs.declared.span.Span.{Span}
-use Rattle.leaf_rows.specs.Rows.{index_at, is_structured, rows_accessed, rows_of}
+use Rattle.leaf_rows.specs.Rows.{index_at, rows_accessed, rows_of}
 use Rattle.leaf_rows.specs.View.{numbers}
 use Rattle.component_states.specs.declared.state.State.{State as Kept}
 use Rattle.component_states.specs.Components.{Reach}

@@ -1,9 +1,8 @@
 -- The walk over accesses and over whole values is sound, where that over their index expressions is.
 use Rattle.std.proofs.Common.{arith, ◌≡◌, ⊎_elim, ◌∙◌, sym, ap, refl, subst, ℕ, zero, suc, ◌+◌, ◌<◌, ℤ, pos, ◌≤ℤ◌, Bool, true, false, cond}
-use Rattle.std.proofs.Common.{◌&&◌, ◌||◌, nat_eq, nat_lt, nat_le, not, List, [], ◌∷◌, ◌++◌, append-nil, append_assoc, length, map, Option, Some, None}
+use Rattle.std.proofs.Common.{◌&&◌, ◌||◌, nat_eq, nat_lt, not, List, [], ◌∷◌, ◌++◌, append-nil, append_assoc, length, map, Option, Some, None}
 use Rattle.std.specs.Prelude.{slice_get, slice_index_or}
 use Rattle.std.specs.List.{All, Contains, list_all}
-use Rattle.std.proofs.lemmas.Int.{ints}
 use Rattle.std.proofs.lemmas.Bool.{and_parts, eqb-true, ltb-true, or_cases, or_left, or_right}
 use Rattle.std.proofs.lemmas.List.{length-map}
 use Rattle.std.proofs.lemmas.List.Elements.{All-cons, All-nil}
@@ -13,7 +12,7 @@ use Rattle.types.specs.declared.form.TypeId.{TypeId}
 use Rattle.types.specs.declared.form.Step.{Step}
 use Rattle.types.specs.declared.form.Step.TheVariants as step
 use Rattle.types.specs.Components.{components_of}
-use Rattle.types.specs.Types.{is_ordinal, is_same}
+use Rattle.types.specs.Types.{is_ordinal, is_same, is_structured}
 use Rattle.types.proofs.Scalars.{ordinal_component}
 use Rattle.std.specs.declared.alloc.Global.{Global}
 use Rattle.std.specs.declared.vec.Vec.{Vec}
@@ -25,10 +24,9 @@ use Rattle.typed_tree.specs.declared.tree.Whole.{Whole}
 use Rattle.typed_tree.specs.declared.tree.Whole.TheVariants.{Text, Variable as VariableOf}
 use Rattle.typed_tree.specs.Accesses as accesses
 use Rattle.typed_tree.specs.Accesses.{index_count, is_type, led}
-use Rattle.typed_tree.specs.WellFormed.{Outline, are_characters, is_character, is_value_of, is_visible, is_well_formed_selector, is_well_formed_whole, is_whole}
+use Rattle.typed_tree.specs.WellFormed.{Outline, is_value_of, is_visible, is_well_formed_selector, is_well_formed_whole, is_whole}
 use Rattle.typed_tree.specs.WellFormed.{leads_to, leads_to_whole, outline_of}
 use Rattle.domain.specs.Interval.{HasMember}
-use Rattle.domain.specs.Ranges.{common-has_left}
 use Rattle.meaning.specs.declared.store.Value.{Value}
 use Rattle.meaning.specs.declared.store.Value.TheVariants.{Number}
 use Rattle.meaning.specs.Store.{Environment, Place, Store, held, part}
@@ -42,7 +40,6 @@ use Rattle.domain.specs.Interval.{Interval}
 use Rattle.types.specs.declared.form.OrdinalRange.{OrdinalRange}
 use Rattle.meaning.specs.Integers.{is_integer_number, is_within}
 use Rattle.abstract_state.specs.Forms.{bound_of}
-use Rattle.abstract_state.specs.State.{integer}
 use Rattle.abstract_state.specs.Holds.{HasValue, IsBound, IsIn, Moment, part_of, value_at}
 use Rattle.abstract_state.specs.Knows.{IsOfForm, moment}
 use Rattle.abstract_state.proofs.Ranged.{IsKnown, constant-in, is_within-has}
@@ -50,25 +47,26 @@ use Rattle.component_states.specs.Components.{At, Entire, Index, Inside, Reach}
 use Rattle.component_states.specs.States.{State, is_dead}
 use Rattle.typed_tree.specs.declared.tree.Tree.{Tree}
 use Rattle.leaf_rows.specs.Leaves.{leaves_of}
-use Rattle.leaf_rows.specs.Rows.{is_structured, rows_accessed, rows_of}
+use Rattle.leaf_rows.specs.Rows.{rows_accessed, rows_of}
 use Rattle.leaf_rows.proofs.Accessed.{rows-count}
 use Rattle.component_states.specs.Components.{row_at}
 use Rattle.component_states.specs.Holds.{IsOfRow, Knows}
 use Rattle.component_states.proofs.Joins.{in-left, in-right}
 use Rattle.expression_checker.specs.Walk as walk
-use Rattle.call_states.specs.Environments.{Fine, Typed}
+use Rattle.call_states.specs.Environments.{Fine, Proper, Typed}
+use Rattle.call_states.proofs.Fitting.{part-lies}
 use Rattle.expression_checker.specs.Walk.{Context, Piece, Walking, access_walk, all_joined, deeper, form_before, hold_call, index_test, indexes_walk}
 use Rattle.expression_checker.specs.Walk.{is_covered}
 use Rattle.expression_checker.specs.Walk.{range_in, ranges_of, text_range, value_use, whole_walk, with_used}
-use Rattle.expression_checker.proofs.Fitting.{contains-at, same-type}
+use Rattle.expression_checker.proofs.Fitting.{contains-at, same-type, some-at}
 use Rattle.expression_checker.proofs.Keeping.{Keeps, keeps-itself}
 use Rattle.expression_checker.proofs.Sound.{World, Any_value, Good, Here, IsForetold, IsPartOf, IsValue, Leaves, Sound, SoundFrom, Stands, alive, declared_in}
 use Rattle.expression_checker.proofs.Sound.{errs-here, false-true, from-then, gives-state, good-give, good-then, good-weaker, is_seen, nothing-new}
 use Rattle.expression_checker.proofs.Sound.{sound-anywhere, sound-enter, sound-give, sound-here, sound-named, sound-then, sound-use, stands-as}
 use Rattle.expression_checker.proofs.Sound.{sites_in, parts_in, open-here, nonempty-stands, types_in, variables_in}
-use Rattle.expression_checker.proofs.SoundOperations.{IsKnownOf, fitting-sound}
-use Rattle.expression_checker.proofs.SoundRows.{AreIntegers, IsIndexOn, IsReachedBy, IsWhole, Leads, LieIn, Matches, RowsAre, covered-row, first-behind}
-use Rattle.expression_checker.proofs.SoundRows.{first-then, joined-in, matches-then, reached-has, rows-are, used-known}
+use Rattle.expression_checker.proofs.SoundOperations.{IsKnownOf, fitting-sound, number-in}
+use Rattle.expression_checker.proofs.SoundRows.{AreComponentsOf, IsIndexOn, IsReachedBy, IsWhole, Leads, LieIn, Matches, RowsAre, characters_of, covered-row}
+use Rattle.expression_checker.proofs.SoundRows.{first-behind, first-then, joined-in, matches-then, reached-has, rows-are, used-known}
 
 -- ---- parts of a place
 
@@ -122,17 +120,6 @@ module _ (outline : Outline) (block : ℕ) (wanted : TypeId → Bool) (root : �
   pub leads-type : of_type ≡ true
   leads-type = inner.1
 
--- ---- rows of integers
-
-character-integer : (c : ℕ) → is_character c ≡ true → HasMember integer (pos c)
-character-integer c is = let small = ltb-true c 128 is in (omega (arith, ints), omega (arith, ints, small))
-
-characters-integers : (characters : List ℕ) → list_all is_character characters ≡ true → AreIntegers (map pos characters)
-characters-integers [] well = All-nil (HasMember integer)
-characters-integers (c ∷ characters) well =
-    let parts = and_parts (is_character c) (list_all is_character characters) well in
-    All-cons (HasMember integer) (pos c) (map pos characters) (character-integer c parts.0) (characters-integers characters parts.1)
-
 -- a field takes no index
 field-same : (position : ℕ) (offset : ℕ) (selectors : List Selector) (pieces : List Piece) (reach : Reach)
     → indexes_walk (Field position offset ∷ selectors) pieces reach ≡ indexes_walk selectors pieces reach
@@ -180,9 +167,6 @@ known-range (Ordinal range) v inside = inside
 in-test : (range : OrdinalRange) (v : Value) → is_in range v ≡ true → (range.first ≤ℤ number_of v) × (number_of v ≤ℤ range.last)
 in-test range (Number n) passes =
     is_within-has range.first range.last n (and_parts (is_integer_number n) (is_within range.first range.last n) passes).1
-
-number-in : (range : Interval) (v : Value) → IsIn range v → HasMember range (number_of v)
-number-in range (Number n) inside = inside
 
 of-form : (m : Moment) (form : Option Bound) (v : Value) → IsOfForm m form v → (b : Bound) → form ≡ Some b → IsBound m b (number_of v)
 of-form m None v is b same = absurd (cc)
@@ -298,31 +282,25 @@ mapped-at f [] k y is = absurd (none-some y is)
 mapped-at f (x ∷ xs) zero y is = (x, refl, same_Some (f x) y is)
 mapped-at f (x ∷ xs) (suc k) y is = mapped-at f xs k y is
 
-number-back : (v : Value) → Number (number_of v) ≡ v
-number-back (Number n) = refl
-
-integer-number : (v : Value) → IsIn integer v → HasMember integer (number_of v)
-integer-number (Number n) inside = inside
-
 pub no-way : (way : List Step) → Matches [] way → way ≡ []
 no-way [] matches = refl
 no-way (s ∷ way) matches = absurd matches
 
--- what is so of each pair of steps and their number
-pairs-then : (P : List Step → ℤ → Type 0) (first : List Step) (components : List (List Step)) (m : ℤ) (numbers : List ℤ) → P first m
-    → ((k : ℕ) (rest : List Step) (n : ℤ) → slice_get components k ≡ Some rest → slice_get numbers k ≡ Some n → P rest n)
-    → (k : ℕ) (rest : List Step) (n : ℤ) → slice_get (first ∷ components) k ≡ Some rest → slice_get (m ∷ numbers) k ≡ Some n → P rest n
-pairs-then P first components m numbers one more zero rest n is at =
-    subst (λ (steps : List Step). P steps n) (same_Some first rest is) (subst (P first) (same_Some m n at) one)
-pairs-then P first components m numbers one more (suc k) rest n is at = more k rest n is at
+-- what is so of each pair of steps and their value
+pairs-then : (P : List Step → Value → Type 0) (first : List Step) (components : List (List Step)) (w : Value) (values : List Value) → P first w
+    → ((k : ℕ) (rest : List Step) (v : Value) → slice_get components k ≡ Some rest → slice_get values k ≡ Some v → P rest v)
+    → (k : ℕ) (rest : List Step) (v : Value) → slice_get (first ∷ components) k ≡ Some rest → slice_get (w ∷ values) k ≡ Some v → P rest v
+pairs-then P first components w values one more zero rest v is at =
+    subst (λ (steps : List Step). P steps v) (same_Some first rest is) (subst (P first) (same_Some w v at) one)
+pairs-then P first components w values one more (suc k) rest v is at = more k rest v is at
 
 -- the characters of a string lie in its range
-text-in : (text : List ℕ) → All (HasMember (text_range text)) (map pos text)
-text-in [] = All-nil (HasMember (text_range []))
+text-in : (text : List ℕ) → All (IsIn (text_range text)) (characters_of text)
+text-in [] = All-nil (IsIn (text_range []))
 text-in (c ∷ text) =
     let own : Interval = record { first = pos c; last = pos c } in
-    All-cons (HasMember (text_range (c ∷ text))) (pos c) (map pos text) (in-left own (text_range text) (Number (pos c)) (constant-in (pos c)))
-    (λ k d within. in-right own (text_range text) (Number (slice_index_or (map pos text) k d)) (text-in text k d within))
+    All-cons (IsIn (text_range (c ∷ text))) (Number (pos c)) (characters_of text) (in-left own (text_range text) (Number (pos c)) (constant-in (pos c)))
+    (λ k d within. in-right own (text_range text) (slice_index_or (characters_of text) k d) (text-in text k d within))
 
 module _ (world : World) (block : ℕ) (env : Surroundings) where
   abbrev visible : Environment
@@ -461,22 +439,9 @@ module _ (world : World) (block : ℕ) (env : Surroundings) where
       ap (λ (p : Option Place). held store (part p rest)) place_is ∙ ap (held store) (part-then (visible.variables root) way rest)
       ∙ part-held store (visible.variables root) (way ++ rest)
 
-  -- each part of a variable has an integer as its value
-  integer-held : (store : Store) (found : Option Place) (steps : List Step) (v : Value) → Typed world.tree store → part_of store found steps ≡ Some v
-      → IsIn integer v
-  integer-held store None steps v typed is = absurd (none-some v is)
-  integer-held store (Some place) steps (Number n) typed is =
-      let lies = typed (record place { steps = place.steps ++ steps }) (Number n) is in
-      let range = lies.2.0 in
-      common-has_left integer (record { first = range.first; last = range.last }) n lies.2.2
-
-  integer-at : (store : Store) (root : ℕ) (steps : List Step) (v : Value) → Typed world.tree store → value_at (moment visible store) root steps ≡ Some v
-      → IsIn integer v
-  integer-at store root steps v typed is = integer-held store (visible.variables root) steps v typed is
-
-  -- the numbers of a whole value are in the ranges that are known, whatever the store
-  abbrev pub IsWholeIn : Whole → List Interval → List ℤ → Store → Type 0
-  IsWholeIn value ranges numbers store = IsWhole (types_in world) value ranges numbers
+  -- the values of a whole value are in the ranges that are known, whatever the store
+  abbrev pub IsWholeIn : Whole → List Interval → List Value → Store → Type 0
+  IsWholeIn value ranges values store = IsWhole (types_in world) value ranges values
 
   -- what an access of a type reaches
   module _ (root : ℕ) (selectors : List Selector) (id : TypeId) (laws : RowsAre world.tree root selectors id)
@@ -542,11 +507,11 @@ module _ (world : World) (block : ℕ) (env : Surroundings) where
     -- ---- a whole value
 
     -- the components that were read
-    abbrev AreRead : Store → List (List Step) → List ℤ → Store → Type 0
-    AreRead before components numbers after =
-        (after ≡ before) × AreIntegers numbers × (length numbers ≡ length components)
-        × ((k : ℕ) (rest : List Step) (n : ℤ) → slice_get components k ≡ Some rest → slice_get numbers k ≡ Some n
-        → value_at (moment visible before) root (way ++ rest) ≡ Some (Number n))
+    abbrev AreRead : Store → List (List Step) → List Value → Store → Type 0
+    AreRead before components values after =
+        (after ≡ before) × (length values ≡ length components)
+        × ((k : ℕ) (rest : List Step) (v : Value) → slice_get components k ≡ Some rest → slice_get values k ≡ Some v
+        → value_at (moment visible before) root (way ++ rest) ≡ Some v)
 
     module _ (place : Option Place) (place_is : place ≡ part (visible.variables root) way) (before : Store) where
       abbrev IsRead : List Step → Value → Store → Type 0
@@ -574,44 +539,52 @@ module _ (world : World) (block : ℕ) (env : Surroundings) where
           → ((rest : List Step) → Contains components rest → value_at (moment visible before) root (way ++ rest) ≡ None → Contains world.ids site)
           → Good world (AreRead before components) s (fetch_all place components site s)
       all-good [] s fine same opens =
-          good-give world (AreRead before []) [] s fine (same, All-nil (HasMember integer), refl, λ k rest n is at. absurd (none-some rest is))
+          good-give world (AreRead before []) [] s fine (same, refl, λ k rest v is at. absurd (none-some rest is))
       all-good (first ∷ components) s fine same opens =
           good-then world (IsRead first) (AreRead before (first ∷ components)) s (fetch (part place first) site s)
-          (λ v. effect.◌>>=◌ (fetch_all place components site) (λ numbers. effect.give (number_of v ∷ numbers)))
+          (λ v. effect.◌>>=◌ (fetch_all place components site) (λ values. effect.give (v ∷ values)))
           (one-good first s fine same (opens first (0, omega arith, refl)))
           (λ v t is read.
           good-then world (AreRead before components) (AreRead before (first ∷ components)) t (fetch_all place components site t)
-          (λ numbers. effect.give (number_of v ∷ numbers))
+          (λ values. effect.give (v ∷ values))
           (all-good components t read.fine read.so.1 (λ rest among. opens rest (suc among.0, omega (arith, among.1), among.2)))
-          (λ numbers u gives more.
-          good-give world (AreRead before (first ∷ components)) (number_of v ∷ numbers) u more.fine (
+          (λ values u gives more.
+          good-give world (AreRead before (first ∷ components)) (v ∷ values) u more.fine (
             more.so.0,
-            All-cons (HasMember integer) (number_of v) numbers (integer-number v (integer-at s.store root (way ++ first) v fine.typed
-                (ap (λ (x : Store). value_at (moment visible x) root (way ++ first)) same ∙ read.so.0))) more.so.1,
-            ap suc more.so.2,
-            pairs-then (λ rest n. value_at (moment visible before) root (way ++ rest) ≡ Some (Number n)) first components (number_of v) numbers
-                (read.so.0 ∙ ap Some (sym (number-back v))) more.so.3,
+            ap suc more.so.1,
+            pairs-then (λ rest w. value_at (moment visible before) root (way ++ rest) ≡ Some w) first components v values read.so.0 more.so.2,
           )))
 
     abbrev used_whole : Walking (List Interval)
     used_whole = walk.whole_rows_use id (rows root selectors) reach site
 
     -- what was read lies in the ranges, row by row
-    read-in : (state : State) (store after : Store) (numbers : List ℤ) → Knows (parts_in world) (variables_in world) visible state store
-        → AreRead store (components_of (types_in world) id) numbers after → LieIn (types_in world) id (ranges_of state (rows root selectors)) numbers
-    read-in state store after numbers known read k j rest leaf n range of_type of_leaf named at ranged =
+    read-in : (state : State) (store after : Store) (values : List Value) → Knows (parts_in world) (variables_in world) visible state store
+        → AreRead store (components_of (types_in world) id) values after → LieIn (types_in world) id (ranges_of state (rows root selectors)) values
+    read-in state store after values known read k j rest leaf v range of_type of_leaf named at ranged =
         let row = mapped-at (λ (r : ℕ). (row_at state.components r).range) (rows root selectors) j range ranged in
         let of_row = laws.placed way rest j row.0 leaf matches (contains-at (components_of (types_in world) id) k rest of_type) of_leaf named row.1 in
-        let lies = row-in state store known row.0 rest (Number n) (contains-at (rows root selectors) j row.0 row.1) of_row (read.3 k rest n of_type at) in
-        subst (λ (r : Interval). HasMember r n) row.2 lies
+        let lies = row-in state store known row.0 rest v (contains-at (rows root selectors) j row.0 row.1) of_row (read.2 k rest v of_type at) in
+        subst (λ (r : Interval). IsIn r v) row.2 lies
 
-    read-has : (store after : Store) (numbers : List ℤ) → AreRead store (components_of (types_in world) id) numbers after
+    read-has : (store after : Store) (values : List Value) → AreRead store (components_of (types_in world) id) values after
         → (rest : List Step) → Contains (components_of (types_in world) id) rest → HasValue (moment visible store) root (way ++ rest)
-    read-has store after numbers read rest among =
+    read-has store after values read rest among =
         let components = components_of (types_in world) id in
-        let within : among.0 < length numbers = omega (arith, among.1, read.2) in
-        let n = slice_index_or numbers among.0 (pos 0) in
-        (Number n, read.3 among.0 rest n (contains-get components rest among) (slice_get-get_or numbers among.0 (pos 0) within))
+        let within : among.0 < length values = omega (arith, among.1, read.1) in
+        let v = some-at values among.0 within in
+        (v.0, read.2 among.0 rest v.0 (contains-get components rest among) v.1)
+
+    -- each value is one of the type of its component
+    read-typed : accesses.accessed (declared_in world) (types_in world) root selectors ≡ Some id → (s : effect.State) (after : Store) (values : List Value)
+        → Proper world.tree world.pairs block s.activations visible → Typed world.tree s.store
+        → AreRead s.store (components_of (types_in world) id) values after → AreComponentsOf (types_in world) id values
+    read-typed of_type s after values proper typed read = record {
+      count = read.1;
+      each = λ k rest v rest_at v_at.
+          part-lies world.tree world.pairs block s.activations visible proper root selectors id of_type s.store typed way rest matches v
+          (read.2 k rest v rest_at v_at);
+    }
 
     abbrev closed : State → Bool
     closed state = is_dead state || (is_structured (types_in world) id && is_covered world.tree state reach (rows root selectors))
@@ -637,27 +610,28 @@ module _ (world : World) (block : ℕ) (env : Surroundings) where
         (or_cases (is_dead state) (structured && covered) is) in
         part.ids site (open-here site (closed state) unclosed)
 
-    whole-good : (value : Whole) → ((ranges : List Interval) (numbers : List ℤ) → AreIntegers numbers
-        → length numbers ≡ length (components_of (types_in world) id)
+    whole-good : accesses.accessed (declared_in world) (types_in world) root selectors ≡ Some id → (value : Whole)
+        → ((ranges : List Interval) (values : List Value) → AreComponentsOf (types_in world) id values
         → (is_structured (types_in world) id ≡ true → length ranges ≡ length (leaves_of (types_in world) id))
-        → LieIn (types_in world) id ranges numbers
-        → IsWhole (types_in world) value ranges numbers)
+        → LieIn (types_in world) id ranges values
+        → IsWhole (types_in world) value ranges values)
         → (place : Option Place) → place ≡ part (visible.variables root) way → (context : Context) (state : State) (s : effect.State)
         → IsReachedBy visible s.store selectors way reach → IsPartOf world (used_whole (inside context) state) → Here world block visible context state s
         → Good world (IsForetold world visible (IsWholeIn value) context (used_whole (inside context) state) s.store) s
         (fetch_all place (components_of (types_in world) id) site s)
-    whole-good value so place place_is context state s reached part here =
+    whole-good of_type value so place place_is context state s reached part here =
         let components = components_of (types_in world) id in
         let behind = with_used reach (rows root selectors) state in
         good-weaker world (AreRead s.store components)
         (IsForetold world visible (IsWholeIn value) context (used_whole (inside context) state) s.store) s
         (fetch_all place components site s)
-        (λ numbers t gives read.
+        (λ values t gives read.
         let known = used-known world.tree (variables_in world) visible s.store root selectors id laws way matches reach reached
-        (read-has s.store t.store numbers read.so) state here.stands.known in
+        (read-has s.store t.store values read.so) state here.stands.known in
         record {
-          tie = so (ranges_of state (rows root selectors)) numbers read.so.1 read.so.2 (ranges-many state)
-              (read-in state s.store t.store numbers here.stands.known read.so);
+          tie = so (ranges_of state (rows root selectors)) values
+              (read-typed of_type s t.store values here.proper here.fine.typed read.so) (ranges-many state)
+              (read-in state s.store t.store values here.stands.known read.so);
           stands = subst (λ (store : Store). Stands world visible context behind store) (sym read.so.0)
               (stands-as world visible context state behind s.store here.stands known);
           kept = subst (λ (store : Store). Keeps visible context.rounds s.store store) (sym read.so.0) (keeps-itself visible context.rounds s.store);
@@ -709,9 +683,9 @@ module _ (world : World) (block : ℕ) (env : Surroundings) where
 
   -- the components of a whole value
   components-sound : (root : ℕ) (selectors : List Selector) (id : TypeId) → access_type root selectors ≡ Some id → (site : ℕ) → site < sites_in world
-      → (value : Whole) → ((ranges : List Interval) (numbers : List ℤ) → AreIntegers numbers → length numbers ≡ length (components_of (types_in world) id)
+      → (value : Whole) → ((ranges : List Interval) (values : List Value) → AreComponentsOf (types_in world) id values
       → (is_structured (types_in world) id ≡ true → length ranges ≡ length (leaves_of (types_in world) id))
-      → LieIn (types_in world) id ranges numbers → IsWhole (types_in world) value ranges numbers)
+      → LieIn (types_in world) id ranges values → IsWhole (types_in world) value ranges values)
       → (store : Store) (reach : Reach) (place : Option Place) → Leads visible root selectors store reach place
       → SoundFrom world block visible store (IsWholeIn value) (fetch_all place (components_of visible.types id) site)
       (walk.whole_use id root selectors reach site)
@@ -726,18 +700,18 @@ module _ (world : World) (block : ℕ) (env : Surroundings) where
       → Good world (IsForetold world visible R context (walking c state) s.store) s (fetch_all place (components_of (types_in world) id) site s))
       here.stands.goes.tree_is
       (λ part. whole-good root selectors id (rows-are world.tree root selectors id of_type) (rows-count world.tree root selectors id of_type) site below reach
-      leads.way leads.matches value so place leads.place_is context state s reached part here) part)
+      leads.way leads.matches of_type value so place leads.place_is context state s reached part here) part)
 
   -- a whole value: a string, or what is accessed
-  pub string-sound : (number : ℕ) (text : Vec ℕ Global) → are_characters text.items ≡ true
+  pub string-sound : (number : ℕ) (text : Vec ℕ Global)
       → Sound world block visible (IsWholeIn (Text number text)) (whole_of (Text number text) [] env) (whole_walk (Text number text) [])
-  string-sound number text well =
-      let parts = and_parts (nat_le (length text.items) 65536) (list_all is_character text.items) well in
+  string-sound number text =
       let R = IsWholeIn (Text number text) in
-      sound-then world block visible Any_value R (effect.enter number visible) (λ done. effect.give (map pos text.items)) (walk.enter number)
-      (λ done. walk.give (text_range text.items ∷ [])) (sound-enter world block visible number)
-      (λ b a store tie. sound-give world block visible R (map pos text.items) (text_range text.items ∷ [])
-      (λ later. record { integers = characters-integers text.items parts.1; told = (refl, refl, text-in text.items) }))
+      let values = characters_of text.items in
+      let ranges = text_range text.items ∷ [] in
+      sound-then world block visible Any_value R (effect.enter number visible) (λ done. effect.give values) (walk.enter number) (λ done. walk.give ranges)
+      (sound-enter world block visible number)
+      (λ b a store tie. sound-give world block visible R values ranges (λ later. record { told = (refl, refl, text-in text.items) }))
 
   pub stored-sound : (access : Access) (type_id : TypeId) (cells defined : ℕ) (evaluations : List Evaluation) (pieces : List Piece)
       → AllSound world block env evaluations pieces
@@ -770,4 +744,4 @@ module _ (world : World) (block : ℕ) (env : Surroundings) where
       (leads-tests (outline_of world.tree) block wanted access.root selectors n parts.0)))
       (λ reach place s t is from leads.
       components-sound access.root selectors type_id (found.1 ∙ ap (λ (id : TypeId). Some id) same) defined (ltb-true defined (sites_in world) site.1) value
-      (λ ranges numbers integers many count lie. record { integers = integers; told = (many, count, lie) }) t.store reach place leads))
+      (λ ranges values many count lie. record { told = (many, count, lie) }) t.store reach place leads))

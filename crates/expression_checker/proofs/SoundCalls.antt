@@ -1,11 +1,12 @@
 -- The walk over calls is sound, where that over their actual parameters is, and where calls are.
-use Rattle.std.proofs.Common.{◌≡◌, ◌∙◌, sym, ap, refl, subst, ℕ, Bool, true, false, cond, ◌&&◌, ◌||◌, List, [], ◌∷◌, ◌++◌, map, Option}
+use Rattle.std.proofs.Common.{◌≡◌, ◌∙◌, sym, ap, refl, subst, ℕ, Bool, true, false, cond, ◌||◌, List, [], ◌∷◌, ◌++◌, map, Option}
 use Rattle.std.proofs.Common.{Some, None}
 use Rattle.std.specs.Prelude.{nat_eq, slice_get}
 use Rattle.std.specs.List.{Contains, list_all}
 use Rattle.std.proofs.lemmas.Bool.{and_parts, eqb-true, or_left, or_parts, or_right}
 use Rattle.std.proofs.lemmas.List.Folds.{list_any-append, list_all_at}
 use Rattle.place.specs.declared.Place.{Place as SourcePlace}
+use Rattle.types.specs.Types.{BeginWithRequired}
 use Rattle.types.specs.declared.form.Step.{Step}
 use Rattle.typed_tree.specs.declared.tree.Block.{Block}
 use Rattle.typed_tree.specs.declared.tree.Call.{Call}
@@ -24,13 +25,13 @@ use Rattle.component_states.specs.States.{State}
 use Rattle.component_states.specs.Holds.{Knows}
 use Rattle.structured_states.specs.Loops.{Round, all_list, touched}
 use Rattle.structured_states.specs.Pairs.{aliases_of}
-use Rattle.call_states.specs.Actuals.{Actual, Binding, after_call, are_of_types, bound_to, settled}
+use Rattle.call_states.specs.Actuals.{Actual, Binding, after_call, bound_to, settled}
 use Rattle.call_states.specs.Entry.{are_given}
 use Rattle.call_states.specs.Environments.{Fine, LiesIn, Proper}
 use Rattle.exit_states.specs.Exit.{behind_call, result_range, roots_changed}
 use Rattle.call_states.specs.Overlaps.{are_separate}
 use Rattle.call_states.specs.Sections.{BlockClaims, block_claims_at}
-use Rattle.call_states.proofs.Passed.{IsArgument, after-call_argument}
+use Rattle.call_states.proofs.Passed.{AreComponentsOf, IsArgument, after-call_argument}
 use Rattle.expression_checker.specs.declared.fault.Rule.{Rule}
 use Rattle.expression_checker.specs.declared.fault.Rule.TheVariants.{Aliases, CallEntry, Changes}
 use Rattle.expression_checker.specs.Walk as walk
@@ -39,14 +40,14 @@ use Rattle.expression_checker.proofs.Keeping.{Keeps, keeps-itself}
 use Rattle.expression_checker.proofs.Sound.{World, Any_value, Called, Good, Goes, Here, IsClosed, IsForetold, IsPartOf, IsValue, Leaves, LiesInResult}
 use Rattle.expression_checker.proofs.Sound.{Returned, Sound, SoundCalls, SoundFrom, from-then, gives-state, good-give, good-weaker, is_seen, listed_in}
 use Rattle.expression_checker.proofs.Sound.{part-left, parts_in, sound-anywhere, sound-enter, sound-give, sound-here, unbroken-left, unbroken-right}
-use Rattle.expression_checker.proofs.Sound.{nonempty-stands, variables_in}
+use Rattle.expression_checker.proofs.Sound.{nonempty-stands, types_in, variables_in}
 
 -- ---- what is passed
 
--- an argument is of the kind of a formal parameter, and a value lies in its type
+-- an argument is of the kind of a formal parameter, and a value lies in its type, as do the components of a copy
 abbrev pub IsOfKind : World → Variable → Argument → Type 0
 IsOfKind world formal (meaning.OfValue v) = (is_value_kind formal.kind ≡ true) × LiesIn world.tree.types formal.type_id v
-IsOfKind world formal (meaning.OfRow numbers) = is_value_kind formal.kind ≡ true
+IsOfKind world formal (meaning.OfRow values) = (is_value_kind formal.kind ≡ true) × AreComponentsOf world.tree.types formal.type_id values
 IsOfKind world formal (meaning.OfPlace None) = ⊥
 IsOfKind world formal (meaning.OfPlace (Some place)) = is_variable_kind formal.kind ≡ true
 
@@ -81,7 +82,6 @@ pub record MayCall (world : World) (block number : ℕ) (callee : Block) (visibl
   pub passed : ArePassed world visible callee.heading.parameters.items actuals arguments s.store
   pub separate : are_separate (listed_in world) block callee.heading.around.items (bound_to callee.heading.parameters.items actuals) ≡ true
   pub given : are_given world.tree (bound_to callee.heading.parameters.items actuals) state (block_claims_at world.blocks number).entry ≡ true
-  pub typed : are_of_types world.tree (bound_to callee.heading.parameters.items actuals) ≡ true
 
 -- the variables that it may change, as the caller knows them
 abbrev pub changed_by_call : World → ℕ → Block → List Actual → List ℕ
@@ -94,8 +94,9 @@ IsApartFrom world block roots root =
     (other : ℕ) → is_among other roots ≡ true → is_seen world block other ≡ true
     → (other ≡ root → ⊥) × (is_among root (aliases_of world.pairs other) ≡ false)
 
--- the laws of calls, by which the walk goes
+-- the laws by which the walk goes: that of the table of types, and those of calls
 pub record CallLaws (world : World) : Type 0 where
+  pub required : BeginWithRequired (types_in world)
   pub called : (block number : ℕ) (callee : Block) (visible : Environment) (state : State) (actuals : List Actual) (arguments : List Argument)
       (s : effect.State) → MayCall world block number callee visible state actuals arguments s → Called world number callee arguments visible s
   pub behind : (block number : ℕ) (callee : Block) (visible : Environment) (state : State) (actuals : List Actual) (arguments : List Argument)
@@ -343,13 +344,11 @@ module _ (world : World) (block : ℕ) (env : Surroundings) where
         let separate = are_separate (listed_in world) context.block (walk.around_of (slice_get world.tree.blocks.items call.block)) bindings in
         let given = are_given world.tree bindings state claims.entry in
         let lists = list_all (may_change own) changed in
-        let typed = are_of_types world.tree bindings in
         let first = walk.breach_unless separate Aliases call.name in
         let second = walk.breach_unless given CallEntry call.name in
-        let third = walk.breach_unless (lists && typed) Changes call.name in
+        let third = walk.breach_unless lists Changes call.name in
         let rest = unbroken-right first (second ++ (third ++ [])) unbroken in
-        let both = and_parts lists typed
-        (kept-rule (lists && typed) Changes call.name (unbroken-left third [] (unbroken-right second (third ++ []) rest))) in
+        let listed = kept-rule lists Changes call.name (unbroken-left third [] (unbroken-right second (third ++ []) rest)) in
         let may : MayCall world block call.block callee visible state actuals arguments s = record {
           callee_is = at;
           callable = callable;
@@ -361,7 +360,6 @@ module _ (world : World) (block : ℕ) (env : Surroundings) where
               (subst (λ (found : Option Block). are_separate (listed_in world) context.block (walk.around_of found) bindings ≡ true) at
               (kept-rule separate Aliases call.name (unbroken-left first (second ++ (third ++ [])) unbroken)));
           given = kept-rule given CallEntry call.name (unbroken-left second (third ++ []) rest);
-          typed = both.1;
         } in
         let called = laws.called block call.block callee visible state actuals arguments s may in
         good-weaker world (Returned world call.block callee arguments visible s)
@@ -375,7 +373,7 @@ module _ (world : World) (block : ℕ) (env : Surroundings) where
                 (behind_call world.tree (listed_in world) b call.block bindings claims state) t.store) (sym here.block_is)
                 (laws.behind block call.block callee visible state actuals arguments s t v may behind.fine behind.so);
           };
-          kept = call-keeps context state s t v here.stands.goes here.block_is may both.0 behind.so;
+          kept = call-keeps context state s t v here.stands.goes here.block_is may listed behind.so;
         })
         (calls call.block callee arguments visible s called here.fine)
 

@@ -1,17 +1,12 @@
 -- The walk over expressions is sound, form by form, and so is that over values that are written.
-use Rattle.std.proofs.Common.{arith, ◌≡◌, ◌∙◌, ap, refl, sym, subst, ℕ, suc, ◌+◌, ◌<◌, ℤ, pos, Bool, true, false, cond, ◌&&◌, nat_eq, nat_lt}
-use Rattle.std.proofs.Common.{ap₂, length, List, [], ◌∷◌, ◌++◌, map, not, Option, Some, None}
+use Rattle.std.proofs.Common.{arith, ◌≡◌, ◌∙◌, ap, refl, sym, subst, ℕ, suc, ◌+◌, ◌<◌, ℤ, pos, Bool, true, false, ◌&&◌, nat_eq, nat_lt}
+use Rattle.std.proofs.Common.{length, List, [], ◌∷◌, ◌++◌, map, Option, Some, None}
 use Rattle.std.specs.Prelude.{slice_get}
 use Rattle.std.specs.Option.{option_and_then, option_map}
-use Rattle.std.specs.Ordering.{int_eq}
 use Rattle.std.proofs.lemmas.Bool.{and_parts, eqb-true, ltb-true}
-use Rattle.std.proofs.lemmas.Int.{ints}
 use Rattle.std.proofs.lemmas.List.{length-map}
 use Rattle.std.proofs.lemmas.Option.{none-some, same_Some, slice_get-map}
-use Rattle.types.specs.Components.{components_of}
-use Rattle.types.specs.Forms.{Form as TypeForm}
-use Rattle.types.specs.Types.{cells_of, is_ordinal, is_same, range_of}
-use Rattle.types.specs.declared.form.OrdinalRange.{OrdinalRange}
+use Rattle.types.specs.Types.{is_ordinal, is_same, range_of}
 use Rattle.types.specs.declared.form.TypeId.{TypeId}
 use Rattle.typed_tree.specs.declared.tree.Access.{Access}
 use Rattle.typed_tree.specs.declared.tree.Block.{Block}
@@ -19,7 +14,6 @@ use Rattle.typed_tree.specs.declared.tree.Call.{Call}
 use Rattle.typed_tree.specs.declared.tree.FunctionResult.{FunctionResult}
 use Rattle.typed_tree.specs.declared.tree.Heading.{Heading}
 use Rattle.typed_tree.specs.declared.tree.RangeTest.{RangeTest}
-use Rattle.typed_tree.specs.declared.tree.Tree.{Tree}
 use Rattle.typed_tree.specs.declared.tree.Variable.{Variable as DeclaredVariable}
 use Rattle.typed_tree.specs.declared.tree.Width.{Width}
 use Rattle.typed_tree.specs.declared.tree.WriteParameter.{WriteParameter}
@@ -39,16 +33,15 @@ use Rattle.typed_tree.specs.Accesses as accesses
 use Rattle.typed_tree.specs.WellFormed.{Outline, all_hold, declarer, dyadic_is_well_formed, expr_is_well_formed, formal_of, heading_of, is_callable, is_kind_of}
 use Rattle.typed_tree.specs.WellFormed.{is_passed_to, is_range_of, is_round, is_value_kind, is_variable_kind, is_well_formed_call, is_well_formed_expr}
 use Rattle.typed_tree.specs.WellFormed.{is_well_formed_link, is_well_formed_parameter, is_well_formed_passed, is_well_formed_test, is_well_formed_width}
-use Rattle.typed_tree.specs.WellFormed.{is_well_formed_written, is_whole, leads_to_type, length_of, link_is_well_formed, may_call, of_one, outline_of}
+use Rattle.typed_tree.specs.WellFormed.{is_well_formed_written, is_whole, leads_to_type, length_of, link_is_well_formed, may_call, may_copy, of_one, outline_of}
 use Rattle.typed_tree.specs.WellFormed.{passed_is_well_formed, passes_value, passes_variable, passes_whole, placed, takes_value, takes_variable, takes_whole}
 use Rattle.typed_tree.specs.WellFormed.{are_well_formed, is_well_formed_value, is_well_formed_whole, leads_to, leads_to_ordinal, monadic_is_well_formed}
-use Rattle.typed_tree.specs.WellFormed.{whole_indexes}
+use Rattle.typed_tree.specs.WellFormed.{source_of, whole_indexes}
 use Rattle.meaning.specs.declared.store.Value.{Value}
 use Rattle.meaning.specs.declared.store.Value.TheVariants.{Number}
-use Rattle.meaning.specs.Integers.{truth}
 use Rattle.meaning.specs.Store.{Environment, Place, Store, part}
 use Rattle.meaning.specs.Effect as effect
-use Rattle.meaning.specs.Effect.{fetch, is_in, is_positive, row_text, text_of}
+use Rattle.meaning.specs.Effect.{fetch, is_in, is_positive, number_of, row_text, text_of}
 use Rattle.meaning.specs.Meaning as meaning
 use Rattle.meaning.specs.Meaning.{Evaluation, Passing, Surroundings, accessed, link_of, parameter_of, passing_of, value_of, values_of, width_of, written_of}
 use Rattle.domain.specs.Facts.{Bound}
@@ -56,20 +49,16 @@ use Rattle.domain.specs.Interval.{Interval, truth_values}
 use Rattle.abstract_state.specs.declared.known.Known.{Known}
 use Rattle.abstract_state.specs.declared.known.Known.TheVariants.{Ordinal}
 use Rattle.abstract_state.specs.Forms.{bound_of}
-use Rattle.abstract_state.specs.Holds.{IsIn}
 use Rattle.abstract_state.specs.Knows.{IsOfForm, moment}
-use Rattle.abstract_state.specs.State.{limits_of}
-use Rattle.abstract_state.proofs.Ranged.{IsKnown, constant-in, is_in-limits, truth_values-has}
+use Rattle.abstract_state.proofs.Ranged.{IsKnown, constant-in, truth_values-has}
 use Rattle.abstract_state.proofs.Refined.{access-kept, expression-kept, form-known, whole-kept}
-use Rattle.leaf_rows.specs.Leaves.{leaves_of}
 use Rattle.component_states.specs.Components.{Reach}
-use Rattle.call_states.specs.Actuals.{Actual, OfValue, OfVariable}
-use Rattle.call_states.specs.Environments.{LiesIn}
+use Rattle.call_states.specs.Actuals.{Actual, OfRows, OfValue, OfVariable}
 use Rattle.call_states.proofs.Passed.{indexes-integer}
 use Rattle.expression_checker.specs.Walk as walk
-use Rattle.expression_checker.specs.Walk.{Joint, PassedPiece, Piece, Walking, fits_whole, joint_of, link_step, link_walk, parameter_walk, passed_piece_of}
+use Rattle.expression_checker.specs.Walk.{Joint, PassedPiece, Piece, Walking, joint_of, link_step, link_walk, parameter_walk, passed_piece_of}
 use Rattle.expression_checker.specs.Walk.{passed_step, piece_of, piece_step, range_in, value_walk, width_walk}
-use Rattle.expression_checker.proofs.Fitting.{fits-lie, many-numbers, same-type}
+use Rattle.expression_checker.proofs.Fitting.{IsCopyFor, copy-for, passed-lies, same-type}
 use Rattle.expression_checker.proofs.Forms.{bound-same, form-same, pieces-hold, whole-holds}
 use Rattle.expression_checker.proofs.Keeping.{keeps-itself}
 use Rattle.expression_checker.proofs.Sound.{World, Any_value, IsForetold, IsValue, Leaves, LiesInResult, Passes, Sound, SoundCalls, declared_in}
@@ -79,8 +68,9 @@ use Rattle.expression_checker.proofs.Sound.{types_in}
 use Rattle.expression_checker.proofs.SoundAccesses.{AllSound, IndexIsSound, IsWholeIn, LeadsTo, known-range, leads-count, leads-seen, leads-tests}
 use Rattle.expression_checker.proofs.SoundAccesses.{leads-type, reached-sound, required-leaves, required-true, stored-sound, string-sound, type-of, used-sound}
 use Rattle.expression_checker.proofs.SoundCalls.{AllPassed, CallLaws, IsPassed, PassedIsSound, call-sound, function-sound, place-kind, then-gives}
-use Rattle.expression_checker.proofs.SoundRows.{Leads, LieIn}
-use Rattle.expression_checker.proofs.SoundOperations.{IsKnownOf, combined-sound, fitting-sound, given-sound, operated-sound, positive-sound}
+use Rattle.expression_checker.proofs.SoundRows.{Leads}
+use Rattle.expression_checker.proofs.SoundOperations.{IsKnownOf, combined-sound, fitting-sound, given-sound, number-in, operated-sound}
+use Rattle.expression_checker.proofs.SoundOperations.{positive-sound}
 
 -- the walk over an action that gives no value is sound
 abbrev pub SoundAction : World → ℕ → Environment → effect.Action (Unit {0}) → Walking (Unit {0}) → Type 0
@@ -229,7 +219,7 @@ module _ (world : World) (block : ℕ) (env : Surroundings) (laws : CallLaws wor
       → is_well_formed_whole outline block value (length (map (λ e. e.0) indexes)) ≡ true
       → Sound world block visible (IsWholeIn world block env value) (meaning.whole_of value (map value_of (map (λ e. e.0) indexes)) env)
       (walk.whole_walk value (map piece_of (map (λ e. e.0) indexes)))
-  whole-sound (Text number text) indexes counted well = string-sound world block env number text well
+  whole-sound (Text number text) indexes counted well = string-sound world block env number text
   whole-sound (VariableOf access type_id cells defined) indexes counted well =
       let expressions = map (λ (e : ProvedExpr). e.0) indexes in
       stored-sound world block env access type_id cells defined (map value_of expressions) (map piece_of expressions) (proved-indexes indexes counted)
@@ -237,27 +227,6 @@ module _ (world : World) (block : ℕ) (env : Surroundings) (laws : CallLaws wor
       (sym (many-mapped value_of indexes)) well)
 
   -- ---- actual parameters
-
-  -- ranges of a copy that fits, or none, one for each leaf
-  kept-lie : (types : List TypeForm) (target : TypeId) (ranges : List Interval) (numbers : List ℤ) (fits : Bool)
-      → (fits ≡ true → length ranges ≡ length (leaves_of types target) → LieIn types target ranges numbers)
-      → length (cond fits ranges []) ≡ length (leaves_of types target) → LieIn types target (cond fits ranges []) numbers
-  kept-lie types target ranges numbers true lies count = lies refl count
-  kept-lie types target ranges numbers false lies count = λ k j rest leaf n range of_type of_leaf named at ranged. absurd (none-some range ranged)
-
-  -- the test of a value that is passed
-  type-values : (fits : RangeTest) (formal : DeclaredVariable) (v : Value) (found : Option OrdinalRange) → range_of (types_in world) formal.type_id ≡ found
-      → is_range_of fits.range found ≡ true → is_in fits.range v ≡ true → LiesIn (types_in world) formal.type_id v
-  type-values fits formal v None is same passes = absurd (none-true same)
-    where
-      none-true : ◌≡◌ {A = Bool} false true → ⊥
-      none-true is = cc
-  type-values fits formal v (Some range) is same passes =
-      let ends = and_parts (int_eq fits.range.first range.first) (int_eq fits.range.last range.last) same in
-      let first : fits.range.first ≡ range.first = grind (arith, ints, ends.0) in
-      let last : fits.range.last ≡ range.last = grind (arith, ints, ends.1) in
-      let own : fits.range ≡ range = ap₂ (λ (a b : ℤ). record { first = a; last = b }) first last in
-      (range, is, subst (λ (r : OrdinalRange). IsIn (limits_of r) v) own (is_in-limits fits.range v passes))
 
   passed-value : (value : Expr) (fits : RangeTest) (callee position : ℕ) (formal : DeclaredVariable) → ValueIsSound value
       → formal_of outline callee position ≡ Some formal → (well_expr value && passes_value outline block fits callee position) ≡ true
@@ -297,7 +266,7 @@ module _ (world : World) (block : ℕ) (env : Surroundings) (laws : CallLaws wor
             (meaning.OfValue v) s3 here.fine (record {
               tie = record {
                 known = (known-range passed v lies, form);
-                kind = (kind.0, type-values fits formal v (range_of (types_in world) formal.type_id) refl typed.1 passes);
+                kind = (kind.0, passed-lies (types_in world) formal.type_id fits v (range_of (types_in world) formal.type_id) refl typed.1 passes);
               };
               stands = here.stands;
               kept = keeps-itself visible context.rounds s3.store;
@@ -314,10 +283,10 @@ module _ (world : World) (block : ℕ) (env : Surroundings) (laws : CallLaws wor
       → formal_of outline callee position ≡ Some formal
       → (all_hold (whole_indexes value (map well_expr (map (λ e. e.0) indexes)))
       && (is_well_formed_whole outline block value (length (map well_expr (map (λ e. e.0) indexes)))
-      && passes_whole outline block type_id (length_of value) callee position)) ≡ true
+      && passes_whole outline block type_id (source_of value) (length_of value) callee position)) ≡ true
       → (passing : Passing) → passing ≡ (λ env. effect.◌>>=◌ (meaning.whole_of value (map value_of (map (λ e. e.0) indexes)) env)
-      (λ numbers. effect.give (meaning.OfRow numbers)))
-      → (piece : PassedPiece) → piece.walk ≡ walk.whole_passed type_id value (map piece_of (map (λ e. e.0) indexes))
+      (λ row. effect.give (meaning.OfRow row)))
+      → (piece : PassedPiece) → piece.walk ≡ walk.whole_passed value (map piece_of (map (λ e. e.0) indexes))
       → piece.holds_call ≡ walk.hold_call (whole_indexes value (map piece_of (map (λ e. e.0) indexes)))
       → PassedIsSound world block env formal passing piece
   passed-whole type_id value indexes callee position formal at well passing passing_is piece walk_is holds_is =
@@ -326,46 +295,33 @@ module _ (world : World) (block : ℕ) (env : Surroundings) (laws : CallLaws wor
       let pieces = map piece_of expressions in
       let counted = all_hold (whole_indexes value (map well_expr expressions)) in
       let formed = is_well_formed_whole outline block value (length (map well_expr expressions)) in
-      let passes = passes_whole outline block type_id (length_of value) callee position in
+      let source = source_of value in
+      let passes = passes_whole outline block type_id source (length_of value) callee position in
       let one = and_parts counted (formed && passes) well in
       let two = and_parts formed passes one.1 in
-      let takes : takes_whole outline type_id (length_of value) formal ≡ true =
-      subst (λ (found : Option DeclaredVariable). of_one (takes_whole outline type_id (length_of value)) found ≡ true) at two.1 in
-      let sized = nat_eq (cells_of (types_in world) type_id) (length_of value) in
-      let kind = and_parts (is_value_kind formal.kind) (is_same type_id formal.type_id && (not (is_ordinal (types_in world) type_id) && sized)) takes in
-      let same = and_parts (is_same type_id formal.type_id) (not (is_ordinal (types_in world) type_id) && sized) kind.1 in
-      let may = and_parts (not (is_ordinal (types_in world) type_id)) sized same.1 in
+      let three = and_parts (may_copy outline block type_id source (length_of value)) (is_passed_to outline block (takes_whole type_id) callee position)
+      two.1 in
+      let takes : takes_whole type_id formal ≡ true =
+      subst (λ (found : Option DeclaredVariable). of_one (takes_whole type_id) found ≡ true) at three.1 in
+      let kind = and_parts (is_value_kind formal.kind) (is_same type_id formal.type_id) takes in
       let sized_indexes : is_well_formed_whole outline block value (length expressions) ≡ true =
       subst (λ (n : ℕ). is_well_formed_whole outline block value n ≡ true) (many-mapped well_expr indexes) two.0 in
       let R = IsPassed world visible formal in
       let action = meaning.whole_of value values env in
-      let next = λ (numbers : List ℤ). effect.give (meaning.OfRow numbers) in
+      let next = λ (row : List Value). effect.give (meaning.OfRow row) in
       let walking = walk.whole_walk value pieces in
-      let sound_here : Sound world block visible R (effect.◌>>=◌ action next) (walk.◌>>=◌ walking (walk.copied type_id value)) =
-      sound-then world block visible (IsWholeIn world block env value) R action next walking (walk.copied type_id value)
+      let walk_next = λ (ranges : List Interval). walk.give (OfRows ranges) in
+      let sound_here : Sound world block visible R (effect.◌>>=◌ action next) (walk.◌>>=◌ walking walk_next) =
+      sound-then world block visible (IsWholeIn world block env value) R action next walking walk_next
       (whole-sound value indexes one.0 sized_indexes)
-      (λ ranges numbers store whole. λ context state s unbroken part here.
-      let types = types_in world in
-      let many = many-numbers outline block type_id value (length expressions) ranges numbers sized_indexes may.1 whole in
-      let kept = λ (own : List TypeForm). cond (fits_whole own type_id value) ranges [] in
-      let lies : length (kept context.tree.types) ≡ length (leaves_of types formal.type_id) → LieIn types formal.type_id (kept context.tree.types) numbers =
-      subst (λ (tree : Tree). length (kept tree.types) ≡ length (leaves_of types formal.type_id) → LieIn types formal.type_id (kept tree.types) numbers)
-      (sym here.stands.goes.tree_is)
-      (subst (λ (id : TypeId). length (kept types) ≡ length (leaves_of types id) → LieIn types id (kept types) numbers)
-      (same-type type_id formal.type_id same.0)
-      (kept-lie types type_id ranges numbers (fits_whole types type_id value)
-      (λ fits count. fits-lie types type_id value ranges numbers whole fits many count))) in
-      let counted_numbers : length numbers ≡ length (components_of types formal.type_id) =
-      sym many ∙ ap (λ (id : TypeId). length (components_of types id)) (same-type type_id formal.type_id same.0) in
-      good-give world (IsForetold world visible R context (walk.copied type_id value ranges context state) s.store) (meaning.OfRow numbers) s here.fine
-      (record {
-        tie = record { known = (counted_numbers, lies); kind = kind.0 };
-        stands = here.stands;
-        kept = keeps-itself visible context.rounds s.store;
-      })) in
+      (λ ranges row store whole. sound-give world block visible R (meaning.OfRow row) (OfRows ranges)
+      (λ later.
+      let copy = subst (λ (id : TypeId). IsCopyFor (types_in world) id ranges row) (same-type type_id formal.type_id kind.1)
+      (copy-for outline block laws.required type_id (length expressions) ranges row value sized_indexes three.0 whole) in
+      record { known = (copy.structured, copy.many, copy.lie); kind = (kind.0, copy.components) })) in
       record {
         sound = subst (λ (w : Walking Actual). Sound world block visible R (passing env) w) (sym walk_is)
-            (subst (λ (p : Passing). Sound world block visible R (p env) (walk.whole_passed type_id value pieces)) (sym passing_is) sound_here);
+            (subst (λ (p : Passing). Sound world block visible R (p env) (walk.whole_passed value pieces)) (sym passing_is) sound_here);
         leaves = λ quiet. subst (λ (p : Passing). Leaves (p env)) (sym passing_is)
             (λ s t argument is.
             let first = then-gives (action s) next argument t is in
@@ -454,9 +410,11 @@ module _ (world : World) (block : ℕ) (env : Surroundings) (laws : CallLaws wor
   passed-sound_layer (PassedWhole type_id value indexes) = λ callee position well.
       let expressions = map (λ (e : ProvedExpr). e.0) indexes.items in
       let formed = is_well_formed_whole outline block value (length (map well_expr expressions)) in
-      let passes = passes_whole outline block type_id (length_of value) callee position in
-      let one = and_parts (all_hold (whole_indexes value (map well_expr expressions))) (formed && passes) well in
-      let there = one-there (takes_whole outline type_id (length_of value)) (formal_of outline callee position) (and_parts formed passes one.1).1 in
+      let copied = may_copy outline block type_id (source_of value) (length_of value) in
+      let passed = is_passed_to outline block (takes_whole type_id) callee position in
+      let one = and_parts (all_hold (whole_indexes value (map well_expr expressions))) (formed && (copied && passed)) well in
+      let two = and_parts formed (copied && passed) one.1 in
+      let there = one-there (takes_whole type_id) (formal_of outline callee position) (and_parts copied passed two.1).1 in
       (there.0, there.1, passed-whole type_id value indexes.items callee position there.0 there.1 well _ refl _ refl refl)
   passed-sound_layer (Reference type_id access indexes) = λ callee position well.
       let expressions = map (λ (e : ProvedExpr). e.0) indexes.items in
@@ -533,10 +491,10 @@ module _ (world : World) (block : ℕ) (env : Surroundings) (laws : CallLaws wor
       (ltb-true defined (sites_in world) both.1)
   value-layer (MonadicOf number operation operand) well =
       let parts = and_parts (monadic_is_well_formed outline block operation) (well_expr operand.value.0) well in
-      entered-sound world block visible IsValue number (effect.◌>>=◌ (value_of operand.value.0 env) (meaning.operated operation))
+      let meant = λ (v : Value). effect.◌>>=◌ (meaning.operated operation (number_of v)) (λ n. effect.give (Number n)) in
+      entered-sound world block visible IsValue number (effect.◌>>=◌ (value_of operand.value.0 env) meant)
       (walk.◌>>=◌ (value_walk operand.value.0) (walk.operated operation))
-      (sound-then world block visible IsValue IsValue (value_of operand.value.0 env) (meaning.operated operation) (value_walk operand.value.0)
-      (walk.operated operation)
+      (sound-then world block visible IsValue IsValue (value_of operand.value.0 env) meant (value_walk operand.value.0) (walk.operated operation)
       (operand.value.1 parts.1) (λ known v store inside. operated-sound world block visible operation known v parts.0 inside))
   value-layer (Chain first rest) well =
       let links = map (λ (l : ProvedLink). l.0) rest.items in
@@ -565,17 +523,18 @@ module _ (world : World) (block : ℕ) (env : Surroundings) (laws : CallLaws wor
       subst (λ (n : ℕ). is_well left n ≡ true) (many-mapped well_expr left_indexes.items) two.0 in
       let right_sized : is_well right (length right_expressions) ≡ true =
       subst (λ (n : ℕ). is_well right n ≡ true) (many-mapped well_expr right_indexes.items) four.0 in
-      let compares = λ (a : List ℤ). effect.◌>>=◌ (meaning.whole_of right right_values env) (λ b. effect.give (meaning.compared relation a b)) in
-      let behind = λ (a : List ℤ). effect.◌>>=◌ (effect.enter number visible) (λ done. compares a) in
+      let compares = λ (a : List Value).
+      effect.◌>>=◌ (meaning.whole_of right right_values env) (λ b. effect.give (Number (meaning.compared relation a b))) in
+      let behind = λ (a : List Value). effect.◌>>=◌ (effect.enter number visible) (λ done. compares a) in
       let walked = walk.◌>>=◌ (walk.whole_walk right right_pieces) (λ done. walk.ordinal truth_values) in
       sound-then world block visible (IsWholeIn world block env left) IsValue (meaning.whole_of left left_values env) behind
       (walk.whole_walk left left_pieces) (λ done. walk.◌>>=◌ (walk.enter number) (λ done. walked)) (whole-sound left left_indexes.items one.0 left_sized)
       (λ b a store tie. entered-sound world block visible IsValue number (compares a) walked
       (sound-then world block visible (IsWholeIn world block env right) IsValue (meaning.whole_of right right_values env)
-      (λ b. effect.give (meaning.compared relation a b))
+      (λ b. effect.give (Number (meaning.compared relation a b)))
       (walk.whole_walk right right_pieces) (λ done. walk.ordinal truth_values) (whole-sound right right_indexes.items three.0 right_sized)
-      (λ c b store tie. given-sound world block visible truth_values (truth (meaning.relates relation (meaning.order_of a b) (pos 0)))
-      (truth_values-has (meaning.relates relation (meaning.order_of a b) (pos 0))))))
+      (λ c b store tie. given-sound world block visible truth_values (meaning.compared relation a b)
+      (truth_values-has (meaning.relates relation (meaning.order_of (map number_of a) (map number_of b)) (pos 0))))))
   value-layer (CallOf call actuals) well =
       let passed = map (λ (p : ProvedPassed). p.0) actuals.items in
       let n = length (map well_passed passed) in
@@ -591,7 +550,7 @@ module _ (world : World) (block : ℕ) (env : Surroundings) (laws : CallLaws wor
       (map-Link ProvedExpr ProvedPassed ProvedLink Expr Passed Link (λ e. e.0) (λ p. p.0) (λ l. l.0) y)
   link-layer y well known v inside =
       let right = y.operand.0 in
-      let meant = meaning.combined y.operation v in
+      let meant = λ (w : Value). effect.◌>>=◌ (meaning.combined y.operation (number_of v) (number_of w)) (λ n. effect.give (Number n)) in
       let walked = walk.combined y.operation known in
       let parts = and_parts (dyadic_is_well_formed outline block y.operation) (well_expr right) well in
       entered-sound world block visible IsValue y.number (effect.◌>>=◌ (value_of right env) meant) (walk.◌>>=◌ (value_walk right) walked)
@@ -718,13 +677,11 @@ module _ (world : World) (block : ℕ) (env : Surroundings) (laws : CallLaws wor
       (length-map indexes value_of ∙ leads-count outline block wanted access.root selectors (length indexes) leads)
       (leads-tests outline block wanted access.root selectors (length indexes) leads)
 
-  -- the numbers of a whole value lie in the ranges that the walk tells
+  -- the values of a whole value lie in the ranges that the walk tells
   pub whole_value-sound : (value : Whole) (indexes : List Expr) → is_well_formed_value outline block value indexes ≡ true
       → Sound world block visible (IsWholeIn world block env value) (meaning.whole_of value (values_of indexes) env)
       (walk.whole_walk value (walk.index_pieces indexes))
-  whole_value-sound (Text number text) indexes well =
-      string-sound world block env number text
-      (and_parts true (is_well_formed_whole outline block (Text number text) (length indexes)) well).1
+  whole_value-sound (Text number text) indexes well = string-sound world block env number text
   whole_value-sound (VariableOf access type_id cells defined) indexes well =
       let is_well = is_well_formed_whole outline block (VariableOf access type_id cells defined) in
       let both = and_parts (are_well_formed outline block indexes) (is_well (length indexes)) well in
@@ -735,20 +692,23 @@ module _ (world : World) (block : ℕ) (env : Surroundings) (laws : CallLaws wor
 
   -- a width that has to be at least 1
   width-tested : (site : ℕ) (known : Known) (w : Value) → nat_lt site (sites_in world) ≡ true → IsKnown known w
-      → Sound {B = Unit {0}} world block visible Any_value (effect.◌>>=◌ (effect.require (is_positive w) site) (λ tested. effect.give w))
+      → Sound {B = Unit {0}} world block visible Any_value
+      (effect.◌>>=◌ (effect.require (is_positive (number_of w)) site) (λ tested. effect.give (number_of w)))
       (walk.width_test site known)
   width-tested site (Ordinal range) w below inside =
-      sound-then {D = Unit {0}} world block visible (Passes (is_positive w) w) Any_value (effect.require (is_positive w) site) (λ tested. effect.give w)
-      (walk.positive site range) (λ passed. walk.give tt)
-      (positive-sound world block visible site range w (ltb-true site (sites_in world) below) inside)
-      (λ passed tested store passes. sound-give {B = Unit {0}} world block visible Any_value w tt (λ later. tt))
+      let n = number_of w in
+      sound-then {D = Unit {0}} world block visible (Passes (is_positive n) (Number n)) Any_value (effect.require (is_positive n) site)
+      (λ tested. effect.give n) (walk.positive site range) (λ passed. walk.give tt)
+      (positive-sound world block visible site range n (ltb-true site (sites_in world) below) (number-in range w inside))
+      (λ passed tested store passes. sound-give {B = Unit {0}} world block visible Any_value n tt (λ later. tt))
 
   width-sound : (width : Option Width) (default : ℤ) → is_well_formed_width outline block width ≡ true
       → Sound {B = Unit {0}} world block visible Any_value (width_of width default env) (width_walk width)
-  width-sound None default well = sound-give {B = Unit {0}} world block visible Any_value (Number default) tt (λ later. tt)
+  width-sound None default well = sound-give {B = Unit {0}} world block visible Any_value default tt (λ later. tt)
   width-sound (Some width) default well =
       let parts = and_parts (nat_lt width.site (sites_in world)) (well_expr width.value) well in
-      let tests = λ (w : Value). effect.◌>>=◌ (effect.require (is_positive w) width.site) (λ tested. effect.give w) in
+      let tests = λ (w : Value).
+      effect.◌>>=◌ (effect.require (is_positive (number_of w)) width.site) (λ tested. effect.give (number_of w)) in
       sound-then {D = Unit {0}} world block visible IsValue Any_value (value_of width.value env) tests (value_walk width.value) (walk.width_test width.site)
       (value-sound width.value parts.1) (λ known w store inside. width-tested width.site known w parts.0 inside)
 
@@ -759,11 +719,11 @@ module _ (world : World) (block : ℕ) (env : Surroundings) (laws : CallLaws wor
   written-sound (written.Ordinal value representation) width well wide =
       let default = meaning.default_width representation in
       sound-then world block visible Any_value Any_value (value_of value env)
-      (λ v. effect.◌>>=◌ (width_of width default env) (λ w. effect.write (text_of representation v w)))
+      (λ v. effect.◌>>=◌ (width_of width default env) (λ w. effect.write (text_of representation (number_of v) w)))
       (walk.written_walk (written.Ordinal value representation)) (λ done. width_walk width)
       (sound-named world block visible IsValue Any_value (λ known. tt) (λ known v store inside. tt) (value_of value env) (value_walk value)
       (value-sound value well))
-      (λ done v store tie. sound-written world block visible Any_value (text_of representation v) (width_of width default env) (width_walk width)
+      (λ done v store tie. sound-written world block visible Any_value (text_of representation (number_of v)) (width_of width default env) (width_walk width)
       (width-sound width default wide))
   written-sound (written.String value indexes) width well wide =
       let default = pos (length_of value) in

@@ -10,24 +10,25 @@ use Rattle.types.specs.Forms.{Form}
 use Rattle.types.specs.declared.form.Step.{Step}
 use Rattle.types.specs.declared.form.Step.TheVariants as step
 use Rattle.types.specs.declared.form.TypeId.{TypeId}
+use Rattle.types.specs.Types.{is_structured}
 use Rattle.typed_tree.specs.declared.tree.Selector.{Selector}
 use Rattle.typed_tree.specs.declared.tree.Selector.TheVariants.{Element, Field}
 use Rattle.typed_tree.specs.declared.tree.Tree.{Tree}
 use Rattle.typed_tree.specs.declared.tree.Whole.{Whole}
 use Rattle.typed_tree.specs.declared.tree.Whole.TheVariants.{Text, Variable as VariableOf}
 use Rattle.typed_tree.specs.Accesses.{index_count}
-use Rattle.domain.specs.Interval.{HasMember, Interval}
+use Rattle.domain.specs.Interval.{Interval}
 use Rattle.meaning.specs.declared.store.Value.{Value}
+use Rattle.meaning.specs.declared.store.Value.TheVariants.{Number}
 use Rattle.meaning.specs.Store.{Environment, Store}
 use Rattle.abstract_state.specs.Holds.{HasValue, IsIn}
-use Rattle.abstract_state.specs.State.{integer}
 use Rattle.abstract_state.specs.Knows.{moment}
 use Rattle.leaf_rows.specs.Leaves.{leaves_of}
-use Rattle.leaf_rows.specs.Rows.{Parts, all_parts, first_index, index_at, is_structured, rows_accessed, rows_of}
+use Rattle.leaf_rows.specs.Rows.{Parts, all_parts, first_index, index_at, rows_accessed, rows_of}
 pub use Rattle.leaf_rows.proofs.Accessed.{RowsAre, rows-are}
 pub use Rattle.leaf_rows.proofs.Selected.{Matches}
 pub use Rattle.call_states.proofs.FormalRows.{one-way}
-pub use Rattle.call_states.proofs.Passed.{IsIndexOn, IsReachedBy, Leads, LieIn}
+pub use Rattle.call_states.proofs.Passed.{AreComponentsOf, IsIndexOn, IsReachedBy, Leads, LieIn}
 pub use Rattle.call_states.proofs.Reached.{first-then, reached-has}
 use Rattle.component_states.specs.Components.{At, Entire, Inside, Reach, row_at, with_defined}
 use Rattle.component_states.specs.Holds.{HasComponent, IsOfRow, Knows}
@@ -38,20 +39,20 @@ use Rattle.expression_checker.specs.Walk.{all_defined, all_joined, is_covered, r
 
 -- ---- whole values
 
-abbrev pub AreIntegers : List ℤ → Type 0
-AreIntegers row = All (HasMember integer) row
+-- the values of a string's characters
+abbrev pub characters_of : List ℕ → List Value
+characters_of = map (λ c. Number (pos c))
 
--- the numbers of a whole value, by the ranges that are known
-abbrev pub AreOf : List Form → Whole → List Interval → List ℤ → Type 0
-AreOf types (Text number text) ranges numbers =
-    (numbers ≡ map pos text.items) × (ranges ≡ text_range text.items ∷ []) × All (HasMember (text_range text.items)) numbers
-AreOf types (VariableOf access type_id cells defined) ranges numbers =
-    (length numbers ≡ length (components_of types type_id))
-    × (is_structured types type_id ≡ true → length ranges ≡ length (leaves_of types type_id)) × LieIn types type_id ranges numbers
+-- the values of a whole value, by the ranges that are known; those of a variable are ones of its components' types
+abbrev pub AreOf : List Form → Whole → List Interval → List Value → Type 0
+AreOf types (Text number text) ranges values =
+    (values ≡ characters_of text.items) × (ranges ≡ text_range text.items ∷ []) × All (IsIn (text_range text.items)) values
+AreOf types (VariableOf access type_id cells defined) ranges values =
+    AreComponentsOf types type_id values × (is_structured types type_id ≡ true → length ranges ≡ length (leaves_of types type_id))
+    × LieIn types type_id ranges values
 
-pub record IsWhole (types : List Form) (value : Whole) (ranges : List Interval) (numbers : List ℤ) : Type 0 where
-  pub integers : AreIntegers numbers
-  pub told : AreOf types value ranges numbers
+pub record IsWhole (types : List Form) (value : Whole) (ranges : List Interval) (values : List Value) : Type 0 where
+  pub told : AreOf types value ranges values
 
 -- ---- ways
 
@@ -81,7 +82,7 @@ first-behind (Field position offset ∷ selectors) (step.Field place ∷ way) nu
 
 -- ---- ranges
 
-all-of : (test : ℕ → Bool) (rows : List ℕ) (row : ℕ) → list_all test rows ≡ true → Contains rows row → test row ≡ true
+pub all-of : (test : ℕ → Bool) (rows : List ℕ) (row : ℕ) → list_all test rows ≡ true → Contains rows row → test row ≡ true
 all-of test rows row all inside = All-contains (λ (r : ℕ). test r ≡ true) rows row (AllPass-from_list_all test rows all) inside
 
 pub covered-row : (tree : Tree) (state : State) (reach : Reach) (rows : List ℕ) (row : ℕ) → is_covered tree state reach rows ≡ true → Contains rows row

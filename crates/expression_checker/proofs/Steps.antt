@@ -471,7 +471,7 @@ index-end selectors items i reach old visits past =
 pub range-in : (known : Known) (range : Interval) → known ≡ Ordinal range → range_in known ≡ range
 range-in known range is = ap range_in is
 
--- ---- the value after another, and before
+-- ---- what is made of a value that passed a test
 
 -- what passed a test is known in each context, and so is what is made of it
 pub passed-goes : {A B : Type 0} (walk : Walking B) (test : Walking A) (next : A → B) (passed known : A) (result : B) (old new : Flow) (visits : Visits)
@@ -492,7 +492,7 @@ pub passed-Value : (value : Expr) (fits : RangeTest)
 passed-Value value fits = search (rules, the_lemmas)
 
 pub passed-Whole : (type_id : TypeId) (value : Whole) (indexes : Vec Expr Global)
-    → (passed_piece_of (passed.Whole type_id value indexes)).walk ≡ whole_passed type_id value (index_pieces indexes.items)
+    → (passed_piece_of (passed.Whole type_id value indexes)).walk ≡ whole_passed value (index_pieces indexes.items)
 passed-Whole type_id value indexes = search (rules, the_lemmas)
 
 pub passed-Reference : (type_id : TypeId) (access : Access) (indexes : Vec Expr Global)

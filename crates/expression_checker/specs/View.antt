@@ -6,7 +6,7 @@ use Rattle.std.specs.declared.vec.Vec.{Vec}
 use Rattle.typed_tree.specs.declared.tree.Block.{Block}
 use Rattle.typed_tree.specs.declared.tree.Call.{Call}
 use Rattle.typed_tree.specs.declared.tree.FunctionResult.{FunctionResult}
-use Rattle.domain.specs.Interval.{Interval}
+use Rattle.domain.specs.Interval.{Interval, held}
 use Rattle.abstract_state.specs.State.{integer}
 use Rattle.component_states.specs.States.{State}
 use Rattle.component_states.specs.View.{viewed}
@@ -84,6 +84,11 @@ Goes walking old before (Err fault) new after =
 abbrev pub seen : {A B : Type 0} → (A → B) → Result A CheckFault → Result B CheckFault
 seen view (Ok value) = Ok (view value)
 seen view (Err fault) = Err fault
+
+-- a range of the program is that of some results; where it is tested whether these are integers, its ends may be held
+abbrev pub IsRangeOf : Option ℕ → (kept range : Interval) → Type 0
+IsRangeOf None kept range = kept ≡ range
+IsRangeOf (Some overflow) kept range = kept ≡ held range
 
 -- ranges of rows as the definitions see them
 abbrev pub said_ranges : Vec Interval Global → List Interval

@@ -1,8 +1,8 @@
 -- The walk of the checker over an expression, one equation a form: what is known of its value, the state after it, the
 -- sites that it leaves open, the rules of certificates that its calls break, and the state at each entry into an
 -- expression (ISO 7185:1990, 6.7). It does not say that a run does what the walk says of it.
-use Rattle.std.specs.Prelude.{◌≡◌, ℕ, ℤ, pos, ◌+ℤ◌, ◌-ℤ◌, Bool, not, ◌||◌, int_le, int_lt, List, [], ◌∷◌, ◌++◌}
-use Rattle.std.specs.Prelude.{Option, Some, None, if◌then◌else◌, map, ◌&&◌, true, false, length, slice_get}
+use Rattle.std.specs.Prelude.{◌≡◌, ℕ, pos, Bool, not, ◌||◌, int_le, List, [], ◌∷◌, ◌++◌}
+use Rattle.std.specs.Prelude.{Option, Some, None, if◌then◌else◌, map, ◌&&◌, true, false, slice_get}
 use Rattle.std.specs.List.{list_all, list_any}
 use Rattle.place.specs.declared.Place.{Place}
 use Rattle.typed_tree.specs.declared.tree.Tree.{Tree}
@@ -15,6 +15,10 @@ use Rattle.typed_tree.specs.declared.tree.Selector.TheVariants.{Element, Field}
 use Rattle.typed_tree.specs.declared.tree.RangeTest.{RangeTest}
 use Rattle.typed_tree.specs.declared.tree.Monadic.{Monadic}
 use Rattle.typed_tree.specs.declared.tree.Monadic.TheVariants as monadic
+use Rattle.typed_tree.specs.declared.tree.Calculation.{Calculation}
+use Rattle.typed_tree.specs.declared.tree.Calculation.TheVariants as calculation
+use Rattle.typed_tree.specs.declared.tree.Shift.{Shift}
+use Rattle.typed_tree.specs.declared.tree.Shift.TheVariants as shift
 use Rattle.typed_tree.specs.declared.tree.Dyadic.{Dyadic}
 use Rattle.typed_tree.specs.declared.tree.Dyadic.TheVariants as dyadic
 use Rattle.typed_tree.specs.declared.tree.Width.{Width}
@@ -23,8 +27,7 @@ use Rattle.typed_tree.specs.declared.tree.Written.{Written}
 use Rattle.typed_tree.specs.declared.tree.Written.TheVariants as written
 use Rattle.typed_tree.specs.declared.tree.Whole.{Whole}
 use Rattle.typed_tree.specs.declared.tree.Whole.TheVariants.{Text, Variable as VariableOf}
-use Rattle.types.specs.Forms.{Form as TypeForm}
-use Rattle.types.specs.Types.{have_one_length, is_same, string_length}
+use Rattle.types.specs.Types.{is_structured}
 use Rattle.types.specs.declared.form.TypeId.{TypeId}
 use Rattle.typed_tree.specs.declared.tree.Expr.{Expr}
 use Rattle.typed_tree.specs.declared.tree.Link.{Link}
@@ -36,9 +39,10 @@ use Rattle.typed_tree.specs.declared.tree.Expr.TheOpen.Passed-F.{Value as Passed
 use Rattle.typed_tree.specs.declared.tree.Expr.TheFolds.{fold-Expr, fold-Passed, fold-Link}
 use Rattle.typed_tree.specs.WellFormed.{of_one, whole_indexes}
 use Rattle.domain.specs.Interval.{Interval, is_included, has_number, common, sum, difference, negated, product, squared}
-use Rattle.domain.specs.Interval.{absolute, quotient, remainder, without_zero_end, at_least, at_most, both, either}
+use Rattle.domain.specs.Interval.{absolute, quotient, remainder, without_zero_end, at_least, both, either}
 use Rattle.domain.specs.Interval.{complement, joined, truth_values, vacant}
 use Rattle.domain.specs.Facts.{Bound}
+use Rattle.meaning.specs.Meaning.{overflow_of, overflow_of_both}
 use Rattle.expression_checker.specs.declared.fault.Rule.{Rule}
 use Rattle.expression_checker.specs.declared.fault.Rule.TheVariants.{Aliases, CallEntry, Changes}
 use Rattle.expression_checker.specs.declared.fault.CheckFault.{CheckFault}
@@ -48,7 +52,7 @@ use Rattle.abstract_state.specs.declared.known.Known.TheVariants.{Ordinal}
 use Rattle.abstract_state.specs.State.{integer, is_defined, limits_of, range_of, unless_empty}
 use Rattle.abstract_state.specs.State as variables
 use Rattle.abstract_state.specs.Forms.{Form, Literal, Other, Operand, access_form, bound_of, chain_form, sign_form}
-use Rattle.leaf_rows.specs.Rows.{index_at, is_structured, rows_accessed, rows_of}
+use Rattle.leaf_rows.specs.Rows.{index_at, rows_accessed, rows_of}
 use Rattle.component_states.specs.Components.{Index, Reach, Entire, At, Inside, row_at, with_defined}
 use Rattle.component_states.specs.States.{State, gives_reached, is_dead, over_components, over_variables}
 use Rattle.abstract_state.specs.Loops.{is_among}
@@ -57,7 +61,7 @@ use Rattle.structured_states.specs.Pairs.{Listed}
 use Rattle.structured_states.specs.Ways.{single}
 use Rattle.call_states.specs.Sections.{BlockClaims, block_claims_at}
 use Rattle.call_states.specs.Starts.{is_own}
-use Rattle.call_states.specs.Actuals.{Actual, OfValue, OfRows, OfVariable, Binding, are_of_types, bound_to, settled}
+use Rattle.call_states.specs.Actuals.{Actual, OfValue, OfRows, OfVariable, Binding, bound_to, settled}
 use Rattle.call_states.specs.Entry.{are_given}
 use Rattle.call_states.specs.Overlaps.{are_separate}
 use Rattle.exit_states.specs.Exit.{behind_call, result_range, roots_changed}
@@ -197,14 +201,6 @@ within limits site range = tested (is_included range limits) site (common range 
 abbrev pub positive : ℕ → Interval → Walking Interval
 positive site range = tested (int_le (pos 1) range.first) site (at_least (pos 1) range)
 
--- an ordinal that has to lie below the last of its type
-abbrev pub below : ℤ → ℕ → Interval → Walking Interval
-below last site range = tested (int_lt range.last last) site (at_most (last -ℤ pos 1) range)
-
--- an ordinal that has to lie above the first of its type
-abbrev pub above : ℤ → ℕ → Interval → Walking Interval
-above first site range = tested (int_lt first range.first) site (at_least (first +ℤ pos 1) range)
-
 -- a divisor, which may not be 0: an end of its range that is 0 is cut off
 abbrev pub divisor : ℕ → Interval → Walking Interval
 divisor site range = tested (not (has_number range (pos 0))) site (without_zero_end range)
@@ -213,49 +209,58 @@ divisor site range = tested (not (has_number range (pos 0))) site (without_zero_
 abbrev pub ordinal : Interval → Walking Known
 ordinal range = give (Ordinal range)
 
--- a result that has to be an integer
-abbrev pub whole : ℕ → Interval → Walking Known
-whole overflow range = do
-  passed ← within integer overflow range
+-- a result that has to be an integer, where its overflow has a site
+abbrev pub unless_overflow : Option ℕ → Interval → Walking Known
+unless_overflow None range = ordinal range
+unless_overflow (Some site) range = do
+  passed ← within integer site range
   ordinal passed
 
--- the values of type char (6.4.2.2)
-abbrev pub characters : Interval
-characters = record { first = pos 0; last = pos 127 }
+-- the range of what is calculated from the numbers of a range
+abbrev pub calculated : Calculation → Interval → Interval
+calculated calculation.Same range = range
+calculated calculation.Negative range = negated range
+calculated calculation.Complement range = complement range
+calculated calculation.Absolute range = absolute range
+calculated (calculation.Square overflow) range = squared range
+calculated calculation.Parity range = truth_values
+calculated calculation.Ordinal range = range
+
+-- the range behind a test
+abbrev pub shifted : Shift → Interval → Interval
+shifted shift.Same range = range
+shifted shift.Next range = sum range single
+shifted shift.Previous range = difference range single
 
 -- an operation on one operand, by what is known of the operand
 abbrev pub operated : Monadic → Known → Walking Known
-operated monadic.Plus (Ordinal range) = ordinal range
-operated monadic.Minus (Ordinal range) = ordinal (negated range)
-operated monadic.Not (Ordinal range) = ordinal (complement range)
-operated monadic.Abs (Ordinal range) = ordinal (absolute range)
-operated (monadic.Sqr overflow) (Ordinal range) = whole overflow (squared range)
-operated monadic.Odd (Ordinal range) = ordinal truth_values
-operated monadic.Ord (Ordinal range) = ordinal range
-operated (monadic.Chr no_char) (Ordinal range) = do
-  passed ← within characters no_char range
-  ordinal passed
-operated (monadic.Succ no_successor last) (Ordinal range) = do
-  passed ← below last no_successor range
-  ordinal (sum passed single)
-operated (monadic.Pred no_predecessor first) (Ordinal range) = do
-  passed ← above first no_predecessor range
-  ordinal (difference passed single)
+operated (monadic.Plain does) (Ordinal range) = unless_overflow (overflow_of does) (calculated does range)
+operated (monadic.Tested fits does) (Ordinal range) = do
+  passed ← within (limits_of fits.range) fits.site range
+  ordinal (shifted does passed)
+
+-- the test of a right operand, where it is a divisor: that of `mod` has to be at least 1
+abbrev pub divides : Dyadic → Interval → Walking Interval
+divides (dyadic.Div by_zero) range = divisor by_zero range
+divides (dyadic.Mod by_zero_or_less) range = positive by_zero_or_less range
+divides other range = give range
+
+-- the range of what is calculated from a number of each range
+abbrev pub of_both : Dyadic → Interval → Interval → Interval
+of_both (dyadic.Plus overflow) left right = sum left right
+of_both (dyadic.Minus overflow) left right = difference left right
+of_both (dyadic.Times overflow) left right = product left right
+of_both (dyadic.Div by_zero) left right = quotient left right
+of_both (dyadic.Mod by_zero_or_less) left right = remainder left right
+of_both dyadic.And left right = both left right
+of_both dyadic.Or left right = either left right
+of_both (dyadic.Relation relation) left right = truth_values
 
 -- an operation on two operands, by what is known of them
 abbrev pub combined : Dyadic → Known → Known → Walking Known
-combined (dyadic.Plus overflow) (Ordinal left) (Ordinal right) = whole overflow (sum left right)
-combined (dyadic.Minus overflow) (Ordinal left) (Ordinal right) = whole overflow (difference left right)
-combined (dyadic.Times overflow) (Ordinal left) (Ordinal right) = whole overflow (product left right)
-combined (dyadic.Div by_zero) (Ordinal left) (Ordinal right) = do
-  passed ← divisor by_zero right
-  ordinal (quotient left passed)
-combined (dyadic.Mod by_zero_or_less) (Ordinal left) (Ordinal right) = do
-  passed ← positive by_zero_or_less right
-  ordinal (remainder left passed)
-combined dyadic.And (Ordinal left) (Ordinal right) = ordinal (both left right)
-combined dyadic.Or (Ordinal left) (Ordinal right) = ordinal (either left right)
-combined (dyadic.Relation relation) (Ordinal left) (Ordinal right) = ordinal truth_values
+combined operation (Ordinal left) (Ordinal right) = do
+  passed ← divides operation right
+  unless_overflow (overflow_of_both operation) (of_both operation left passed)
 
 -- a value has to lie in the range of a type
 abbrev pub fitting : RangeTest → Known → Walking Known
@@ -450,23 +455,10 @@ value_passed value fits = do
   passed ← fitting fits known
   give (OfValue (range_in passed) (bound_of value.form))
 
--- a whole value may be copied to a target of a structured type: it is of the same type, or a string as long
-abbrev pub fits_whole : List TypeForm → TypeId → Whole → Bool
-fits_whole types target (Text number text) =
-    is_structured types target && have_one_length (string_length types target) (Some (length text.items))
-fits_whole types target (VariableOf access type_id cells defined) =
-    is_structured types target
-    && (is_same target type_id || have_one_length (string_length types target) (string_length types type_id))
-
--- a copy of a value for a parameter of a type: one that may not be copied has no ranges
-abbrev pub copied : TypeId → Whole → List Interval → Walking Actual
-copied type_id value ranges context =
-    give (OfRows (if fits_whole context.tree.types type_id value then ranges else [])) context
-
-abbrev pub whole_passed : TypeId → Whole → List Piece → Walking Actual
-whole_passed type_id value indexes = do
+abbrev pub whole_passed : Whole → List Piece → Walking Actual
+whole_passed value indexes = do
   ranges ← whole_walk value indexes
-  copied type_id value ranges
+  give (OfRows ranges)
 
 abbrev pub variable_passed : Access → List Piece → Walking Actual
 variable_passed access indexes = do
@@ -475,7 +467,7 @@ variable_passed access indexes = do
 
 abbrev pub passed_walk : Passed-F Piece PassedPiece Joint → Walking Actual
 passed_walk (PassedValue value fits) = value_passed value fits
-passed_walk (PassedWhole type_id value indexes) = whole_passed type_id value indexes.items
+passed_walk (PassedWhole type_id value indexes) = whole_passed value indexes.items
 passed_walk (Reference type_id access indexes) = variable_passed access indexes.items
 
 abbrev pub passed_holds : Passed-F Piece PassedPiece Joint → Bool
@@ -516,10 +508,7 @@ called_block context call = slice_get context.tree.blocks.items call.block
 -- a call changes what it may: by the claims on the callee, at the place of its name
 abbrev pub call_change : Place → List Binding → BlockClaims → Walking (Unit {0})
 call_change place bindings claims context =
-    asked
-    (list_all (may_change context) (roots_changed bindings claims.changes)
-    && are_of_types context.tree bindings)
-    Changes place context
+    asked (list_all (may_change context) (roots_changed bindings claims.changes)) Changes place context
 
 -- what is passed makes listed aliases alone
 abbrev pub call_aliases : Call → List Binding → Walking (Unit {0})

@@ -1,23 +1,23 @@
 ghost use Rattle.std.specs.Prelude.{◌≡◌, [], Ok, Err, if◌then◌else◌, map};
 ghost use Rattle.abstract_state.specs.State.{limits_of};
 ghost use Rattle.abstract_state.specs.View.{said_form};
-ghost use Rattle.call_states.specs.Actuals.{OfRows};
 ghost use Rattle.call_states.specs.View.{said_actual};
 ghost use Rattle.component_states.specs.Components.{Entire};
 ghost use Rattle.component_states.specs.View.{said_index, said_reach};
 ghost use Rattle.expression_checker.specs.Visits.{Visits};
 ghost use Rattle.expression_checker.specs.declared.fault.CheckFault.TheVariants.{Broken};
 ghost use Rattle.expression_checker.specs.View.{Goes, said_actuals, said_ranges, seen};
-ghost use Rattle.expression_checker.specs.Walk.{actuals_walk, call_walk, called, fits_whole, form_before};
+ghost use Rattle.expression_checker.specs.Walk.{actuals_walk, call_walk, called, form_before};
 ghost use Rattle.expression_checker.specs.Walk.{function_walk, passed_piece_of, piece_of};
-ghost use Rattle.expression_checker.specs.Walk.{above, access_walk, behind_next, below, combined, deeper, divisor};
+ghost use Rattle.expression_checker.specs.Walk.{access_walk, behind_next, combined, deeper, divides, divisor};
 ghost use Rattle.expression_checker.specs.Walk.{fitting, index_pieces, index_test, indexes_walk, link_walk};
 ghost use Rattle.expression_checker.specs.Walk.{next_test, operated, parameter_walk, positive, related_walk, tested};
-ghost use Rattle.expression_checker.specs.Walk.{value_walk, variable_walk, whole, whole_walk, width_test, width_walk};
-ghost use Rattle.expression_checker.specs.Walk.{within, written_walk};
+ghost use Rattle.expression_checker.specs.Walk.{unless_overflow, value_walk, variable_walk, whole_walk, width_test};
+ghost use Rattle.expression_checker.specs.Walk.{width_walk, within, written_walk};
 
 use crate::fault::{CheckFault, Rule};
 use crate::grounds::Grounds;
+use crate::results::{calculated, of_both, overflow_of, overflow_of_both, shifted};
 use crate::visits::Visits;
 use abstract_state::{Known, bound_form, limits};
 use call_states::actuals::{Actual, Bindings, settle};
@@ -34,7 +34,6 @@ use typed_tree::tree::{
     Access, Call, Dyadic, Expr, Link, Monadic, Passed, RangeTest, Selector, Whole, Width,
     WriteParameter, Written,
 };
-use types::TypeId;
 
 /// The flow of a walk through a program: what it comes with to each expression, and goes on with behind it.
 #[derive(Drop)]
@@ -291,13 +290,9 @@ impl<'a> Flow<'a> {
                     form: bound_form(value),
                 })
             }
-            Passed::Whole {
-                type_id,
-                value,
-                indexes,
-            } => {
+            Passed::Whole { value, indexes, .. } => {
                 let ranges = self.whole_value(value, indexes, visits)?;
-                Ok(self.copied(*type_id, value, ranges))
+                Ok(Actual::Rows(ranges))
             }
             Passed::Reference {
                 access,
@@ -436,57 +431,15 @@ impl<'a> Flow<'a> {
     {
         let range = known.range();
         match operation {
-            Monadic::Plus => Ok(Known::Ordinal(range)),
-            Monadic::Minus => Ok(Known::Ordinal(range.negate())),
-            Monadic::Not => Ok(Known::Ordinal(range.complement())),
-            Monadic::Abs => Ok(Known::Ordinal(range.absolute())),
-            Monadic::Sqr { overflow } => self.whole(overflow, range.square()),
-            Monadic::Odd => Ok(Known::Ordinal(Interval::TRUTH_VALUES)),
-            Monadic::Ord => Ok(Known::Ordinal(range)),
-            Monadic::Chr { no_char } => self.character(no_char, range),
-            Monadic::Succ { no_successor, last } => self.successor(no_successor, last, range),
-            Monadic::Pred {
-                no_predecessor,
-                first,
-            } => self.predecessor(no_predecessor, first, range),
+            Monadic::Plain(does) => self.unless_overflow(
+                overflow_of(does),
+                calculated(does, range),
+            ),
+            Monadic::Tested { fits, does } => {
+                let passed = self.within(limits(fits.range), fits.site, range)?;
+                Ok(Known::Ordinal(shifted(does, passed)))
+            }
         }
-    }
-
-    /// A number that has to be that of a character.
-    fn character(&mut self, no_char: u32, range: Interval) -> Result<Known, CheckFault>
-        ensures { (visits : Visits) → Goes (operated (Monadic.Chr no_char) (Known.Ordinal range))
-            self.old visits result self.new visits }
-    {
-        let characters = Interval::between(0, 127);
-        Ok(Known::Ordinal(self.within(characters, no_char, range)?))
-    }
-
-    /// The next value of an ordinal, which has to lie below the last of its type.
-    fn successor(
-        &mut self,
-        no_successor: u32,
-        last: i32,
-        range: Interval,
-    ) -> Result<Known, CheckFault>
-        ensures { (visits : Visits) → Goes (operated (Monadic.Succ no_successor last) (Known.Ordinal range))
-            self.old visits result self.new visits }
-    {
-        let passed = self.below(last, no_successor, range)?;
-        Ok(Known::Ordinal(passed.add(&Interval::between(1, 1))))
-    }
-
-    /// The value before an ordinal, which has to lie above the first of its type.
-    fn predecessor(
-        &mut self,
-        no_predecessor: u32,
-        first: i32,
-        range: Interval,
-    ) -> Result<Known, CheckFault>
-        ensures { (visits : Visits) → Goes (operated (Monadic.Pred no_predecessor first) (Known.Ordinal range))
-            self.old visits result self.new visits }
-    {
-        let passed = self.above(first, no_predecessor, range)?;
-        Ok(Known::Ordinal(passed.subtract(&Interval::between(1, 1))))
     }
 
     /// What an operation gives for two values.
@@ -500,34 +453,11 @@ impl<'a> Flow<'a> {
     {
         let left = left.range();
         let right = right.range();
-        match operation {
-            Dyadic::Plus { overflow } => self.whole(overflow, left.add(&right)),
-            Dyadic::Minus { overflow } => self.whole(overflow, left.subtract(&right)),
-            Dyadic::Times { overflow } => self.whole(overflow, left.multiply(&right)),
-            Dyadic::Div { by_zero } => {
-                let divisor = self.divisor(by_zero, right)?;
-                Ok(Known::Ordinal(left.divide(&divisor)))
-            }
-            Dyadic::Mod { by_zero_or_less } => {
-                let divisor = self.positive(by_zero_or_less, right)?;
-                Ok(Known::Ordinal(left.remainder(&divisor)))
-            }
-            Dyadic::And => Ok(Known::Ordinal(left.both(&right))),
-            Dyadic::Or => Ok(Known::Ordinal(left.either(&right))),
-            Dyadic::Relation(_) => Ok(Known::Ordinal(Interval::TRUTH_VALUES)),
-        }
-    }
-
-    /// A copy of a whole value for a parameter of a type: one that may not be copied has no ranges.
-    fn copied<'b>(&self, type_id: TypeId, value: &Whole, ranges: Vec<Interval>) -> Actual<'b>
-        ensures { said_actual result ≡ OfRows (if fits_whole self.now.grounds.rows.now.types type_id value.now
-            then ranges.items else []) }
-    {
-        let mut ranges = ranges;
-        if !self.grounds.may_copy(type_id, value) {
-            ranges.clear();
-        }
-        Actual::Rows(ranges)
+        let passed = self.divides(operation, right)?;
+        self.unless_overflow(
+            overflow_of_both(operation),
+            of_both(operation, left, passed),
+        )
     }
 
     /// A call from its actual parameters on, of which one may hold a call.
@@ -574,11 +504,34 @@ impl<'a> Flow<'a> {
         Ok(())
     }
 
-    /// A result that has to be an integer.
-    fn whole(&mut self, overflow: u32, range: Interval) -> Result<Known, CheckFault>
-        ensures { (visits : Visits) → Goes (whole overflow range) self.old visits result self.new visits }
+    /// The test of a right operand, where it is a divisor.
+    fn divides(&mut self, operation: Dyadic, range: Interval) -> Result<Interval, CheckFault>
+        ensures { (visits : Visits) → Goes (divides operation range) self.old visits result self.new visits }
     {
-        Ok(Known::Ordinal(self.within(Interval::INTEGER, overflow, range)?))
+        match operation {
+            Dyadic::Plus { .. } => Ok(range),
+            Dyadic::Minus { .. } => Ok(range),
+            Dyadic::Times { .. } => Ok(range),
+            Dyadic::Div { by_zero } => self.divisor(by_zero, range),
+            Dyadic::Mod { by_zero_or_less } => self.positive(by_zero_or_less, range),
+            Dyadic::And => Ok(range),
+            Dyadic::Or => Ok(range),
+            Dyadic::Relation(_) => Ok(range),
+        }
+    }
+
+    /// A result that has to be an integer, where its overflow has a site.
+    fn unless_overflow(
+        &mut self,
+        overflow: Option<u32>,
+        range: Interval,
+    ) -> Result<Known, CheckFault>
+        ensures { (visits : Visits) → Goes (unless_overflow overflow range) self.old visits result self.new visits }
+    {
+        match overflow {
+            None => Ok(Known::Ordinal(range)),
+            Some(site) => Ok(Known::Ordinal(self.within(Interval::INTEGER, site, range)?)),
+        }
     }
 
     /// A value that has to lie in the range of a type.
@@ -615,22 +568,6 @@ impl<'a> Flow<'a> {
         ensures { (visits : Visits) → Goes (positive site range) self.old visits result self.new visits }
     {
         self.test(1 <= range.first(), site, range.at_least(1))
-    }
-
-    /// An ordinal that has to lie below the last of its type.
-    fn below(&mut self, last: i32, site: u32, range: Interval) -> Result<Interval, CheckFault>
-        ensures { (visits : Visits) → Goes (below last site range) self.old visits result self.new visits }
-    {
-        let last = i64::from(last);
-        self.test(range.last() < last, site, range.at_most(last - 1))
-    }
-
-    /// An ordinal that has to lie above the first of its type.
-    fn above(&mut self, first: i32, site: u32, range: Interval) -> Result<Interval, CheckFault>
-        ensures { (visits : Visits) → Goes (above first site range) self.old visits result self.new visits }
-    {
-        let first = i64::from(first);
-        self.test(first < range.first(), site, range.at_least(first + 1))
     }
 
     /// A divisor, which may not be 0.

@@ -1,17 +1,14 @@
-ghost use Rattle.std.specs.Prelude.{◌≡◌, ◌&&◌, ◌||◌, IfOk, Some, [], length, slice_get};
+ghost use Rattle.std.specs.Prelude.{◌≡◌, IfOk, [], slice_get};
 ghost use Rattle.std.specs.List.{list_all};
 ghost use Rattle.typed_tree.specs.WellFormed.{is_local_kind, is_result_kind, of_one};
-ghost use Rattle.types.specs.Types.{have_one_length, is_same, string_length};
-ghost use Rattle.leaf_rows.specs.Rows.{is_structured};
-ghost use Rattle.call_states.specs.Actuals.{are_of_types};
 ghost use Rattle.exit_states.specs.Exit.{roots_changed};
 ghost use Rattle.call_states.specs.Overlaps.{are_separate};
 ghost use Rattle.call_states.specs.Starts.{is_own};
 ghost use Rattle.call_states.specs.View.{said_bindings};
 ghost use Rattle.expression_checker.specs.View.{call_range, context_of, found_block};
-ghost use Rattle.expression_checker.specs.Walk.{around_of, block_lists, fits_whole, may_change, parameters_of};
+ghost use Rattle.expression_checker.specs.Walk.{around_of, block_lists, may_change, parameters_of};
 
-use call_states::actuals::{Bindings, are_of_types};
+use call_states::actuals::Bindings;
 use call_states::overlaps::are_separate;
 use call_states::sections::{block_claims_at, changes};
 use call_states::starts::is_own;
@@ -23,8 +20,7 @@ use leaf_rows::Rows;
 use std::alloc::{AllocError, Global};
 use structured_states::pairs::Pairs;
 use structured_states::rounds::{Round, all_list};
-use typed_tree::tree::{Block, Call, Whole};
-use types::{TypeId, TypeTable};
+use typed_tree::tree::{Block, Call};
 
 /// What a walk goes by. What is claimed of loops stands beside it: nothing here depends on that.
 #[derive(Drop)]
@@ -114,12 +110,11 @@ impl<'a> Grounds<'a> {
         bindings: Bindings,
         listed: &[u32],
     ) -> Result<bool, AllocError>
-        ensures { IfOk result (λ may. may
-            ≡ (list_all (may_change (context_of self.now [])) (roots_changed (said_bindings bindings.entry) listed.now)
-            && are_of_types self.now.rows.now (said_bindings bindings.entry))) }
+        ensures { IfOk result (λ may. may ≡ list_all (may_change (context_of self.now []))
+            (roots_changed (said_bindings bindings.entry) listed.now)) }
     {
         let roots = roots_changed(alloc, bindings, listed)?;
-        Ok(self.may_change_all(&roots) && are_of_types(self.rows, bindings))
+        Ok(self.may_change_all(&roots))
     }
 
     /// Whether each of some variables may be changed.
@@ -145,50 +140,5 @@ impl<'a> Grounds<'a> {
                 own.root,
             ),
         }
-    }
-
-    /// Whether a whole value may be copied to a target of a type: it is of the same type, or a string as long.
-    pub fn may_copy(&self, type_id: TypeId, value: &Whole) -> bool
-        ensures { result ≡ fits_whole self.now.rows.now.types type_id value.now }
-    {
-        self.rows.is_structured(type_id) && is_alike(&self.rows.tree().types, type_id, value)
-    }
-}
-
-/// Whether a whole value may be copied to a target of a type, if the type is structured.
-fn is_alike(types: &TypeTable, target: TypeId, value: &Whole) -> bool
-    ensures { (is_structured types.now target && result) ≡ fits_whole types.now target value.now }
-{
-    match value {
-        Whole::Text { characters, .. } => has_length(types.string_length(target), characters),
-        Whole::Variable { type_id, .. } => is_as_long(types, target, *type_id),
-    }
-}
-
-/// Whether two types are the same, or of strings of equal length.
-fn is_as_long(types: &TypeTable, target: TypeId, other: TypeId) -> bool
-    ensures { result ≡ (is_same target other
-        || have_one_length (string_length types.now target) (string_length types.now other)) }
-{
-    target.same(other) || have_one_length(types.string_length(target), types.string_length(other))
-}
-
-/// Whether a string, if it is one, is as long as a text.
-fn has_length(count: Option<u32>, text: &[u8]) -> bool
-    ensures { result ≡ have_one_length count (Some (length text.now)) }
-{
-    match count {
-        None => false,
-        Some(count) => count as usize == text.len(),
-    }
-}
-
-/// Whether two strings, if they are such, are of equal length.
-fn have_one_length(first: Option<u32>, second: Option<u32>) -> bool
-    ensures { result ≡ have_one_length first second }
-{
-    match (first, second) {
-        (Some(length), Some(other)) => length == other,
-        _ => false,
     }
 }

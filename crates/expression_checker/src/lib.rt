@@ -5,5 +5,6 @@
 pub mod fault;
 pub mod flow;
 pub mod grounds;
+mod results;
 mod uses;
 pub mod visits;

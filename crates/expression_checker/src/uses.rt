@@ -1,7 +1,7 @@
 //! The uses of what is accessed, which enter nothing: the states of its rows, and whether its site is closed.
 ghost use Rattle.std.specs.Prelude.{◌≡◌, ◌||◌, ◌&&◌, IfOk, [], ◌∷◌};
 ghost use Rattle.component_states.specs.States.{is_dead};
-ghost use Rattle.leaf_rows.specs.Rows.{is_structured};
+ghost use Rattle.types.specs.Types.{is_structured};
 ghost use Rattle.component_states.specs.View.{said_reach, viewed};
 ghost use Rattle.leaf_rows.specs.View.{numbers};
 ghost use Rattle.expression_checker.specs.Visits.{Visits};

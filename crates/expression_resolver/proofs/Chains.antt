@@ -23,14 +23,14 @@ use Rattle.typing.specs.Passing.{Passed, Checked, After, after, and_then, behind
 use Rattle.typing.specs.Steps.{fits}
 use Rattle.typing.specs.Outcomes.{IsFault}
 use Rattle.typing.specs.Expressions.{Written, WrittenLink, expression, written_link, written_actual, chain, links, only, without_width, typed}
-use Rattle.typing.specs.Expressions.{typed_whole}
 use Rattle.typing.proofs.Rows.{behind_both, behind_fault}
 use Rattle.typing.proofs.Written.{typing_chain, typing_actual}
+use Rattle.expression_resolver.specs.declared.typed.Value.{Value}
 use Rattle.expression_resolver.specs.declared.typed.Value.TheVariants.{Ordinal, Whole as WholeOf}
 use Rattle.expression_resolver.specs.declared.typed.TypedExpr.{TypedExpr}
 use Rattle.expression_resolver.specs.declared.typed.TypedLink.{TypedLink}
 use Rattle.expression_resolver.specs.declared.typed.TypedLinks.{TypedLinks}
-use Rattle.expression_resolver.specs.Made.{operators, typed_of, look_value, look_behind, value_length, MakesTyped, IsChainOf, IsComparisonOf}
+use Rattle.expression_resolver.specs.Made.{operators, typed_of, look_value, look_behind, value_length, value_source, MakesTyped, IsChainOf, IsComparisonOf}
 
 -- ---- the one actual
 
@@ -133,6 +133,10 @@ module _ (place : Place) (f : Typed) (rest : List WrittenLink) (now : Passed) wh
     pub rest_refused : (is_none f.length || nat_eq (length rest) 1) ≡ false → operators place f rest now ≡ Err (fault.Mismatch place)
     rest_refused many = behind_rest false many
 
+-- with another value
+abbrev typed_with : TypedExpr → Value → Typed
+typed_with first value = record { type_id = first.type_id; length = value_length value; source = value_source value; site = first.site }
+
 -- ---- an ordinal, and the operators behind it
 
 module _ (place : Place) (first : TypedExpr) (left : Typed) (same : left ≡ typed_of first) (rest : List Link) (now : Passed) where
@@ -147,7 +151,7 @@ module _ (place : Place) (first : TypedExpr) (left : Typed) (same : left ≡ typ
     behind_ordinal : goes ≡ behind_marks (Begins ∷ look_expr value) (operators place before (map written_link rest) now)
     behind_ordinal =
         ap (λ v. behind_marks (Begins ∷ look_value v)
-        (operators place (record { type_id = first.type_id; length = value_length v; site = first.site }) (map written_link rest) now)) is
+        (operators place (typed_with first v) (map written_link rest) now)) is
         ∙ ap (λ (l : Typed). behind_marks (Begins ∷ look_expr value) (operators place (typed l.type_id l.site) (map written_link rest) now)) (sym same)
 
     pub ordinal_stops : (why : TypeFault) → IsFault (links before (map written_link rest) now) why → IsFault goes why
@@ -168,8 +172,8 @@ module _ (place : Place) (first : TypedExpr) (left : Typed) (same : left ≡ typ
   -- ---- a string, and the operator behind it
 
   module _ (value : Whole) (indexes : Vec Expr Global) (is : first.value ≡ WholeOf value indexes) where
-    as_long : typed_of first ≡ typed_whole first.type_id (length_of value) first.site
-    as_long = ap (λ v. record { type_id = first.type_id; length = value_length v; site = first.site }) is
+    as_long : typed_of first ≡ typed_with first (WholeOf value indexes)
+    as_long = ap (typed_with first) is
 
     is_long : is_none (typed_of first).length ≡ false
     is_long = ap (λ t. is_none t.length) as_long

@@ -1,5 +1,5 @@
 -- An actual parameter: how its typing goes on by what the formal one is, and how what is passed looks.
-use Rattle.std.proofs.Common.{◌≡◌, ℕ, List, [], ◌∷◌, ◌++◌, length, Bool, true, false, ◌&&◌, nat_eq, Option, Some, None, is_some, Ok, Err, refl, sym, ap}
+use Rattle.std.proofs.Common.{◌≡◌, ℕ, List, [], ◌∷◌, ◌++◌, length, Bool, true, false, Option, Some, None, is_some, Ok, Err, refl, sym, ap}
 use Rattle.std.proofs.Common.{◌∙◌, Vec, if◌then◌else◌}
 use Rattle.std.specs.Prelude.{slice_get}
 use Rattle.std.specs.Option.{option_map}
@@ -11,8 +11,7 @@ use Rattle.syntax_tree.specs.declared.Expr.TheViews.{out-Actual}
 use Rattle.syntax_tree.specs.declared.Name.{Name}
 use Rattle.syntax_tree.specs.declared.Selector.{Selector}
 use Rattle.scopes.specs.declared.denotation.Denotation.{Denotation}
-use Rattle.types.specs.Forms.{Form}
-use Rattle.types.specs.Types.{is_ordinal, is_assignable, cells_of}
+use Rattle.types.specs.Types.{is_ordinal}
 use Rattle.types.specs.declared.form.TypeId.{TypeId}
 use Rattle.typed_tree.specs.declared.fault.TypeFault.TheVariants as fault
 use Rattle.typed_tree.specs.declared.tree.Expr.{Expr}
@@ -24,12 +23,12 @@ use Rattle.typed_tree.specs.declared.tree.VariableKind.TheVariants as kind
 use Rattle.typed_tree.specs.declared.tree.Whole.{Whole}
 use Rattle.typed_tree.specs.Accesses.{index_count}
 use Rattle.typed_tree.specs.Look.{Access, ForVariable, ForWhole, Look, look_passed, look_whole}
-use Rattle.typed_tree.specs.WellFormed.{is_variable_kind, length_of}
+use Rattle.typed_tree.specs.WellFormed.{is_variable_kind, length_of, source_of}
 use Rattle.typed_tree.proofs.Looks.{look_passed_variable, look_passed_whole}
 use Rattle.typing.specs.declared.typed.Typed.{Typed}
 use Rattle.typing.specs.Passing.{Passed, Passing, Checked, After, after, and_then, behind_marks, by_types, given, mark, ◌>>=◌, ◌>>◌}
 use Rattle.typing.specs.Steps.{enter, enter_as, find, may_change, or_mismatch, variable_at}
-use Rattle.typing.specs.Expressions.{Written, actual, as_variable, copied_cells, copying, expression, passable, passed_ordinal, passed_to, passed_value}
+use Rattle.typing.specs.Expressions.{Copy, Written, actual, as_variable, copying, expression, passable, passed_ordinal, passed_to, passed_value}
 use Rattle.typing.specs.Expressions.{passed_variable}
 use Rattle.typing.specs.Expressions.{passed_whole, selected, tests_ordinal, unless_width, written_actual}
 use Rattle.typing.proofs.Rows.{behind_nothing}
@@ -97,32 +96,23 @@ module _ (type_id : TypeId) (w : Written) (callee position : ℕ) (s : Passed) w
       ∙ behind_nothing ((if ordinal then passed_ordinal else passed_whole) type_id w callee position s)
 
   -- a whole value
-  pub whole_passes : (t : Typed) (look : Look) (now : Passed) (cells : ℕ) → w.typing None s ≡ Ok (after t look now) → copying now.types type_id t ≡ Some cells
-      → passed_whole type_id w callee position s ≡ Ok (after tt (look ++ (ForWhole type_id cells callee position ∷ [])) now)
+  pub whole_passes : (t : Typed) (look : Look) (now : Passed) (copy : Copy) → w.typing None s ≡ Ok (after t look now) → copying now.types type_id t ≡ Some copy
+      → passed_whole type_id w callee position s ≡ Ok (after tt (look ++ (ForWhole type_id copy.source copy.cells callee position ∷ [])) now)
   unfolding passed_whole
-  whole_passes t look now cells is copies =
+  whole_passes t look now copy is copies =
       ap (λ r. and_then (and_then r (λ a. and_then (or_mismatch w.first (copying a.passed.types type_id a.answer)) (λ b. Ok (after b a.look a.passed))))
-      (λ a. behind_marks a.look (mark (ForWhole type_id a.answer callee position) a.passed))) is
+      (λ a. behind_marks a.look (mark (ForWhole type_id a.answer.source a.answer.cells callee position) a.passed))) is
       ∙ ap (λ r. and_then (and_then (or_mismatch w.first r) (λ b. Ok (after b look now)))
-      (λ a. behind_marks a.look (mark (ForWhole type_id a.answer callee position) a.passed))) copies
-
--- as many cells are copied as there are
-same_cells : (both : Bool) (cells count : ℕ) → (if both then Some cells else None) ≡ Some count → count ≡ cells
-same_cells true cells count is = let same : cells ≡ count = cc in sym same
-same_cells false cells count is = absurd cc
-
-pub cells_copied : (types : List Form) (type_id : TypeId) (t : Typed) (cells count : ℕ) → t.length ≡ Some cells → copying types type_id t ≡ Some count
-    → count ≡ cells
-cells_copied types type_id t cells count long is =
-    same_cells (is_assignable types type_id t.type_id && nat_eq (cells_of types type_id) cells) cells count
-    (sym (ap (copied_cells types type_id t) long) ∙ is)
+      (λ a. behind_marks a.look (mark (ForWhole type_id a.answer.source a.answer.cells callee position) a.passed))) copies
 
 -- as it is made
-pub whole_made : (type_id : TypeId) (value : Whole) (indexes : Vec Expr Global) (callee position cells : ℕ) (now : Passed) → cells ≡ length_of value
-    → ◌≡◌ {A = Checked (After (Unit {0}))} (Ok (after tt (look_whole value indexes.items ++ (ForWhole type_id cells callee position ∷ [])) now))
+pub whole_made : (type_id : TypeId) (value : Whole) (indexes : Vec Expr Global) (callee position : ℕ) (source : Option TypeId) (now : Passed)
+    → source ≡ source_of value
+    → ◌≡◌ {A = Checked (After (Unit {0}))}
+    (Ok (after tt (look_whole value indexes.items ++ (ForWhole type_id source (length_of value) callee position ∷ [])) now))
     (Ok (after tt (look_passed (passes.Whole type_id value indexes) callee position) now))
-whole_made type_id value indexes callee position cells now same =
-    ap (λ n. Ok (after tt (look_whole value indexes.items ++ (ForWhole type_id n callee position ∷ [])) now)) same
+whole_made type_id value indexes callee position source now same =
+    ap (λ from. Ok (after tt (look_whole value indexes.items ++ (ForWhole type_id from (length_of value) callee position ∷ [])) now)) same
     ∙ ap (λ look. Ok (after tt look now)) (sym (look_passed_whole type_id value indexes callee position))
 
 -- ---- variables

@@ -32,7 +32,7 @@ use Rattle.typed_tree.proofs.Looks.{look_variable}
 use Rattle.typing.specs.declared.typed.Typed.{Typed}
 use Rattle.typing.specs.Passing.{Passed, Passing, Checked, After, after, and_then, behind_marks, pure, ◌>>=◌, ◌>>◌}
 use Rattle.typing.specs.Steps.{site, enter_as, host_type}
-use Rattle.typing.specs.Expressions.{Written, behind, selected, accessed, tests_ordinal, ordinal_value, whole_value, typed, typed_whole, expression}
+use Rattle.typing.specs.Expressions.{Written, behind, selected, accessed, tests_ordinal, ordinal_value, whole_value, typed, typed_variable, expression}
 use Rattle.typing.specs.Outcomes.{IsFault}
 use Rattle.typing.proofs.Rows.{behind_nothing, behind_both}
 use Rattle.typing.proofs.Selectors.{IsSelectedFrom, selectors_begin, selector_next, selector_stops, selectors_end}
@@ -148,7 +148,7 @@ module _ (entered : Entered) (made : Selection) (s : Passed) where
 
   pub whole_is : is_ordinal s.types made.type_id ≡ false
       → valued entered made s
-      ≡ Ok (after (typed_whole made.type_id (cells_of s.types made.type_id) entered.site)
+      ≡ Ok (after (typed_variable made.type_id (cells_of s.types made.type_id) entered.site)
       (Access entered.number ∷ (look_selection made
       ++ (WholeValue entered.root made.selectors.items (index_count made.selectors.items) made.type_id (cells_of s.types made.type_id) entered.defined
       ∷ []))) s)
@@ -176,18 +176,18 @@ module _ (entered : Entered) (made : Selection) (s : Passed) where
 
     pub whole_made : (cells : ℕ) → is_ordinal s.types made.type_id ≡ false → cells ≡ cells_of s.types made.type_id
         → valued entered made s
-        ≡ Ok (after (typed_whole made.type_id cells entered.site)
+        ≡ Ok (after (typed_variable made.type_id cells entered.site)
         (look_value (WholeOf (whole.Variable made_access made.type_id cells entered.defined) made.indexes)) s)
     whole_made cells is same =
         whole_is is
-        ∙ ap (λ n. Ok (after (typed_whole made.type_id n entered.site)
+        ∙ ap (λ n. Ok (after (typed_variable made.type_id n entered.site)
         (Access entered.number ∷ (look_selection made
         ++ (WholeValue entered.root made.selectors.items (index_count made.selectors.items) made.type_id n entered.defined ∷ []))) s)) (sym same)
-        ∙ ap (λ count. Ok (after (typed_whole made.type_id cells entered.site)
+        ∙ ap (λ count. Ok (after (typed_variable made.type_id cells entered.site)
         (Access entered.number ∷ (look_selection made
         ++ (WholeValue entered.root made.selectors.items count made.type_id cells entered.defined ∷ []))) s))
         (counted ∙ sym (length-map made.indexes.items look_expr))
-        ∙ ap (λ look. Ok (after (typed_whole made.type_id cells entered.site) look s))
+        ∙ ap (λ look. Ok (after (typed_variable made.type_id cells entered.site) look s))
         (sym (look_made made_access made.indexes
         (WholeValue entered.root made.selectors.items (length (map look_expr made.indexes.items)) made.type_id cells entered.defined)))
 

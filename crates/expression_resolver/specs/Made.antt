@@ -19,7 +19,7 @@ use Rattle.types.specs.declared.form.TypeId.{TypeId}
 use Rattle.typed_tree.specs.Entries.{joined}
 use Rattle.typed_tree.specs.Look.{Look, Begins, Operator, Compared, Ends, look_call, look_expr, look_link}
 use Rattle.typed_tree.specs.Look.{look_passed, look_whole}
-use Rattle.typed_tree.specs.WellFormed.{length_of, placed}
+use Rattle.typed_tree.specs.WellFormed.{length_of, placed, source_of}
 use Rattle.typing.specs.declared.typed.Typed.{Typed}
 use Rattle.typing.specs.Passing.{Passed, Passing, Checked, After, and_then, behind_marks, given, mark, pure, ◌>>=◌}
 use Rattle.typing.specs.Passing.{◌>>◌}
@@ -43,9 +43,19 @@ abbrev pub value_length : Value → Option ℕ
 value_length (Ordinal value) = None
 value_length (WholeOf value indexes) = Some (length_of value)
 
+-- the type of the variable whose value it is; an ordinal has none, and a string of its own
+abbrev pub value_source : Value → Option TypeId
+value_source (Ordinal value) = None
+value_source (WholeOf value indexes) = source_of value
+
 -- what an expression is
 abbrev pub typed_of : TypedExpr → Typed
-typed_of made = record { type_id = made.type_id; length = value_length made.value; site = made.site }
+typed_of made = record {
+  type_id = made.type_id;
+  length = value_length made.value;
+  source = value_source made.value;
+  site = made.site;
+}
 
 -- an expression
 abbrev pub MakesTyped : Checked (After Typed) → Result TypedExpr TypeFault → Passed → Type 0

@@ -1,9 +1,9 @@
-ghost use Rattle.std.specs.Prelude.{◌≡◌, [], ◌∷◌, Ok, Some, vec_len};
+ghost use Rattle.std.specs.Prelude.{◌≡◌, [], ◌∷◌, None, Ok, Some, vec_len};
 ghost use Rattle.typed_tree.specs.Look.{Text};
 ghost use Rattle.typing.specs.Expressions as spec;
 ghost use Rattle.typing.specs.Passing.{after};
 ghost use Rattle.expression_resolver.specs.Accesses.{IsCounted, MakesEntered, SelectsField, begun, valued};
-ghost use Rattle.expression_resolver.specs.Made.{MakesTyped, typed_of, look_value, value_length};
+ghost use Rattle.expression_resolver.specs.Made.{MakesTyped, typed_of, look_value, value_length, value_source};
 
 use crate::typed::{Entered, Selection, TypedExpr, Value};
 use place::Place;
@@ -34,6 +34,7 @@ impl Selection {
 pub(crate) fn text_value(alloc: Global, number: u32, characters: Vec<u8>) -> Value
     ensures looks { look_value result ≡ Text number characters.items ∷ [] }
     ensures long { value_length result ≡ Some (vec_len characters) }
+    ensures own { value_source result ≡ None }
 {
     Value::Whole {
         value: Whole::Text { number, characters },

@@ -16,7 +16,9 @@ use scopes::Denotation;
 use syntax_tree as syntax;
 use typed_tree::fault::TypeFault;
 use typed_tree::site::SiteKind;
-use typed_tree::tree::{Access, Call, Expr, Monadic, Passed, RangeTest, Selector, VariableKind};
+use typed_tree::tree::{
+    Access, Calculation, Call, Expr, Monadic, Passed, RangeTest, Selector, VariableKind,
+};
 use types::{ArrayElement, TypeId, TypeTable};
 use typing::rules::{as_function, as_routine, as_variable, sign_operation};
 use typing::{Typed, Typer, characters};
@@ -371,7 +373,12 @@ fn negation(
     let number = typer.enter()?;
     let operand = expression(typer, operand, None)?.of(TypeTable::BOOLEAN, place)?;
     Ok(TypedExpr {
-        value: monadic(typer.alloc, number, Monadic::Not, operand)?,
+        value: monadic(
+            typer.alloc,
+            number,
+            Monadic::Plain(Calculation::Complement),
+            operand,
+        )?,
         type_id: TypeTable::BOOLEAN,
         site,
     })
@@ -450,6 +457,7 @@ fn links(
         let before = Typed {
             type_id,
             length: None,
+            source: None,
             site,
         };
         let next = link(typer, before, written)?;
@@ -514,13 +522,13 @@ fn required_call(
         result typer.new }
 {
     let function = as_function(name.place, denotation)?;
-    let operation = typer.function_operation(function, name.place)?;
+    let begun = typer.begin_function(function.does, name.place)?;
     let site = typer.behind(lead, name.place)?;
     let number = typer.enter()?;
     let actual = only(name.place, actuals)?;
     let place = first_place(actual);
     let argument = expression(typer, actual, None)?;
-    let (operation, type_id) = typer.applied(function, operation, place, argument.typed())?;
+    let (operation, type_id) = typer.applied(function, begun, place, argument.typed())?;
     let argument = argument.ordinal(place)?;
     Ok(TypedExpr {
         value: monadic(typer.alloc, number, operation, argument)?,
@@ -755,9 +763,9 @@ fn passed_whole(
 {
     let place = first_place(written);
     let made = expression(typer, written, None)?;
-    typer
-        .copying(type_id, made.typed())
-        .ok_or(TypeFault::Mismatch(place))?;
+    if !typer.may_copy(type_id, made.typed()) {
+        return Err(TypeFault::Mismatch(place));
+    }
     let (value, indexes) = made.whole(place)?;
     Ok(Passed::Whole {
         type_id,

@@ -1,9 +1,9 @@
 ghost use Rattle.std.specs.Prelude.{◌≡◌, None, Some, MatchResult, is_none, true, false};
 ghost use Rattle.typed_tree.specs.declared.fault.TypeFault.TheVariants.{Mismatch};
 ghost use Rattle.typed_tree.specs.Look.{look_expr, look_whole};
-ghost use Rattle.typed_tree.specs.WellFormed.{length_of};
+ghost use Rattle.typed_tree.specs.WellFormed.{length_of, source_of};
 ghost use Rattle.typing.specs.Expressions.{is_of};
-ghost use Rattle.expression_resolver.specs.Made.{typed_of, look_value, value_length};
+ghost use Rattle.expression_resolver.specs.Made.{typed_of, look_value, value_length, value_source};
 
 use place::Place;
 use typed_tree::fault::TypeFault;
@@ -20,6 +20,19 @@ pub enum Value {
 }
 
 impl Value {
+    // The type of the variable whose value it is, where it is structured; a string of its own has none.
+    fn source(&self) -> Option<TypeId>
+        ensures { result ≡ value_source self.now }
+    {
+        match self {
+            Value::Whole {
+                value: Whole::Variable { type_id, .. },
+                ..
+            } => Some(*type_id),
+            _ => None,
+        }
+    }
+
     // How many components it has, where it is structured.
     fn length(&self) -> Option<usize>
         ensures { result ≡ value_length self.now }
@@ -54,6 +67,7 @@ impl TypedExpr {
         Typed {
             type_id: self.type_id,
             length: self.value.length(),
+            source: self.value.source(),
             site: self.site,
         }
     }
@@ -74,6 +88,7 @@ impl TypedExpr {
     pub fn whole(self, place: Place) -> Result<(Whole, Vec<Expr>), TypeFault>
         ensures { MatchResult result
             (λ made. (value_length self.value ≡ Some (length_of made.0))
+            × (value_source self.value ≡ source_of made.0)
             × (look_value self.value ≡ look_whole made.0 made.1.items))
             (λ why. (is_none (value_length self.value) ≡ true) × (why ≡ Mismatch place)) }
     {

@@ -9,7 +9,6 @@ use Rattle.typed_tree.specs.declared.tree.Direction.TheVariants.{To, DownTo}
 use Rattle.typed_tree.specs.declared.tree.RangeTest.{RangeTest}
 use Rattle.typed_tree.specs.declared.tree.Stmt.{Stmt}
 use Rattle.meaning.specs.declared.outcome.Ending.TheVariants as ending
-use Rattle.meaning.specs.declared.store.Value.{Value}
 use Rattle.meaning.specs.declared.store.Value.TheVariants.{Number}
 use Rattle.meaning.specs.Counting.{has_values, next_value, value_behind}
 use Rattle.meaning.specs.Meaning.{Surroundings}
@@ -106,11 +105,11 @@ tested_rounds env control direction body first last one other true false fits_to
 tested_rounds env control direction body first last one other true true false s = refl
 tested_rounds env control direction body first last one other true true true s = refl
 
--- a for from the values of its bounds, once they are tested
+-- a for from the numbers of its bounds, once they are tested
 pub between-tested : (env : Surroundings) (control : ℕ) (first_fits : RangeTest) (direction : Direction) (last_fits : RangeTest) (body : Execution)
-    (first last : Value) (s : State) → for_between control first_fits direction last_fits body env first last s ≡
+    (first last : ℤ) (s : State) → for_between control first_fits direction last_fits body env first last s ≡
     rounds_of env control direction body (bounds_tested direction first_fits first last_fits last) s
-between-tested env control first_fits direction last_fits body (Number first) (Number last) s =
+between-tested env control first_fits direction last_fits body first last s =
     tested_rounds env control direction body first last first_fits.site last_fits.site (has_values direction first last)
     (is_in first_fits.range (Number first)) (is_in last_fits.range (Number last)) s
 
@@ -135,9 +134,9 @@ some_bounds direction first last one other true true true a b any is =
     ap (λ n. has_values direction n b) (sym (ap first_of is)) ∙ ap (has_values direction first) (sym (ap last_of is)) ∙ any
 
 -- they leave values between them
-pub bounds-leave : (direction : Direction) (first_fits : RangeTest) (first : Value) (last_fits : RangeTest) (last : Value) (a b : ℤ) →
+pub bounds-leave : (direction : Direction) (first_fits : RangeTest) (first : ℤ) (last_fits : RangeTest) (last : ℤ) (a b : ℤ) →
     bounds_tested direction first_fits first last_fits last ≡ Ok (Some (a, b)) → has_values direction a b ≡ true
-bounds-leave direction first_fits (Number first) last_fits (Number last) a b is =
+bounds-leave direction first_fits first last_fits last a b is =
     some_bounds direction first last first_fits.site last_fits.site (has_values direction first last) (is_in first_fits.range (Number first))
     (is_in last_fits.range (Number last)) a b refl is
 

@@ -1,17 +1,14 @@
 -- The arm of a case at a value of its index.
-use Rattle.std.proofs.Common.{◌≡◌, ℕ, ℤ, ◌+◌, ◌<◌, ◌≤◌, List, [], ◌∷◌, Bool, true, false, Option, Some, None, Result, Ok, Err, OnOk, Vec, Global}
-use Rattle.std.proofs.Common.{map, arith, ap, subst, refl, if◌then◌else◌}
-use Rattle.std.specs.declared.alloc.AllocError.{AllocError}
+use Rattle.std.proofs.Common.{◌≡◌, ℕ, ℤ, ◌+◌, ◌≤◌, List, [], ◌∷◌, Bool, true, false, Option, Some, None, Vec, Global}
+use Rattle.std.proofs.Common.{map, arith, subst, refl, if◌then◌else◌}
 use Rattle.std.proofs.lemmas.List.Sums.{sum_by-cons}
 use Rattle.typed_tree.specs.declared.tree.Stmt.{Stmt}
-use Rattle.interpreter.specs.declared.interpreter.Run.{Run}
-use Rattle.meaning.specs.declared.outcome.Ending.{Ending}
 use Rattle.meaning.specs.declared.outcome.Ending.TheVariants as ending
 use Rattle.meaning.specs.Meaning.{Surroundings}
 use Rattle.meaning.specs.Effect.{State, Action, stop}
 use Rattle.meaning.specs.Meaning.{Execution, arm_of, effect_of, is_among}
 use Rattle.operations.specs.Answers.{arm_at}
-use Rattle.interpreter.specs.Weight.{Weight, Callees, callees_in, pending_weight, row_weight, weight_of_statement}
+use Rattle.interpreter.specs.Size.{row_size, size_of_statement}
 
 -- an arm, or an error at the site where there is none
 abbrev pub arm_or_error : ℕ → Option Stmt → Execution
@@ -33,45 +30,18 @@ arm-found site (row ∷ rows) (arm ∷ arms) n env s =
     found_or_later site (is_among row.items n) arm (arm_at rows arms n) (arm_of site rows (map effect_of arms) n env) env s
     (arm-found site rows arms n env s)
 
-module _ (callees : Callees) where
-  -- an arm weighs no more than all
-  abbrev Below : ℕ → ℕ → Option Stmt → Type 0
-  Below turns all None = Unit {0}
-  Below turns all (Some arm) = weight_of_statement callees arm turns + 1 ≤ all
+-- an arm that is found is one of the arms
+size-chosen : (found : Bool) (first arm : Stmt) (later : Option Stmt) (all : ℕ) → (if found then Some first else later) ≡ Some arm →
+    1 + size_of_statement first ≤ all → (later ≡ Some arm → 1 + size_of_statement arm ≤ all) → 1 + size_of_statement arm ≤ all
+size-chosen true first arm later all is one other =
+    let same : first ≡ arm = cc in subst (λ (e : Stmt). 1 + size_of_statement e ≤ all) same one
+size-chosen false first arm later all is one other = other is
 
-  below_more : (turns less all : ℕ) (found : Option Stmt) → less ≤ all → Below turns less found → Below turns all found
-  below_more turns less all None few below = tt
-  below_more turns less all (Some arm) few below = omega (arith, few, below)
-
-  below_chosen : (turns all : ℕ) (found : Bool) (arm : Stmt) (later : Option Stmt) → Below turns all (Some arm) → Below turns all later →
-      Below turns all (if found then Some arm else later)
-  below_chosen turns all true arm later one other = one
-  below_chosen turns all false arm later one other = other
-
-  arm_below : (turns : ℕ) (rows : List (Vec ℤ Global)) (arms : List Stmt) (n : ℤ) →
-      Below turns (row_weight 1 (map (weight_of_statement callees) arms) turns) (arm_at rows arms n)
-  arm_below turns [] arms n = tt
-  arm_below turns (row ∷ rows) [] n = tt
-  arm_below turns (row ∷ rows) (arm ∷ arms) n =
-      let rest = map (weight_of_statement callees) arms in
-      let all = sum_by-cons (λ (weight : Weight). weight turns + 1) (weight_of_statement callees arm) rest in
-      below_chosen turns (row_weight 1 (map (weight_of_statement callees) (arm ∷ arms)) turns) (is_among row.items n) arm (arm_at rows arms n)
-      (omega (arith, all))
-      (below_more turns (row_weight 1 rest turns) (row_weight 1 (map (weight_of_statement callees) (arm ∷ arms)) turns) (arm_at rows arms n)
-      (omega (arith, all))
-      (arm_below turns rows arms n))
-
--- the arm that is found is to be done, in the place of the case
-pub arm-lightens : (old taken new : Run) (rows : List (Vec ℤ Global)) (arms : List Stmt) (n : ℤ) (arm : Stmt) (result : Result (Option Ending) AllocError) →
-    arm_at rows arms n ≡ Some arm → taken ≡ record old { operands = taken.operands } →
-    OnOk result (pending_weight new ≡ pending_weight taken + weight_of_statement (callees_in taken) arm taken.turns) →
-    OnOk result (pending_weight new < pending_weight old + row_weight 1 (map (weight_of_statement (callees_in old)) arms) old.turns)
-arm-lightens old taken new rows arms n arm (Err refused) is same weighs = tt
-arm-lightens old taken new rows arms n arm (Ok ending) is same weighs =
-    let each = weight_of_statement (callees_in old) in
-    let below : each arm old.turns + 1 ≤ row_weight 1 (map each arms) old.turns =
-    subst (Below (callees_in old) old.turns (row_weight 1 (map each arms) old.turns)) is (arm_below (callees_in old) old.turns rows arms n) in
-    let left : pending_weight taken ≡ pending_weight old = ap pending_weight same in
-    let one : weight_of_statement (callees_in taken) arm taken.turns ≡ each arm old.turns =
-    ap (λ (r : Run). weight_of_statement (callees_in r) arm r.turns) same in
-    omega (arith, below, left, one, weighs)
+pub size-found : (rows : List (Vec ℤ Global)) (arms : List Stmt) (n : ℤ) (arm : Stmt) → arm_at rows arms n ≡ Some arm →
+    1 + size_of_statement arm ≤ row_size 1 (map size_of_statement arms)
+size-found [] arms n arm is = let no : ⊥ = cc in absurd no
+size-found (row ∷ rows) [] n arm is = let no : ⊥ = cc in absurd no
+size-found (row ∷ rows) (first ∷ arms) n arm is =
+    let all = sum_by-cons (λ size. 1 + size) (size_of_statement first) (map size_of_statement arms) in
+    size-chosen (is_among row.items n) first arm (arm_at rows arms n) (row_size 1 (map size_of_statement (first ∷ arms))) is (omega (arith, all))
+    (λ later. let rest = size-found rows arms n arm later in omega (arith, all, rest))

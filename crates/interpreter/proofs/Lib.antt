@@ -1,9 +1,10 @@
 mod Activating
+mod Advancing
 mod Counts
 mod FoundArms
 mod Places
 mod Resuming
 mod Rows
+mod Sizes
 mod Starting
 mod Unrolling
-mod Weights

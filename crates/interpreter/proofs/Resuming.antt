@@ -12,7 +12,6 @@ use Rattle.types.specs.declared.form.OrdinalRange.{OrdinalRange}
 use Rattle.meaning.specs.declared.outcome.Ending.{Ending}
 use Rattle.std.proofs.lemmas.List.{reverse-append}
 use Rattle.std.specs.Option.{ok_or}
-use Rattle.meaning.specs.declared.outcome.Ending.TheVariants.{Finished}
 use Rattle.meaning.specs.declared.store.Value.{Value}
 use Rattle.interpreter.specs.declared.interpreter.Run.{Run}
 use Rattle.interpreter_state.specs.declared.work.Work.{Work}
@@ -22,14 +21,13 @@ use Rattle.meaning.specs.declared.outcome.Ending.TheVariants as ending
 use Rattle.meaning.specs.declared.store.Value.TheVariants.{Number}
 use Rattle.meaning.specs.Meaning.{Surroundings}
 use Rattle.meaning.specs.Store.{Place, held, kept, part}
-use Rattle.meaning.specs.Effect.{State, Reply, Gives, Stops, Action, ◌>>=◌, and_then, fetched, fetch, give, is_in, number_of, require, stop, store}
+use Rattle.meaning.specs.Effect.{State, Reply, Stops, Action, ◌>>=◌, and_then, fetched, fetch, give, is_in, number_of, require, stop, store}
 use Rattle.meaning.specs.Meaning.{Calls, calls_of, effect_of, is_so}
 use Rattle.typed_tree.specs.declared.tree.Tree.{Tree}
 use Rattle.meaning.proofs.Turns.{ExtendedCalls, extended_calls}
-use Rattle.interpreter_state.specs.declared.work.Caller.{Caller}
 use Rattle.operations.specs.Answers.{answered, checked, number_tested}
 use Rattle.meaning.specs.Meaning.{Argument, OfValue}
-use Rattle.interpreter.specs.Pending.{Resumption, Waits, Agrees, Continues, Does, EndsAs, pending_of, resumed, rest_of, operands_of}
+use Rattle.interpreter.specs.Pending.{Resumption, Agrees, Continues, Does, pending_of, resumed, rest_of, operands_of}
 use Rattle.interpreter.specs.Pending.{tested, giving, with_top, chosen, top_of, top_place, below_top, indexed}
 
 map_append : {A B : Type 0} (f : A → B) (xs ys : List A) → map f (xs ++ ys) ≡ map f xs ++ map f ys
@@ -81,36 +79,10 @@ module _ (env : Surroundings) (outer : Resumption) (old new : Run) where
       Continues reply result new
   continues_as reply other result is continues = subst (λ (r : Reply (Unit {0})). Continues r result new) (sym is) continues
 
-module _ (old new : Run) where
-  -- a step that does another piece of work that is the same
-  pub does_as : (work other : Work) (result : Result (Option Ending) AllocError) → work ≡ other → Does (λ env. resumed env other) old result new →
-      Does (λ env. resumed env work) old result new
-  does_as work other result is does = subst (λ (w : Work). Does (λ env. resumed env w) old result new) (sym is) does
-
-  -- a run that goes on after a step
-  pub goes_on_from : (start reply : Reply (Unit {0})) (result : Result (Option Ending) AllocError) → start ≡ reply → result ≡ Ok None →
-      Continues reply result new →
-      (env : Surroundings) × (outer : Resumption) × (t : State) × Agrees env outer new t × (start ≡ rest_of env outer new t)
-  goes_on_from start reply result is none continues =
-      subst (λ (r : Result (Option Ending) AllocError). Continues start r new) none
-      (subst (λ (r : Reply (Unit {0})). Continues r result new) (sym is) continues)
-
-  -- a run that stops at a step
-  pub stops_from : (start reply : Reply (Unit {0})) (result : Result (Option Ending) AllocError) (ending : Ending) → start ≡ reply →
-      result ≡ Ok (Some ending) → Continues reply result new → EndsAs start new ending
-  stops_from start reply result ending is some continues =
-      let next : Continues reply (Ok (Some ending)) new = subst (λ (r : Result (Option Ending) AllocError). Continues reply r new) some continues in
-      let agrees = next.3 in
-      subst (λ (r : Reply (Unit {0})). EndsAs r new ending) (sym (is ∙ next.4)) (record { output = agrees.output; ending = refl })
-
-  -- a run that has nothing left to do
-  pub done_from : (env : Surroundings) (outer : Resumption) (start : Reply (Unit {0})) (t : State) → start ≡ rest_of env outer new t →
-      new.pending.items ≡ [] → new.callers.items ≡ [] → Agrees env outer new t → EndsAs start new Finished
-  done_from env outer start t is none alone agrees =
-      let waits : Waits new.tree.now env new.activation outer [] =
-      subst (λ (l : List Caller). Waits new.tree.now env new.activation outer (reverse l)) alone agrees.waits in
-      let done : start ≡ Gives tt t = is ∙ ap (λ (l : List Work). pending_of env outer (reverse l) (operands_of new) t) none ∙ waits (operands_of new) t in
-      subst (λ (r : Reply (Unit {0})). EndsAs r new Finished) (sym done) (record { output = agrees.output; ending = refl })
+-- a step that does another piece of work that is the same
+pub does_as : (old new : Run) (work other : Work) (result : Result (Option Ending) AllocError) → work ≡ other → Does (λ env. resumed env other) old result new →
+    Does (λ env. resumed env work) old result new
+does_as old new work other result is does = subst (λ (w : Work). Does (λ env. resumed env w) old result new) (sym is) does
 
 -- a run that stops behind its operands
 pub stops_below : (old taken : Run) (env : Surroundings) (outer : Resumption) (s : State) (start : Reply (Unit {0})) (ending : Ending) →
@@ -147,15 +119,24 @@ pub chooses : (env : Surroundings) (consequence : Stmt) (alternative : Option (B
 chooses env consequence alternative next operands s so is =
     ap (λ (b : Bool). and_then (chosen b consequence alternative env s) (λ _. next (below_top operands))) is
 
+-- what an action gives, as an operand
+abbrev pub giving_as : {A : Type 0} → (A → Argument) → Action A → Resumption → Resumption
+giving_as operand action next operands = action >>= λ a. next (operand a ∷ operands)
+
 -- a calculation with operands that were taken from the stack
-pub goes_on_by : (old taken new : Run) (env : Surroundings) (outer : Resumption) (s : State) (action : Action Value) (answer : Result Value ℕ)
-    (below : List Argument) (result : Result (Option Ending) AllocError) → taken ≡ record old { operands = taken.operands } → operands_of taken ≡ below →
-    action s ≡ answered answer s → Agrees env outer old s → Does (λ env. giving (answered answer)) taken result new →
-    Continues (giving action (pending_of env outer (reverse old.pending.items)) below s) result new
-goes_on_by old taken new env outer s action answer below result same left gives agrees does =
-    goes_on_below old taken new env outer s (λ env. giving (answered answer)) below result _ same left
-    (ap (λ (r : Reply Value). and_then r (λ v. pending_of env outer (reverse old.pending.items) (OfValue v ∷ below))) gives)
+pub goes_on_by : {A : Type 0} (operand : A → Argument) (old taken new : Run) (env : Surroundings) (outer : Resumption) (s : State) (action : Action A)
+    (answer : Result A ℕ) (below : List Argument) (result : Result (Option Ending) AllocError) → taken ≡ record old { operands = taken.operands } →
+    operands_of taken ≡ below → action s ≡ answered answer s → Agrees env outer old s →
+    Does (λ env. giving_as operand (answered answer)) taken result new →
+    Continues (giving_as operand action (pending_of env outer (reverse old.pending.items)) below s) result new
+goes_on_by operand old taken new env outer s action answer below result same left gives agrees does =
+    goes_on_below old taken new env outer s (λ env. giving_as operand (answered answer)) below result _ same left
+    (ap (λ r. and_then r (λ a. pending_of env outer (reverse old.pending.items) (operand a ∷ below))) gives)
     agrees does
+
+-- a number in hand
+abbrev pub number_in_hand : ℤ → Argument
+number_in_hand n = OfValue (Number n)
 
 -- the topmost piece of work is taken from the stack
 pub taken : (env : Surroundings) (outer : Resumption) (run : Run) (left : List Work) (work : Work) (t : State) → run.pending.items ≡ left ++ work ∷ [] →

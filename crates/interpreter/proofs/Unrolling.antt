@@ -51,7 +51,7 @@ use Rattle.operations.specs.Answers.{bounds_tested, positive, value_before}
 use Rattle.meaning.specs.Meaning.{Argument, OfValue, OfPlace, OfRow}
 use Rattle.interpreter.specs.Pending.{Resumption, pending_of, resumed, chosen, further, while_rounds, repeat_rounds, counting}
 use Rattle.interpreter.specs.Pending.{forgetting, turning, turning_tested, whiling, repeating, counting_on, line_ending, linking}
-use Rattle.interpreter.specs.Pending.{giving, giving_place, giving_row, with_top, with_row, top_of, top_place, top_row, below_top}
+use Rattle.interpreter.specs.Pending.{giving, giving_number, giving_place, giving_row, with_top, with_row, top_of, top_place, top_row, below_top}
 use Rattle.interpreter.specs.Pending.{writing, writing_one, writing_row, placing, accessing, selecting, comparing}
 use Rattle.interpreter.specs.Pending.{calling, left_below, passing, taken_from, tested, top_in_hand}
 use Rattle.meaning.proofs.Expressions.{value-Variable, value-Monadic, value-Chain, value-Compare, value-Call, combination-Link}
@@ -75,8 +75,8 @@ effect-Assign n becomes target indexes fits value env =
 
 effect-Copy : (n : ℕ) (becomes : SourcePlace) (target : Access) (indexes : Vec Expr Global) (type_id : TypeId) (value : Whole)
     (value_indexes : Vec Expr Global) (env : Surroundings) → effect_of (stmt.Copy n becomes target indexes type_id value value_indexes) env ≡
-    (enter n env.visible >>= λ _. accessed target (values_of indexes.items) env >>= λ place. whole_of value (values_of value_indexes.items) env >>= λ numbers.
-    store_all place (components_of env.visible.types type_id) numbers)
+    (enter n env.visible >>= λ _. accessed target (values_of indexes.items) env >>= λ place. whole_of value (values_of value_indexes.items) env >>= λ values.
+    store_all place (components_of env.visible.types type_id) values)
 effect-Copy n becomes target indexes type_id value value_indexes env =
     ap (λ (e : Stmt). effect_of e env) (sym (stmt.rolls-Copy n becomes target indexes type_id value value_indexes))
     ∙ ap (λ (f : Execution). f env) (fold-roll-Stmt Execution effect_step (Copy-F n becomes target indexes type_id value value_indexes))
@@ -116,7 +116,8 @@ effect-For : (n loop_number : ℕ) (place : SourcePlace) (control : ℕ) (first 
     (last_fits : RangeTest) (body : Box Stmt Global) (env : Surroundings) →
     effect_of (stmt.For n loop_number place control first first_fits direction last last_fits body) env ≡
     (enter n env.visible >>= λ _. value_of first env >>= λ a. value_of last env >>= λ b.
-    for_between control first_fits direction last_fits (effect_of body.value) env a b >>= λ _. undefine (env.visible.variables control))
+    for_between control first_fits direction last_fits (effect_of body.value) env (number_of a) (number_of b) >>= λ _.
+    undefine (env.visible.variables control))
 effect-For n loop_number place control first first_fits direction last last_fits body env =
     ap (λ (e : Stmt). effect_of e env) (sym (stmt.rolls-For n loop_number place control first first_fits direction last last_fits body))
     ∙ ap (λ (f : Execution). f env)
@@ -152,10 +153,13 @@ pub does-Monadic : (n : ℕ) (operation : Monadic) (operand : Box Expr Global) (
     evaluated env outer given works operands s ≡ pending_of env outer (work.Value inner ∷ work.Monadic operation ∷ works) operands (entered n env s)
 does-Monadic n operation operand given is inner same env outer works operands s =
     let then_rest : Value → Action (Unit {0}) = λ v. pending_of env outer works (OfValue v ∷ operands) in
+    let value : Reply Value = value_of operand.value env (entered n env s) in
+    let calculation : Value → Action ℤ = λ v. operated operation (number_of v) in
     ap (λ (e : Expr). evaluated env outer e works operands s) is
     ∙ ap (λ (a : Action Value). and_then (a s) then_rest) (value-Monadic n operation operand env)
-    ∙ and_then-and_then (value_of operand.value env (entered n env s)) (λ v. operated operation v) then_rest
-    ∙ ap (λ (e : Expr). and_then (value_of e env (entered n env s)) (λ v. operated operation v >>= then_rest)) (sym same)
+    ∙ and_then-and_then value (λ v. calculation v >>= λ m. give (Number m)) then_rest
+    ∙ and_then-same value _ _ (λ v t. and_then-and_then (calculation v t) (λ m. give (Number m)) then_rest)
+    ∙ ap (λ (e : Expr). and_then (value_of e env (entered n env s)) (λ v. calculation v >>= λ m. then_rest (Number m))) (sym same)
 
 -- the operators of a chain, with the operands in hand
 linking-in_turn : (env : Surroundings) (links : List Combination) (next : Resumption) (v : Value) (operands : List Argument) (s : State) →
@@ -186,9 +190,12 @@ pub does-Links : (first : Link) (rest all : Bor (List Link)) → all.now ≡ fir
 does-Links first rest all is env outer works operands s =
     let left = top_of operands in
     let then_rest : Value → Action (Unit {0}) = λ w. linking env (map link_of rest.now) (pending_of env outer works) (OfValue w ∷ below_top operands) in
+    let value : Reply Value = value_of first.operand env (entered first.number env s) in
+    let combination : Value → Action ℤ = λ right. combined first.operation (number_of left) (number_of right) in
     ap (λ (l : List Link). linking env (map link_of l) (pending_of env outer works) operands s) is
     ∙ ap (λ (a : Action Value). and_then (a s) then_rest) (combination-Link first env left)
-    ∙ and_then-and_then (value_of first.operand env (entered first.number env s)) (λ right. combined first.operation left right) then_rest
+    ∙ and_then-and_then value (λ right. combination right >>= λ n. give (Number n)) then_rest
+    ∙ and_then-same value _ _ (λ right t. and_then-and_then (combination right t) (λ n. give (Number n)) then_rest)
 
 -- what is pending after a statement
 abbrev executed : Surroundings → Resumption → Stmt → List Work → List Argument → Action (Unit {0})
@@ -229,14 +236,14 @@ does-Copy n becomes target indexes type_id value value_indexes given is all othe
     let then_rest : Unit {0} → Action (Unit {0}) = λ _. pending_of env outer works operands in
     let place : List Expr → Reply (Option Place) =
     λ l. selected target.selectors.items (values_of l) env (env.visible.variables target.root) (entered target.number env (entered n env s)) in
-    let row : List Expr → Action (List ℤ) = λ l. whole_of value (values_of l) env in
-    let stored : Option Place → List ℤ → Action (Unit {0}) = λ p numbers. store_all p (components_of env.visible.types type_id) numbers in
+    let row : List Expr → Action (List Value) = λ l. whole_of value (values_of l) env in
+    let stored : Option Place → List Value → Action (Unit {0}) = λ p values. store_all p (components_of env.visible.types type_id) values in
     ap (λ (e : Stmt). executed env outer e works operands s) is
     ∙ ap (λ (a : Action (Unit {0})). and_then (a s) then_rest) (effect-Copy n becomes target indexes type_id value value_indexes env)
     ∙ and_then-and_then (place indexes.items) (λ p. row value_indexes.items >>= stored p) then_rest
     ∙ and_then-same (place indexes.items) _ _ (λ p t. and_then-and_then (row value_indexes.items t) (stored p) then_rest)
-    ∙ ap (λ l. and_then (place l) (λ p. row value_indexes.items >>= λ numbers. stored p numbers >>= then_rest)) (sym same)
-    ∙ ap (λ l. and_then (place all) (λ p. row l >>= λ numbers. stored p numbers >>= then_rest)) (sym alike)
+    ∙ ap (λ l. and_then (place l) (λ p. row value_indexes.items >>= λ values. stored p values >>= then_rest)) (sym same)
+    ∙ ap (λ l. and_then (place all) (λ p. row l >>= λ values. stored p values >>= then_rest)) (sym alike)
 
 pub does-Write : (n : ℕ) (name : SourcePlace) (parameters : Vec WriteParameter Global) (ends_line : Bool) (given : Stmt) →
     given ≡ stmt.Write n name parameters ends_line → (all : Bor (List WriteParameter)) → all.now ≡ parameters.items →
@@ -361,7 +368,7 @@ does-unless env outer statements condition works operands s so =
 -- what is pending after the bounds of a for
 abbrev pub bounding : Surroundings → Resumption → ℕ → RangeTest → Direction → RangeTest → Stmt → List Work → Resumption
 bounding env outer control first_fits direction last_fits body works =
-    with_top (λ last rest. with_top (λ first below. for_between control first_fits direction last_fits (effect_of body) env first last
+    with_top (λ last rest. with_top (λ first below. for_between control first_fits direction last_fits (effect_of body) env (number_of first) (number_of last)
     >>= λ _. forgetting (env.visible.variables control) (pending_of env outer works) below) rest)
 
 pub does-For : (n loop_number : ℕ) (place : SourcePlace) (control : ℕ) (first : Expr) (first_fits : RangeTest) (direction : Direction) (last : Expr)
@@ -373,7 +380,8 @@ pub does-For : (n loop_number : ℕ) (place : SourcePlace) (control : ℕ) (firs
 does-For n loop_number place control first first_fits direction last last_fits body given is inner same env outer works operands s =
     let then_rest : Unit {0} → Action (Unit {0}) = λ _. pending_of env outer works operands in
     let there = entered n env s in
-    let between : Value → Value → Action (Unit {0}) = λ a b. for_between control first_fits direction last_fits (effect_of body.value) env a b in
+    let between : Value → Value → Action (Unit {0}) =
+    λ a b. for_between control first_fits direction last_fits (effect_of body.value) env (number_of a) (number_of b) in
     let behind : Unit {0} → Action (Unit {0}) = λ _. undefine (env.visible.variables control) in
     let with_last : Value → Action (Unit {0}) = λ a. value_of last env >>= λ b. between a b >>= behind in
     ap (λ (e : Stmt). executed env outer e works operands s) is
@@ -387,7 +395,7 @@ does-For n loop_number place control first first_fits direction last last_fits b
 
 pub does-bounds : (env : Surroundings) (outer : Resumption) (control : ℕ) (first_fits : RangeTest) (direction : Direction) (last_fits : RangeTest) (body : Stmt)
     (works : List Work) (operands : List Argument) (s : State) (result : Result (Option (ℤ × ℤ)) ℕ) →
-    bounds_tested direction first_fits (top_of (below_top operands)) last_fits (top_of operands) ≡ result →
+    bounds_tested direction first_fits (number_of (top_of (below_top operands))) last_fits (number_of (top_of operands)) ≡ result →
     bounding env outer control first_fits direction last_fits body works operands s ≡
     and_then (rounds_of env control direction (effect_of body) result s)
     (λ _. forgetting (env.visible.variables control) (pending_of env outer works) (below_top (below_top operands)))
@@ -395,7 +403,7 @@ does-bounds env outer control first_fits direction last_fits body works operands
     let then_rest : Unit {0} → Action (Unit {0}) = λ _. forgetting (env.visible.variables control) (pending_of env outer works)
     (below_top (below_top operands)) in
     ap (λ (r : Reply (Unit {0})). and_then r then_rest)
-    (between-tested env control first_fits direction last_fits (effect_of body) (top_of (below_top operands)) (top_of operands) s
+    (between-tested env control first_fits direction last_fits (effect_of body) (number_of (top_of (below_top operands))) (number_of (top_of operands)) s
     ∙ ap (λ (r : Result (Option (ℤ × ℤ)) ℕ). rounds_of env control direction (effect_of body) r s) is)
 
 pub does-for-round : (env : Surroundings) (calls : ExtendedCalls env.calls) (control : ℕ) (direction : Direction) (n last : ℤ) (body : Bor Stmt)
@@ -461,7 +469,7 @@ pub does-Compare : (n : ℕ) (r : Relation) (left : Whole) (left_indexes : Vec E
     (with_row (λ row. giving (comparing env n r right others row) (pending_of env outer works))) operands s
 does-Compare n r left left_indexes right right_indexes given is all others same alike env outer works operands s =
     let then_rest : Value → Action (Unit {0}) = λ v. pending_of env outer works (OfValue v ∷ operands) in
-    let row : List Expr → Reply (List ℤ) = λ l. whole_of left (values_of l) env s in
+    let row : List Expr → Reply (List Value) = λ l. whole_of left (values_of l) env s in
     ap (λ (e : Expr). evaluated env outer e works operands s) is
     ∙ ap (λ (a : Action Value). and_then (a s) then_rest) (value-Compare n r left left_indexes right right_indexes env)
     ∙ and_then-and_then (row left_indexes.items) (λ a. comparing env n r right right_indexes.items a) then_rest
@@ -474,16 +482,17 @@ pub does-right-side : (n : ℕ) (r : Relation) (right : Bor Whole) (indexes : Bo
     pending_of env outer (work.Whole right indexes ∷ work.Compare r ∷ works) operands (entered n env s)
 does-right-side n r right indexes env outer works operands s =
     let then_rest : Value → Action (Unit {0}) = λ v. pending_of env outer works (OfValue v ∷ below_top operands) in
-    and_then-and_then (whole_of right.now (values_of indexes.now) env (entered n env s)) (λ other. give (compared r (top_row operands) other)) then_rest
+    and_then-and_then (whole_of right.now (values_of indexes.now) env (entered n env s)) (λ other. give (Number (compared r (top_row operands) other)))
+    then_rest
 
 -- a string that is written out
-pub does-Text : (n : ℕ) (characters : Vec ℕ Global) (given : Whole) → given ≡ Text n characters → (indexes : List Expr) (row : List ℤ) →
-    row ≡ map pos characters.items → (env : Surroundings) (outer : Resumption) (works : List Work) (operands : List Argument) (s : State) →
+pub does-Text : (n : ℕ) (characters : Vec ℕ Global) (given : Whole) → given ≡ Text n characters → (indexes : List Expr) (row : List Value) →
+    row ≡ map (λ c. Number (pos c)) characters.items → (env : Surroundings) (outer : Resumption) (works : List Work) (operands : List Argument) (s : State) →
     giving_row (whole_of given (values_of indexes) env) (pending_of env outer works) operands s ≡ pending_of env outer works (OfRow row ∷ operands)
     (entered n env s)
 does-Text n characters given is indexes row same env outer works operands s =
     ap (λ (w : Whole). giving_row (whole_of w (values_of indexes) env) (pending_of env outer works) operands s) is
-    ∙ ap (λ (l : List ℤ). pending_of env outer works (OfRow l ∷ operands) (entered n env s)) (sym same)
+    ∙ ap (λ (l : List Value). pending_of env outer works (OfRow l ∷ operands) (entered n env s)) (sym same)
 
 -- a whole value that is accessed, and then fetched
 pub does-whole-Variable : (access : Access) (type_id : TypeId) (cells defined : ℕ) (given : Whole) → given ≡ VariableOf access type_id cells defined →
@@ -491,7 +500,7 @@ pub does-whole-Variable : (access : Access) (type_id : TypeId) (cells defined : 
     giving_row (whole_of given (values_of indexes) env) (pending_of env outer works) operands s ≡
     accessing env access indexes (work.FetchRow type_id defined) (pending_of env outer works) operands (entered access.number env s)
 does-whole-Variable access type_id cells defined given is indexes env outer works operands s =
-    let then_rest : List ℤ → Action (Unit {0}) = λ row. pending_of env outer works (OfRow row ∷ operands) in
+    let then_rest : List Value → Action (Unit {0}) = λ row. pending_of env outer works (OfRow row ∷ operands) in
     ap (λ (w : Whole). giving_row (whole_of w (values_of indexes) env) (pending_of env outer works) operands s) is
     ∙ and_then-and_then (selected access.selectors.items (values_of indexes) env (env.visible.variables access.root) (entered access.number env s))
     (λ place. fetch_all place (components_of env.visible.types type_id) defined) then_rest
@@ -526,8 +535,8 @@ pub does-Ordinal : (parameter : WriteParameter) (value : Expr) (representation :
     and_then (parameter_of parameter env s) (λ _. next operands) ≡ writing env value representation parameter.width next operands s
 does-Ordinal parameter value representation is env next operands s =
     let then_rest : Unit {0} → Action (Unit {0}) = λ _. next operands in
-    let width : Action Value = width_of parameter.width (default_width representation) env in
-    let written : Value → Value → Action (Unit {0}) = λ v w. write (text_of representation v w) in
+    let width : Action ℤ = width_of parameter.width (default_width representation) env in
+    let written : Value → ℤ → Action (Unit {0}) = λ v w. write (text_of representation (number_of v) w) in
     ap (λ (w : Written). and_then (written_of w parameter.width env s) then_rest) is
     ∙ and_then-and_then (value_of value env s) (λ v. width >>= written v) then_rest
     ∙ and_then-same (value_of value env s) _ _ (λ v t. and_then-and_then (width t) (written v) then_rest)
@@ -537,9 +546,9 @@ pub does-String : (parameter : WriteParameter) (value : Whole) (indexes : Vec Ex
     and_then (parameter_of parameter env s) (λ _. next operands) ≡ writing_row env value all parameter.width next operands s
 does-String parameter value indexes is all same env next operands s =
     let then_rest : Unit {0} → Action (Unit {0}) = λ _. next operands in
-    let row : List Expr → Reply (List ℤ) = λ l. whole_of value (values_of l) env s in
-    let width : Action Value = width_of parameter.width (pos (length_of value)) env in
-    let written : List ℤ → Value → Action (Unit {0}) = λ components w. write (row_text components w) in
+    let row : List Expr → Reply (List Value) = λ l. whole_of value (values_of l) env s in
+    let width : Action ℤ = width_of parameter.width (pos (length_of value)) env in
+    let written : List Value → ℤ → Action (Unit {0}) = λ components w. write (row_text components w) in
     ap (λ (w : Written). and_then (written_of w parameter.width env s) then_rest) is
     ∙ and_then-and_then (row indexes.items) (λ components. width >>= written components) then_rest
     ∙ and_then-same (row indexes.items) _ _ (λ components t. and_then-and_then (width t) (written components) then_rest)
@@ -551,10 +560,11 @@ pub does-wide : (given : Option Width) (width : Width) → given ≡ Some width 
     writing_row env value indexes given (pending_of env outer works) operands s ≡
     giving_row (whole_of value (values_of indexes) env) (evaluated env outer width.value (work.WidthTest width.site ∷ work.WriteRow ∷ works)) operands s
 does-wide given width is value indexes env outer works operands s =
-    let row : Reply (List ℤ) = whole_of value (values_of indexes) env s in
-    let written : List ℤ → Value → Action (Unit {0}) = λ components w. write (row_text components w) >>= λ _. pending_of env outer works operands in
+    let row : Reply (List Value) = whole_of value (values_of indexes) env s in
+    let tested : Value → Action ℤ = λ w. positive width.site (number_of w) in
+    let written : List Value → ℤ → Action (Unit {0}) = λ components w. write (row_text components w) >>= λ _. pending_of env outer works operands in
     ap (λ (o : Option Width). writing_row env value indexes o (pending_of env outer works) operands s) is
-    ∙ and_then-same row _ _ (λ components t. and_then-and_then (value_of width.value env t) (positive width.site) (written components))
+    ∙ and_then-same row _ _ (λ components t. and_then-and_then (value_of width.value env t) tested (written components))
 
 -- and in its length
 pub does-long : (given : Option Width) → given ≡ None → (value : Bor Whole) (indexes : Bor (List Expr)) (places : ℕ) → places ≡ length_of value.now →
@@ -562,17 +572,19 @@ pub does-long : (given : Option Width) → given ≡ None → (value : Bor Whole
     writing_row env value.now indexes.now given (pending_of env outer works) operands s ≡
     pending_of env outer (work.Whole value indexes ∷ work.WriteRowIn places ∷ works) operands s
 does-long given is value indexes places same env outer works operands s =
-    let row : Reply (List ℤ) = whole_of value.now (values_of indexes.now) env s in
-    let written : ℕ → List ℤ → Action (Unit {0}) = λ n components. write (row_text components (Number (pos n))) >>= λ _. pending_of env outer works operands in
+    let row : Reply (List Value) = whole_of value.now (values_of indexes.now) env s in
+    let written : ℕ → List Value → Action (Unit {0}) = λ n components. write (row_text components (pos n)) >>= λ _. pending_of env outer works operands in
     ap (λ (o : Option Width). writing_row env value.now indexes.now o (pending_of env outer works) operands s) is
     ∙ ap (λ n. and_then row (written n)) (sym same)
 
 pub does-Width : (given : Option Width) (width : Width) → given ≡ Some width → (default : ℤ) →
     (env : Surroundings) (outer : Resumption) (works : List Work) (operands : List Argument) (s : State) →
-    giving (width_of given default env) (pending_of env outer works) operands s ≡ evaluated env outer width.value (work.WidthTest width.site ∷ works) operands s
+    giving_number (width_of given default env) (pending_of env outer works) operands s ≡
+    evaluated env outer width.value (work.WidthTest width.site ∷ works) operands s
 does-Width given width is default env outer works operands s =
-    ap (λ (o : Option Width). giving (width_of o default env) (pending_of env outer works) operands s) is
-    ∙ and_then-and_then (value_of width.value env s) (positive width.site) (λ w. pending_of env outer works (OfValue w ∷ operands))
+    let tested : Value → Action ℤ = λ w. positive width.site (number_of w) in
+    ap (λ (o : Option Width). giving_number (width_of o default env) (pending_of env outer works) operands s) is
+    ∙ and_then-and_then (value_of width.value env s) tested (λ n. pending_of env outer works (OfValue (Number n) ∷ operands))
 
 -- arguments that are passed are taken from what is in hand
 passing-taken : (env : Surroundings) (ones : List Passing) (count : ℕ) → count ≡ length ones → (next : List Argument → Resumption)
@@ -656,7 +668,7 @@ does-passed-Whole type_id value indexes given is all same env next operands s =
     let then_rest : Argument → Action (Unit {0}) = λ argument. next (argument ∷ operands) in
     ap (λ (p : Passed). and_then (passing_of p env s) then_rest) is
     ∙ ap (λ (a : Action Argument). and_then (a s) then_rest) (passing-Whole type_id value indexes env)
-    ∙ and_then-and_then (whole_of value (values_of indexes.items) env s) (λ numbers. give (OfRow numbers)) then_rest
+    ∙ and_then-and_then (whole_of value (values_of indexes.items) env s) (λ values. give (OfRow values)) then_rest
     ∙ ap (λ l. giving_row (whole_of value (values_of l) env) next operands s) (sym same)
 
 pub does-passed-Reference : (type_id : TypeId) (access : Access) (indexes : Vec Expr Global) (given : Passed) →

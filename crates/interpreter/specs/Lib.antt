@@ -1,2 +1,2 @@
-pub mod Weight
+pub mod Size
 pub mod Pending

@@ -62,7 +62,7 @@ abbrev pub top_place : List Argument → Option Place
 top_place [] = None
 top_place (top ∷ below) = place_passed top
 
-abbrev pub top_row : List Argument → List ℤ
+abbrev pub top_row : List Argument → List Value
 top_row [] = []
 top_row (top ∷ below) = row_in top
 
@@ -82,17 +82,20 @@ with_top next operands = next (top_of operands) (below_top operands)
 abbrev pub with_place : (Option Place → Resumption) → Resumption
 with_place next operands = next (top_place operands) (below_top operands)
 
-abbrev pub with_row : (List ℤ → Resumption) → Resumption
+abbrev pub with_row : (List Value → Resumption) → Resumption
 with_row next operands = next (top_row operands) (below_top operands)
 
 -- goes on with what an action gives as the topmost operand
 abbrev pub giving : Action Value → Resumption → Resumption
 giving action next operands = action >>= λ v. next (OfValue v ∷ operands)
 
+abbrev pub giving_number : Action ℤ → Resumption → Resumption
+giving_number action next operands = action >>= λ n. next (OfValue (Number n) ∷ operands)
+
 abbrev pub giving_place : Action (Option Place) → Resumption → Resumption
 giving_place action next operands = action >>= λ place. next (OfPlace place ∷ operands)
 
-abbrev pub giving_row : Action (List ℤ) → Resumption → Resumption
+abbrev pub giving_row : Action (List Value) → Resumption → Resumption
 giving_row action next operands = action >>= λ row. next (OfRow row ∷ operands)
 
 -- the operators of a chain, from left to right, whose value so far is the topmost operand
@@ -172,11 +175,11 @@ indexed fits place v = do
   give (part place (step.Element (number_of v) ∷ []))
 
 -- a relation, from its operator on
-abbrev pub comparing : Surroundings → ℕ → Relation → Whole → List Expr → List ℤ → Action Value
+abbrev pub comparing : Surroundings → ℕ → Relation → Whole → List Expr → List Value → Action Value
 comparing env number relation right indexes row = do
   _ ← enter number env.visible
   other ← whole_of right (values_of indexes) env
-  give (compared relation row other)
+  give (Number (compared relation row other))
 
 -- the selectors that lead on from the topmost place, and then the rest
 abbrev pub selecting : Surroundings → List Selector → List Expr → Resumption → Resumption
@@ -232,7 +235,8 @@ resumed env (work.Unless statements condition) next operands =
 resumed env (work.Bounds control first_fits direction last_fits body) next operands =
     with_top
     (λ last rest. with_top
-    (λ first below. for_between control first_fits direction last_fits (effect_of body.now) env first last
+    (λ first below.
+    for_between control first_fits direction last_fits (effect_of body.now) env (number_of first) (number_of last)
     >>= λ _. forgetting (env.visible.variables control) next below)
     rest)
     operands
@@ -247,14 +251,19 @@ resumed env (work.Parameters parameters ends_line) next operands = do
   _ ← all_of (map parameter_of parameters.now) env
   line_ending ends_line next operands
 resumed env (work.Width width representation) next operands =
-    giving (width_of width.now (default_width representation) env) next operands
-resumed env (work.WidthTest site) next operands = with_top (λ w. giving (positive site w) next) operands
+    giving_number (width_of width.now (default_width representation) env) next operands
+resumed env (work.WidthTest site) next operands =
+    with_top (λ w. giving_number (positive site (number_of w)) next) operands
 resumed env (work.Write representation) next operands =
-    with_top (λ w rest. with_top (λ v below. write (text_of representation v w) >>= λ _. next below) rest) operands
+    with_top
+    (λ w rest. with_top
+    (λ v below. write (text_of representation (number_of v) (number_of w)) >>= λ _. next below)
+    rest)
+    operands
 resumed env work.WriteRow next operands =
-    with_top (λ w rest. with_row (λ row below. write (row_text row w) >>= λ _. next below) rest) operands
+    with_top (λ w rest. with_row (λ row below. write (row_text row (number_of w)) >>= λ _. next below) rest) operands
 resumed env (work.WriteRowIn places) next operands =
-    with_row (λ row below. write (row_text row (Number (pos places))) >>= λ _. next below) operands
+    with_row (λ row below. write (row_text row (pos places)) >>= λ _. next below) operands
 resumed env (work.Store fits) next operands =
     with_top
     (λ v rest. with_place
@@ -280,14 +289,19 @@ resumed env (work.Whole value indexes) next operands =
 resumed env (work.FetchRow type_id defined) next operands =
     with_place (λ place. giving_row (fetch_all place (components_of env.visible.types type_id) defined) next) operands
 resumed env (work.Value expression) next operands = giving (value_of expression.now env) next operands
-resumed env (work.Monadic operation) next operands = with_top (λ v. giving (operated operation v) next) operands
+resumed env (work.Monadic operation) next operands =
+    with_top (λ v. giving_number (operated operation (number_of v)) next) operands
 resumed env (work.Links links) next operands = linking env (map link_of links.now) next operands
 resumed env (work.Combine operation) next operands =
-    with_top (λ right rest. with_top (λ left. giving (combined operation left right) next) rest) operands
+    with_top
+    (λ right rest. with_top
+    (λ left. giving_number (combined operation (number_of left) (number_of right)) next)
+    rest)
+    operands
 resumed env (work.RightSide number relation right indexes) next operands =
     with_row (λ row. giving (comparing env number relation right.now indexes.now row) next) operands
 resumed env (work.Compare relation) next operands =
-    with_row (λ other rest. with_row (λ row. giving (give (compared relation row other)) next) rest) operands
+    with_row (λ other rest. with_row (λ row. giving (give (Number (compared relation row other))) next) rest) operands
 resumed env (work.Pass actuals) next operands = passing env (map passing_of actuals.now) next operands
 resumed env (work.Test fits) next operands = with_top (λ v. giving (tested fits v) next) operands
 resumed env (work.Activate block count) next operands = activating env block count next operands
@@ -309,7 +323,7 @@ abbrev pub writing : Surroundings → Expr → Representation → Option Width �
 writing env value representation width next operands = do
   v ← value_of value env
   w ← width_of width (default_width representation) env
-  _ ← write (text_of representation v w)
+  _ ← write (text_of representation (number_of v) w)
   next operands
 
 -- a string is written, and then the rest
@@ -355,27 +369,27 @@ pending_of env outer (work ∷ rest) operands = resumed env work (pending_of env
 abbrev pub operands_of : Run → List Argument
 operands_of run = map operand_seen (reverse run.operands.items)
 
--- the number of a value before others, if they are there
-abbrev pub number_before : Option Value → Option (List ℤ) → Option (List ℤ)
-number_before None numbers = None
-number_before (Some v) None = None
-number_before (Some v) (Some numbers) = Some (number_of v ∷ numbers)
+-- a value before others, if they are there
+abbrev pub joined : Option Value → Option (List Value) → Option (List Value)
+joined None values = None
+joined (Some v) None = None
+joined (Some v) (Some values) = Some (v ∷ values)
 
--- the numbers at the components of a place, if all of them are defined
-abbrev pub held_all : Store → Option Place → List (List Step) → Option (List ℤ)
+-- the values at the components of a place, if all of them are defined
+abbrev pub held_all : Store → Option Place → List (List Step) → Option (List Value)
 held_all store place [] = Some []
 held_all store place (steps ∷ components) =
-    number_before (held store (part place steps)) (held_all store place components)
+    joined (held store (part place steps)) (held_all store place components)
 
--- the store after numbers were written to the components of a place
-abbrev pub kept_all : Store → Option Place → List (List Step) → List ℤ → Store
-kept_all store place [] numbers = store
+-- the store after values were written to the components of a place
+abbrev pub kept_all : Store → Option Place → List (List Step) → List Value → Store
+kept_all store place [] values = store
 kept_all store place (steps ∷ components) [] = store
-kept_all store place (steps ∷ components) (n ∷ numbers) =
-    kept_all (kept store (part place steps) (Number n)) place components numbers
+kept_all store place (steps ∷ components) (v ∷ values) =
+    kept_all (kept store (part place steps) v) place components values
 
--- the numbers of a row that the interpreter keeps
-abbrev pub items_of : Vec ℤ Global → List ℤ
+-- the values of a row that the interpreter keeps
+abbrev pub items_of : Vec Value Global → List Value
 items_of row = row.items
 
 -- the map holds at each place what the store holds
@@ -473,6 +487,18 @@ abbrev pub Finishes : Run → Result Ending AllocError → Run → Type 0
 Finishes old result new =
     (env : Surroundings) (outer : Resumption) (s : State) → Agrees env outer old s →
     IfOk result (λ ending. EndsAs (rest_of env outer old s) new ending)
+
+-- a run went on to what is left of it, or it ended as that does
+abbrev pub Proceeds : Reply (Unit {0}) → Result (Option Ending) AllocError → Run → Type 0
+Proceeds reply (Err e) run = Unit {0}
+Proceeds reply (Ok None) run = Continues reply (Ok None) run
+Proceeds reply (Ok (Some ending)) run = EndsAs reply run ending
+
+-- a run did some of what it had to do, or all
+abbrev pub Advances : Run → Result (Option Ending) AllocError → Run → Type 0
+Advances old result new =
+    (env : Surroundings) (outer : Resumption) (s : State) → Agrees env outer old s →
+    Proceeds (rest_of env outer old s) result new
 
 -- a run in which nothing is visible and nothing has begun
 abbrev pub IsFresh : Run → State → Type 0

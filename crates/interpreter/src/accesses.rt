@@ -1,16 +1,16 @@
-ghost use Rattle.std.specs.Prelude.{◌≡◌, ◌+◌, ◌≤◌, ◌∷◌, [], OnOk};
+ghost use Rattle.std.specs.Prelude.{◌≡◌, ◌+◌, ◌∷◌, [], OnOk};
 ghost use Rattle.meaning.specs.Store.{part};
 ghost use Rattle.meaning.specs.Meaning.{OfPlace};
 ghost use Rattle.interpreter.specs.Pending.{Does, accessing, below_top, operands_of, resumed, selecting};
 ghost use Rattle.interpreter.specs.Pending.{top_place};
-ghost use Rattle.interpreter.specs.Weight.{Lightens, callees_in, pending_weight, weight_of, weight_of_selectors};
+ghost use Rattle.interpreter.specs.Size.{Adds, Lightens, size_of, size_of_selectors};
 
 use crate::interpreter::Run;
 use interpreter_state::operand::Operand;
 use interpreter_state::store::part;
 use interpreter_state::work::{Work, put};
 use meaning::outcome::Ending;
-use operations::ordinals::{number_of, tested_number, value_in};
+use operations::ordinals::{tested_number, value_in};
 use operations::rows::row_of;
 use std::alloc::AllocError;
 use typed_tree::tree::{Access, Expr, RangeTest, Selector, Whole};
@@ -25,9 +25,8 @@ impl<'t> Run<'t, '_> {
         indexes: &'t [Expr],
         later: Work<'t>,
     ) -> Result<Option<Ending>, AllocError>
-        ensures weight { OnOk result (pending_weight self.new ≡ pending_weight self.old
-            + weight_of (callees_in self.old) self.old.turns later.entry
-            + weight_of_selectors (callees_in self.old) access.now.selectors.items indexes.now self.old.turns) }
+        ensures size { Adds (2 + size_of later.entry + size_of_selectors access.now.selectors.items indexes.now)
+            self.old result self.new }
         ensures does { Does (λ env. accessing env access.now indexes.now later.entry) self.old result self.new }
     {
         let place = self.place(access.root)?;
@@ -69,8 +68,7 @@ impl<'t> Run<'t, '_> {
         rest: &'t [Selector],
         indexes: &'t [Expr],
     ) -> Result<Option<Ending>, AllocError>
-        ensures weight { OnOk result (pending_weight self.new
-            ≤ pending_weight self.old + weight_of_selectors (callees_in self.old) rest.now indexes.now self.old.turns) }
+        ensures size { Adds (1 + size_of_selectors rest.now indexes.now) self.old result self.new }
         ensures does { Does (λ env. selecting env (Selector.Element fits 0 ∷ rest.now) indexes.now)
             self.old result self.new }
     {
@@ -95,10 +93,10 @@ impl<'t> Run<'t, '_> {
 
     // Tests the topmost value as an index, and goes on to the element at it.
     pub(crate) fn index(&mut self, fits: RangeTest) -> Result<Option<Ending>, AllocError>
-        ensures weight { pending_weight self.new ≡ pending_weight self.old }
+        ensures fewer { Lightens (Work.Index fits) self.old result self.new }
         ensures does { Does (λ env. resumed env (Work.Index fits)) self.old result self.new }
     {
-        let index = number_of(self.popped());
+        let index = self.popped_number();
         match tested_number(fits, index) {
             Ok(number) => {
                 self.extend(Step::Element(number))?;
@@ -111,7 +109,6 @@ impl<'t> Run<'t, '_> {
     // Goes on from the topmost place to a component of it.
     fn extend(&mut self, step: Step) -> Result<(), AllocError>
         ensures same { self.new ≡ record self.old { operands = self.new.operands } }
-        ensures weight { pending_weight self.new ≡ pending_weight self.old }
         ensures top { OnOk result (operands_of self.new
             ≡ OfPlace (part (top_place (operands_of self.old)) (step ∷ [])) ∷ below_top (operands_of self.old)) }
     {
@@ -120,7 +117,7 @@ impl<'t> Run<'t, '_> {
     }
 
     pub(crate) fn fetch(&mut self, defined: u32) -> Result<Option<Ending>, AllocError>
-        ensures weight { pending_weight self.new ≡ pending_weight self.old }
+        ensures fewer { Lightens (Work.Fetch defined) self.old result self.new }
         ensures does { Does (λ env. resumed env (Work.Fetch defined)) self.old result self.new }
     {
         let place = self.popped_place();
@@ -129,7 +126,7 @@ impl<'t> Run<'t, '_> {
     }
 
     pub(crate) fn store(&mut self, fits: RangeTest) -> Result<Option<Ending>, AllocError>
-        ensures weight { pending_weight self.new ≡ pending_weight self.old }
+        ensures fewer { Lightens (Work.Store fits) self.old result self.new }
         ensures does { Does (λ env. resumed env (Work.Store fits)) self.old result self.new }
     {
         let value = self.popped();
@@ -178,7 +175,7 @@ impl<'t> Run<'t, '_> {
         type_id: TypeId,
         defined: u32,
     ) -> Result<Option<Ending>, AllocError>
-        ensures weight { pending_weight self.new ≡ pending_weight self.old }
+        ensures fewer { Lightens (Work.FetchRow type_id defined) self.old result self.new }
         ensures does { Does (λ env. resumed env (Work.FetchRow type_id defined)) self.old result self.new }
     {
         let place = self.popped_place();
@@ -192,7 +189,7 @@ impl<'t> Run<'t, '_> {
     }
 
     pub(crate) fn store_row(&mut self, type_id: TypeId) -> Result<Option<Ending>, AllocError>
-        ensures weight { pending_weight self.new ≡ pending_weight self.old }
+        ensures fewer { Lightens (Work.StoreRow type_id) self.old result self.new }
         ensures does { Does (λ env. resumed env (Work.StoreRow type_id)) self.old result self.new }
     {
         let row = self.popped_row();

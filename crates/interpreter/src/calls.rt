@@ -1,4 +1,4 @@
-ghost use Rattle.std.specs.Prelude.{◌≡◌, ◌<◌, ◌+◌, ◌-◌, ◌≤◌, OnOk, IfOk, Ok, None, Some, map, length, slice_get};
+ghost use Rattle.std.specs.Prelude.{◌≡◌, ◌<◌, ◌+◌, OnOk, IfOk, map, slice_get};
 ghost use Rattle.meaning.specs.Effect.{State};
 ghost use Rattle.meaning.specs.Store.{Environment};
 ghost use Rattle.meaning.specs.Meaning.{assign, assign_all, result_of};
@@ -6,7 +6,7 @@ ghost use Rattle.operations.specs.Answers.{answered};
 ghost use Rattle.interpreter_state.specs.Views.{operand_seen};
 ghost use Rattle.interpreter.specs.Pending.{Does, Leaves, Sees, StoreAgrees, StoresIn, beginning, calling, left_below};
 ghost use Rattle.interpreter.specs.Pending.{operands_of, resumed, taken_from};
-ghost use Rattle.interpreter.specs.Weight.{Lightens, begun_weight, callees_in, callees_of, pending_weight, weight_of};
+ghost use Rattle.interpreter.specs.Size.{Adds, Lightens, Shrinks, size_of};
 
 use crate::interpreter::Run;
 use interpreter_state::operand::Operand;
@@ -26,9 +26,7 @@ impl<'t> Run<'t, '_> {
         call: &'t Call,
         actuals: &'t [Passed],
     ) -> Result<Option<Ending>, AllocError>
-        ensures weight { OnOk result (pending_weight self.new ≡ pending_weight self.old
-            + weight_of (callees_in self.old) self.old.turns (Work.Activate call.now.block (length actuals.now))
-            + weight_of (callees_in self.old) self.old.turns (Work.Pass actuals.entry)) }
+        ensures size { Adds (2 + size_of (Work.Pass actuals.entry)) self.old result self.new }
         ensures does { Does (λ env. calling env call.now actuals.now) self.old result self.new }
     {
         self.plan(
@@ -65,7 +63,7 @@ impl<'t> Run<'t, '_> {
 
     // Tests the topmost value.
     pub(crate) fn test(&mut self, fits: RangeTest) -> Result<Option<Ending>, AllocError>
-        ensures weight { pending_weight self.new ≡ pending_weight self.old }
+        ensures fewer { Lightens (Work.Test fits) self.old result self.new }
         ensures does { Does (λ env. resumed env (Work.Test fits)) self.old result self.new }
     {
         let value = self.popped();
@@ -94,7 +92,6 @@ impl<'t> Run<'t, '_> {
     // So many operands, the topmost one last.
     fn arguments(&mut self, count: usize) -> Result<Vec<Operand>, AllocError>
         ensures same { self.new ≡ record self.old { operands = self.new.operands } }
-        ensures weight { pending_weight self.new ≡ pending_weight self.old }
         ensures taken { IfOk result (λ arguments. map operand_seen arguments.items
             ≡ taken_from count (operands_of self.old)) }
         ensures below { OnOk result (operands_of self.new ≡ left_below count (operands_of self.old)) }
@@ -116,9 +113,7 @@ impl<'t> Run<'t, '_> {
         arguments: &[Operand],
     ) -> Result<Option<Ending>, AllocError>
         requires { 0 < self.old.activation.depth }
-        ensures fewer { OnOk result (pending_weight self.new
-            ≤ pending_weight self.old + 1 + begun_weight
-            (callees_of self.old.tree.now (self.old.activation.depth - 1)) (Some block.now) self.old.turns) }
+        ensures size { Adds 0 self.old result self.new }
         ensures does { Does (beginning self.old.tree.now self.old.activation.depth number block.now
             (map operand_seen arguments.now)) self.old result self.new }
     {
@@ -147,7 +142,6 @@ impl<'t> Run<'t, '_> {
     // Each value parameter gets what is passed to it.
     fn assign_all(&mut self, parameters: &[u32], arguments: &[Operand]) -> Result<(), AllocError>
         ensures same { self.new ≡ record self.old { store = self.new.store } }
-        ensures weight { pending_weight self.new ≡ pending_weight self.old }
         ensures agrees { OnOk result ((visible : Environment) (s : State)
             → Sees visible self.old.tree.now self.old.activation → StoreAgrees self.old.store s.store
             → StoresIn (assign_all self.old.tree.now visible parameters.now (map operand_seen arguments.now) s)
@@ -169,7 +163,6 @@ impl<'t> Run<'t, '_> {
     // A value parameter gets what is passed to it.
     fn assign(&mut self, root: u32, argument: &Operand) -> Result<(), AllocError>
         ensures same { self.new ≡ record self.old { store = self.new.store } }
-        ensures weight { pending_weight self.new ≡ pending_weight self.old }
         ensures agrees { OnOk result ((visible : Environment) (s : State)
             → Sees visible self.old.tree.now self.old.activation → StoreAgrees self.old.store s.store
             → StoresIn (assign self.old.tree.now.types (visible.variables root)
@@ -188,8 +181,7 @@ impl<'t> Run<'t, '_> {
 
     // The activation ends, and the one that called it goes on with its result.
     pub(crate) fn leave(&mut self) -> Result<Option<Ending>, AllocError>
-        ensures fewer { result ≡ Ok None → 0 < length self.old.callers.items
-            → pending_weight self.new < pending_weight self.old }
+        ensures fewer { Shrinks self.old result self.new }
         ensures does { Leaves self.old result self.new }
     {
         match self.result()? {
@@ -222,7 +214,7 @@ impl<'t> Run<'t, '_> {
 
     // Behind a procedure: it has no result.
     pub(crate) fn discard(&mut self) -> Result<Option<Ending>, AllocError>
-        ensures weight { pending_weight self.new ≡ pending_weight self.old }
+        ensures fewer { Lightens Work.Discard self.old result self.new }
         ensures does { Does (λ env. resumed env Work.Discard) self.old result self.new }
     {
         let _value = self.popped();

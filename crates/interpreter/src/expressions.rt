@@ -1,13 +1,12 @@
-ghost use Rattle.std.specs.Prelude.{◌≡◌};
 ghost use Rattle.interpreter.specs.Pending.{Does, resumed};
-ghost use Rattle.interpreter.specs.Weight.{Lightens, pending_weight};
+ghost use Rattle.interpreter.specs.Size.{Lightens};
 
 use crate::interpreter::Run;
 use interpreter_state::work::{Work, put};
 use meaning::outcome::Ending;
 use meaning::store::{Ordinal, Value};
-use operations::ordinals::{combined_value, operated_value};
-use operations::rows::compared_value;
+use operations::ordinals::{combined_number, operated_number};
+use operations::rows::compared_number;
 use std::alloc::AllocError;
 use typed_tree::tree::{Dyadic, Expr, Link, Monadic, Relation, Whole};
 
@@ -54,11 +53,11 @@ impl<'t> Run<'t, '_> {
     }
 
     pub(crate) fn monadic(&mut self, operation: Monadic) -> Result<Option<Ending>, AllocError>
-        ensures weight { pending_weight self.new ≡ pending_weight self.old }
+        ensures fewer { Lightens (Work.Monadic operation) self.old result self.new }
         ensures does { Does (λ env. resumed env (Work.Monadic operation)) self.old result self.new }
     {
-        let operand = self.popped();
-        self.go_on(operated_value(operation, operand))
+        let operand = self.popped_number();
+        self.go_on_with(operated_number(operation, operand))
     }
 
     pub(crate) fn links(&mut self, links: &'t [Link]) -> Result<Option<Ending>, AllocError>
@@ -75,12 +74,12 @@ impl<'t> Run<'t, '_> {
     }
 
     pub(crate) fn combine(&mut self, operation: Dyadic) -> Result<Option<Ending>, AllocError>
-        ensures weight { pending_weight self.new ≡ pending_weight self.old }
+        ensures fewer { Lightens (Work.Combine operation) self.old result self.new }
         ensures does { Does (λ env. resumed env (Work.Combine operation)) self.old result self.new }
     {
-        let right = self.popped();
-        let left = self.popped();
-        self.go_on(combined_value(operation, left, right))
+        let right = self.popped_number();
+        let left = self.popped_number();
+        self.go_on_with(combined_number(operation, left, right))
     }
 
     // The right side of a relation whose left side is topmost.
@@ -105,11 +104,11 @@ impl<'t> Run<'t, '_> {
     }
 
     pub(crate) fn compare(&mut self, relation: Relation) -> Result<Option<Ending>, AllocError>
-        ensures weight { pending_weight self.new ≡ pending_weight self.old }
+        ensures fewer { Lightens (Work.Compare relation) self.old result self.new }
         ensures does { Does (λ env. resumed env (Work.Compare relation)) self.old result self.new }
     {
         let right = self.popped_row();
         let left = self.popped_row();
-        self.go_on(Ok(compared_value(relation, &left, &right)))
+        self.go_on_with(Ok(compared_number(relation, &left, &right)))
     }
 }

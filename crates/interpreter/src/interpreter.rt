@@ -1,8 +1,8 @@
-ghost use Rattle.std.specs.Prelude.{◌≡◌, ◌+◌, ◌≤◌, OnOk, IfOk};
+ghost use Rattle.std.specs.Prelude.{◌≡◌, ◌+◌, ◌<◌, IfOk, None, Ok};
 ghost use Rattle.meaning.specs.Meaning.{meaning};
-ghost use Rattle.interpreter.specs.Pending.{Does, Executes, Finishes, evaluating, resumed, turning, turning_tested};
-ghost use Rattle.interpreter.specs.Weight.{Lightens, callees_in, pending_weight, tested_turn_weight, turn_weight};
-ghost use Rattle.interpreter.specs.Weight.{weight_of, weight_of_expression};
+ghost use Rattle.interpreter.specs.Pending.{Advances, Does, Executes, Finishes, evaluating, resumed, turning};
+ghost use Rattle.interpreter.specs.Pending.{turning_tested};
+ghost use Rattle.interpreter.specs.Size.{Adds, Lightens, Shrinks, size_of, size_of_expression};
 
 use interpreter_state::activation::Activation;
 use interpreter_state::operand::Operand;
@@ -94,15 +94,39 @@ impl<'t> Run<'t, '_> {
         ensures { Finishes self.old result self.new }
     {
         loop {
-            if let Some(work) = self.pending.pop() {
-                if let Some(ending) = self.step(work)? {
-                    return Ok(ending);
-                }
-            } else if self.callers.is_empty() {
-                return Ok(Ending::Finished);
-            } else if let Some(ending) = self.leave()? {
+            if let Some(ending) = self.work_in_turn()? {
                 return Ok(ending);
             }
+        }
+    }
+
+    // Does the work that is left until a turn is used or the run ends.
+    fn work_in_turn(&mut self) -> Result<Option<Ending>, AllocError>
+        ensures fewer { result ≡ Ok None → self.new.turns < self.old.turns }
+        ensures does { Advances self.old result self.new }
+    {
+        let turns = self.turns;
+        loop {
+            if let Some(ending) = self.advance()? {
+                return Ok(Some(ending));
+            }
+            if self.turns < turns {
+                return Ok(None);
+            }
+        }
+    }
+
+    // Does the next piece of work; where none is left the activation ends, and with the program's own the run.
+    fn advance(&mut self) -> Result<Option<Ending>, AllocError>
+        ensures fewer { Shrinks self.old result self.new }
+        ensures does { Advances self.old result self.new }
+    {
+        if let Some(work) = self.pending.pop() {
+            self.step(work)
+        } else if self.callers.is_empty() {
+            Ok(Some(Ending::Finished))
+        } else {
+            self.leave()
         }
     }
 
@@ -180,8 +204,7 @@ impl<'t> Run<'t, '_> {
 
     // What is done next.
     pub(crate) fn do_next(&mut self, next: Work<'t>) -> Result<Option<Ending>, AllocError>
-        ensures weight { OnOk result (pending_weight self.new
-            ≡ pending_weight self.old + weight_of (callees_in self.old) self.old.turns next.entry) }
+        ensures size { Adds (1 + size_of next.entry) self.old result self.new }
         ensures does { Does (λ env. resumed env next.entry) self.old result self.new }
     {
         put(&mut self.pending, next)?;
@@ -194,9 +217,7 @@ impl<'t> Run<'t, '_> {
         next: Work<'t>,
         later: Work<'t>,
     ) -> Result<Option<Ending>, AllocError>
-        ensures weight { OnOk result (pending_weight self.new
-            ≡ pending_weight self.old + weight_of (callees_in self.old) self.old.turns later.entry
-            + weight_of (callees_in self.old) self.old.turns next.entry) }
+        ensures size { Adds (2 + size_of next.entry + size_of later.entry) self.old result self.new }
         ensures does { Does (λ env rest. resumed env next.entry (resumed env later.entry rest))
             self.old result self.new }
     {
@@ -212,10 +233,8 @@ impl<'t> Run<'t, '_> {
         second: &'t Expr,
         later: Work<'t>,
     ) -> Result<Option<Ending>, AllocError>
-        ensures weight { OnOk result (pending_weight self.new ≡ pending_weight self.old
-            + weight_of (callees_in self.old) self.old.turns later.entry
-            + weight_of_expression (callees_in self.old) second.now self.old.turns
-            + weight_of_expression (callees_in self.old) first.now self.old.turns) }
+        ensures size { Adds (3 + size_of_expression first.now + size_of_expression second.now + size_of later.entry)
+            self.old result self.new }
         ensures does { Does (λ env. evaluating env first.now second.now later.entry) self.old result self.new }
     {
         put(&mut self.pending, later)?;
@@ -228,8 +247,7 @@ impl<'t> Run<'t, '_> {
         next: Work<'t>,
         later: Work<'t>,
     ) -> Result<Option<Ending>, AllocError>
-        ensures weight { OnOk result (pending_weight self.new
-            ≤ pending_weight self.old + turn_weight (callees_in self.old) self.old.turns next.entry later.entry) }
+        ensures size { Adds 0 self.old result self.new }
         ensures does { Does (λ env. turning env next.entry later.entry) self.old result self.new }
     {
         if self.turns == 0 {
@@ -246,9 +264,7 @@ impl<'t> Run<'t, '_> {
         condition: &'t Expr,
         later: Work<'t>,
     ) -> Result<Option<Ending>, AllocError>
-        ensures weight { OnOk result (pending_weight self.new
-            ≤ pending_weight self.old
-            + tested_turn_weight (callees_in self.old) self.old.turns next.entry condition.now later.entry) }
+        ensures size { Adds 0 self.old result self.new }
         ensures does { Does (λ env. turning_tested env next.entry condition.now later.entry)
             self.old result self.new }
     {

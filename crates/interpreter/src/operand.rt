@@ -1,22 +1,24 @@
 ghost use Rattle.std.specs.Prelude.{◌≡◌, ◌∷◌, OnOk, option_map};
+ghost use Rattle.meaning.specs.Effect.{number_of};
 ghost use Rattle.operations.specs.Answers.{answered};
 ghost use Rattle.interpreter_state.specs.Views.{operand_seen, place_seen};
-ghost use Rattle.interpreter.specs.Pending.{Does, below_top, giving, operands_of, top_in_hand, top_of, top_place};
-ghost use Rattle.interpreter.specs.Pending.{top_row};
-ghost use Rattle.interpreter.specs.Weight.{pending_weight};
+ghost use Rattle.interpreter.specs.Pending.{Does, below_top, giving, giving_number, operands_of, top_in_hand, top_of};
+ghost use Rattle.interpreter.specs.Pending.{top_place, top_row};
+ghost use Rattle.interpreter.specs.Size.{Adds};
 
 use crate::interpreter::Run;
 use interpreter_state::operand::Operand;
 use interpreter_state::store::Place;
 use meaning::outcome::Ending;
 use meaning::store::{Ordinal, Value};
+use operations::ordinals::number_of;
 use std::alloc::AllocError;
 
 // The stack of operands. Each piece of work that takes one follows work that left it.
 impl Run<'_, '_> {
     // Goes on with a value, or stops at the site of its error.
     pub(crate) fn go_on(&mut self, value: Result<Value, u32>) -> Result<Option<Ending>, AllocError>
-        ensures weight { pending_weight self.new ≡ pending_weight self.old }
+        ensures size { Adds 0 self.old result self.new }
         ensures does { Does (λ env. giving (answered value)) self.old result self.new }
     {
         match value {
@@ -28,9 +30,25 @@ impl Run<'_, '_> {
         }
     }
 
+    // Goes on with a number, or stops at the site of its error.
+    pub(crate) fn go_on_with(
+        &mut self,
+        number: Result<Ordinal, u32>,
+    ) -> Result<Option<Ending>, AllocError>
+        ensures size { Adds 0 self.old result self.new }
+        ensures does { Does (λ env. giving_number (answered number)) self.old result self.new }
+    {
+        match number {
+            Ok(number) => {
+                self.push(Operand::Value(Value::Number(number)))?;
+                Ok(None)
+            }
+            Err(site) => Ok(Some(Ending::Error(site))),
+        }
+    }
+
     pub(crate) fn push(&mut self, operand: Operand) -> Result<(), AllocError>
         ensures same { self.new ≡ record self.old { operands = self.new.operands } }
-        ensures weight { pending_weight self.new ≡ pending_weight self.old }
         ensures top { OnOk result (operands_of self.new ≡ operand_seen operand ∷ operands_of self.old) }
     {
         self.operands.push(operand)?;
@@ -40,7 +58,6 @@ impl Run<'_, '_> {
     // The topmost value.
     pub(crate) fn popped(&mut self) -> Value
         ensures same { self.new ≡ record self.old { operands = self.new.operands } }
-        ensures weight { pending_weight self.new ≡ pending_weight self.old }
         ensures top { result ≡ top_of (operands_of self.old) }
         ensures below { operands_of self.new ≡ below_top (operands_of self.old) }
     {
@@ -50,10 +67,18 @@ impl Run<'_, '_> {
         }
     }
 
+    // The number of the topmost value.
+    pub(crate) fn popped_number(&mut self) -> Ordinal
+        ensures same { self.new ≡ record self.old { operands = self.new.operands } }
+        ensures top { result ≡ number_of (top_of (operands_of self.old)) }
+        ensures below { operands_of self.new ≡ below_top (operands_of self.old) }
+    {
+        number_of(self.popped())
+    }
+
     // The topmost place.
     pub(crate) fn popped_place(&mut self) -> Option<Place>
         ensures same { self.new ≡ record self.old { operands = self.new.operands } }
-        ensures weight { pending_weight self.new ≡ pending_weight self.old }
         ensures top { option_map place_seen result ≡ top_place (operands_of self.old) }
         ensures below { operands_of self.new ≡ below_top (operands_of self.old) }
     {
@@ -61,9 +86,8 @@ impl Run<'_, '_> {
     }
 
     // The topmost row.
-    pub(crate) fn popped_row(&mut self) -> Vec<Ordinal>
+    pub(crate) fn popped_row(&mut self) -> Vec<Value>
         ensures same { self.new ≡ record self.old { operands = self.new.operands } }
-        ensures weight { pending_weight self.new ≡ pending_weight self.old }
         ensures top { result.items ≡ top_row (operands_of self.old) }
         ensures below { operands_of self.new ≡ below_top (operands_of self.old) }
     {
@@ -76,7 +100,6 @@ impl Run<'_, '_> {
     // The topmost operand.
     pub(crate) fn popped_operand(&mut self) -> Operand
         ensures same { self.new ≡ record self.old { operands = self.new.operands } }
-        ensures weight { pending_weight self.new ≡ pending_weight self.old }
         ensures top { operand_seen result ≡ top_in_hand (operands_of self.old) }
         ensures below { operands_of self.new ≡ below_top (operands_of self.old) }
     {

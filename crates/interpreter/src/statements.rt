@@ -1,9 +1,8 @@
-ghost use Rattle.std.specs.Prelude.{◌≡◌, ◌+◌, ◌<◌, ◌≤◌, OnOk};
+ghost use Rattle.std.specs.Prelude.{◌+◌};
 ghost use Rattle.interpreter.specs.Pending.{Does, counting_on, forgetting, line_ending, repeating, resumed, whiling};
 ghost use Rattle.interpreter.specs.Pending.{writing, writing_one, writing_row};
-ghost use Rattle.interpreter.specs.Weight.{Lightens, callees_in, for_weight, pending_weight, weight_of_expression};
-ghost use Rattle.interpreter.specs.Weight.{weight_of_parameter};
-ghost use Rattle.interpreter.specs.Weight.{weight_of_statement, weight_of_whole, weight_of_width, while_weight};
+ghost use Rattle.interpreter.specs.Size.{Adds, Lightens, size_of_expression, size_of_parameter, size_of_whole};
+ghost use Rattle.interpreter.specs.Size.{size_of_width};
 
 use crate::interpreter::Run;
 use interpreter_state::work::{Work, put};
@@ -11,10 +10,10 @@ use meaning::outcome::Ending;
 use meaning::store::{Ordinal, Value};
 use operations::arms::arm_at;
 use operations::ordinals::{
-    number_of, positive_width, tested_bounds, truth_of, value_toward, width_by_default,
+    positive_width, tested_bounds, truth_of, value_toward, width_by_default,
 };
 use operations::rows::length_of;
-use operations::text::{write_row, write_row_in, write_value};
+use operations::text::{write_ordinal, write_row, write_row_in};
 use std::alloc::AllocError;
 use typed_tree::tree::{
     Direction, Expr, RangeTest, Representation, Stmt, Whole, Width, WriteParameter, Written,
@@ -162,9 +161,7 @@ impl<'t> Run<'t, '_> {
         condition: &'t Expr,
         body: &'t Stmt,
     ) -> Result<Option<Ending>, AllocError>
-        ensures fewer { OnOk result (pending_weight self.new < pending_weight self.old
-            + while_weight (weight_of_expression (callees_in self.old) condition.now)
-            (weight_of_statement (callees_in self.old) body.now) self.old.turns) }
+        ensures size { Adds (2 + size_of_expression condition.now) self.old result self.new }
         ensures does { Does (λ env. whiling env condition.now body.now) self.old result self.new }
     {
         self.plan(Work::Value(condition), Work::WhileTurn { condition, body })
@@ -196,7 +193,7 @@ impl<'t> Run<'t, '_> {
         statements: &'t [Stmt],
         condition: &'t Expr,
     ) -> Result<Option<Ending>, AllocError>
-        ensures fewer { Lightens (Work.Unless statements.entry condition.entry) self.old result self.new }
+        ensures size { Adds 0 self.old result self.new }
         ensures does { Does (λ env. repeating env statements.now condition.now) self.old result self.new }
     {
         self.tested_turn(
@@ -238,8 +235,8 @@ impl<'t> Run<'t, '_> {
         ensures does { Does (λ env. resumed env (Work.Bounds control first_fits direction last_fits body.entry))
             self.old result self.new }
     {
-        let last = self.popped();
-        let first = self.popped();
+        let last = self.popped_number();
+        let first = self.popped_number();
         match tested_bounds(direction, first_fits, first, last_fits, last) {
             Ok(Some((value, last))) => self.for_round(control, direction, value, last, body),
             Ok(None) => self.forget(control),
@@ -256,9 +253,7 @@ impl<'t> Run<'t, '_> {
         last: i32,
         body: &'t Stmt,
     ) -> Result<Option<Ending>, AllocError>
-        ensures fewer { OnOk result (pending_weight self.new
-            < pending_weight self.old
-            + for_weight (weight_of_statement (callees_in self.old) body.now) self.old.turns) }
+        ensures size { Adds 0 self.old result self.new }
         ensures does { Does (λ env. counting_on env control direction value last body.now) self.old result self.new }
     {
         let place = self.place(control)?;
@@ -295,7 +290,7 @@ impl<'t> Run<'t, '_> {
 
     // Behind a for its control variable is undefined.
     fn forget(&mut self, control: u32) -> Result<Option<Ending>, AllocError>
-        ensures weight { pending_weight self.new ≡ pending_weight self.old }
+        ensures size { Adds 0 self.old result self.new }
         ensures does { Does (λ env. forgetting (env.visible.variables control)) self.old result self.new }
     {
         let place = self.place(control)?;
@@ -312,7 +307,7 @@ impl<'t> Run<'t, '_> {
         ensures fewer { Lightens (Work.Case site constants.entry arms.entry) self.old result self.new }
         ensures does { Does (λ env. resumed env (Work.Case site constants.entry arms.entry)) self.old result self.new }
     {
-        let index = number_of(self.popped());
+        let index = self.popped_number();
         match arm_at(constants, arms, index) {
             Some(arm) => self.do_next(Work::Statement(arm)),
             None => Ok(Some(Ending::Error(site))),
@@ -344,8 +339,7 @@ impl<'t> Run<'t, '_> {
 
     // A value that is written.
     fn parameter(&mut self, parameter: &'t WriteParameter) -> Result<Option<Ending>, AllocError>
-        ensures fewer { OnOk result (pending_weight self.new < pending_weight self.old
-            + weight_of_parameter (callees_in self.old) parameter.now self.old.turns) }
+        ensures size { Adds (size_of_parameter parameter.now) self.old result self.new }
         ensures does { Does (λ env. writing_one env parameter.now) self.old result self.new }
     {
         match &parameter.value {
@@ -364,9 +358,7 @@ impl<'t> Run<'t, '_> {
         representation: Representation,
         width: &'t Option<Width>,
     ) -> Result<Option<Ending>, AllocError>
-        ensures weight { OnOk result (pending_weight self.new ≡ pending_weight self.old + 1
-            + weight_of_width (callees_in self.old) width.now self.old.turns
-            + weight_of_expression (callees_in self.old) value.now self.old.turns) }
+        ensures size { Adds (3 + size_of_expression value.now + size_of_width width.now) self.old result self.new }
         ensures does { Does (λ env. writing env value.now representation width.now) self.old result self.new }
     {
         put(&mut self.pending, Work::Write(representation))?;
@@ -386,9 +378,8 @@ impl<'t> Run<'t, '_> {
         indexes: &'t [Expr],
         width: &'t Option<Width>,
     ) -> Result<Option<Ending>, AllocError>
-        ensures weight { OnOk result (pending_weight self.new ≤ pending_weight self.old + 1
-            + weight_of_whole (callees_in self.old) value.now indexes.now self.old.turns
-            + weight_of_width (callees_in self.old) width.now self.old.turns) }
+        ensures size { Adds (2 + size_of_whole value.now indexes.now + size_of_width width.now)
+            self.old result self.new }
         ensures does { Does (λ env. writing_row env value.now indexes.now width.now) self.old result self.new }
     {
         match width {
@@ -419,43 +410,43 @@ impl<'t> Run<'t, '_> {
                 Work::Value(&width.value),
                 Work::WidthTest { site: width.site },
             ),
-            None => self.go_on(Ok(width_by_default(representation))),
+            None => self.go_on_with(Ok(width_by_default(representation))),
         }
     }
 
     pub(crate) fn width_test(&mut self, site: u32) -> Result<Option<Ending>, AllocError>
-        ensures weight { pending_weight self.new ≡ pending_weight self.old }
+        ensures fewer { Lightens (Work.WidthTest site) self.old result self.new }
         ensures does { Does (λ env. resumed env (Work.WidthTest site)) self.old result self.new }
     {
-        let width = self.popped();
-        self.go_on(positive_width(width, site))
+        let width = self.popped_number();
+        self.go_on_with(positive_width(width, site))
     }
 
     pub(crate) fn write(
         &mut self,
         representation: Representation,
     ) -> Result<Option<Ending>, AllocError>
-        ensures weight { pending_weight self.new ≡ pending_weight self.old }
+        ensures fewer { Lightens (Work.Write representation) self.old result self.new }
         ensures does { Does (λ env. resumed env (Work.Write representation)) self.old result self.new }
     {
-        let width = self.popped();
-        let value = self.popped();
-        write_value(self.alloc, &mut self.output, representation, value, width)?;
+        let width = self.popped_number();
+        let number = self.popped_number();
+        write_ordinal(self.alloc, &mut self.output, representation, number, width)?;
         Ok(None)
     }
 
     pub(crate) fn write_row(&mut self) -> Result<Option<Ending>, AllocError>
-        ensures weight { pending_weight self.new ≡ pending_weight self.old }
+        ensures fewer { Lightens Work.WriteRow self.old result self.new }
         ensures does { Does (λ env. resumed env Work.WriteRow) self.old result self.new }
     {
-        let width = self.popped();
+        let width = self.popped_number();
         let row = self.popped_row();
         write_row(&mut self.output, &row, width)?;
         Ok(None)
     }
 
     pub(crate) fn write_row_in(&mut self, places: usize) -> Result<Option<Ending>, AllocError>
-        ensures weight { pending_weight self.new ≡ pending_weight self.old }
+        ensures fewer { Lightens (Work.WriteRowIn places) self.old result self.new }
         ensures does { Does (λ env. resumed env (Work.WriteRowIn places)) self.old result self.new }
     {
         let row = self.popped_row();
@@ -464,7 +455,7 @@ impl<'t> Run<'t, '_> {
     }
 
     fn line_end(&mut self, ends_line: bool) -> Result<Option<Ending>, AllocError>
-        ensures weight { pending_weight self.new ≡ pending_weight self.old }
+        ensures size { Adds 0 self.old result self.new }
         ensures does { Does (λ env. line_ending ends_line) self.old result self.new }
     {
         if ends_line {

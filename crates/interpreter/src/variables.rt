@@ -3,12 +3,10 @@ ghost use Rattle.types.specs.Components.{components_of};
 ghost use Rattle.meaning.specs.Store.{Store, forgotten, held, kept};
 ghost use Rattle.interpreter_state.specs.Views.{place_of, place_seen, visible_in};
 ghost use Rattle.interpreter.specs.Pending.{StoreAgrees, held_all, items_of, kept_all};
-ghost use Rattle.interpreter.specs.Weight.{pending_weight};
 
 use crate::interpreter::Run;
 use interpreter_state::store::{Place, component as component_of};
-use meaning::store::{Ordinal, Value};
-use operations::ordinals::number_of;
+use meaning::store::Value;
 use std::alloc::AllocError;
 use types::TypeId;
 
@@ -36,7 +34,6 @@ impl Run<'_, '_> {
     // Keeps a value at a place, if there is one.
     pub(crate) fn keep(&mut self, place: Option<Place>, value: Value) -> Result<(), AllocError>
         ensures same { self.new ≡ record self.old { store = self.new.store } }
-        ensures weight { pending_weight self.new ≡ pending_weight self.old }
         ensures agrees { OnOk result ((s : Store) → StoreAgrees self.old.store s
             → StoreAgrees self.new.store (kept s (option_map place_seen place) value)) }
     {
@@ -49,7 +46,6 @@ impl Run<'_, '_> {
     // Makes a place undefined, if there is one.
     pub(crate) fn lose(&mut self, place: &Option<Place>)
         ensures same { self.new ≡ record self.old { store = self.new.store } }
-        ensures weight { pending_weight self.new ≡ pending_weight self.old }
         ensures agrees { (s : Store) → StoreAgrees self.old.store s
             → StoreAgrees self.new.store (forgotten s (option_map place_seen place.now)) }
     {
@@ -58,12 +54,12 @@ impl Run<'_, '_> {
         }
     }
 
-    // The numbers of the components of a place, if all of them are defined.
+    // The values of the components of a place, if all of them are defined.
     pub(crate) fn row(
         &self,
         place: &Option<Place>,
         type_id: TypeId,
-    ) -> Result<Option<Vec<Ordinal>>, AllocError>
+    ) -> Result<Option<Vec<Value>>, AllocError>
         ensures { IfOk result (λ row. (s : Store) → StoreAgrees self.now.store s → option_map items_of row
             ≡ held_all s (option_map place_seen place.now) (components_of self.now.tree.now.types type_id)) }
     {
@@ -71,31 +67,30 @@ impl Run<'_, '_> {
         for component in 0..self.tree.types.cells(type_id) {
             let part = component_of(self.alloc, &self.tree.types, place, type_id, component)?;
             match self.found(&part) {
-                Some(value) => row.push(number_of(value))?,
+                Some(value) => row.push(value)?,
                 None => return Ok(None),
             }
         }
         Ok(Some(row))
     }
 
-    // Keeps numbers at the components of a place, if there is one.
+    // Keeps values at the components of a place, if there is one.
     pub(crate) fn keep_row(
         &mut self,
         place: &Option<Place>,
         type_id: TypeId,
-        row: &[Ordinal],
+        row: &[Value],
     ) -> Result<(), AllocError>
         ensures same { self.new ≡ record self.old { store = self.new.store } }
-        ensures weight { pending_weight self.new ≡ pending_weight self.old }
         ensures agrees { OnOk result ((s : Store) → StoreAgrees self.old.store s → StoreAgrees self.new.store
             (kept_all s (option_map place_seen place.now) (components_of self.old.tree.now.types type_id) row.now)) }
     {
         for component in 0..self.tree.types.cells(type_id) {
-            let Some(number) = row.get(component as usize) else {
+            let Some(value) = row.get(component as usize) else {
                 break;
             };
             let part = component_of(self.alloc, &self.tree.types, place, type_id, component)?;
-            self.keep(part, Value::Number(*number))?;
+            self.keep(part, *value)?;
         }
         Ok(())
     }

@@ -1,7 +1,7 @@
 -- What the definitions of the meaning see of the data that an interpreter keeps: places, what is in hand, and where the
 -- variables lie that are visible in an activation.
 -- It says nothing of when activations begin and end.
-use Rattle.std.specs.Prelude.{ℕ, ℤ, pos, List, [], ◌∷◌, Option, Some, None, if◌then◌else◌, map, nat_eq, option_map}
+use Rattle.std.specs.Prelude.{ℕ, pos, List, [], ◌∷◌, Option, Some, None, if◌then◌else◌, map, nat_eq, option_map}
 use Rattle.typed_tree.specs.declared.tree.Variable.{Variable as DeclaredVariable}
 use Rattle.typed_tree.specs.declared.tree.VariableKind.{VariableKind}
 use Rattle.typed_tree.specs.declared.tree.VariableKind.TheVariants as kind
@@ -20,7 +20,7 @@ use Rattle.interpreter_state.specs.declared.activation.Activation.{Activation}
 abbrev pub place_seen : KeptPlace → Place
 place_seen p = record { activation = p.activation; variable = p.variable; steps = p.steps.items }
 
--- what the interpreter has in hand: a value, a place that is accessed, if there is one, or the numbers of a whole value
+-- what the interpreter has in hand: a value, a place that is accessed, if there is one, or the values of a whole one
 abbrev pub operand_seen : Operand → Argument
 operand_seen (operand.Value v) = OfValue v
 operand_seen (operand.Place place) = OfPlace (option_map place_seen place)
@@ -32,7 +32,7 @@ value_in (OfValue v) = v
 value_in (OfPlace place) = Number (pos 0)
 value_in (OfRow row) = Number (pos 0)
 
-abbrev pub row_in : Argument → List ℤ
+abbrev pub row_in : Argument → List Value
 row_in (OfValue v) = []
 row_in (OfPlace place) = []
 row_in (OfRow row) = row

@@ -12,8 +12,8 @@ pub enum Operand {
     Value(Value),
     /// A place that is accessed; none, where no variable is visible.
     Place(Option<Place>),
-    /// The numbers of the components of a whole value.
-    Row(Vec<Ordinal>),
+    /// The values of the components of a whole value.
+    Row(Vec<Value>),
 }
 
 impl Operand {
@@ -48,7 +48,7 @@ impl Operand {
     }
 
     /// The row that it is; an empty one, if it is none.
-    pub fn row(self, alloc: Global) -> Vec<Ordinal>
+    pub fn row(self, alloc: Global) -> Vec<Value>
         ensures { result.items ≡ row_in (operand_seen self) }
     {
         match self {

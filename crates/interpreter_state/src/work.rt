@@ -67,7 +67,7 @@ pub enum Work<'t> {
     },
     /// Writes a value, whose width is topmost, right above it.
     Write(Representation),
-    /// Writes a row of numbers as a string, whose width is topmost, right above it.
+    /// Writes a row of values as a string, whose width is topmost, right above it.
     WriteRow,
     /// Writes the topmost row as a string in so many places.
     WriteRowIn {

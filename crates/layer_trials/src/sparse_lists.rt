@@ -4,7 +4,7 @@ use std::process::Abort;
 use std::test::Fail;
 
 /// Heights that are set in this order.
-fn built(alloc: Global, heights: &[(u32, u32)]) -> Result<SparseList<u32>, AllocError> {
+fn built(alloc: Global, heights: &[(usize, u32)]) -> Result<SparseList<u32>, AllocError> {
     let mut list = SparseList::new(alloc);
     for &(index, meters) in heights {
         list.set(index, meters)?;

@@ -12,7 +12,7 @@ use Rattle.std.specs.Option.{option_and_then, option_map}
 use Rattle.std.specs.Prelude.{slice_get, slice_index_or}
 use Rattle.types.specs.Components.{Steps, components_of}
 use Rattle.types.specs.Forms.{Array, Form, Record}
-use Rattle.types.specs.Types.{form_at}
+use Rattle.types.specs.Types.{form_at, has_components, is_structured}
 use Rattle.types.specs.declared.form.OrdinalRange.{OrdinalRange}
 use Rattle.types.specs.declared.form.TypeId.{TypeId}
 use Rattle.types.proofs.Growing.{slice_get-left, slice_get-right}
@@ -22,7 +22,7 @@ use Rattle.typed_tree.specs.declared.tree.Selector.{Selector}
 use Rattle.typed_tree.specs.declared.tree.Tree.{Tree}
 use Rattle.typed_tree.specs.declared.tree.Variable.{Variable}
 use Rattle.leaf_rows.specs.Leaves.{Leaf, LeafStep, begins, behind_elements, is_named, leaves_at, leaves_of, range_at}
-use Rattle.leaf_rows.specs.Rows.{Parts, Row, all_parts, components_in, first_index, has_components, index_at, is_structured, is_under, no_parts}
+use Rattle.leaf_rows.specs.Rows.{Parts, Row, all_parts, components_in, first_index, index_at, is_under, no_parts}
 use Rattle.leaf_rows.specs.Rows.{numbers_where, parts_of, rows_accessed, rows_from, rows_of, variable_rows}
 use Rattle.leaf_rows.specs.View.{rows_count, variable_part}
 use Rattle.leaf_rows.proofs.Components.{Has, each-alone, each-indexed, each-named, in-field_leaf, mapped-at}
@@ -290,13 +290,6 @@ indexes-are tree number steps range of_row ranged =
     let is = row-is tree number steps of_row in
     let own : is.row.leaf.index ≡ Some range = sym (ap (option_and_then (λ (row : Row). row.leaf.index)) is.is) ∙ ranged in
     each-indexed tree.types is.leaf.variable.type_id steps is.row.leaf range is.of_type (is.leaf.j, is.leaf.leaf_is) is.named own
-
--- each component of a type is named by one of its leaves
-pub leaf-of_component : (types : List Form) (id : TypeId) (rest : Steps) → Contains (components_of types id) rest
-    → (j : ℕ) × (leaf : Leaf) × (slice_get (leaves_of types id) j ≡ Some leaf) × (is_named leaf.steps rest ≡ true)
-leaf-of_component types id rest inside =
-    let found = each-named types id rest (contains-has (components_of types id) rest inside) in
-    (found.1.0, found.0, found.1.1, found.2)
 
 -- ---- under an access
 

@@ -1,9 +1,10 @@
 -- How many leaves types have, and those of parts of a type.
-use Rattle.std.proofs.Common.{◌≡◌, ⊎_elim, ℕ, zero, suc, ◌+◌, Bool, cond, List, [], ◌∷◌, ◌++◌, length, map, take, sum_by}
+use Rattle.std.proofs.Common.{◌≡◌, ⊎_elim, ℕ, zero, suc, ◌+◌, ◌<◌, ◌≤◌, ◌^◌, Bool, cond, List, [], ◌∷◌, ◌++◌, length, map, take, sum_by}
 use Rattle.std.proofs.Common.{Option, Some, None, refl, sym, ap, ◌∙◌, arith}
 use Rattle.std.proofs.Common.{Vec}
 use Rattle.std.specs.declared.alloc.Global.{Global}
 use Rattle.std.proofs.lemmas.Bool.{cases_lt, le-ltb, lt-ltb}
+use Rattle.std.proofs.lemmas.Int.{clamps}
 use Rattle.std.proofs.lemmas.List.{length-append, length-map, map-append}
 use Rattle.std.proofs.lemmas.List.Sums.{fold-append, sum_by-cons}
 use Rattle.std.proofs.lemmas.Option.{none-some, same_Some, slice_get-map}
@@ -22,7 +23,7 @@ use Rattle.leaf_rows.specs.declared.leaf.Way.TheVariants.{Direct, Indexed}
 use Rattle.leaf_rows.specs.Leaves.{Leaf, Leafed, behind_elements, behind_field, entry_leaves, fields_leaves, form_leaves, leaf_next}
 use Rattle.leaf_rows.specs.Leaves.{leafed, leaves_at, leaves_of}
 use Rattle.leaf_rows.specs.Leaves.{range_at, scalar, scalar_leaves}
-use Rattle.leaf_rows.specs.View.{count_at, count_in, form_count, leaf_counts, own_type, part_count, part_leaves, ranges_on, way_behind}
+use Rattle.leaf_rows.specs.View.{capped, count_at, count_in, field_part, form_count, leaf_counts, own_type, part_count, part_leaves, ranges_on, way_behind}
 use Rattle.leaf_rows.proofs.Leafed.{leafed_before, leafed_many, leaves_before, leaves_not_before, leaves_of_form, leaves_of_none, range_before}
 use Rattle.leaf_rows.proofs.Leafed.{range_not_before}
 
@@ -59,6 +60,69 @@ form_counted types (Array packed index element) =
     type_counted types element ∙ sym (length-map (leaves_at (leafed types) element) (behind_elements (range_at (leafed types) index)))
 form_counted types (Record packed fields) = fields_counted types 0 fields
 
+-- ---- counts as they are kept
+
+pub capped_at : (counts : List ℕ) (id : TypeId) → count_at (map capped counts) id ≡ capped (count_at counts id)
+capped_at counts id = ap count_in (slice_get-map capped counts id.index) ∙ by (slice_get counts id.index)
+  where
+    by : (count : Option ℕ) → count_in (option_map capped count) ≡ capped (count_in count)
+    by None = refl
+    by (Some count) = refl
+
+capped_part : (counts : List ℕ) (part : Option TypeId) → part_count (map capped counts) part ≡ capped (part_count counts part)
+capped_part counts None = refl
+capped_part counts (Some id) = capped_at counts id
+
+-- a count that fits is the count
+pub part_kept : (counts : List ℕ) (part : Option TypeId) → part_count counts part < 2 ^ 64 → part_count (map capped counts) part ≡ part_count counts part
+part_kept counts part fits = let kept = capped_part counts part in omega (arith, clamps, kept, fits)
+
+capped_fields : (counts : List ℕ) (fields : List FieldForm)
+    → capped (sum_by (λ field. count_at (map capped counts) field.type_id) fields) ≡ capped (sum_by (λ field. count_at counts field.type_id) fields)
+capped_fields counts [] = refl
+capped_fields counts (field ∷ fields) =
+    let kept = sum_by-cons (λ field. count_at (map capped counts) field.type_id) field fields in
+    let are = sum_by-cons (λ field. count_at counts field.type_id) field fields in
+    let own = capped_at counts field.type_id in
+    let more = capped_fields counts fields in
+    omega (arith, clamps, kept, are, own, more)
+
+-- a form has as many by the counts that are kept
+pub capped_form : (counts : List ℕ) (form : Form) → capped (form_count (map capped counts) form) ≡ capped (form_count counts form)
+capped_form counts Integer = refl
+capped_form counts Boolean = refl
+capped_form counts Char = refl
+capped_form counts (Enumeration last) = refl
+capped_form counts (Subrange host first last) = refl
+capped_form counts (Array packed index element) = let own = capped_at counts element in omega (arith, clamps, own)
+capped_form counts (Record packed fields) = capped_fields counts fields
+
+-- the fields of a record have no more by them
+pub kept_fields_fit : (counts : List ℕ) (id : TypeId) (fields : List Field)
+    → sum_by (λ field. part_count (map capped counts) (own_type id field.type_id)) fields
+    ≤ sum_by (λ field. part_count counts (own_type id field.type_id)) fields
+kept_fields_fit counts id [] = omega arith
+kept_fields_fit counts id (field ∷ fields) =
+    let kept = sum_by-cons (λ field. part_count (map capped counts) (own_type id field.type_id)) field fields in
+    let are = sum_by-cons (λ field. part_count counts (own_type id field.type_id)) field fields in
+    let own = capped_part counts (own_type id field.type_id) in
+    let more = kept_fields_fit counts id fields in
+    omega (arith, clamps, kept, are, own, more)
+
+-- a field begins at the same row by them, where the counts of all fit
+pub field_kept : (counts : List ℕ) (id : TypeId) (first : ℕ) (fields : List FieldForm) (position : ℕ)
+    → sum_by (λ field. part_count counts (own_type id field.type_id)) fields < 2 ^ 64
+    → field_part (map capped counts) id first fields position ≡ field_part counts id first fields position
+field_kept counts id first [] position fit = refl
+field_kept counts id first (field ∷ fields) zero fit = refl
+field_kept counts id first (field ∷ fields) (suc position) fit =
+    let all = sum_by-cons (λ field. part_count counts (own_type id field.type_id)) field fields in
+    let own = part_kept counts (own_type id field.type_id) (omega (arith, all, fit)) in
+    ap (λ n. field_part (map capped counts) id (first + n) fields position) own
+    ∙ field_kept counts id (first + part_count counts (own_type id field.type_id)) fields position (omega (arith, all, fit))
+
+-- ---- the counts of the types of a table
+
 -- the first types with one more
 take_one : {A : Type 0} (items : List A) (n : ℕ) (item : A) → slice_get items n ≡ Some item → take (suc n) items ≡ take n items ++ item ∷ []
 take_one [] n item is = absurd (none-some item is)
@@ -82,16 +146,18 @@ all_taken (x ∷ items) zero is = absurd (none-some x (sym is))
 all_taken (x ∷ items) (suc n) is = ap (λ l. x ∷ l) (all_taken items n is)
 
 -- the types so far, and one more
-pub counts_step : (types : List Form) (counts new : List ℕ) (form : Form) (count : ℕ) → counts ≡ leaf_counts (take (length counts) types)
-    → slice_get types (length counts) ≡ Some form → count ≡ form_count counts form → new ≡ counts ++ count ∷ []
-    → new ≡ leaf_counts (take (length new) types)
+pub counts_step : (types : List Form) (counts new : List ℕ) (form : Form) (count : ℕ) → counts ≡ map capped (leaf_counts (take (length counts) types))
+    → slice_get types (length counts) ≡ Some form → count ≡ capped (form_count counts form) → new ≡ counts ++ count ∷ []
+    → new ≡ map capped (leaf_counts (take (length new) types))
 counts_step types counts new form count so_far is counted pushed =
     let longer = length-append counts (count ∷ []) in
     let same = ap length pushed in
     let e : suc (length counts) ≡ length new = omega (arith, longer, same) in
-    pushed ∙ ap (λ n. counts ++ n ∷ []) (counted ∙ ap (λ l. form_count l form) so_far)
-    ∙ ap (λ l. l ++ form_count (leaf_counts (take (length counts) types)) form ∷ []) so_far
-    ∙ sym (counts_more types (length counts) form is) ∙ ap (λ n. leaf_counts (take n types)) e
+    let before = leaf_counts (take (length counts) types) in
+    pushed ∙ ap (λ n. counts ++ n ∷ []) (counted ∙ ap (λ l. capped (form_count l form)) so_far ∙ capped_form before form)
+    ∙ ap (λ l. l ++ capped (form_count before form) ∷ []) so_far
+    ∙ sym (map-append capped before (form_count before form ∷ []))
+    ∙ ap (map capped) (sym (counts_more types (length counts) form is)) ∙ ap (λ n. map capped (leaf_counts (take n types))) e
 
 -- the fields that a program keeps
 pub kept_fields_counted : (counts : List ℕ) (fields : List Field)

@@ -9,7 +9,7 @@ use Rattle.std.specs.Ordering.{int_eq}
 use Rattle.std.specs.Prelude.{slice_get}
 use Rattle.types.specs.Components.{Steps, components_at, components_of, fields_components, values_from}
 use Rattle.types.specs.Forms.{Array, FieldForm, Form, Record}
-use Rattle.types.specs.Types.{Counted, before, cells_at, element_of, field_at, form_at, placed_fields, values_in}
+use Rattle.types.specs.Types.{Counted, before, cells_at, element_of, field_at, form_at, has_components, is_structured, placed_fields, values_in}
 use Rattle.types.specs.declared.form.ArrayElement.{ArrayElement}
 use Rattle.types.specs.declared.form.OrdinalRange.{OrdinalRange}
 use Rattle.types.specs.declared.form.RecordField.{RecordField}
@@ -24,7 +24,7 @@ use Rattle.typed_tree.specs.declared.tree.RangeTest.{RangeTest}
 use Rattle.typed_tree.specs.declared.tree.Selector.{Selector}
 use Rattle.typed_tree.specs.declared.tree.Selector.TheVariants.{Element, Field}
 use Rattle.leaf_rows.specs.Leaves.{Leaf, LeafStep, Elements, FieldAt, begins, behind_elements, fields_leaves, is_named, leaves_at, leaves_of, range_at}
-use Rattle.leaf_rows.specs.Rows.{has_components, is_structured, leaf_step}
+use Rattle.leaf_rows.specs.Rows.{leaf_step}
 use Rattle.leaf_rows.proofs.Components.{Has, in-element, in-field, in-range, of-element, of-field, of-range}
 use Rattle.leaf_rows.proofs.Leafed.{leafed_before, leaves_before, leaves_of_form}
 use Rattle.leaf_rows.proofs.Under.{IsPart, elements_part, field_part, inner_part, skipped, whole_part}

@@ -9,16 +9,15 @@ use Rattle.std.specs.List.{range_with_len}
 use Rattle.std.specs.Prelude.{flat_map, slice_get}
 use Rattle.types.specs.Forms.{FieldForm, Form}
 use Rattle.types.specs.Forms.{Integer, Boolean, Char, Enumeration, Subrange, Array, Record}
-use Rattle.types.specs.Types.{form_at}
-use Rattle.types.specs.declared.form.OrdinalRange.{OrdinalRange}
+use Rattle.types.specs.Types.{form_at, is_structured}
 use Rattle.types.specs.declared.form.TypeId.{TypeId}
 use Rattle.typed_tree.specs.declared.tree.Tree.{Tree}
 use Rattle.typed_tree.specs.declared.tree.Variable.{Variable}
 use Rattle.domain.specs.Interval.{Interval}
 use Rattle.leaf_rows.specs.declared.part.Part.{Part}
 use Rattle.leaf_rows.specs.declared.leaf.RowRanges.{RowRanges}
-use Rattle.leaf_rows.specs.Leaves.{Leaf, LeafStep, Elements, FieldAt, begins, leaves_at, leaves_of, range_at, scalar}
-use Rattle.leaf_rows.specs.Rows.{Row, is_structured, rows_of, rows_under, is_under, numbers_where, rows_from, variable_rows}
+use Rattle.leaf_rows.specs.Leaves.{Leaf, LeafStep, Elements, FieldAt, begins, leaves_at, leaves_of, range_at}
+use Rattle.leaf_rows.specs.Rows.{Row, rows_of, rows_under, is_under, numbers_where, rows_from, variable_rows}
 use Rattle.leaf_rows.specs.View.{AreKept, count_at, end_of, field_part, firsts_from, form_part, leaf_counts, next_part, own_type}
 use Rattle.leaf_rows.specs.View.{part_by, part_count, part_leaves, part_rows}
 use Rattle.leaf_rows.specs.View.{ranges_of, rows_count, typed_part, variable_part, variable_ranges}
@@ -328,12 +327,12 @@ under_of tree root steps =
 pub ends_of : (tree : Tree) (root : ℕ) → end_of tree.types (variable_part tree.types 0 tree.variables.items root) ≤ length (rows_of tree)
 ends_of tree root = let ends = variable_ends tree.types 0 0 tree.variables.items root in omega (arith, ends)
 
-pub ends_kept : (tree : Tree) (counts firsts : List ℕ) (rows : List RowRanges) (limits : List Interval) → AreKept tree counts firsts rows limits → (root : ℕ)
-    → end_of tree.types (variable_part tree.types 0 tree.variables.items root) < 2 ^ 32
-ends_kept tree counts firsts rows limits kept root =
+pub ends_kept : (tree : Tree) (counts firsts : List ℕ) (rows : List RowRanges) (limits : List Interval) → AreKept tree counts firsts rows limits
+    → length rows < 2 ^ 64 → (root : ℕ) → end_of tree.types (variable_part tree.types 0 tree.variables.items root) < 2 ^ 64
+ends_kept tree counts firsts rows limits kept few root =
     let ends = ends_of tree root in
     let same = ap length kept.rows_are ∙ length-map (rows_of tree) (λ row. ranges_of row.leaf) in
-    omega (arith, ends, same, kept.few)
+    omega (arith, ends, same, few)
 
 -- a variable is found in the tables
 pub found_kept : (tree : Tree) (counts firsts : List ℕ) (rows : List RowRanges) (limits : List Interval) → AreKept tree counts firsts rows limits → (root : ℕ)

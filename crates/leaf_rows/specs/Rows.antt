@@ -1,11 +1,11 @@
 -- The rows of a program: the leaves of its structured variables, one after another (ISO 7185:1990, 6.4.3, 6.5.3). A
 -- row is told by its number from 0. It says nothing of what the components of a row hold.
-use Rattle.std.specs.Prelude.{ℕ, suc, ℤ, Bool, true, false, ◌&&◌, List, [], ◌∷◌, ◌++◌, Option, Some, None}
+use Rattle.std.specs.Prelude.{ℕ, suc, ℤ, Bool, ◌&&◌, List, [], ◌∷◌, ◌++◌, Option, Some, None}
 use Rattle.std.specs.Prelude.{if◌then◌else◌, filter, map, flat_map, nat_eq, slice_get}
 use Rattle.std.specs.Option.{option_and_then}
 use Rattle.types.specs.Components.{components_of}
-use Rattle.types.specs.Forms.{Form, Array, Record}
-use Rattle.types.specs.Types.{element_of, field_of, form_at}
+use Rattle.types.specs.Forms.{Form}
+use Rattle.types.specs.Types.{element_of, field_of, is_structured}
 use Rattle.types.specs.declared.form.ArrayElement.{ArrayElement}
 use Rattle.types.specs.declared.form.OrdinalRange.{OrdinalRange}
 use Rattle.types.specs.declared.form.RecordField.{RecordField}
@@ -26,15 +26,6 @@ pub record Row : Type 0 where
   pub leaf : Leaf
 
 -- ---- the rows of a program
-
-abbrev pub has_components : Option Form → Bool
-has_components (Some (Array packed index element)) = true
-has_components (Some (Record packed fields)) = true
-has_components form = false
-
--- a type is structured: an array or a record
-abbrev pub is_structured : List Form → TypeId → Bool
-is_structured types id = has_components (form_at types id)
 
 abbrev pub variable_rows : List Form → ℕ → Variable → List Row
 variable_rows types root variable =

@@ -1,11 +1,12 @@
 -- The rows of a program as programs keep them: how many leaves each type has, where the rows of each variable begin,
 -- and the ranges of each row. It says nothing of what the components of a row hold.
-use Rattle.std.specs.Prelude.{◌≡◌, ℕ, zero, suc, ◌+◌, ◌<◌, ◌^◌, List, [], ◌∷◌, length, map, Option, Some, None}
+use Rattle.std.specs.Prelude.{◌≡◌, ℕ, zero, suc, ◌+◌, ◌-◌, ◌^◌, List, [], ◌∷◌, length, map, min, Option, Some, None}
 use Rattle.std.specs.Prelude.{if◌then◌else◌, nat_lt, slice_get, sum_by}
 use Rattle.std.specs.List.{range_with_len}
 use Rattle.types.specs.Forms.{FieldForm, Form, Array, Record}
 use Rattle.types.specs.declared.form.OrdinalRange.{OrdinalRange}
 use Rattle.types.specs.declared.form.TypeId.{TypeId}
+use Rattle.types.specs.Types.{is_structured}
 use Rattle.typed_tree.specs.declared.tree.Tree.{Tree}
 use Rattle.typed_tree.specs.declared.tree.Variable.{Variable}
 use Rattle.domain.specs.Interval.{Interval}
@@ -17,7 +18,7 @@ use Rattle.leaf_rows.specs.declared.span.Span.{Span}
 use Rattle.leaf_rows.specs.declared.rows.NamedPart.{NamedPart}
 use Rattle.leaf_rows.specs.Leaves.{Leaf, LeafStep, Elements, FieldAt, leafed, leaves_of, scalar}
 use Rattle.leaf_rows.specs.Limits.{all_limits}
-use Rattle.leaf_rows.specs.Rows.{Named, is_structured, rows_of, rows_under}
+use Rattle.leaf_rows.specs.Rows.{Named, rows_of, rows_under}
 
 -- the numbers of a span
 abbrev pub numbers : Span → List ℕ
@@ -52,6 +53,10 @@ way_behind Direct index = Indexed index
 way_behind (Indexed first) index = Indexed first
 
 -- ---- how many there are
+
+-- a number, or the greatest number of 64 bits
+abbrev pub capped : ℕ → ℕ
+capped n = min n (2 ^ 64 - 1)
 
 -- how many leaves each type has
 abbrev pub leaf_counts : List Form → List ℕ
@@ -93,13 +98,12 @@ firsts_from types first [] = []
 firsts_from types first (variable ∷ variables) =
     first ∷ firsts_from types (first + rows_count types variable) variables
 
--- the rows of a program are kept
+-- the rows of a program are kept; the greatest number stands for a count of leaves that is greater
 pub record AreKept (tree : Tree) (counts firsts : List ℕ) (rows : List RowRanges) (limits : List Interval)
     : Type 0 where
-  pub counts_are : counts ≡ leaf_counts tree.types
+  pub counts_are : counts ≡ map capped (leaf_counts tree.types)
   pub firsts_are : firsts ≡ firsts_from tree.types 0 tree.variables.items
   pub rows_are : rows ≡ map (λ row. ranges_of row.leaf) (rows_of tree)
-  pub few : length rows < 2 ^ 32
   pub limits_are : limits ≡ all_limits tree
 
 -- ---- parts of variables

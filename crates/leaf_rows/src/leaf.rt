@@ -3,7 +3,8 @@ ghost use Rattle.types.specs.Forms.{Record, field_form, form_of};
 ghost use Rattle.types.specs.Types.{range_of};
 ghost use Rattle.std.specs.Option.{option_and_then};
 ghost use Rattle.leaf_rows.specs.Leaves.{scalar};
-ghost use Rattle.leaf_rows.specs.View.{count_at, form_count, leaf_counts, own_type, part_leaves, ranges_on, way_behind};
+ghost use Rattle.leaf_rows.specs.View.{capped, count_at, form_count, leaf_counts, own_type, part_leaves, ranges_on};
+ghost use Rattle.leaf_rows.specs.View.{way_behind};
 
 use std::alloc::{AllocError, Global};
 use types::{Field, OrdinalRange, TypeForm, TypeId, TypeTable};
@@ -113,22 +114,22 @@ fn part_range(types: &TypeTable, part: Option<TypeId>) -> Option<OrdinalRange>
     types.range(part?)
 }
 
-/// How many leaves each type has; an error where they are too many for memory.
-pub(crate) fn leaf_counts(alloc: Global, types: &TypeTable) -> Result<Vec<u32>, AllocError>
-    ensures { IfOk result (λ counts. counts.items ≡ leaf_counts types.now) }
+/// How many leaves each type has, or the greatest number where there are more.
+pub(crate) fn leaf_counts(alloc: Global, types: &TypeTable) -> Result<Vec<usize>, AllocError>
+    ensures { IfOk result (λ counts. counts.items ≡ map capped (leaf_counts types.now)) }
 {
     let mut counts = Vec::new(alloc);
     while let Some(form) = types.form(TypeId {
         index: counts.len(),
     }) {
-        let count = form_count(&counts, form)?;
+        let count = form_count(&counts, form);
         counts.push(count)?;
     }
     Ok(counts)
 }
 
 /// How many leaves a type has, by those of each.
-pub(crate) fn count_at(counts: &[u32], id: TypeId) -> u32
+pub(crate) fn count_at(counts: &[usize], id: TypeId) -> usize
     ensures { result ≡ count_at counts.now id }
 {
     match counts.get(id.index) {
@@ -137,26 +138,24 @@ pub(crate) fn count_at(counts: &[u32], id: TypeId) -> u32
     }
 }
 
-// Those of a form, if 32 bits hold their number.
-fn form_count(counts: &[u32], form: &TypeForm) -> Result<u32, AllocError>
-    ensures { IfOk result (λ count. count ≡ form_count counts.now (form_of form.now)) }
+// Those of a form, or the greatest number.
+fn form_count(counts: &[usize], form: &TypeForm) -> usize
+    ensures { result ≡ capped (form_count counts.now (form_of form.now)) }
 {
     match form {
-        TypeForm::Array { element, .. } => Ok(count_at(counts, *element)),
+        TypeForm::Array { element, .. } => count_at(counts, *element),
         TypeForm::Record { fields, .. } => fields_count(counts, fields),
-        _ => Ok(1),
+        _ => 1,
     }
 }
 
 #[tactic(auto, using(crate::proofs::Counted::kept_fields_counted))]
-fn fields_count(counts: &[u32], fields: &[Field]) -> Result<u32, AllocError>
-    ensures { IfOk result (λ count. count ≡ form_count counts.now (Record false (map field_form fields.now))) }
+fn fields_count(counts: &[usize], fields: &[Field]) -> usize
+    ensures { result ≡ capped (form_count counts.now (Record false (map field_form fields.now))) }
 {
-    let mut all: u32 = 0;
+    let mut all: usize = 0;
     for field in fields {
-        all = all
-            .checked_add(count_at(counts, field.type_id))
-            .ok_or(AllocError)?;
+        all = all.saturating_add(count_at(counts, field.type_id));
     }
-    Ok(all)
+    all
 }

@@ -9,13 +9,13 @@ use types::{Field, TypeId};
 #[derive(Clone, Copy)]
 pub(crate) struct Part {
     /// The number of the first row that lies in it.
-    pub first: u32,
+    pub first: usize,
     /// Its type, if that stands before the type of the whole.
     pub type_id: Option<TypeId>,
 }
 
 /// How many leaves a part has, by those of each type.
-pub(crate) fn part_count(counts: &[u32], part: Option<TypeId>) -> u32
+pub(crate) fn part_count(counts: &[usize], part: Option<TypeId>) -> usize
     ensures { result ≡ part_count counts.now part }
 {
     match part {
@@ -26,13 +26,13 @@ pub(crate) fn part_count(counts: &[u32], part: Option<TypeId>) -> u32
 
 /// A field of a record, whose rows begin with this number.
 pub(crate) fn field_part(
-    counts: &[u32],
+    counts: &[usize],
     id: TypeId,
-    first: u32,
+    first: usize,
     fields: &[Field],
     position: usize,
 ) -> Option<Part>
-    requires { first + sum_by (λ field. part_count counts.now (own_type id field.type_id)) fields.now < 2 ^ 32 }
+    requires { first + sum_by (λ field. part_count counts.now (own_type id field.type_id)) fields.now < 2 ^ 64 }
     ensures { result ≡ field_part counts.now id first (map field_form fields.now) position }
 {
     let mut behind = first;

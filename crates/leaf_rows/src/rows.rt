@@ -1,9 +1,10 @@
-ghost use Rattle.std.specs.Prelude.{◌≡◌, ◌<◌, ◌≤◌, ◌^◌, ◌++◌, [], IfOk, OnErr, OnOk, length, slice_get};
+ghost use Rattle.std.specs.Prelude.{◌≡◌, ◌<◌, ◌^◌, ◌++◌, [], IfOk, OnOk, length, slice_get};
+ghost use Rattle.types.specs.Types.{is_structured};
 ghost use Rattle.typed_tree.specs.declared.tree.Tree.{Tree};
 ghost use Rattle.certificate.specs.Contents.{said_path};
 ghost use Rattle.leaf_rows.specs.Leaves.{Elements, FieldAt};
 ghost use Rattle.leaf_rows.specs.Limits.{all_limits, row_limits};
-ghost use Rattle.leaf_rows.specs.Rows.{index_at, is_structured, leaf_step, part_named, rows_accessed};
+ghost use Rattle.leaf_rows.specs.Rows.{index_at, leaf_step, part_named, rows_accessed};
 ghost use Rattle.leaf_rows.specs.Rows.{rows_of, rows_under, type_at, values_at};
 ghost use Rattle.leaf_rows.specs.View.{AreKept, IsAnswerOf, end_of, next_part, numbers, part_by, part_rows};
 ghost use Rattle.leaf_rows.specs.View.{variable_part, variable_ranges};
@@ -23,10 +24,10 @@ use types::{OrdinalRange, TypeForm, TypeId, TypeTable};
 #[derive(Drop)]
 pub struct Rows<'a> {
     tree: &'a Tree,
-    // How many leaves each type has.
-    counts: Vec<u32>,
+    // How many leaves each type has, or the greatest number where there are more.
+    counts: Vec<usize>,
     // The first row of each variable, or where it would be.
-    firsts: Vec<u32>,
+    firsts: Vec<usize>,
     rows: Vec<RowRanges>,
     // The values of the type of each variable.
     limits: Vec<Interval>,
@@ -60,7 +61,7 @@ impl<'a> Rows<'a> {
     /// The rows of a program.
     ///
     /// # Errors
-    /// No memory, or more rows than 32 bits can number, which fit none.
+    /// No memory.
     pub fn of(alloc: Global, tree: &'a Tree) -> Result<Rows<'a>, AllocError>
         ensures { IfOk result (λ rows. rows ≡ tree.now) }
     {
@@ -68,10 +69,9 @@ impl<'a> Rows<'a> {
         let mut firsts = Vec::new(alloc);
         let mut rows = Vec::new(alloc);
         for variable in &tree.variables {
-            firsts.push(row_number(rows.len())?)?;
+            firsts.push(rows.len())?;
             add_variable(&tree.types, variable, &mut rows)?;
         }
-        row_number(rows.len())?;
         let limits = all_limits(alloc, tree)?;
         Ok(Rows {
             tree,
@@ -97,24 +97,24 @@ impl<'a> Rows<'a> {
     }
 
     /// The type of the components of a row, if that is there.
-    pub fn type_id(&self, row: u32) -> Option<TypeId>
+    pub fn type_id(&self, row: usize) -> Option<TypeId>
         ensures { result ≡ type_at (rows_of self.now) row }
     {
-        self.rows.get(row as usize)?.type_id
+        self.rows.get(row)?.type_id
     }
 
     /// The values of the components of a row, if they are ordinal.
-    pub fn values(&self, row: u32) -> Option<OrdinalRange>
+    pub fn values(&self, row: usize) -> Option<OrdinalRange>
         ensures { result ≡ values_at (rows_of self.now) row }
     {
-        self.rows.get(row as usize)?.values
+        self.rows.get(row)?.values
     }
 
     /// The values of the first index on the way to the components of a row, if there is one.
-    pub fn index(&self, row: u32) -> Option<OrdinalRange>
+    pub fn index(&self, row: usize) -> Option<OrdinalRange>
         ensures { result ≡ index_at (rows_of self.now) row }
     {
-        self.rows.get(row as usize)?.index
+        self.rows.get(row)?.index
     }
 
     /// The values of the type of each variable, by root number.
@@ -125,7 +125,7 @@ impl<'a> Rows<'a> {
     }
 
     /// The values of the type of a row's components.
-    pub fn row_limits(&self, row: u32) -> Interval
+    pub fn row_limits(&self, row: usize) -> Interval
         ensures { result ≡ row_limits (rows_of self.now) row }
     {
         limits_or_integer(self.values(row))
@@ -179,7 +179,7 @@ impl<'a> Rows<'a> {
     pub fn is_structured(&self, id: TypeId) -> bool
         ensures { result ≡ is_structured self.now.types id }
     {
-        is_structured(&self.tree.types, id)
+        self.tree.types.is_structured(id)
     }
 }
 
@@ -187,7 +187,7 @@ impl<'a> Rows<'a> {
     // A variable, if it is structured.
     fn variable(&self, root: u32) -> Option<Part>
         ensures part { result ≡ variable_part self.now.types 0 self.now.variables.items root }
-        ensures fits { end_of self.now.types result < 2 ^ 32 }
+        ensures fits { end_of self.now.types result < 2 ^ 64 }
     {
         variable_part(
             &self.tree.types,
@@ -198,9 +198,9 @@ impl<'a> Rows<'a> {
 
     // What a selector selects.
     fn selected(&self, part: Option<Part>, selector: &Selector) -> Option<Part>
-        requires { end_of self.now.types part < 2 ^ 32 }
+        requires { end_of self.now.types part < 2 ^ 64 }
         ensures part { result ≡ next_part self.now.types part (leaf_step selector.now) }
-        ensures fits { end_of self.now.types result < 2 ^ 32 }
+        ensures fits { end_of self.now.types result < 2 ^ 64 }
     {
         match selector {
             Selector::Element { .. } => self.elements(part),
@@ -211,9 +211,9 @@ impl<'a> Rows<'a> {
     // The elements of an array.
     #[tactic(auto, using(crate::proofs::Counted::array_counted))]
     fn elements(&self, part: Option<Part>) -> Option<Part>
-        requires { end_of self.now.types part < 2 ^ 32 }
+        requires { end_of self.now.types part < 2 ^ 64 }
         ensures part { result ≡ next_part self.now.types part Elements }
-        ensures fits { end_of self.now.types result < 2 ^ 32 }
+        ensures fits { end_of self.now.types result < 2 ^ 64 }
     {
         let part = part?;
         let id = part.type_id?;
@@ -228,9 +228,9 @@ impl<'a> Rows<'a> {
 
     // The field at a place from 0 in its record.
     fn field(&self, part: Option<Part>, position: usize) -> Option<Part>
-        requires { end_of self.now.types part < 2 ^ 32 }
+        requires { end_of self.now.types part < 2 ^ 64 }
         ensures part { result ≡ next_part self.now.types part (FieldAt position) }
-        ensures fits { end_of self.now.types result < 2 ^ 32 }
+        ensures fits { end_of self.now.types result < 2 ^ 64 }
     {
         let part = part?;
         let id = part.type_id?;
@@ -244,7 +244,7 @@ impl<'a> Rows<'a> {
 
     // The rows of a part.
     fn span(&self, part: Option<Part>) -> Span
-        requires { end_of self.now.types part < 2 ^ 32 }
+        requires { end_of self.now.types part < 2 ^ 64 }
         ensures { numbers result ≡ part_rows self.now.types part }
     {
         match part {
@@ -257,16 +257,6 @@ impl<'a> Rows<'a> {
     }
 }
 
-// Whether a type is an array or a record.
-fn is_structured(types: &TypeTable, id: TypeId) -> bool
-    ensures { result ≡ is_structured types.now id }
-{
-    matches!(
-        types.form(id),
-        Some(TypeForm::Array { .. } | TypeForm::Record { .. })
-    )
-}
-
 // The variable of a number.
 fn variable_at(variables: &[Variable], root: u32) -> Option<Variable>
     ensures { result ≡ slice_get variables.now root }
@@ -275,19 +265,23 @@ fn variable_at(variables: &[Variable], root: u32) -> Option<Variable>
 }
 
 // Where its rows begin.
-fn first_at(firsts: &[u32], root: u32) -> Option<u32>
+fn first_at(firsts: &[usize], root: u32) -> Option<usize>
     ensures { result ≡ slice_get firsts.now root }
 {
     firsts.get(root as usize).copied()
 }
 
 // A variable, if it is structured, by its first row.
-fn variable_part(types: &TypeTable, variable: Option<Variable>, first: Option<u32>) -> Option<Part>
+fn variable_part(
+    types: &TypeTable,
+    variable: Option<Variable>,
+    first: Option<usize>,
+) -> Option<Part>
     ensures { result ≡ part_by types.now variable first }
 {
     let variable = variable?;
     let first = first?;
-    if is_structured(types, variable.type_id) {
+    if types.is_structured(variable.type_id) {
         Some(Part {
             first,
             type_id: Some(variable.type_id),
@@ -295,18 +289,6 @@ fn variable_part(types: &TypeTable, variable: Option<Variable>, first: Option<u3
     } else {
         None
     }
-}
-
-// The number of a row behind so many, if 32 bits hold it: more fit no memory.
-fn row_number(rows: usize) -> Result<u32, AllocError>
-    ensures number { IfOk result (λ number. number ≡ rows) }
-    ensures few { OnOk result (rows < 2 ^ 32) }
-    ensures many { OnErr result (2 ^ 32 ≤ rows) }
-{
-    if rows > u32::MAX as usize {
-        return Err(AllocError);
-    }
-    Ok(rows as u32)
 }
 
 // Puts the rows of a variable behind others.
@@ -317,7 +299,7 @@ fn add_variable(
 ) -> Result<(), AllocError>
     ensures { OnOk result (rows.new.items ≡ rows.old.items ++ variable_ranges types.now variable.now) }
 {
-    if is_structured(types, variable.type_id) {
+    if types.is_structured(variable.type_id) {
         add_leaves(types, Some(variable.type_id), Way::Direct, rows)?;
     }
     Ok(())

@@ -3,9 +3,9 @@ ghost use Rattle.std.specs.Prelude.{◌≡◌, ◌+◌, ◌<◌, ◌^◌};
 /// Rows with consecutive numbers.
 #[derive(Clone, Copy)]
 pub struct Span {
-    pub first: u32,
-    pub count: u32,
-    ghost fits: { first + count < 2 ^ 32 },
+    pub first: usize,
+    pub count: usize,
+    ghost fits: { first + count < 2 ^ 64 },
 }
 
 impl Span {
@@ -17,7 +17,7 @@ impl Span {
     }
 
     /// The number behind the last of them.
-    pub fn end(self) -> u32
+    pub fn end(self) -> usize
         ensures { result ≡ self.first + self.count }
     {
         self.first + self.count

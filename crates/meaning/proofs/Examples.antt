@@ -6,7 +6,11 @@ use Rattle.typed_tree.specs.declared.tree.Relation.{Relation}
 use Rattle.typed_tree.specs.declared.tree.Direction.{Direction}
 use Rattle.typed_tree.specs.declared.tree.Direction.TheVariants.{To, DownTo}
 use Rattle.typed_tree.specs.declared.tree.Dyadic.TheVariants as dyadic
+use Rattle.typed_tree.specs.declared.tree.Monadic.{Monadic}
 use Rattle.typed_tree.specs.declared.tree.Monadic.TheVariants as monadic
+use Rattle.typed_tree.specs.declared.tree.Calculation.TheVariants as calculation
+use Rattle.typed_tree.specs.declared.tree.Shift.{Shift}
+use Rattle.typed_tree.specs.declared.tree.Shift.TheVariants as shift
 use Rattle.typed_tree.specs.declared.tree.Relation.TheVariants.{Equal, Less}
 use Rattle.typed_tree.specs.declared.tree.Selector.{Selector}
 use Rattle.typed_tree.specs.declared.tree.Selector.TheVariants.{Element as SelectElement, Field as SelectField}
@@ -29,7 +33,7 @@ use Rattle.types.specs.declared.form.Step.TheVariants.{Element, Field}
 use Rattle.meaning.specs.Store.{Place, stored, written, undefined, overlap}
 use Rattle.meaning.specs.Integers.{is_integer_number}
 use Rattle.meaning.specs.Effect.{State, Reply, Gives, Stops, Action, Round, looped, ◌>>=◌, and_then, give, stop, enter, fetch, store, undefine, require}
-use Rattle.meaning.specs.Effect.{use_turn}
+use Rattle.meaning.specs.Effect.{number_of, use_turn}
 use Rattle.meaning.specs.Effect.{fetch_all, store_all, write, is_in, is_positive, places, boolean_text, char_text, row_text, text_of}
 use Rattle.meaning.specs.Meaning.{Evaluation, Combination, Execution, effect_step, is_so, alternative_of, combined, while_round, repeat_round, for_between}
 use Rattle.meaning.specs.Meaning.{selected, arm_of, Meaning, ended, link_step, in_turn, operated}
@@ -88,17 +92,21 @@ char_in_place = refl
 char_without_width : char_text (pos 65) (pos 0) ≡ codes "A"
 char_without_width = refl
 
-string_cut : row_text (map pos (codes "Pascal")) (Number (pos 3)) ≡ codes "Pas"
+-- the components of a string
+abbrev row : List ℕ → List Value
+row characters = map (λ c. Number (pos c)) characters
+
+string_cut : row_text (row (codes "Pascal")) (pos 3) ≡ codes "Pas"
 string_cut = refl
 
-string_set_right : row_text (map pos (codes "ab")) (Number (pos 4)) ≡ codes "  ab"
+string_set_right : row_text (row (codes "ab")) (pos 4) ≡ codes "  ab"
 string_set_right = refl
 
 -- 'abc' < 'abd', and 'B' comes before 'a'
-later_difference : compared Less (map pos (codes "abc")) (map pos (codes "abd")) ≡ Number (pos 1)
+later_difference : compared Less (row (codes "abc")) (row (codes "abd")) ≡ pos 1
 later_difference = refl
 
-first_difference : compared Less (map pos (codes "ab")) (map pos (codes "Bz")) ≡ Number (pos 0)
+first_difference : compared Less (row (codes "ab")) (row (codes "Bz")) ≡ pos 0
 first_difference = refl
 
 same_strings : order_of (map pos (codes "ab")) (map pos (codes "ab")) ≡ pos 0
@@ -182,6 +190,18 @@ not_found = refl
 abbrev link : Dyadic → Evaluation → Combination
 link operation right = link_step (record { number = 1; operation = operation; operand = right })
 
+-- the same reply, of a number
+abbrev number_told : Reply ℤ → Told
+number_told reply = told (and_then reply (λ n. give (Number n)))
+
+-- an operation on one operand with a test for a range, at the site 4
+abbrev tested_for : ℤ → ℤ → Shift → Monadic
+tested_for first last does = monadic.Tested (record { site = 4; range = record { first = first; last = last } }) does
+
+-- what an operation on a number tells
+abbrev of_one : Monadic → ℤ → Told
+of_one operation n = number_told (operated operation n (first_state [] 0))
+
 -- what an operation on two numbers tells
 abbrev of_two : Dyadic → Value → Value → Told
 of_two operation left right = told (link operation (operand right) nowhere left (first_state [] 0))
@@ -197,7 +217,8 @@ unfolding nowhere
 overflows = refl
 
 -- -7 div 2 is the sign of 7 div 2: -3; and (-7) div 2 is cut toward zero too
-sign_of_quotient : told ((link (dyadic.Div 3) (operand (Number (pos 2))) nowhere (Number (pos 7)) >>= operated monadic.Minus) (first_state [] 0)) ≡
+sign_of_quotient :
+    number_told ((combined (dyadic.Div 3) (pos 7) (pos 2) >>= operated (monadic.Plain calculation.Negative)) (first_state [] 0)) ≡
     Value_of (Number (negsuc 2))
 unfolding nowhere
 sign_of_quotient = refl
@@ -233,30 +254,30 @@ product_fits : of_two (dyadic.Times 3) (Number (pos 46340)) (Number (pos 46340))
 unfolding nowhere
 product_fits = refl
 
-square_too_large : told (operated (monadic.Sqr 5) (Number (pos 46341)) (first_state [] 0)) ≡ End_of (Error 5)
+square_too_large : of_one (monadic.Plain (calculation.Square 5)) (pos 46341) ≡ End_of (Error 5)
 square_too_large = refl
 
 -- abs(-maxint) is maxint, and -3 is odd
-without_sign : told (operated monadic.Abs (Number (negsuc 2147483646)) (first_state [] 0)) ≡ Value_of (Number (pos 2147483647))
+without_sign : of_one (monadic.Plain calculation.Absolute) (negsuc 2147483646) ≡ Value_of (Number (pos 2147483647))
 without_sign = refl
 
-negative_is_odd : told (operated monadic.Odd (Number (negsuc 2)) (first_state [] 0)) ≡ Value_of (Number (pos 1))
+negative_is_odd : of_one (monadic.Plain calculation.Parity) (negsuc 2) ≡ Value_of (Number (pos 1))
 negative_is_odd = refl
 
 -- chr takes 0 to 127; the last value has no successor, the first no predecessor
-last_char : told (operated (monadic.Chr 4) (Number (pos 127)) (first_state [] 0)) ≡ Value_of (Number (pos 127))
+last_char : of_one (tested_for (pos 0) (pos 127) shift.Same) (pos 127) ≡ Value_of (Number (pos 127))
 last_char = refl
 
-no_char : told (operated (monadic.Chr 4) (Number (pos 128)) (first_state [] 0)) ≡ End_of (Error 4)
+no_char : of_one (tested_for (pos 0) (pos 127) shift.Same) (pos 128) ≡ End_of (Error 4)
 no_char = refl
 
-successor_of_false : told (operated (monadic.Succ 4 (pos 1)) (Number (pos 0)) (first_state [] 0)) ≡ Value_of (Number (pos 1))
+successor_of_false : of_one (tested_for (pos 0) (pos 0) shift.Next) (pos 0) ≡ Value_of (Number (pos 1))
 successor_of_false = refl
 
-no_successor : told (operated (monadic.Succ 4 (pos 1)) (Number (pos 1)) (first_state [] 0)) ≡ End_of (Error 4)
+no_successor : of_one (tested_for (pos 0) (pos 0) shift.Next) (pos 1) ≡ End_of (Error 4)
 no_successor = refl
 
-no_predecessor : told (operated (monadic.Pred 4 (negsuc 2147483646)) (Number (negsuc 2147483646)) (first_state [] 0)) ≡ End_of (Error 4)
+no_predecessor : of_one (tested_for (negsuc 2147483645) (pos 2147483647) shift.Previous) (negsuc 2147483646) ≡ End_of (Error 4)
 no_predecessor = refl
 
 -- 1 div 0 = 1, with the division's site 3
@@ -274,14 +295,14 @@ both_evaluated = refl
 no_width : (width : Width) (default : ℤ) (environment : Surroundings) (s t : State) → value_of width.value environment s ≡ Gives (Number (pos 0)) t →
     width_of (Some width) default environment s ≡ Stops (Error width.site) t
 no_width width default environment s t zero =
-    ap (λ (r : Reply Value). and_then r (λ w. require (is_positive w) width.site >>= λ _. give w)) zero
+    ap (λ (r : Reply Value). and_then r (λ w. require (is_positive (number_of w)) width.site >>= λ _. give (number_of w))) zero
 
 -- where a value stops, its width isn't evaluated
 value_first : (value : Expr) (representation : Representation) (width : Option Width) (environment : Surroundings) (s t : State) (end : Ending) →
     value_of value environment s ≡ Stops end t → written_of (Ordinal value representation) width environment s ≡ Stops end t
 value_first value representation width environment s t end stopped =
     let wide = width_of width (default_width representation) environment in
-    ap (λ (r : Reply Value). and_then r (λ v. wide >>= λ w. write (text_of representation v w))) stopped
+    ap (λ (r : Reply Value). and_then r (λ v. wide >>= λ w. write (text_of representation (number_of v) w))) stopped
 
 -- in maxint + 1 + x the overflow is told, and the undefined x isn't reached; in maxint + x + 1 it is
 left_first : told (in_turn (link (dyadic.Plus 3) (operand (Number (pos 1))) ∷ link (dyadic.Plus 4) nothing_there ∷ []) nowhere (Number (pos 2147483647))
@@ -355,15 +376,16 @@ turns_to_spare = inl refl
 abbrev counter_is : Relation → ℤ → Evaluation
 counter_is relation number environment = do
   v ← fetch (Some (place 0 [])) 7
-  combined (dyadic.Relation relation) v (Number number)
+  n ← combined (dyadic.Relation relation) (number_of v) number
+  give (Number n)
 
 -- writes a byte and increases the counter
 abbrev counts : Execution
 counts environment = do
   _ ← write (codes "a")
   v ← fetch (Some (place 0 [])) 7
-  w ← combined (dyadic.Plus 3) v (Number (pos 1))
-  store (Some (place 0 [])) w
+  n ← combined (dyadic.Plus 3) (number_of v) (pos 1)
+  store (Some (place 0 [])) (Number n)
 
 -- what a loop writes and how it ends, where the counter is 0 at first
 abbrev from_zero : Round (Unit {0}) → ℕ → Meaning
@@ -414,15 +436,15 @@ everywhere = record {
   calls = λ number arguments caller. stop More;
 }
 
-abbrev number_out : Value → Action (Unit {0})
-number_out (Number n) = write (places n ∷ [])
+abbrev number_out : ℤ → Action (Unit {0})
+number_out n = write (places n ∷ [])
 
 -- writes the control variable, as a number without its sign
 abbrev written_out : Execution
 written_out environment = do
   v ← fetch (environment.visible.variables 0) 7
-  w ← operated monadic.Abs v
-  number_out w
+  n ← operated (monadic.Plain calculation.Absolute) (number_of v)
+  number_out n
 
 abbrev integers : OrdinalRange
 integers = record { first = negsuc 2147483646; last = pos 2147483647 }
@@ -430,7 +452,7 @@ integers = record { first = negsuc 2147483646; last = pos 2147483647 }
 -- a for whose control variable has the values of a range, from bounds that are tested at the sites 8 and 9
 abbrev counts_out : OrdinalRange → Direction → ℤ → ℤ → Action (Unit {0})
 counts_out range direction first last = do
-  _ ← for_between 0 (record { site = 8; range = range }) direction (record { site = 9; range = range }) written_out everywhere (Number first) (Number last)
+  _ ← for_between 0 (record { site = 8; range = range }) direction (record { site = 9; range = range }) written_out everywhere first last
   undefine (everywhere.visible.variables 0)
 
 abbrev of_for : OrdinalRange → Direction → ℤ → ℤ → ℕ → Meaning
@@ -527,18 +549,21 @@ second_index_undefined : access_of (operand (Number (pos 1)) ∷ nothing_there �
 unfolding nowhere
 second_index_undefined = refl
 
--- two elements: their numbers are read back in their order
+-- two elements: their values are read back in their order
 abbrev two_elements : List (List Step)
 two_elements = (Element (pos 1) ∷ []) ∷ (Element (pos 2) ∷ []) ∷ []
 
-abbrev read_back : Action (Unit {0}) → Reply (List ℤ)
+abbrev read_back : Action (Unit {0}) → Reply (List Value)
 read_back stored = (stored >>= λ _. fetch_all (Some (place 0 [])) two_elements 7) (first_state [] 0)
 
-abbrev numbers_told : Reply (List ℤ) → List ℤ
-numbers_told (Gives numbers s) = numbers
-numbers_told (Stops e s) = []
+abbrev values_told : Reply (List Value) → List Value
+values_told (Gives values s) = values
+values_told (Stops e s) = []
 
-both_read : numbers_told (read_back (store_all (Some (place 0 [])) two_elements (pos 5 ∷ pos 6 ∷ []))) ≡ pos 5 ∷ pos 6 ∷ []
+abbrev two_values : List Value
+two_values = Number (pos 5) ∷ Number (pos 6) ∷ []
+
+both_read : values_told (read_back (store_all (Some (place 0 [])) two_elements two_values)) ≡ two_values
 both_read = refl
 
 -- where one of them is undefined, the whole value is

@@ -17,7 +17,8 @@ use Rattle.typed_tree.specs.declared.tree.Expr.TheOpen.Expr-F.{Call as Call-F}
 use Rattle.typed_tree.specs.declared.tree.Expr.TheOpen.Passed-F.{Value as Value-F, Whole as Whole-F, Reference as Reference-F}
 use Rattle.typed_tree.specs.declared.tree.Expr.TheFolds.{fold-roll-Expr, fold-roll-Passed, fold_out-Link}
 use Rattle.meaning.specs.declared.store.Value.{Value}
-use Rattle.meaning.specs.Effect.{◌>>=◌, give, enter, fetch, is_in, require}
+use Rattle.meaning.specs.declared.store.Value.TheVariants.{Number}
+use Rattle.meaning.specs.Effect.{◌>>=◌, give, enter, fetch, is_in, number_of, require}
 use Rattle.meaning.specs.Meaning.{Surroundings, Evaluation, Passing, Combination, OfValue, OfRow, OfPlace, value_step, passed_step, link_step, operated}
 use Rattle.meaning.specs.Meaning.{combined, compared, in_turn, accessed, whole_of}
 use Rattle.meaning.specs.Meaning.{value_of, values_of, passing_of, link_of, call_of}
@@ -28,14 +29,15 @@ value-Variable a indexes defined env = ap (λ (e : Expr). value_of e env) (sym (
     ∙ ap (λ (f : Evaluation). f env) (fold-roll-Expr Evaluation Passing Combination value_step passed_step link_step (Variable-F a indexes defined))
 
 pub value-Monadic : (n : ℕ) (operation : Monadic) (operand : Box Expr Global) (env : Surroundings) →
-    value_of (expr.Monadic n operation operand) env ≡ (enter n env.visible >>= λ _. value_of operand.value env >>= λ v. operated operation v)
+    value_of (expr.Monadic n operation operand) env ≡ (enter n env.visible >>= λ _. value_of operand.value env >>= λ v. operated operation (number_of v)
+    >>= λ result. give (Number result))
 value-Monadic n operation operand env = ap (λ (e : Expr). value_of e env) (sym (expr.rolls-Monadic n operation operand))
     ∙ ap (λ (f : Evaluation). f env) (fold-roll-Expr Evaluation Passing Combination value_step passed_step link_step (Monadic-F n operation operand))
 
 pub value-Compare : (n : ℕ) (r : Relation) (left : Whole) (left_indexes : Vec Expr Global) (right : Whole) (right_indexes : Vec Expr Global)
     (env : Surroundings) → value_of (expr.Compare n r left left_indexes right right_indexes) env ≡
     (whole_of left (values_of left_indexes.items) env >>= λ a. enter n env.visible >>= λ _. whole_of right (values_of right_indexes.items) env
-    >>= λ b. give (compared r a b))
+    >>= λ b. give (Number (compared r a b)))
 value-Compare n r left left_indexes right right_indexes env =
     ap (λ (e : Expr). value_of e env) (sym (expr.rolls-Compare n r left left_indexes right right_indexes))
     ∙ ap (λ (f : Evaluation). f env)
@@ -47,7 +49,8 @@ value-Chain first rest env = ap (λ (e : Expr). value_of e env) (sym (expr.rolls
     ∙ ap (λ (f : Evaluation). f env) (fold-roll-Expr Evaluation Passing Combination value_step passed_step link_step (Chain-F first rest))
 
 pub combination-Link : (link : Link) (env : Surroundings) (left : Value) →
-    link_of link env left ≡ (enter link.number env.visible >>= λ _. value_of link.operand env >>= λ right. combined link.operation left right)
+    link_of link env left ≡ (enter link.number env.visible >>= λ _. value_of link.operand env >>= λ right.
+    combined link.operation (number_of left) (number_of right) >>= λ n. give (Number n))
 combination-Link link env left = ap (λ (f : Combination). f env left) (fold_out-Link Evaluation Passing Combination value_step passed_step link_step link)
 
 pub value-Call : (call : Call) (actuals : Vec Passed Global) (env : Surroundings) →
@@ -61,7 +64,7 @@ passing-Value value fits env = ap (λ (p : Passed). passing_of p env) (sym (actu
     ∙ ap (λ (f : Passing). f env) (fold-roll-Passed Evaluation Passing Combination value_step passed_step link_step (Value-F value fits))
 
 pub passing-Whole : (type_id : TypeId) (value : Whole) (indexes : Vec Expr Global) (env : Surroundings) →
-    passing_of (actual.Whole type_id value indexes) env ≡ (whole_of value (values_of indexes.items) env >>= λ numbers. give (OfRow numbers))
+    passing_of (actual.Whole type_id value indexes) env ≡ (whole_of value (values_of indexes.items) env >>= λ values. give (OfRow values))
 passing-Whole type_id value indexes env = ap (λ (p : Passed). passing_of p env) (sym (actual.rolls-Whole type_id value indexes))
     ∙ ap (λ (f : Passing). f env) (fold-roll-Passed Evaluation Passing Combination value_step passed_step link_step (Whole-F type_id value indexes))
 

@@ -15,7 +15,9 @@ use Rattle.typed_tree.specs.declared.tree.RangeTest.{RangeTest}
 use Rattle.typed_tree.specs.declared.tree.Variable.{Variable as DeclaredVariable}
 use Rattle.typed_tree.specs.declared.tree.VariableKind.{VariableKind}
 use Rattle.typed_tree.specs.declared.tree.VariableKind.TheVariants as kind
+use Rattle.typed_tree.specs.declared.tree.Shift.TheVariants as shift
 use Rattle.typed_tree.specs.declared.tree.Monadic.TheVariants as monadic
+use Rattle.typed_tree.specs.declared.tree.Monadic.{Monadic}
 use Rattle.typed_tree.specs.declared.tree.Dyadic.{Dyadic}
 use Rattle.typed_tree.specs.declared.tree.Dyadic.TheVariants as dyadic
 use Rattle.typed_tree.specs.declared.tree.Relation.TheVariants as relation
@@ -88,6 +90,13 @@ module _ (heap : Vec ℕ Global) (some_call : Call) where
   abbrev two : Expr → ℕ → Dyadic → Expr → Expr
   two left number operation right =
       roll-Expr (Chain (boxed left) (vec (roll-Link (record { number = number; operation = operation; operand = right }) ∷ []) (omega arith)))
+
+  -- pred of a char, and chr
+  abbrev before : ℕ → Monadic
+  before site = monadic.Tested (record { site = site; range = record { first = pos 1; last = pos 127 } }) shift.Previous
+
+  abbrev to_char : ℕ → Monadic
+  to_char site = monadic.Tested (record { site = site; range = record { first = pos 0; last = pos 127 } }) shift.Same
 
   abbrev any_integer : ℕ → RangeTest
   any_integer site = record { site = site; range = record { first = negsuc 2147483646; last = pos 2147483647 } }
@@ -169,7 +178,7 @@ module _ (heap : Vec ℕ Global) (some_call : Call) where
       (compound 3
       (assign 4 5 1 2 (variable 6 0 3)
       ∷ when 7 (two (variable 8 0 4) 9 (dyadic.Relation relation.Greater) (constant 10 (pos 97)))
-      (calls 11 1 (by_value (roll-Expr (MonadicOf 12 (monadic.Pred 5 (pos 0)) (boxed (variable 13 0 6)))) 7 ∷ []) (omega arith))
+      (calls 11 1 (by_value (roll-Expr (MonadicOf 12 (before 5) (boxed (variable 13 0 6)))) 7 ∷ []) (omega arith))
       ∷ calls 15 2 [] (omega arith) ∷ [])
       (omega arith))
       ∷ block (heading (0 ∷ 1 ∷ []) [] None (omega arith) (omega arith))
@@ -190,7 +199,7 @@ module _ (heap : Vec ℕ Global) (some_call : Call) where
       program
       (block (heading [] [] None (omega arith) (omega arith))
       (compound 13
-      (writes 14 (written (roll-Expr (MonadicOf 15 (monadic.Chr 9) (boxed (calling 16 1 (by_value (constant 17 (pos 5)) 10 ∷ []) (omega arith))))) ∷ [])
+      (writes 14 (written (roll-Expr (MonadicOf 15 (to_char 9) (boxed (calling 16 1 (by_value (constant 17 (pos 5)) 10 ∷ []) (omega arith))))) ∷ [])
       (omega arith) ∷ [])
       (omega arith))
       ∷ block (heading (0 ∷ []) (1 ∷ []) (Some (record { root = 0; defined = 8 })) (omega arith) (omega arith))

@@ -1,9 +1,8 @@
 -- What holds of every piece of a program because it is made of few actions: a relation of what a piece does with what it
 -- does where calls do something else, if actions that are made of related ones are related, and what the calls do is.
-use Rattle.std.specs.Prelude.{int_div, int_le, int_lt, not, if◌then◌else◌}
-use Rattle.std.specs.Int.{int_rem_euclid}
+use Rattle.std.specs.Prelude.{int_le, not, if◌then◌else◌}
 use Rattle.std.specs.Ordering.{int_eq}
-use Rattle.std.proofs.Common.{◌≡◌, ℕ, ℤ, pos, ◌+ℤ◌, ◌-ℤ◌, ◌*ℤ◌, List, [], ◌∷◌, Bool, true, false, Option, Some, None, Vec, Global, map, slice_get}
+use Rattle.std.proofs.Common.{◌≡◌, ℕ, ℤ, pos, List, [], ◌∷◌, Bool, true, false, Option, Some, None, Vec, Global, map, slice_get}
 use Rattle.std.proofs.Common.{sym, ◌∙◌, ap, subst, refl}
 use Rattle.types.specs.Forms.{Form}
 use Rattle.types.specs.declared.form.Step.{Step}
@@ -18,8 +17,8 @@ use Rattle.typed_tree.specs.declared.tree.Direction.{Direction}
 use Rattle.typed_tree.specs.declared.tree.RangeTest.{RangeTest}
 use Rattle.typed_tree.specs.declared.tree.Dyadic.{Dyadic}
 use Rattle.typed_tree.specs.declared.tree.Dyadic.TheVariants as dyadic
-use Rattle.typed_tree.specs.declared.tree.Monadic.{Monadic}
 use Rattle.typed_tree.specs.declared.tree.Monadic.TheVariants as monadic
+use Rattle.typed_tree.specs.declared.tree.Monadic.{Monadic}
 use Rattle.typed_tree.specs.declared.tree.Width.{Width}
 use Rattle.typed_tree.specs.declared.tree.WriteParameter.{WriteParameter}
 use Rattle.typed_tree.specs.declared.tree.Written.{Written}
@@ -46,13 +45,14 @@ use Rattle.typed_tree.specs.declared.tree.Stmt.TheFolds.{map-Stmt, fold-roll-Stm
 use Rattle.meaning.specs.declared.outcome.Ending.TheVariants as ending
 use Rattle.meaning.specs.declared.store.Value.{Value}
 use Rattle.meaning.specs.declared.store.Value.TheVariants.{Number}
-use Rattle.meaning.specs.Integers.{is_integer_number, is_within}
+use Rattle.meaning.specs.Integers.{is_integer_number}
 use Rattle.meaning.specs.Store.{Environment, Place, part}
 use Rattle.meaning.specs.Counting.{has_values, value_behind}
 use Rattle.meaning.specs.Effect.{Action, Round, ◌>>=◌, give, stop, require, enter, use_turn, looped, fetch, fetch_all, store, store_all, undefine, write}
 use Rattle.meaning.specs.Effect.{is_in, is_positive, number_of, row_text, text_of}
 use Rattle.meaning.specs.Meaning.{Argument, OfValue, OfRow, OfPlace, Calls, Surroundings, Evaluation, Passing, Combination, Execution}
-use Rattle.meaning.specs.Meaning.{value_step, passed_step, link_step, effect_step, whole, operated, combined, in_turn, all_of, all_passed, call_of}
+use Rattle.meaning.specs.Meaning.{value_step, passed_step, link_step, effect_step, operated, combined, in_turn, all_of, all_passed, call_of}
+use Rattle.meaning.specs.Meaning.{calculated, divides, of_both, overflow_of, overflow_of_both, shifted, unless_overflow}
 use Rattle.meaning.specs.Meaning.{compared, selected, accessed, whole_of, values_of, default_width, width_of, written_of, parameter_of}
 use Rattle.meaning.specs.Meaning.{line_ended, is_so, turn_if, for_rounds, for_between, is_among, arm_of}
 use Rattle.meaning.specs.Meaning.{value_of, passing_of, link_of, effect_of, assign, assign_all, result_of, Activation, environment_of, executed}
@@ -138,47 +138,42 @@ module _ (R : (A : Type 0) → Action A → Action A → Type 0) (closed : Close
   of_require false site = closed.errs site
 
   pub of_fetch_all : (p : Option Place) (components : List (List Step)) (site : ℕ)
-      → R (List ℤ) (fetch_all p components site) (fetch_all p components site)
+      → R (List Value) (fetch_all p components site) (fetch_all p components site)
   of_fetch_all p [] site = closed.gives []
   of_fetch_all p (steps ∷ components) site =
       closed.follows _ _ _ _ (closed.fetches (part p steps) site)
-      (λ v. closed.follows _ _ _ _ (of_fetch_all p components site) (λ numbers. closed.gives (number_of v ∷ numbers)))
+      (λ v. closed.follows _ _ _ _ (of_fetch_all p components site) (λ values. closed.gives (v ∷ values)))
 
-  pub of_store_all : (p : Option Place) (components : List (List Step)) (numbers : List ℤ)
-      → R (Unit {0}) (store_all p components numbers) (store_all p components numbers)
-  of_store_all p [] numbers = closed.gives tt
+  pub of_store_all : (p : Option Place) (components : List (List Step)) (values : List Value)
+      → R (Unit {0}) (store_all p components values) (store_all p components values)
+  of_store_all p [] values = closed.gives tt
   of_store_all p (steps ∷ components) [] = closed.gives tt
-  of_store_all p (steps ∷ components) (n ∷ numbers) =
-      closed.follows _ _ _ _ (closed.stores (part p steps) (Number n)) (λ _. of_store_all p components numbers)
+  of_store_all p (steps ∷ components) (v ∷ values) =
+      closed.follows _ _ _ _ (closed.stores (part p steps) v) (λ _. of_store_all p components values)
 
-  -- a test, and then a value
-  pub of_tested : (b : Bool) (site : ℕ) (v : Value) → R Value (require b site >>= λ _. give v) (require b site >>= λ _. give v)
-  of_tested b site v = closed.follows _ _ _ _ (of_require b site) (λ _. closed.gives v)
+  pub of_unless_overflow : (overflow : Option ℕ) (n : ℤ) → R ℤ (unless_overflow overflow n) (unless_overflow overflow n)
+  of_unless_overflow None n = closed.gives n
+  of_unless_overflow (Some site) n = closed.follows _ _ _ _ (of_require (is_integer_number n) site) (λ _. closed.gives n)
 
-  pub of_whole : (overflow : ℕ) (n : ℤ) → R Value (whole overflow n) (whole overflow n)
-  of_whole overflow n = of_tested (is_integer_number n) overflow (Number n)
+  pub of_operated : (operation : Monadic) (n : ℤ) → R ℤ (operated operation n) (operated operation n)
+  of_operated (monadic.Plain does) n = of_unless_overflow (overflow_of does) (calculated does n)
+  of_operated (monadic.Tested fits does) n =
+      closed.follows _ _ _ _ (of_require (is_in fits.range (Number n)) fits.site) (λ _. closed.gives (shifted does n))
 
-  pub of_operated : (operation : Monadic) (v : Value) → R Value (operated operation v) (operated operation v)
-  of_operated monadic.Plus (Number a) = closed.gives _
-  of_operated monadic.Minus (Number a) = closed.gives _
-  of_operated monadic.Not (Number a) = closed.gives _
-  of_operated monadic.Abs (Number a) = closed.gives _
-  of_operated (monadic.Sqr overflow) (Number a) = of_whole overflow (a *ℤ a)
-  of_operated monadic.Odd (Number a) = closed.gives _
-  of_operated monadic.Ord (Number a) = closed.gives _
-  of_operated (monadic.Chr no_char) (Number a) = of_tested (is_within (pos 0) (pos 127) a) no_char (Number a)
-  of_operated (monadic.Succ no_successor last) (Number a) = of_tested (int_lt a last) no_successor (Number (a +ℤ pos 1))
-  of_operated (monadic.Pred no_predecessor first) (Number a) = of_tested (int_lt first a) no_predecessor (Number (a -ℤ pos 1))
+  pub of_divides : (operation : Dyadic) (b : ℤ) → R (Unit {0}) (divides operation b) (divides operation b)
+  of_divides (dyadic.Plus overflow) b = closed.gives tt
+  of_divides (dyadic.Minus overflow) b = closed.gives tt
+  of_divides (dyadic.Times overflow) b = closed.gives tt
+  of_divides (dyadic.Div by_zero) b = of_require (not (int_eq b (pos 0))) by_zero
+  of_divides (dyadic.Mod by_zero_or_less) b = of_require (int_le (pos 1) b) by_zero_or_less
+  of_divides dyadic.And b = closed.gives tt
+  of_divides dyadic.Or b = closed.gives tt
+  of_divides (dyadic.Relation r) b = closed.gives tt
 
-  pub of_combined : (operation : Dyadic) (left right : Value) → R Value (combined operation left right) (combined operation left right)
-  of_combined (dyadic.Plus overflow) (Number a) (Number b) = of_whole overflow (a +ℤ b)
-  of_combined (dyadic.Minus overflow) (Number a) (Number b) = of_whole overflow (a -ℤ b)
-  of_combined (dyadic.Times overflow) (Number a) (Number b) = of_whole overflow (a *ℤ b)
-  of_combined (dyadic.Div by_zero) (Number a) (Number b) = of_tested (not (int_eq b (pos 0))) by_zero (Number (int_div a b))
-  of_combined (dyadic.Mod by_zero_or_less) (Number a) (Number b) = of_tested (int_le (pos 1) b) by_zero_or_less (Number (int_rem_euclid a b))
-  of_combined dyadic.And (Number a) (Number b) = closed.gives _
-  of_combined dyadic.Or (Number a) (Number b) = closed.gives _
-  of_combined (dyadic.Relation r) (Number a) (Number b) = closed.gives _
+  pub of_combined : (operation : Dyadic) (a b : ℤ) → R ℤ (combined operation a b) (combined operation a b)
+  of_combined operation a b =
+      closed.follows _ _ _ _ (of_divides operation b)
+      (λ _. of_unless_overflow (overflow_of_both operation) (of_both operation a b))
 
   pub of_line_ended : (ends_line : Bool) → R (Unit {0}) (line_ended ends_line) (line_ended ends_line)
   of_line_ended true = closed.writes (10 ∷ [])
@@ -194,8 +189,8 @@ module _ (R : (A : Type 0) → Action A → Action A → Type 0) (closed : Close
   pub of_assign : (types : List Form) (place : Option Place) (formal : Option DeclaredVariable) (argument : Argument)
       → R (Unit {0}) (assign types place formal argument) (assign types place formal argument)
   of_assign types place formal (OfValue v) = closed.stores place v
-  of_assign types place None (OfRow numbers) = closed.gives tt
-  of_assign types place (Some formal) (OfRow numbers) = of_store_all place (components_of types formal.type_id) numbers
+  of_assign types place None (OfRow values) = closed.gives tt
+  of_assign types place (Some formal) (OfRow values) = of_store_all place (components_of types formal.type_id) values
   of_assign types place None (OfPlace other) = closed.gives tt
   of_assign types place (Some formal) (OfPlace other) = closed.gives tt
 
@@ -269,8 +264,9 @@ module _ (R : (A : Type 0) → Action A → Action A → Type 0) (closed : Close
 
     -- the components of a whole value
     pub of_components : (value : Whole) (indexes : List RelatedExpr)
-        → R (List ℤ) (whole_of value (values_of (map (λ e. e.0) indexes)) here) (whole_of value (values_of (map (λ e. e.0) indexes)) there)
-    of_components (Text number characters) indexes = closed.follows _ _ _ _ (closed.enters number visible) (λ _. closed.gives (map pos characters.items))
+        → R (List Value) (whole_of value (values_of (map (λ e. e.0) indexes)) here) (whole_of value (values_of (map (λ e. e.0) indexes)) there)
+    of_components (Text number characters) indexes =
+        closed.follows _ _ _ _ (closed.enters number visible) (λ _. closed.gives (map (λ c. Number (pos c)) characters.items))
     of_components (VariableOf access type_id cells defined) indexes =
         closed.follows _ _ _ _ (of_accessed access indexes) (λ p. of_fetch_all p (components_of visible.types type_id) defined)
 
@@ -311,12 +307,13 @@ module _ (R : (A : Type 0) → Action A → Action A → Type 0) (closed : Close
     of_layer (Variable access indexes defined) =
         closed.follows _ _ _ _ (of_accessed access indexes.items) (λ p. closed.fetches p defined)
     of_layer (MonadicOf number operation operand) =
-        closed.follows _ _ _ _ (closed.enters number visible) (λ _. closed.follows _ _ _ _ operand.value.1 (λ v. of_operated operation v))
+        closed.follows _ _ _ _ (closed.enters number visible) (λ _. closed.follows _ _ _ _ operand.value.1
+        (λ v. closed.follows _ _ _ _ (of_operated operation (number_of v)) (λ n. closed.gives (Number n))))
     of_layer (Chain first rest) = closed.follows _ _ _ _ first.value.1 (λ v. of_in_turn rest.items v)
     of_layer (Compare number relation left left_indexes right right_indexes) =
         closed.follows _ _ _ _ (of_components left left_indexes.items)
         (λ a. closed.follows _ _ _ _ (closed.enters number visible)
-        (λ _. closed.follows _ _ _ _ (of_components right right_indexes.items) (λ b. closed.gives (compared relation a b))))
+        (λ _. closed.follows _ _ _ _ (of_components right right_indexes.items) (λ b. closed.gives (Number (compared relation a b)))))
     of_layer (CallOf call actuals) = of_call call actuals.items
 
     pub of_passed_layer : (y : Passed-F RelatedExpr RelatedPassed RelatedLink) → R Argument (passed_on (bare_passed y) here) (passed_on (bare_passed y) there)
@@ -324,7 +321,7 @@ module _ (R : (A : Type 0) → Action A → Action A → Type 0) (closed : Close
         closed.follows _ _ _ _ value.1
         (λ v. closed.follows _ _ _ _ (of_require (is_in fits.range v) fits.site) (λ _. closed.gives (OfValue v)))
     of_passed_layer (PassedWhole type_id value indexes) =
-        closed.follows _ _ _ _ (of_components value indexes.items) (λ numbers. closed.gives (OfRow numbers))
+        closed.follows _ _ _ _ (of_components value indexes.items) (λ values. closed.gives (OfRow values))
     of_passed_layer (Reference type_id access indexes) =
         closed.follows _ _ _ _ (of_accessed access indexes.items) (λ place. closed.gives (OfPlace place))
 
@@ -332,7 +329,8 @@ module _ (R : (A : Type 0) → Action A → Action A → Type 0) (closed : Close
         → R Value (linked (bare_link y) here left) (linked (bare_link y) there left)
     of_link_layer y left =
         closed.follows _ _ _ _ (closed.enters y.number visible)
-        (λ _. closed.follows _ _ _ _ y.operand.1 (λ v. of_combined y.operation left v))
+        (λ _. closed.follows _ _ _ _ y.operand.1
+        (λ v. closed.follows _ _ _ _ (of_combined y.operation (number_of left) (number_of v)) (λ n. closed.gives (Number n))))
 
     pub of_rolled : (x : Expr-F Expr Passed Link) (y : Expr-F RelatedExpr RelatedPassed RelatedLink) → bare y ≡ x → IsRelated (roll-Expr x)
     of_rolled x y is =
@@ -379,9 +377,10 @@ module _ (R : (A : Type 0) → Action A → Action A → Type 0) (closed : Close
         subst (λ all. R (Option Place) (accessed access (values_of all) here) (accessed access (values_of all) there)) (all_indexes indexes)
         (of_accessed access (all_related indexes))
 
-    pub of_whole_value : (value : Whole) (indexes : List Expr) → R (List ℤ) (whole_of value (values_of indexes) here) (whole_of value (values_of indexes) there)
+    pub of_whole_value : (value : Whole) (indexes : List Expr)
+        → R (List Value) (whole_of value (values_of indexes) here) (whole_of value (values_of indexes) there)
     of_whole_value value indexes =
-        subst (λ all. R (List ℤ) (whole_of value (values_of all) here) (whole_of value (values_of all) there)) (all_indexes indexes)
+        subst (λ all. R (List Value) (whole_of value (values_of all) here) (whole_of value (values_of all) there)) (all_indexes indexes)
         (of_components value (all_related indexes))
 
     pub of_called : (call : Call) (actuals : List Passed) → R Value (call_of call (map passing_of actuals) here) (call_of call (map passing_of actuals) there)
@@ -389,14 +388,16 @@ module _ (R : (A : Type 0) → Action A → Action A → Type 0) (closed : Close
         subst (λ all. R Value (call_of call (map passing_of all) here) (call_of call (map passing_of all) there)) (all_actuals actuals)
         (of_call call (actuals_related actuals))
 
-    pub of_width : (width : Option Width) (default : ℤ) → R Value (width_of width default here) (width_of width default there)
-    of_width None default = closed.gives _
-    of_width (Some width) default = closed.follows _ _ _ _ (of_value width.value) (λ w. of_tested (is_positive w) width.site w)
+    pub of_width : (width : Option Width) (default : ℤ) → R ℤ (width_of width default here) (width_of width default there)
+    of_width None default = closed.gives default
+    of_width (Some width) default =
+        closed.follows _ _ _ _ (of_value width.value)
+        (λ w. closed.follows _ _ _ _ (of_require (is_positive (number_of w)) width.site) (λ _. closed.gives (number_of w)))
 
     pub of_written : (value : Written) (width : Option Width) → R (Unit {0}) (written_of value width here) (written_of value width there)
     of_written (Ordinal value representation) width =
         closed.follows _ _ _ _ (of_value value)
-        (λ v. closed.follows _ _ _ _ (of_width width (default_width representation)) (λ w. closed.writes (text_of representation v w)))
+        (λ v. closed.follows _ _ _ _ (of_width width (default_width representation)) (λ w. closed.writes (text_of representation (number_of v) w)))
     of_written (String value indexes) width =
         closed.follows _ _ _ _ (of_whole_value value indexes.items)
         (λ components. closed.follows _ _ _ _ (of_width width (pos (length_of value))) (λ w. closed.writes (row_text components w)))
@@ -419,10 +420,10 @@ module _ (R : (A : Type 0) → Action A → Action A → Type 0) (closed : Close
         (λ _. closed.fors (visible.variables control) direction last (body here) (body there) done first))
 
     pub of_for_between : (control : ℕ) (first_fits : RangeTest) (direction : Direction) (last_fits : RangeTest) (body : Execution)
-        → R (Unit {0}) (body here) (body there) → (first last : Value)
+        → R (Unit {0}) (body here) (body there) → (first last : ℤ)
         → R (Unit {0}) (for_between control first_fits direction last_fits body here first last)
         (for_between control first_fits direction last_fits body there first last)
-    of_for_between control first_fits direction last_fits body done (Number first) (Number last) =
+    of_for_between control first_fits direction last_fits body done first last =
         of_chosen (has_values direction first last) (for_rounds control first_fits direction last_fits body here first last)
         (for_rounds control first_fits direction last_fits body there first last) (give tt) (give tt)
         (of_for_rounds control first_fits direction last_fits body done first last) (closed.gives tt)
@@ -496,7 +497,7 @@ module _ (R : (A : Type 0) → Action A → Action A → Type 0) (closed : Close
         closed.follows _ _ _ _ (closed.enters number visible)
         (λ _. closed.follows _ _ _ _ (of_value first)
         (λ a. closed.follows _ _ _ _ (of_value last)
-        (λ b. closed.follows _ _ _ _ (of_for_between control first_fits direction last_fits (effect_of body.value.0) body.value.1 a b)
+        (λ b. closed.follows _ _ _ _ (of_for_between control first_fits direction last_fits (effect_of body.value.0) body.value.1 (number_of a) (number_of b))
         (λ _. closed.undefines (visible.variables control)))))
     of_stmt_layer (Case number site index constants arms) =
         closed.follows _ _ _ _ (closed.enters number visible)

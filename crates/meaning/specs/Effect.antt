@@ -134,25 +134,25 @@ fetch place site s = fetched (held s.store place) site s
 abbrev pub number_of : Value → ℤ
 number_of (Number n) = n
 
--- the numbers at the components of a place, in their order, or an error at the site where one of them is undefined
-abbrev pub fetch_all : Option Place → List (List Step) → ℕ → Action (List ℤ)
+-- the values at the components of a place, in their order, or an error at the site where one of them is undefined
+abbrev pub fetch_all : Option Place → List (List Step) → ℕ → Action (List Value)
 fetch_all place [] site = give []
 fetch_all place (steps ∷ components) site = do
   v ← fetch (part place steps) site
-  numbers ← fetch_all place components site
-  give (number_of v ∷ numbers)
+  values ← fetch_all place components site
+  give (v ∷ values)
 
 -- a value is written to a place, if there is one
 abbrev pub store : Option Place → Value → Action (Unit {0})
 store place v s = Gives tt (record s { store = kept s.store place v })
 
--- numbers are written to the components of a place, in their order
-abbrev pub store_all : Option Place → List (List Step) → List ℤ → Action (Unit {0})
-store_all place [] numbers = give tt
+-- values are written to the components of a place, in their order
+abbrev pub store_all : Option Place → List (List Step) → List Value → Action (Unit {0})
+store_all place [] values = give tt
 store_all place (steps ∷ components) [] = give tt
-store_all place (steps ∷ components) (n ∷ numbers) = do
-  _ ← store (part place steps) (Number n)
-  store_all place components numbers
+store_all place (steps ∷ components) (v ∷ values) = do
+  _ ← store (part place steps) v
+  store_all place components values
 
 -- what a place holds becomes undefined, if there is a place
 abbrev pub undefine : Option Place → Action (Unit {0})
@@ -167,8 +167,8 @@ abbrev pub is_in : OrdinalRange → Value → Bool
 is_in range (Number n) = is_integer_number n && is_within range.first range.last n
 
 -- a width that may be (6.9.3.1): at least 1
-abbrev pub is_positive : Value → Bool
-is_positive (Number n) = int_le (pos 1) n
+abbrev pub is_positive : ℤ → Bool
+is_positive n = int_le (pos 1) n
 
 -- how many places a width gives
 abbrev pub places : ℤ → ℕ
@@ -192,11 +192,11 @@ abbrev pub boolean_text : ℤ → ℤ → List ℕ
 boolean_text n width = string_text (if is_true n then codes "true" else codes "false") width
 
 -- the components of a string, as they are written in a width
-abbrev pub row_text : List ℤ → Value → List ℕ
-row_text components (Number width) = string_text (map byte_of components) width
+abbrev pub row_text : List Value → ℤ → List ℕ
+row_text components width = string_text (map (λ v. byte_of (number_of v)) components) width
 
--- a value as it is written in a width
-abbrev pub text_of : Representation → Value → Value → List ℕ
-text_of representation.Char (Number n) (Number width) = char_text n width
-text_of representation.Integer (Number n) (Number width) = integer_text n width
-text_of representation.Boolean (Number n) (Number width) = boolean_text n width
+-- the number of an ordinal as it is written in a width
+abbrev pub text_of : Representation → ℤ → ℤ → List ℕ
+text_of representation.Char n width = char_text n width
+text_of representation.Integer n width = integer_text n width
+text_of representation.Boolean n width = boolean_text n width

@@ -113,7 +113,7 @@ pub record AllUseTurnsExactly (env : Surroundings) : Type 0 where
   pub entries : (number : ℕ) → UsesTurnsExactly (enter number env.visible)
   pub tests : (holds : Bool) (site : ℕ) → UsesTurnsExactly (require holds site)
   pub stores : (place : Option Place) (v : Value) → UsesTurnsExactly (store place v)
-  pub operators : (operation : Dyadic) (left right : Value) → UsesTurnsExactly (combined operation left right)
+  pub operators : (operation : Dyadic) (left right : ℤ) → UsesTurnsExactly (combined operation left right)
   -- expressions, whole values, actual parameters and how they are assigned, and calls
   pub values : (e : Expr) → UsesTurnsExactly (value_of e env)
   pub wholes : (value : Whole) (indexes : List Expr) → UsesTurnsExactly (whole_of value (map value_of indexes) env)

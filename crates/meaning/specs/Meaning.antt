@@ -26,6 +26,10 @@ use Rattle.std.specs.Int.{int_rem_euclid}
 use Rattle.std.specs.Ordering.{int_eq}
 use Rattle.typed_tree.specs.declared.tree.Monadic.{Monadic}
 use Rattle.typed_tree.specs.declared.tree.Monadic.TheVariants as monadic
+use Rattle.typed_tree.specs.declared.tree.Calculation.{Calculation}
+use Rattle.typed_tree.specs.declared.tree.Calculation.TheVariants as calculation
+use Rattle.typed_tree.specs.declared.tree.Shift.{Shift}
+use Rattle.typed_tree.specs.declared.tree.Shift.TheVariants as shift
 use Rattle.typed_tree.specs.declared.tree.Dyadic.{Dyadic}
 use Rattle.typed_tree.specs.declared.tree.Dyadic.TheVariants as dyadic
 use Rattle.typed_tree.specs.declared.tree.Relation.{Relation}
@@ -58,7 +62,7 @@ use Rattle.meaning.specs.declared.outcome.Ending.{Ending}
 use Rattle.meaning.specs.declared.outcome.Ending.TheVariants as ending
 use Rattle.meaning.specs.declared.store.Value.{Value}
 use Rattle.meaning.specs.declared.store.Value.TheVariants.{Number}
-use Rattle.meaning.specs.Integers.{is_integer_number, is_within, truth, is_true, is_odd, magnitude}
+use Rattle.meaning.specs.Integers.{is_integer_number, truth, is_true, is_odd, magnitude}
 use Rattle.meaning.specs.Store.{Environment, Place, part}
 use Rattle.meaning.specs.Counting.{has_values, value_behind}
 use Rattle.meaning.specs.Effect.{State, Reply, Gives, Stops, Action, Round, ◌>>=◌, give, stop, require, enter, use_turn}
@@ -69,7 +73,7 @@ use Rattle.meaning.specs.Effect.{row_text, text_of}
 -- what is passed to a formal parameter: an ordinal, the components of a structured value, or a place (6.6.3)
 pub data Argument : Type 0 where
   OfValue : Value → Argument
-  OfRow : List ℤ → Argument
+  OfRow : List Value → Argument
   OfPlace : Option Place → Argument
 
 -- what calls of routines do: by the number of the routine's block, with what is passed and what is visible where it is
@@ -94,31 +98,41 @@ Combination = Surroundings → Value → Action Value
 abbrev pub Passing : Type 0
 Passing = Surroundings → Action Argument
 
--- a result of type integer, or an error at the site (6.7.2.2)
-abbrev pub whole : ℕ → ℤ → Action Value
-whole overflow n = do
-  _ ← require (is_integer_number n) overflow
-  give (Number n)
+-- a number that has to be of type integer: else it is an error at the site, if there is one (6.7.2.2)
+abbrev pub unless_overflow : Option ℕ → ℤ → Action ℤ
+unless_overflow None n = give n
+unless_overflow (Some site) n = do
+  _ ← require (is_integer_number n) site
+  give n
 
--- an operation on one operand: a sign covers the whole first term (6.7.2.2), `not` (6.7.2.3), the functions abs and sqr
--- (6.6.6.2), ord, chr, succ and pred (6.6.6.4), and odd (6.6.6.5)
-abbrev pub operated : Monadic → Value → Action Value
-operated monadic.Plus (Number n) = give (Number n)
-operated monadic.Minus (Number n) = give (Number (neg_ℤ n))
-operated monadic.Not (Number n) = give (Number (truth (not (is_true n))))
-operated monadic.Abs (Number n) = give (Number (magnitude n))
-operated (monadic.Sqr overflow) (Number n) = whole overflow (n *ℤ n)
-operated monadic.Odd (Number n) = give (Number (truth (is_odd n)))
-operated monadic.Ord (Number n) = give (Number n)
-operated (monadic.Chr no_char) (Number n) = do
-  _ ← require (is_within (pos 0) (pos 127) n) no_char
-  give (Number n)
-operated (monadic.Succ no_successor last) (Number n) = do
-  _ ← require (int_lt n last) no_successor
-  give (Number (n +ℤ pos 1))
-operated (monadic.Pred no_predecessor first) (Number n) = do
-  _ ← require (int_lt first n) no_predecessor
-  give (Number (n -ℤ pos 1))
+-- what is calculated from a number: a sign covers the whole first term (6.7.2.2), `not` (6.7.2.3), the functions abs
+-- and sqr (6.6.6.2), ord (6.6.6.4) and odd (6.6.6.5)
+abbrev pub calculated : Calculation → ℤ → ℤ
+calculated calculation.Same n = n
+calculated calculation.Negative n = neg_ℤ n
+calculated calculation.Complement n = truth (not (is_true n))
+calculated calculation.Absolute n = magnitude n
+calculated (calculation.Square overflow) n = n *ℤ n
+calculated calculation.Parity n = truth (is_odd n)
+calculated calculation.Ordinal n = n
+
+-- the site of a calculation whose result has to be of type integer
+abbrev pub overflow_of : Calculation → Option ℕ
+overflow_of (calculation.Square overflow) = Some overflow
+overflow_of other = None
+
+-- the result behind a test: of chr, succ and pred (6.6.6.4)
+abbrev pub shifted : Shift → ℤ → ℤ
+shifted shift.Same n = n
+shifted shift.Next n = n +ℤ pos 1
+shifted shift.Previous n = n -ℤ pos 1
+
+-- an operation on one operand
+abbrev pub operated : Monadic → ℤ → Action ℤ
+operated (monadic.Plain does) n = unless_overflow (overflow_of does) (calculated does n)
+operated (monadic.Tested fits does) n = do
+  _ ← require (is_in fits.range (Number n)) fits.site
+  give (shifted does n)
 
 -- a relation of two ordinals (6.7.2.5)
 abbrev pub relates : Relation → ℤ → ℤ → Bool
@@ -138,8 +152,8 @@ order_of (a ∷ row) [] = pos 1
 order_of (a ∷ row) (b ∷ other) = if int_lt a b then negsuc 0 else (if int_lt b a then pos 1 else order_of row other)
 
 -- a relation of two strings, by the order of their components (6.7.2.5)
-abbrev pub compared : Relation → List ℤ → List ℤ → Value
-compared r row other = Number (truth (relates r (order_of row other) (pos 0)))
+abbrev pub compared : Relation → List Value → List Value → ℤ
+compared r row other = truth (relates r (order_of (map number_of row) (map number_of other)) (pos 0))
 
 -- the place of the component to which selectors lead from a place: each index is evaluated and tested at once, from
 -- left to right (6.5.3); an index that isn't there leads to no place
@@ -159,37 +173,53 @@ accessed access indexes env = do
   _ ← enter access.number env.visible
   selected access.selectors.items indexes env (env.visible.variables access.root)
 
--- the numbers of the scalar components of a whole value
-abbrev pub whole_of : Whole → List Evaluation → Surroundings → Action (List ℤ)
+-- the values of the scalar components of a whole value
+abbrev pub whole_of : Whole → List Evaluation → Surroundings → Action (List Value)
 whole_of (Text number characters) indexes env = do
   _ ← enter number env.visible
-  give (map pos characters.items)
+  give (map (λ c. Number (pos c)) characters.items)
 whole_of (VariableOf access type_id cells defined) indexes env = do
   place ← accessed access indexes env
   fetch_all place (components_of env.visible.types type_id) defined
 
--- an operation on two operands: `div` cuts toward zero, and `mod` gives the remainder that is not negative (6.7.2.2);
--- `and`, `or` (6.7.2.3)
-abbrev pub combined : Dyadic → Value → Value → Action Value
-combined (dyadic.Plus overflow) (Number a) (Number b) = whole overflow (a +ℤ b)
-combined (dyadic.Minus overflow) (Number a) (Number b) = whole overflow (a -ℤ b)
-combined (dyadic.Times overflow) (Number a) (Number b) = whole overflow (a *ℤ b)
-combined (dyadic.Div by_zero) (Number a) (Number b) = do
-  _ ← require (not (int_eq b (pos 0))) by_zero
-  give (Number (int_div a b))
-combined (dyadic.Mod by_zero_or_less) (Number a) (Number b) = do
-  _ ← require (int_le (pos 1) b) by_zero_or_less
-  give (Number (int_rem_euclid a b))
-combined dyadic.And (Number a) (Number b) = give (Number (truth (is_true a && is_true b)))
-combined dyadic.Or (Number a) (Number b) = give (Number (truth (is_true a || is_true b)))
-combined (dyadic.Relation r) (Number a) (Number b) = give (Number (truth (relates r a b)))
+-- what an operation on two operands asks of the right one: no divisor is 0, and that of `mod` is at least 1 (6.7.2.2)
+abbrev pub divides : Dyadic → ℤ → Action (Unit {0})
+divides (dyadic.Div by_zero) b = require (not (int_eq b (pos 0))) by_zero
+divides (dyadic.Mod by_zero_or_less) b = require (int_le (pos 1) b) by_zero_or_less
+divides other b = give tt
+
+-- what is calculated from two operands: `div` cuts toward zero, and `mod` gives the remainder that is not negative
+-- (6.7.2.2); `and`, `or` (6.7.2.3)
+abbrev pub of_both : Dyadic → ℤ → ℤ → ℤ
+of_both (dyadic.Plus overflow) a b = a +ℤ b
+of_both (dyadic.Minus overflow) a b = a -ℤ b
+of_both (dyadic.Times overflow) a b = a *ℤ b
+of_both (dyadic.Div by_zero) a b = int_div a b
+of_both (dyadic.Mod by_zero_or_less) a b = int_rem_euclid a b
+of_both dyadic.And a b = truth (is_true a && is_true b)
+of_both dyadic.Or a b = truth (is_true a || is_true b)
+of_both (dyadic.Relation r) a b = truth (relates r a b)
+
+-- the site of an operation whose result has to be of type integer
+abbrev pub overflow_of_both : Dyadic → Option ℕ
+overflow_of_both (dyadic.Plus overflow) = Some overflow
+overflow_of_both (dyadic.Minus overflow) = Some overflow
+overflow_of_both (dyadic.Times overflow) = Some overflow
+overflow_of_both other = None
+
+-- an operation on two operands
+abbrev pub combined : Dyadic → ℤ → ℤ → Action ℤ
+combined operation a b = do
+  _ ← divides operation b
+  unless_overflow (overflow_of_both operation) (of_both operation a b)
 
 -- the right operand, and then the operation
 abbrev pub link_step : Link-F Evaluation Passing Combination → Combination
 link_step link env left = do
   _ ← enter link.number env.visible
   right ← link.operand env
-  combined link.operation left right
+  n ← combined link.operation (number_of left) (number_of right)
+  give (Number n)
 
 -- the operators of a chain, from left to right
 abbrev pub in_turn : List Combination → Combination
@@ -205,8 +235,8 @@ passed_step (PassedValue value fits) env = do
   _ ← require (is_in fits.range v) fits.site
   give (OfValue v)
 passed_step (PassedWhole type_id value indexes) env = do
-  numbers ← whole_of value indexes.items env
-  give (OfRow numbers)
+  values ← whole_of value indexes.items env
+  give (OfRow values)
 passed_step (Reference type_id access indexes) env = do
   place ← accessed access indexes.items env
   give (OfPlace place)
@@ -237,7 +267,8 @@ value_step (Variable access indexes defined) env = do
 value_step (MonadicOf number operation operand) env = do
   _ ← enter number env.visible
   v ← operand.value env
-  operated operation v
+  n ← operated operation (number_of v)
+  give (Number n)
 value_step (Chain first rest) env = do
   v ← first.value env
   in_turn rest.items env v
@@ -245,7 +276,7 @@ value_step (Compare number relation left left_indexes right right_indexes) env =
   a ← whole_of left left_indexes.items env
   _ ← enter number env.visible
   b ← whole_of right right_indexes.items env
-  give (compared relation a b)
+  give (Number (compared relation a b))
 value_step (CallOf call actuals) env = call_of call actuals.items env
 
 -- the value of an expression
@@ -282,12 +313,12 @@ default_width representation.Integer = pos 10
 default_width representation.Boolean = pos 5
 
 -- the width of a value, or the one for where none is given: it has to be at least 1
-abbrev pub width_of : Option Width → ℤ → Evaluation
-width_of None default env = give (Number default)
+abbrev pub width_of : Option Width → ℤ → Surroundings → Action ℤ
+width_of None default env = give default
 width_of (Some width) default env = do
   w ← value_of width.value env
-  _ ← require (is_positive w) width.site
-  give w
+  _ ← require (is_positive (number_of w)) width.site
+  give (number_of w)
 
 -- a value that is written: first it is evaluated, and then its width (6.9.3), which is a string's length where none is
 -- given
@@ -295,7 +326,7 @@ abbrev pub written_of : Written → Option Width → Execution
 written_of (Ordinal value representation) width env = do
   v ← value_of value env
   w ← width_of width (default_width representation) env
-  write (text_of representation v w)
+  write (text_of representation (number_of v) w)
 written_of (String value indexes) width env = do
   components ← whole_of value (values_of indexes.items) env
   w ← width_of width (pos (length_of value)) env
@@ -310,7 +341,7 @@ line_ended ends_line = if ends_line then write (10 ∷ []) else give tt
 
 -- a truth value
 abbrev pub is_so : Value → Bool
-is_so (Number n) = is_true n
+is_so v = is_true (number_of v)
 
 -- the statement behind `else`, or nothing where there is none
 abbrev pub alternative_of : Option (Box Execution Global) → Execution
@@ -354,10 +385,9 @@ for_rounds control first_fits direction last_fits body env first last = do
   _ ← require (is_in last_fits.range (Number last)) last_fits.site
   looped (for_round control direction last body env) first
 
--- a for from the values of its bounds
-abbrev pub for_between : ℕ → RangeTest → Direction → RangeTest → Execution → Surroundings → Value → Value
-    → Action (Unit {0})
-for_between control first_fits direction last_fits body env (Number first) (Number last) =
+-- a for from the numbers of its bounds
+abbrev pub for_between : ℕ → RangeTest → Direction → RangeTest → Execution → Surroundings → ℤ → ℤ → Action (Unit {0})
+for_between control first_fits direction last_fits body env first last =
     if has_values direction first last
     then for_rounds control first_fits direction last_fits body env first last
     else give tt
@@ -386,8 +416,8 @@ effect_step (Assign number becomes target indexes fits value) env = do
 effect_step (Copy number becomes target indexes type_id value value_indexes) env = do
   _ ← enter number env.visible
   place ← accessed target (values_of indexes.items) env
-  numbers ← whole_of value (values_of value_indexes.items) env
-  store_all place (components_of env.visible.types type_id) numbers
+  values ← whole_of value (values_of value_indexes.items) env
+  store_all place (components_of env.visible.types type_id) values
 effect_step (Write number name parameters ends_line) env = do
   _ ← enter number env.visible
   _ ← all_of (map parameter_of parameters.items) env
@@ -412,7 +442,7 @@ effect_step (For number loop_number place control first first_fits direction las
   _ ← enter number env.visible
   a ← value_of first env
   b ← value_of last env
-  _ ← for_between control first_fits direction last_fits body.value env a b
+  _ ← for_between control first_fits direction last_fits body.value env (number_of a) (number_of b)
   undefine (env.visible.variables control)
 effect_step (Case number site index constants arms) env = do
   _ ← enter number env.visible
@@ -450,7 +480,7 @@ own_place activation root = record { activation = activation; variable = root; s
 abbrev pub place_passed : Argument → Option Place
 place_passed (OfPlace place) = place
 place_passed (OfValue v) = None
-place_passed (OfRow numbers) = None
+place_passed (OfRow values) = None
 
 -- the place that is passed to a formal parameter; each argument stands at the place of its parameter
 abbrev pub place_for : ℕ → List ℕ → List Argument → Option Place
@@ -495,8 +525,8 @@ environment_of tree activation = record {
 -- what is passed is written to a value parameter (6.6.3.2)
 abbrev pub assign : List Form → Option Place → Option DeclaredVariable → Argument → Action (Unit {0})
 assign types place formal (OfValue v) = store place v
-assign types place None (OfRow numbers) = give tt
-assign types place (Some formal) (OfRow numbers) = store_all place (components_of types formal.type_id) numbers
+assign types place None (OfRow values) = give tt
+assign types place (Some formal) (OfRow values) = store_all place (components_of types formal.type_id) values
 assign types place formal (OfPlace other) = give tt
 
 -- each value parameter gets what is passed to it, in their order

@@ -1,4 +1,4 @@
--- What the operations of the language answer: a value, or the site of an error; the numbers and arms that a test lets
+-- What the operations of the language answer: a number, or the site of an error; the numbers and arms that a test lets
 -- through (ISO 7185:1990, 6.7.2, 6.8.3, 6.9.3).
 -- It says nothing of how they are calculated.
 use Rattle.std.specs.Prelude.{◌≡◌, ℕ, ℤ, List, [], ◌∷◌, Option, Some, None, Result, Ok, Err, Vec}
@@ -16,13 +16,13 @@ use Rattle.meaning.specs.Effect.{State, Action, ◌>>=◌, give, stop, require, 
 use Rattle.meaning.specs.Meaning.{is_among}
 use Rattle.meaning.specs.Counting.{has_values, next_value}
 
--- a value, or an error at a site
-abbrev pub answered : Result Value ℕ → Action Value
+-- a value or a number, or an error at a site
+abbrev pub answered : {A : Type 0} → Result A ℕ → Action A
 answered (Ok v) = give v
 answered (Err site) = stop (ending.Error site)
 
--- a result is the value that an action gives, or the site of the error where it stops
-abbrev pub Answers : Action Value → Result Value ℕ → Type 0
+-- a result is what an action gives, or the site of the error where it stops
+abbrev pub Answers : {A : Type 0} → Action A → Result A ℕ → Type 0
 Answers action result = (s : State) → action s ≡ answered result s
 
 -- a number in a range, or the site of its test
@@ -36,8 +36,8 @@ both_bounds (Ok first) (Err site) = Err site
 both_bounds (Ok first) (Ok last) = Ok (Some (first, last))
 
 -- the bounds of a for, if they leave any value between them
-abbrev pub bounds_tested : Direction → RangeTest → Value → RangeTest → Value → Result (Option (ℤ × ℤ)) ℕ
-bounds_tested direction first_fits (Number first) last_fits (Number last) =
+abbrev pub bounds_tested : Direction → RangeTest → ℤ → RangeTest → ℤ → Result (Option (ℤ × ℤ)) ℕ
+bounds_tested direction first_fits first last_fits last =
     if has_values direction first last
     then both_bounds (number_tested first_fits first) (number_tested last_fits last)
     else Ok None
@@ -58,7 +58,7 @@ abbrev pub checked : OrdinalRange → Value → Option Value
 checked range v = if is_in range v then Some v else None
 
 -- a width, tested at a site
-abbrev pub positive : ℕ → Value → Action Value
+abbrev pub positive : ℕ → ℤ → Action ℤ
 positive site w = do
   _ ← require (is_positive w) site
   give w

@@ -1,23 +1,23 @@
 ghost use Rattle.std.specs.Prelude.{◌≡◌, ◌++◌, OnOk, map, pos, replicate};
-ghost use Rattle.meaning.specs.Effect.{boolean_text, char_text, integer_text, places, row_text, string_text, text_of};
+ghost use Rattle.meaning.specs.Effect.{boolean_text, char_text, integer_text, number_of, places, row_text};
+ghost use Rattle.meaning.specs.Effect.{string_text, text_of};
 ghost use Rattle.meaning.specs.Integers.{byte_of};
 
+use crate::ordinals::number_of;
 use meaning::store::{Ordinal, Value};
 use std::alloc::{AllocError, Global};
 use typed_tree::tree::Representation;
 
-/// Writes a value in a width (ISO 7185:1990, 6.9.3).
-pub fn write_value(
+/// Writes an ordinal in a width (ISO 7185:1990, 6.9.3).
+pub fn write_ordinal(
     alloc: Global,
     output: &mut Vec<u8>,
     representation: Representation,
-    value: Value,
-    width: Value,
+    number: Ordinal,
+    width: Ordinal,
 ) -> Result<(), AllocError>
-    ensures { OnOk result (output.new.items ≡ output.old.items ++ text_of representation value width) }
+    ensures { OnOk result (output.new.items ≡ output.old.items ++ text_of representation number width) }
 {
-    let Value::Number(number) = value;
-    let Value::Number(width) = width;
     match representation {
         Representation::Char => write_char(output, number, width),
         Representation::Integer => write_integer(alloc, output, number, width),
@@ -26,16 +26,15 @@ pub fn write_value(
 }
 
 /// Writes a string, by its components, in a width (ISO 7185:1990, 6.9.3.6).
-pub fn write_row(output: &mut Vec<u8>, row: &[Ordinal], width: Value) -> Result<(), AllocError>
+pub fn write_row(output: &mut Vec<u8>, row: &[Value], width: Ordinal) -> Result<(), AllocError>
     ensures { OnOk result (output.new.items ≡ output.old.items ++ row_text row.now width) }
 {
-    let Value::Number(width) = width;
     write_row_in(output, row, places_in(width))
 }
 
 /// Writes a string, by its components, in so many places: it is set right in them, or cut to its first characters.
-pub fn write_row_in(output: &mut Vec<u8>, row: &[Ordinal], places: usize) -> Result<(), AllocError>
-    ensures { OnOk result (output.new.items ≡ output.old.items ++ row_text row.now (Value.Number (pos places))) }
+pub fn write_row_in(output: &mut Vec<u8>, row: &[Value], places: usize) -> Result<(), AllocError>
+    ensures { OnOk result (output.new.items ≡ output.old.items ++ row_text row.now (pos places)) }
 {
     if places < row.len() {
         write_bytes(output, &row[..places])
@@ -45,12 +44,12 @@ pub fn write_row_in(output: &mut Vec<u8>, row: &[Ordinal], places: usize) -> Res
     }
 }
 
-// Writes the characters with these numbers.
-fn write_bytes(output: &mut Vec<u8>, row: &[Ordinal]) -> Result<(), AllocError>
-    ensures { OnOk result (output.new.items ≡ output.old.items ++ map byte_of row.now) }
+// Writes the characters with the numbers of these values.
+fn write_bytes(output: &mut Vec<u8>, row: &[Value]) -> Result<(), AllocError>
+    ensures { OnOk result (output.new.items ≡ output.old.items ++ map (λ v. byte_of (number_of v)) row.now) }
 {
-    for number in row {
-        output.push(number.byte())?;
+    for value in row {
+        output.push(number_of(*value).byte())?;
     }
     Ok(())
 }

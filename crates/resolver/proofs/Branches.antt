@@ -30,16 +30,16 @@ pub look_counted : (number loop_number : ℕ) (place : Place) (control : ℕ) (f
     (last_fits : RangeTest) (body : Box Stmt Global)
     → look_stmt (stmt.For number loop_number place control first first_fits direction last last_fits body)
     ≡ (For number loop_number place control direction
-    ∷ ((look_expr first ++ (Fits first_fits ∷ [])) ++ (look_expr last ++ (Fits last_fits ∷ []))))
+    ∷ ((look_expr first ++ (Fits control [] first_fits ∷ [])) ++ (look_expr last ++ (Fits control [] last_fits ∷ []))))
     ++ (Controls control ∷ (look_stmt body.value ++ (ForEnds ∷ [])))
 look_counted number loop_number place control first first_fits direction last last_fits body =
     let inside = Controls control ∷ (look_stmt body.value ++ (ForEnds ∷ [])) in
-    let one = look_expr first ++ (Fits first_fits ∷ []) in
-    let two = look_expr last ++ (Fits last_fits ∷ []) in
+    let one = look_expr first ++ (Fits control [] first_fits ∷ []) in
+    let two = look_expr last ++ (Fits control [] last_fits ∷ []) in
     look_for number loop_number place control first first_fits direction last last_fits body
     ∙ ap (λ look. For number loop_number place control direction ∷ look)
-    (sym (append_assoc (look_expr first) (Fits first_fits ∷ []) (look_expr last ++ (Fits last_fits ∷ inside)))
-    ∙ ap (λ look. one ++ look) (sym (append_assoc (look_expr last) (Fits last_fits ∷ []) inside))
+    (sym (append_assoc (look_expr first) (Fits control [] first_fits ∷ []) (look_expr last ++ (Fits control [] last_fits ∷ inside)))
+    ∙ ap (λ look. one ++ look) (sym (append_assoc (look_expr last) (Fits control [] last_fits ∷ []) inside))
     ∙ sym (append_assoc one two inside))
 
 -- how statements are typed, and how those look that stand for no other

@@ -6,6 +6,7 @@ use Rattle.std.proofs.lemmas.Grind.{flat_map-append}
 use Rattle.place.specs.Place.{ArePlacesInOrder}
 use Rattle.syntax_tree.specs.declared.Program.{Program}
 use Rattle.syntax_tree.specs.Places.{program_places}
+use Rattle.types.specs.Types.{BeginWithRequired}
 use Rattle.typed_tree.specs.declared.tree.Tree.{Tree}
 use Rattle.typed_tree.specs.Entries.{AreNumbered, of_block}
 use Rattle.typed_tree.specs.Ids.{AreInOrder, AreByPlace}
@@ -16,7 +17,7 @@ use Rattle.typed_tree.proofs.Quiet.{inner_stmt}
 use Rattle.typing.specs.Passing.{Passed, after}
 use Rattle.typing.specs.Sound.{IsLeft, IsTyped, rows_of_block, stands}
 use Rattle.typing.specs.Typing.{typing}
-use Rattle.typing_laws.specs.Lawful.{BeginWithRequired, Lawful}
+use Rattle.typing_laws.specs.Lawful.{Lawful}
 use Rattle.typing_laws.proofs.Programs.{typing_is_lawful}
 use Rattle.typing_laws.proofs.Trees as Trees
 use Rattle.resolver.specs.Made.{AreArranged, IsResolved, look_made}

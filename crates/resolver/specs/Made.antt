@@ -12,6 +12,7 @@ use Rattle.typed_tree.specs.declared.fault.TypeFault.{TypeFault}
 use Rattle.typed_tree.specs.declared.tree.Tree.{Tree}
 use Rattle.typed_tree.specs.declared.tree.Block.{Block}
 use Rattle.typed_tree.specs.declared.tree.Expr.{Expr}
+use Rattle.typed_tree.specs.declared.tree.Selector.{Selector}
 use Rattle.typed_tree.specs.declared.tree.Stmt.{Stmt}
 use Rattle.typed_tree.specs.declared.tree.WriteParameter.{WriteParameter}
 use Rattle.typed_tree.specs.declared.tree.Width.{Width}
@@ -23,12 +24,12 @@ use Rattle.typed_tree.specs.Look.{Look, Mark, Fits, If, Then, Else, For, Case, b
 use Rattle.typed_tree.specs.Look.{look_expr, look_stmt}
 use Rattle.typed_tree.specs.Look.{tree_look}
 use Rattle.typed_tree.specs.Look.{Copied, look_access, look_whole, look_written, look_parameter, look_width}
-use Rattle.typed_tree.specs.WellFormed.{length_of}
+use Rattle.typed_tree.specs.WellFormed.{length_of, source_of}
 use Rattle.typed_tree.specs.Accesses.{index_count}
 use Rattle.typing.specs.Passing.{Passed, Checked, After, after}
 use Rattle.typing.specs.Outcomes.{IsFault, Makes}
 use Rattle.typing.specs.Sound.{IsTyped}
-use Rattle.typing.specs.Statements.{target_mark}
+use Rattle.typing.specs.Statements.{Accessed, target_mark}
 use Rattle.resolver.specs.declared.typed.Fitted.{Fitted}
 use Rattle.resolver.specs.declared.typed.ForHead.{ForHead}
 use Rattle.resolver.specs.declared.typed.CaseHead.{CaseHead}
@@ -52,13 +53,14 @@ MakesCondition = Makes (λ made. tt) look_expr
 abbrev pub MakesTested : Checked (After (Unit {0})) → Result (ℕ × Expr) TypeFault → Passed → Type 0
 MakesTested = Makes (λ made. tt) (λ made. If made.0 ∷ (look_expr made.1 ++ (Then ∷ [])))
 
--- how an ordinal looks with its test
-abbrev pub look_fitted : Fitted → Look
-look_fitted made = look_expr made.value ++ (Fits made.fits ∷ [])
+-- how an ordinal looks with its test, which is for what is accessed by this root and these selectors
+abbrev pub look_fitted : ℕ → List Selector → Fitted → Look
+look_fitted root selectors made = look_expr made.value ++ (Fits root selectors made.fits ∷ [])
 
 -- a bound of a for, or what is assigned to an ordinal
-abbrev pub MakesFitted : Checked (After (Unit {0})) → Result Fitted TypeFault → Passed → Type 0
-MakesFitted = Makes (λ made. tt) look_fitted
+abbrev pub MakesFitted
+    : ℕ → List Selector → Checked (After (Unit {0})) → Result Fitted TypeFault → Passed → Type 0
+MakesFitted root selectors = Makes (λ made. tt) (look_fitted root selectors)
 
 -- there are as many index expressions as the selectors of what is accessed take
 abbrev pub IsCounted : Target → Type 0
@@ -70,23 +72,33 @@ look_target ordinal target =
     look_access target.access target.indexes.items
     (target_mark ordinal target.access.root target.access.selectors.items target.type_id)
 
--- what is accessed left of `:=`, by its type
-abbrev pub MakesTarget : Checked (After TypeId) → Result Target TypeFault → Passed → Type 0
+-- what it accesses
+abbrev pub accessed_of : Target → Accessed
+accessed_of target = record {
+  root = target.access.root;
+  selectors = target.access.selectors.items;
+  type_id = target.type_id;
+}
+
+-- what is accessed left of `:=`
+abbrev pub MakesTarget : Checked (After Accessed) → Result Target TypeFault → Passed → Type 0
 MakesTarget outcome (Ok made) new =
-    (outcome ≡ Ok (after made.type_id (look_target (is_ordinal new.types made.type_id) made) new)) × IsCounted made
+    (outcome ≡ Ok (after (accessed_of made) (look_target (is_ordinal new.types made.type_id) made) new))
+    × IsCounted made
 MakesTarget outcome (Err why) new = IsFault outcome why
 
 -- what is copied to a structured target of a type
 abbrev pub MakesCopied
     : TypeId → Checked (After (Unit {0})) → Result (Whole × Vec Expr Global) TypeFault → Passed → Type 0
 MakesCopied type_id =
-    Makes (λ made. tt) (λ made. look_whole made.0 made.1.items ++ (Copied type_id (length_of made.0) ∷ []))
+    Makes (λ made. tt)
+    (λ made. look_whole made.0 made.1.items ++ (Copied type_id (source_of made.0) (length_of made.0) ∷ []))
 
 -- how a for looks as far as its `do`
 abbrev pub for_head_look : ForHead → Look
 for_head_look head =
     For head.number head.loop_number head.place head.control head.direction
-    ∷ (look_fitted head.first ++ look_fitted head.last)
+    ∷ (look_fitted head.control [] head.first ++ look_fitted head.control [] head.last)
 
 -- a for as far as its `do`, by the root of its control variable
 abbrev pub MakesForHead : Checked (After ℕ) → Result ForHead TypeFault → Passed → Type 0

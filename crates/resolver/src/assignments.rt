@@ -1,10 +1,12 @@
-ghost use Rattle.std.specs.Prelude.{◌≡◌, ◌∷◌, true, false, map};
+ghost use Rattle.std.specs.Prelude.{◌≡◌, ℕ, List, ◌∷◌, true, false, map};
+ghost use Rattle.typed_tree.specs.declared.tree.Selector.{Selector as TreeSelector};
 ghost use Rattle.typed_tree.specs.Look.{Assign};
 ghost use Rattle.typing.specs.Expressions.{as_routine, expression};
 ghost use Rattle.typing.specs.Outcomes.{Takes};
 ghost use Rattle.typing.specs.Passing.{behind_marks};
 ghost use Rattle.typing.specs.Statements as spec;
-ghost use Rattle.resolver.specs.Made.{MakesStmt, MakesFitted, MakesTarget, MakesCopied, IsCounted, look_target};
+ghost use Rattle.resolver.specs.Made.{MakesStmt, MakesFitted, MakesTarget, MakesCopied, IsCounted, accessed_of};
+ghost use Rattle.resolver.specs.Made.{look_target};
 
 use crate::typed::{Fitted, Target};
 use expression_resolver::{expression, selected};
@@ -96,7 +98,7 @@ fn assign(
 ) -> Result<Stmt, TypeFault>
     requires counted { IsCounted target }
     ensures { MakesStmt (behind_marks (Assign number becomes ∷ look_target true target)
-        (spec.assigned target.type_id becomes (expression value.now) typer.old)) result typer.new }
+        (spec.assigned (accessed_of target) becomes (expression value.now) typer.old)) result typer.new }
 {
     let Fitted { value, fits } = assigned(typer, target.type_id, becomes, value)?;
     Ok(Stmt::Assign {
@@ -134,7 +136,8 @@ fn copy(
     })
 }
 
-/// A value that is assigned to an ordinal of a type, with its test, whose site stands at the place.
+/// A value that is assigned to an ordinal of a type, with its test, whose site stands at the place: whatever is
+/// accessed.
 #[tactic(auto, unfolding(typing::specs::Statements::assigned))]
 pub(crate) fn assigned(
     typer: &mut Typer,
@@ -142,7 +145,11 @@ pub(crate) fn assigned(
     place: Place,
     written: &syntax::Expr,
 ) -> Result<Fitted, TypeFault>
-    ensures { MakesFitted (spec.assigned type_id place (expression written.now) typer.old) result typer.new }
+    ensures { (root : ℕ) → (selectors : List TreeSelector) → MakesFitted root selectors (spec.assigned (record {
+      root = root;
+      selectors = selectors;
+      type_id = type_id;
+    }) place (expression written.now) typer.old) result typer.new }
 {
     let site = typer.site(SiteKind::Subrange, place)?;
     let value = expression(typer, written, None)?;
@@ -156,7 +163,7 @@ pub(crate) fn assigned(
 }
 
 // A value that is copied to a structured target of a type, with its index expressions.
-#[tactic(auto, using(crate::proofs::Targets::all_cells), unfolding(typing::specs::Statements::copied))]
+#[tactic(auto, using(typing::proofs::Copying::copied_as), unfolding(typing::specs::Statements::copied))]
 fn copied(
     typer: &mut Typer,
     type_id: TypeId,
@@ -167,8 +174,8 @@ fn copied(
 {
     typer.pass(becomes);
     let made = expression(typer, written, None)?;
-    typer
-        .copying(type_id, made.typed())
-        .ok_or(TypeFault::Mismatch(becomes))?;
+    if !typer.may_copy(type_id, made.typed()) {
+        return Err(TypeFault::Mismatch(becomes));
+    }
     made.whole(becomes)
 }

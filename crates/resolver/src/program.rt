@@ -13,7 +13,7 @@ ghost use Rattle.typing.specs.Typing.{typing};
 ghost use Rattle.declarations.specs.Known.{AreKnown};
 ghost use Rattle.declarations.specs.Parts.{declared};
 ghost use Rattle.typing.specs.declared.typer.TheConstants.{MOST_SITES};
-ghost use Rattle.typing_laws.specs.Lawful.{BeginWithRequired};
+ghost use Rattle.types.specs.Types.{BeginWithRequired};
 ghost use Rattle.typing.specs.Passing.{after};
 ghost use Rattle.typed_tree.specs.declared.fault.TypeFault.TheVariants.{Memory};
 ghost use Rattle.resolver.specs.Made.{AreArranged, IsResolved, look_made};

@@ -1,4 +1,4 @@
-ghost use Rattle.std.specs.Prelude.{◌≡◌, Some, None, MatchResult, map, option_map};
+ghost use Rattle.std.specs.Prelude.{◌≡◌, ℕ, [], Some, None, MatchResult, map, option_map};
 ghost use Rattle.syntax_tree.specs.Places.{arms_of};
 ghost use Rattle.typed_tree.specs.declared.fault.TypeFault.TheVariants.{Mismatch};
 ghost use Rattle.typing.specs.Passing.{each, behind_marks};
@@ -269,9 +269,9 @@ fn for_head(
 }
 
 // A bound of a for: the site of its test stands before those of its first token.
-#[tactic(auto, unfolding(typing::specs::Statements::bound, typing::specs::Statements::assigned))]
 fn bound(typer: &mut Typer, type_id: TypeId, written: &syntax::Expr) -> Result<Fitted, TypeFault>
-    ensures { MakesFitted (spec.bound type_id (expression written.now) typer.old) result typer.new }
+    ensures { (control : ℕ) → MakesFitted control [] (spec.bound control type_id (expression written.now) typer.old)
+        result typer.new }
 {
     assigned(typer, type_id, first_place(written), written)
 }

@@ -24,14 +24,65 @@ pub enum RequiredProcedure {
     Writeln,
 }
 
-/// A required function of one ordinal (6.6.6.2, 6.6.6.4, 6.6.6.5).
+/// A required function of one ordinal (6.6.6), by what it takes and gives, and what it does.
 #[derive(Clone, Copy)]
-pub enum RequiredFunction {
-    Abs,
-    Sqr,
-    Odd,
-    Ord,
-    Chr,
-    Succ,
-    Pred,
+pub struct RequiredFunction {
+    pub takes: FunctionArgument,
+    pub gives: FunctionType,
+    pub does: FunctionOperation,
+}
+
+/// What a required function takes.
+#[derive(Clone, Copy)]
+pub enum FunctionArgument {
+    /// An integer (6.6.6.2, 6.6.6.4, 6.6.6.5).
+    Integer,
+    /// A value of any ordinal type (6.6.6.4).
+    Ordinal,
+}
+
+/// The type of a required function's result.
+#[derive(Clone, Copy)]
+pub enum FunctionType {
+    /// The type integer (6.6.6.2, 6.6.6.4).
+    Integer,
+    /// The type Boolean (6.6.6.5).
+    Boolean,
+    /// The type char (6.6.6.4).
+    Char,
+    /// That of the argument (6.6.6.4).
+    OfArgument,
+}
+
+/// How a required function comes from the number of its argument to its result.
+#[derive(Clone, Copy)]
+pub enum FunctionOperation {
+    /// It calculates from any number.
+    Calculates(FunctionValue),
+    /// It tests the number, and the test says what the result is.
+    Tests(FunctionTest),
+}
+
+/// What a required function calculates.
+#[derive(Clone, Copy)]
+pub enum FunctionValue {
+    /// The number itself (6.6.6.4).
+    Same,
+    /// The number without its sign (6.6.6.2).
+    Absolute,
+    /// The square, which has to be an integer (6.6.6.2).
+    Square,
+    /// Whether it is odd (6.6.6.5).
+    Parity,
+}
+
+/// What a required function tests.
+#[derive(Clone, Copy)]
+pub enum FunctionTest {
+    /// Whether it is the number of a character, which is the result (6.6.6.4).
+    Character,
+    /// Whether its type has a value behind it, which is the result (6.6.6.4).
+    Next,
+    /// Whether its type has a value before it, which is the result (6.6.6.4).
+    Previous,
 }

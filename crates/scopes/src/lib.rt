@@ -5,6 +5,9 @@ mod denotation;
 mod fault;
 mod regions;
 
-pub use denotation::{Denotation, RequiredFunction, RequiredProcedure};
+pub use denotation::{
+    Denotation, FunctionArgument, FunctionOperation, FunctionTest, FunctionType, FunctionValue,
+    RequiredFunction, RequiredProcedure,
+};
 pub use fault::ScopeFault;
 pub use regions::{Region, Scopes, copied};

@@ -13,7 +13,7 @@ use std::marker::Model;
 #[derive(Drop)]
 pub struct SparseList<T: Copy> {
     /// The stored items and their indices, which rise.
-    stored: Vec<(u32, T)>,
+    stored: Vec<(usize, T)>,
 }
 
 impl<T: Copy> Model for SparseList<T> {
@@ -42,7 +42,7 @@ impl<T: Copy> SparseList<T> {
     }
 
     /// The item at an index, if one is stored.
-    pub fn get(&self, index: u32) -> Option<T>
+    pub fn get(&self, index: usize) -> Option<T>
         ensures { result ≡ stored_at self.now index }
     {
         match search(&self.stored, index) {
@@ -52,7 +52,7 @@ impl<T: Copy> SparseList<T> {
     }
 
     /// Puts an item in the place of the one at an index, if there is one.
-    pub fn set(&mut self, index: u32, item: T) -> Result<(), AllocError>
+    pub fn set(&mut self, index: usize, item: T) -> Result<(), AllocError>
         ensures { IfOk result (λ _. (base : List T)
             → over self.new base ≡ slice_set (over self.old base) index item) }
     {
@@ -66,7 +66,7 @@ impl<T: Copy> SparseList<T> {
     }
 
     /// The indices of the stored items.
-    pub fn indices(&self, alloc: Global) -> Result<Vec<u32>, AllocError>
+    pub fn indices(&self, alloc: Global) -> Result<Vec<usize>, AllocError>
         ensures { IfOk result (λ indices. (index : ℕ)
             → Contains indices.items index ⊎ (stored_at self.now index ≡ None)) }
     {
@@ -92,7 +92,7 @@ pub fn indices_of_either<T: Copy>(
     alloc: Global,
     list: &SparseList<T>,
     other: &SparseList<T>,
-) -> Result<Vec<u32>, AllocError>
+) -> Result<Vec<usize>, AllocError>
     ensures { IfOk result (λ indices. (index : ℕ) → Contains indices.items index
         ⊎ ((stored_at list.now index ≡ None) × (stored_at other.now index ≡ None))) }
 {
@@ -102,13 +102,13 @@ pub fn indices_of_either<T: Copy>(
 }
 
 /// Where an item of an index is stored, or where it would go.
-fn search<T: Copy>(stored: &[(u32, T)], index: u32) -> Result<usize, usize>
+fn search<T: Copy>(stored: &[(usize, T)], index: usize) -> Result<usize, usize>
     requires { IsAscending stored.now }
     ensures found { IfOk result (IsAt stored.now index) }
     ensures absent { IfErr result (IsGapFor stored.now index) }
 {
     if is_at_own_place(stored, index) {
-        return Ok(index as usize);
+        return Ok(index);
     }
     if is_behind_all(stored, index) {
         return Err(stored.len());
@@ -117,17 +117,17 @@ fn search<T: Copy>(stored: &[(u32, T)], index: u32) -> Result<usize, usize>
 }
 
 /// Whether an item of an index is stored where it lies if none before it is missing.
-fn is_at_own_place<T: Copy>(stored: &[(u32, T)], index: u32) -> bool
+fn is_at_own_place<T: Copy>(stored: &[(usize, T)], index: usize) -> bool
     ensures { result ≡ true → IsAt stored.now index index }
 {
-    match stored.get(index as usize) {
+    match stored.get(index) {
         Some(pair) => pair.0 == index,
         None => false,
     }
 }
 
 /// Whether an item of an index would go behind all others.
-fn is_behind_all<T: Copy>(stored: &[(u32, T)], index: u32) -> bool
+fn is_behind_all<T: Copy>(stored: &[(usize, T)], index: usize) -> bool
     requires { IsAscending stored.now }
     ensures { result ≡ true → IsGapFor stored.now index (length stored.now) }
 {

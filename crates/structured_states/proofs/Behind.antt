@@ -13,14 +13,15 @@ range first last = record { first = first; last = last }
 ends-same : (a b c d : ℤ) → a ≡ b → c ≡ d → range a c ≡ range b d
 ends-same a b c d one other = ap (λ n. range n c) one ∙ ap (range b) other
 
+-- a range whose ends are within the greatest and the least
+pub held-itself : (a : Interval) → IsEnd a.first → IsEnd a.last → held a ≡ a
+held-itself a first last = ends-same (nearest_end a.first) a.first (nearest_end a.last) a.last (end-itself a.first first) (end-itself a.last last)
+
 -- the numbers of a range moved by one, where that stays within the greatest and the least end
-held-moved : (a : Interval) (k : ℤ) (empty : Bool) → (empty ≡ false → IsEnd (a.first +ℤ k) × IsEnd (a.last +ℤ k))
+pub held-moved : (a : Interval) (k : ℤ) (empty : Bool) → (empty ≡ false → IsEnd (a.first +ℤ k) × IsEnd (a.last +ℤ k))
     → held (cond empty vacant (range (a.first +ℤ k) (a.last +ℤ k))) ≡ cond empty vacant (range (a.first +ℤ k) (a.last +ℤ k))
 held-moved a k true ends = refl
-held-moved a k false ends =
-    let both = ends refl in
-    ends-same (nearest_end (a.first +ℤ k)) (a.first +ℤ k) (nearest_end (a.last +ℤ k)) (a.last +ℤ k)
-    (end-itself (a.first +ℤ k) both.0) (end-itself (a.last +ℤ k) both.1)
+held-moved a k false ends = let both = ends refl in held-itself (range (a.first +ℤ k) (a.last +ℤ k)) both.0 both.1
 
 pub held-below : (last values : Interval) → IsEnd last.last → IsEnd values.first
     → held (sum (at_most (last.last -ℤ pos 1) values) single) ≡ sum (at_most (last.last -ℤ pos 1) values) single

@@ -115,7 +115,7 @@ pub fn rows_named(rows: &Rows, path: &Path) -> Span
 }
 
 /// What a claim says of a row that it names.
-fn row_claim(rows: &Rows, claim: &Claim, row: u32) -> Option<ComponentFact>
+fn row_claim(rows: &Rows, claim: &Claim, row: usize) -> Option<ComponentFact>
     ensures { option_map said_component result ≡ row_claim rows.now (said_fact claim.now) row }
 {
     match claim {

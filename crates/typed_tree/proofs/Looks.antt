@@ -31,9 +31,9 @@ use Rattle.typed_tree.specs.declared.tree.Stmt.TheOpen as stmt_layer
 use Rattle.typed_tree.specs.declared.tree.Stmt.TheFolds.{fold-roll-Stmt}
 use Rattle.typed_tree.specs.Look.{passed_look, look_call, look_passed, ForValue, ForWhole, ForVariable}
 use Rattle.typed_tree.specs.Look.{Look, link_look, expression_look, look_expr, look_link, look_parameter, statement_look, look_stmt, Constant, Value}
-use Rattle.typed_tree.specs.Look.{Operation, Applied, Begins, Operator, Ends, Empty, Assign, Target, Fits, Write, Compound, If, Then, Else, While, Do, Repeat, Controls, ForEnds}
-use Rattle.typed_tree.specs.Look.{Until, For, Case, arms_look, look_whole, look_access, Compared, WholeTarget, Copied}
-use Rattle.typed_tree.specs.WellFormed.{length_of}
+use Rattle.typed_tree.specs.Look.{Operation, Applied, Begins, Operator, Ends, Empty, Assign, Target, Fits, Write, Compound, If, Then, Else, While, Do, Repeat}
+use Rattle.typed_tree.specs.Look.{Until, For, Controls, ForEnds, Case, arms_look, look_whole, look_access, Compared, WholeTarget, Copied}
+use Rattle.typed_tree.specs.WellFormed.{length_of, source_of}
 pub use Rattle.typed_tree.proofs.Measured.{entries_are}
 
 -- how an actual parameter looks, for a callee and the place of a formal one
@@ -91,7 +91,7 @@ look_passed_value value fits callee position =
 
 pub look_passed_whole : (type_id : TypeId) (value : Whole) (indexes : Vec Expr Global) (callee position : ℕ)
     → look_passed (actual.Whole type_id value indexes) callee position
-    ≡ look_whole value indexes.items ++ (ForWhole type_id (length_of value) callee position ∷ [])
+    ≡ look_whole value indexes.items ++ (ForWhole type_id (source_of value) (length_of value) callee position ∷ [])
 look_passed_whole type_id value indexes callee position =
     ap (λ p. look_passed p callee position) (sym (actual.rolls-Whole type_id value indexes))
     ∙ ap (λ look. look callee position) (fold-roll-Passed Look Passing Look expression_look passed_look link_look (layer.Whole type_id value indexes))
@@ -121,7 +121,8 @@ look_empty number = ap look_stmt (sym (stmt.rolls-Empty number)) ∙ fold-roll-S
 pub look_assign : (number : ℕ) (becomes : Place) (target : Access) (indexes : Vec Expr Global) (fits : RangeTest) (value : Expr)
     → look_stmt (stmt.Assign number becomes target indexes fits value)
     ≡ Assign number becomes
-    ∷ (look_access target indexes.items (Target target.root target.selectors.items (length indexes.items)) ++ (look_expr value ++ (Fits fits ∷ [])))
+    ∷ (look_access target indexes.items (Target target.root target.selectors.items (length indexes.items))
+    ++ (look_expr value ++ (Fits target.root target.selectors.items fits ∷ [])))
 look_assign number becomes target indexes fits value =
     ap look_stmt (sym (stmt.rolls-Assign number becomes target indexes fits value))
     ∙ fold-roll-Stmt Look statement_look (stmt_layer.Assign number becomes target indexes fits value)
@@ -131,7 +132,7 @@ pub look_copy : (number : ℕ) (becomes : Place) (target : Access) (indexes : Ve
     → look_stmt (stmt.Copy number becomes target indexes type_id value value_indexes)
     ≡ Assign number becomes
     ∷ (look_access target indexes.items (WholeTarget target.root target.selectors.items (length indexes.items) type_id)
-    ++ (look_whole value value_indexes.items ++ (Copied type_id (length_of value) ∷ [])))
+    ++ (look_whole value value_indexes.items ++ (Copied type_id (source_of value) (length_of value) ∷ [])))
 look_copy number becomes target indexes type_id value value_indexes =
     ap look_stmt (sym (stmt.rolls-Copy number becomes target indexes type_id value value_indexes))
     ∙ fold-roll-Stmt Look statement_look (stmt_layer.Copy number becomes target indexes type_id value value_indexes)
@@ -186,7 +187,9 @@ pub look_for : (number loop_number : ℕ) (place : Place) (control : ℕ) (first
     (last_fits : RangeTest) (body : Box Stmt Global)
     → look_stmt (stmt.For number loop_number place control first first_fits direction last last_fits body)
     ≡ For number loop_number place control direction
-    ∷ (look_expr first ++ (Fits first_fits ∷ (look_expr last ++ (Fits last_fits ∷ Controls control ∷ (look_stmt body.value ++ (ForEnds ∷ []))))))
+    ∷ (look_expr first
+    ++ (Fits control [] first_fits
+    ∷ (look_expr last ++ (Fits control [] last_fits ∷ Controls control ∷ (look_stmt body.value ++ (ForEnds ∷ []))))))
 look_for number loop_number place control first first_fits direction last last_fits body =
     ap look_stmt (sym (stmt.rolls-For number loop_number place control first first_fits direction last last_fits body))
     ∙ fold-roll-Stmt Look statement_look (stmt_layer.For number loop_number place control first first_fits direction last last_fits body)

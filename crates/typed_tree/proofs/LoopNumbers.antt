@@ -12,7 +12,7 @@ use Rattle.typed_tree.specs.declared.tree.Stmt.TheOpen.{Stmt-F}
 use Rattle.typed_tree.specs.declared.tree.Stmt.TheOpen.Stmt-F.{Empty, Assign, Write, Compound, If, While, Repeat, For, Case, Copy, Call as Calling}
 use Rattle.typed_tree.specs.declared.tree.Stmt.TheFolds.{map-Stmt, fold-roll-Stmt, ind-Stmt}
 use Rattle.typed_tree.specs.Entries.{joined, of_block}
-use Rattle.typed_tree.specs.WellFormed.{length_of}
+use Rattle.typed_tree.specs.WellFormed.{length_of, source_of}
 use Rattle.typed_tree.specs.Loops.{Inside, statement_inside, inside_of, loops_of, loops_of_block}
 use Rattle.typed_tree.proofs.Quiet.{quiet_expr, quiet_accessed, quiet_value, quiet_parameters, quiet_called}
 use Rattle.typed_tree.specs.Look.{Mark, Look, look_expr, look_parameter, arms_look, statement_look}
@@ -78,12 +78,12 @@ numbers_layer : (y : Stmt-F Numbered)
 numbers_layer (Empty number) = refl
 numbers_layer (Assign number becomes target indexes fits value) =
     let does = Target target.root target.selectors.items (length indexes.items) in
-    behind (look_access target indexes.items does) (look_expr value ++ (FitsMark fits ∷ []))
-    (quiet_accessed target indexes.items does (refl, refl)).0
-    ∙ ended (look_expr value) (FitsMark fits) refl ∙ (quiet_expr value).0
+    let end = FitsMark target.root target.selectors.items fits in
+    behind (look_access target indexes.items does) (look_expr value ++ (end ∷ [])) (quiet_accessed target indexes.items does (refl, refl)).0
+    ∙ ended (look_expr value) end refl ∙ (quiet_expr value).0
 numbers_layer (Copy number becomes target indexes type_id value value_indexes) =
     let does = WholeTarget target.root target.selectors.items (length indexes.items) type_id in
-    let end = Copied type_id (length_of value) in
+    let end = Copied type_id (source_of value) (length_of value) in
     behind (look_access target indexes.items does) (look_whole value value_indexes.items ++ (end ∷ []))
     (quiet_accessed target indexes.items does (refl, refl)).0
     ∙ ended (look_whole value value_indexes.items) end refl
@@ -108,10 +108,10 @@ numbers_layer (Repeat number loop_number place statements condition) =
     ∙ ap₂ (λ a b. a ++ b) (numbers_joined statements.items) (ended (look_expr condition) Ends refl ∙ (quiet_expr condition).0)
     ∙ append-nil _)
 numbers_layer (For number loop_number place control first first_fits direction last last_fits body) =
-    let inside = look_stmt body.value.0 ++ (ForEnds ∷ []) in
+    let inside = FitsMark control [] last_fits ∷ Controls control ∷ (look_stmt body.value.0 ++ (ForEnds ∷ [])) in
     ap (λ more. loop_number ∷ more)
-    (behind (look_expr first) (FitsMark first_fits ∷ (look_expr last ++ (FitsMark last_fits ∷ Controls control ∷ inside))) ((quiet_expr first).0)
-    ∙ behind (look_expr last) (FitsMark last_fits ∷ Controls control ∷ inside) ((quiet_expr last).0)
+    (behind (look_expr first) (FitsMark control [] first_fits ∷ (look_expr last ++ inside)) ((quiet_expr first).0)
+    ∙ behind (look_expr last) inside ((quiet_expr last).0)
     ∙ ended (look_stmt body.value.0) ForEnds refl ∙ body.value.1)
 numbers_layer (Case number site index constants arms) =
     let inside = arms_look constants.items (map look_stmt (map (λ s. s.0) arms.items)) in

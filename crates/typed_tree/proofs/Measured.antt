@@ -38,14 +38,14 @@ use Rattle.typed_tree.specs.Entries.{entries_of_statement, entries_of_written, a
 use Rattle.typed_tree.specs.WellFormed.{Outline, placed, passed_is_well_formed, is_well_formed_passed, is_well_formed_call, is_control, may_call}
 use Rattle.typed_tree.specs.WellFormed.{passes_value, passes_whole, passes_variable}
 use Rattle.typed_tree.specs.WellFormed.{all_hold, is_whole, monadic_is_well_formed, dyadic_is_well_formed, link_is_well_formed, expr_is_well_formed}
-use Rattle.typed_tree.specs.WellFormed.{is_well_formed_expr, is_well_formed_link, is_well_formed_width, is_well_formed_parameter, is_well_formed_test}
-use Rattle.typed_tree.specs.WellFormed.{are_characters, length_of, whole_indexes, is_well_formed_whole, is_well_formed_written}
+use Rattle.typed_tree.specs.WellFormed.{is_well_formed_expr, is_well_formed_link, is_well_formed_width, is_well_formed_parameter, fits_target}
+use Rattle.typed_tree.specs.WellFormed.{are_characters, length_of, source_of, whole_indexes, is_well_formed_whole, is_well_formed_written}
 use Rattle.typed_tree.specs.WellFormed.{leads_to_ordinal, are_well_formed, is_well_formed_value}
 use Rattle.typed_tree.specs.WellFormed.{are_whole, stmt_is_well_formed, is_well_formed_stmt}
 use Rattle.typed_tree.specs.Look.{passed_look, call_look, look_passed, heading_look, Called, ForValue, ForWhole, ForVariable}
 use Rattle.typed_tree.specs.Look.{Mark, Look, link_look, expression_look, look_expr, look_link, look_width, look_parameter, arms_look, statement_look}
-use Rattle.typed_tree.specs.Look.{look_stmt, look_block, tree_look, mark_entries, entries_of_look, is_formed_mark, Ends, If as IfMark, Then, Else, Do, Until, Controls}
-use Rattle.typed_tree.specs.Look.{Fits as FitsMark, Written as WrittenMark, Width as WidthMark, Compared, WrittenString, look_whole, look_written}
+use Rattle.typed_tree.specs.Look.{look_stmt, look_block, tree_look, mark_entries, entries_of_look, is_formed_mark, Ends, If as IfMark, Then, Else, Do, Until}
+use Rattle.typed_tree.specs.Look.{Controls, Fits as FitsMark, Written as WrittenMark, Width as WidthMark, Compared, WrittenString, look_whole, look_written}
 use Rattle.typed_tree.specs.Look.{ForEnds, Applied, Operator, Copied, access_look, whole_look, look_access, Value, WholeValue, Target, WholeTarget}
 
 -- ---- a measure of looks that is a fold over trees
@@ -255,7 +255,7 @@ entries_passed_layer (PassedValue value fits) callee position =
     entries_ended (look_expr value.0) (ForValue fits callee position) refl ∙ value.1
 entries_passed_layer (PassedWhole type_id value indexes) callee position =
     let inside = map (λ e. e.0) indexes.items in
-    entries_ended (whole_look value (map look_expr inside)) (ForWhole type_id (length_of value) callee position) refl
+    entries_ended (whole_look value (map look_expr inside)) (ForWhole type_id (source_of value) (length_of value) callee position) refl
     ∙ entries_whole value (map look_expr inside) (map entries_of_expression inside) (entries_joined look_expr entries_of_expression indexes.items)
 entries_passed_layer (Reference type_id access indexes) callee position =
     let inside = map (λ e. e.0) indexes.items in
@@ -327,15 +327,16 @@ entries_stmt_layer : (y : Stmt-F (ToldStmt entries_of_look statement_entries))
 entries_stmt_layer (Empty number) = refl
 entries_stmt_layer (Assign number becomes target indexes fits value) =
     let does = Target target.root target.selectors.items (length indexes.items) in
+    let end = FitsMark target.root target.selectors.items fits in
     ap (λ entries. number ∷ entries)
-    (flat_map-append mark_entries (look_access target indexes.items does) (look_expr value ++ (FitsMark fits ∷ []))
+    (flat_map-append mark_entries (look_access target indexes.items does) (look_expr value ++ (end ∷ []))
     ∙ ap₂ (λ a b. a ++ b)
     (entries_access target (map look_expr indexes.items) (map entries_of_expression indexes.items) does (entries_indexes indexes.items) refl)
-    (entries_ended (look_expr value) (FitsMark fits) refl ∙ entries_expr value))
+    (entries_ended (look_expr value) end refl ∙ entries_expr value))
 entries_stmt_layer (Copy number becomes target indexes type_id value value_indexes) =
     let does = WholeTarget target.root target.selectors.items (length indexes.items) type_id in
     let copied = look_whole value value_indexes.items in
-    let end = Copied type_id (length_of value) in
+    let end = Copied type_id (source_of value) (length_of value) in
     ap (λ entries. number ∷ entries)
     (flat_map-append mark_entries (look_access target indexes.items does) (copied ++ (end ∷ []))
     ∙ ap₂ (λ a b. a ++ b)
@@ -369,11 +370,11 @@ entries_stmt_layer (Repeat number loop_number place statements condition) =
     ∙ ap₂ (λ a b. a ++ b) (entries_joined look_stmt entries_of_statement statements.items)
     (entries_ended (look_expr condition) Ends refl ∙ entries_expr condition))
 entries_stmt_layer (For number loop_number place control first first_fits direction last last_fits body) =
-    let inside = look_stmt body.value.0 ++ (ForEnds ∷ []) in
+    let inside = FitsMark control [] last_fits ∷ Controls control ∷ (look_stmt body.value.0 ++ (ForEnds ∷ [])) in
     ap (λ entries. number ∷ entries)
-    (flat_map-append mark_entries (look_expr first) (FitsMark first_fits ∷ (look_expr last ++ (FitsMark last_fits ∷ Controls control ∷ inside)))
+    (flat_map-append mark_entries (look_expr first) (FitsMark control [] first_fits ∷ (look_expr last ++ inside))
     ∙ ap₂ (λ a b. a ++ b) (entries_expr first)
-    (flat_map-append mark_entries (look_expr last) (FitsMark last_fits ∷ Controls control ∷ inside)
+    (flat_map-append mark_entries (look_expr last) inside
     ∙ ap₂ (λ a b. a ++ b) (entries_expr last) (entries_ended (look_stmt body.value.0) ForEnds refl ∙ body.value.1)))
 entries_stmt_layer (Case number site index constants arms) =
     let inside = arms_look constants.items (map look_stmt (map (λ s. s.0) arms.items)) in
@@ -544,8 +545,8 @@ module _ (outline : Outline) (block_number : ℕ) where
   formed_passed_layer (PassedWhole type_id value indexes) callee position =
       let inside = map (λ e. e.0) indexes.items in
       let test = is_well_formed_expr outline block_number in
-      let fits = passes_whole outline block_number type_id (length_of value) callee position in
-      formed_cut (whole_look value (map look_expr inside)) (ForWhole type_id (length_of value) callee position ∷ [])
+      let fits = passes_whole outline block_number type_id (source_of value) (length_of value) callee position in
+      formed_cut (whole_look value (map look_expr inside)) (ForWhole type_id (source_of value) (length_of value) callee position ∷ [])
       ∙ ap (λ b. b && (fits && true))
       (formed_whole value (map look_expr inside) (map test inside) (length (map test inside)) (formed_joined look_expr test indexes.items)
       (so_many look_expr test inside))
@@ -640,16 +641,17 @@ module _ (outline : Outline) (block_number : ℕ) where
   formed_stmt_layer (Assign number becomes target indexes fits value) =
       let does = Target target.root target.selectors.items (length indexes.items) in
       let tests = map (is_well_formed_expr outline block_number) indexes.items in
-      formed_cut (look_access target indexes.items does) (look_expr value ++ (FitsMark fits ∷ []))
+      let end = FitsMark target.root target.selectors.items fits in
+      let tested = is_formed_mark outline block_number end in
+      formed_cut (look_access target indexes.items does) (look_expr value ++ (end ∷ []))
       ∙ ap₂ (λ a b. a && b) (formed_access target (map look_expr indexes.items) tests does (formed_indexes indexes.items))
-      (formed_cut (look_expr value) (FitsMark fits ∷ []) ∙ ap (λ b. b && (is_well_formed_test outline block_number fits && true)) (formed_expr value))
-      ∙ and_assigned (all_hold tests) (is_formed_mark outline block_number does) (is_well_formed_expr outline block_number value)
-      (is_well_formed_test outline block_number fits)
+      (formed_cut (look_expr value) (end ∷ []) ∙ ap (λ b. b && (tested && true)) (formed_expr value))
+      ∙ and_assigned (all_hold tests) (is_formed_mark outline block_number does) (is_well_formed_expr outline block_number value) tested
   formed_stmt_layer (Copy number becomes target indexes type_id value value_indexes) =
       let does = WholeTarget target.root target.selectors.items (length indexes.items) type_id in
       let tests = map (is_well_formed_expr outline block_number) indexes.items in
       let copied = look_whole value value_indexes.items in
-      let end = Copied type_id (length_of value) in
+      let end = Copied type_id (source_of value) (length_of value) in
       let fits = is_formed_mark outline block_number end in
       formed_cut (look_access target indexes.items does) (copied ++ (end ∷ []))
       ∙ ap₂ (λ a b. a && b) (formed_access target (map look_expr indexes.items) tests does (formed_indexes indexes.items))
@@ -681,12 +683,12 @@ module _ (outline : Outline) (block_number : ℕ) where
       ∙ ap₂ (λ a b. a && b) (formed_joined look_stmt (is_well_formed_stmt outline block_number) statements.items)
       (formed_ended (look_expr condition) Ends refl ∙ formed_expr condition)
   formed_stmt_layer (For number loop_number place control first first_fits direction last last_fits body) =
-      let inside = look_stmt body.value.0 ++ (ForEnds ∷ []) in
+      let inside = FitsMark control [] last_fits ∷ Controls control ∷ (look_stmt body.value.0 ++ (ForEnds ∷ [])) in
       ap (λ b. is_control outline block_number control && b)
-      (formed_cut (look_expr first) (FitsMark first_fits ∷ (look_expr last ++ (FitsMark last_fits ∷ Controls control ∷ inside)))
-      ∙ ap₂ (λ a b. a && (is_well_formed_test outline block_number first_fits && b)) (formed_expr first)
-      (formed_cut (look_expr last) (FitsMark last_fits ∷ Controls control ∷ inside)
-      ∙ ap₂ (λ a b. a && (is_well_formed_test outline block_number last_fits && b)) (formed_expr last)
+      (formed_cut (look_expr first) (FitsMark control [] first_fits ∷ (look_expr last ++ inside))
+      ∙ ap₂ (λ a b. a && (fits_target outline block_number first_fits control [] && b)) (formed_expr first)
+      (formed_cut (look_expr last) inside
+      ∙ ap₂ (λ a b. a && (fits_target outline block_number last_fits control [] && b)) (formed_expr last)
       (formed_ended (look_stmt body.value.0) ForEnds refl ∙ body.value.1)))
   formed_stmt_layer (Case number site index constants arms) =
       let inside = arms_look constants.items (map look_stmt (map (λ s. s.0) arms.items)) in

@@ -45,9 +45,9 @@ use Rattle.typed_tree.specs.declared.tree.Stmt.TheOpen.Stmt-F.{Copy as CopyOf, C
 use Rattle.typed_tree.specs.declared.tree.Stmt.TheFolds.{fold-Stmt}
 use Rattle.typed_tree.specs.Entries.{in_text, joined}
 use Rattle.typed_tree.specs.WellFormed.{Outline, is_whole, are_characters, length_of, monadic_is_well_formed, placed}
-use Rattle.typed_tree.specs.WellFormed.{dyadic_is_well_formed, is_control, is_well_formed_test, leads_to_ordinal}
+use Rattle.typed_tree.specs.WellFormed.{dyadic_is_well_formed, fits_target, is_control, leads_to_ordinal}
 use Rattle.typed_tree.specs.WellFormed.{leads_to_whole, is_value_of, may_call, may_copy, passes_value, passes_variable}
-use Rattle.typed_tree.specs.WellFormed.{passes_whole}
+use Rattle.typed_tree.specs.WellFormed.{passes_whole, source_of}
 
 -- a form, or where one ends; numbers are those of entries, roots those of variables
 pub data Mark : Type 0 where
@@ -70,11 +70,11 @@ pub data Mark : Type 0 where
   Operator : ℕ → Dyadic → Mark
   -- a call: its number, the place of its name, and the block that is called
   Calls : ℕ → Place → ℕ → Mark
-  -- the value, or the whole value of so many cells, before it is passed to the block that is called, to the formal
-  -- parameter at this place; and so is what was accessed before it: its type, the variable's root, the selectors, and
-  -- how many index expressions they take
+  -- the value before it is passed to the block that is called, to the formal parameter at this place; so is the whole
+  -- value before it, to one of a type: a value of this other type, or else a string, of so many cells; and so is what
+  -- was accessed before it: its type, the variable's root, the selectors, and how many index expressions they take
   ForValue : RangeTest → ℕ → ℕ → Mark
-  ForWhole : TypeId → ℕ → ℕ → ℕ → Mark
+  ForWhole : TypeId → Option TypeId → ℕ → ℕ → ℕ → Mark
   ForVariable : TypeId → ℕ → List Selector → ℕ → ℕ → ℕ → Mark
   -- a function, or else a procedure, is called: this block, with so many actual parameters
   Called : Bool → ℕ → ℕ → Mark
@@ -88,10 +88,10 @@ pub data Mark : Type 0 where
   Target : ℕ → List Selector → ℕ → Mark
   -- the same of a structured type
   WholeTarget : ℕ → List Selector → ℕ → TypeId → Mark
-  -- the value before it, of so many cells, is copied to a target of a type
-  Copied : TypeId → ℕ → Mark
-  -- the test of the value before it
-  Fits : RangeTest → Mark
+  -- the value before it is copied to a target of a type: a value of this other type, or else a string, of so many cells
+  Copied : TypeId → Option TypeId → ℕ → Mark
+  -- the test of the value before it, which is for what is accessed by this root of a variable and these selectors
+  Fits : ℕ → List Selector → RangeTest → Mark
   -- a write, with the place of its name; or a writeln, which ends the line
   Write : ℕ → Place → Bool → Mark
   -- a string: its number and its characters
@@ -147,7 +147,7 @@ link_look link = Operator link.number link.operation ∷ link.operand
 abbrev pub passed_look : Passed-F Look (ℕ → ℕ → Look) Look → ℕ → ℕ → Look
 passed_look (PassedValue value fits) callee position = value ++ (ForValue fits callee position ∷ [])
 passed_look (PassedWhole type_id value indexes) callee position =
-    whole_look value indexes.items ++ (ForWhole type_id (length_of value) callee position ∷ [])
+    whole_look value indexes.items ++ (ForWhole type_id (source_of value) (length_of value) callee position ∷ [])
 passed_look (Reference type_id access indexes) callee position =
     access_look access indexes.items
     (ForVariable type_id access.root access.selectors.items (length indexes.items) callee position)
@@ -228,12 +228,12 @@ statement_look (EmptyOf number) = Empty number ∷ []
 statement_look (AssignOf number becomes target indexes fits value) =
     Assign number becomes
     ∷ (look_access target indexes.items (Target target.root target.selectors.items (length indexes.items))
-    ++ (look_expr value ++ (Fits fits ∷ [])))
+    ++ (look_expr value ++ (Fits target.root target.selectors.items fits ∷ [])))
 statement_look (CopyOf number becomes target indexes type_id value value_indexes) =
     Assign number becomes
     ∷ (look_access target indexes.items
     (WholeTarget target.root target.selectors.items (length indexes.items) type_id)
-    ++ (look_whole value value_indexes.items ++ (Copied type_id (length_of value) ∷ [])))
+    ++ (look_whole value value_indexes.items ++ (Copied type_id (source_of value) (length_of value) ∷ [])))
 statement_look (WriteOf number name parameters ends_line) =
     Write number name ends_line ∷ (flat_map look_parameter parameters.items ++ (Ends ∷ []))
 statement_look (Calling call actuals) = look_call false call actuals.items
@@ -248,7 +248,9 @@ statement_look (RepeatOf number loop_number place statements condition) =
 statement_look (ForOf number loop_number place control first first_fits direction last last_fits body) =
     For number loop_number place control direction
     ∷ (look_expr first
-    ++ (Fits first_fits ∷ (look_expr last ++ (Fits last_fits ∷ Controls control ∷ (body.value ++ (ForEnds ∷ []))))))
+    ++ (Fits control [] first_fits
+    ∷ (look_expr last
+    ++ (Fits control [] last_fits ∷ Controls control ∷ (body.value ++ (ForEnds ∷ []))))))
 statement_look (CaseOf number site index constants arms) =
     Case number site ∷ (look_expr index ++ (arms_look constants.items arms.items ++ (Ends ∷ [])))
 
@@ -280,7 +282,7 @@ mark_entries Begins = []
 mark_entries (Operator number operation) = number ∷ []
 mark_entries (Calls number name block) = number ∷ []
 mark_entries (ForValue fits callee position) = []
-mark_entries (ForWhole type_id cells callee position) = []
+mark_entries (ForWhole type_id source cells callee position) = []
 mark_entries (ForVariable type_id root selectors indexes callee position) = []
 mark_entries (Called is_function callee count) = []
 mark_entries Ends = []
@@ -288,8 +290,8 @@ mark_entries (Empty number) = number ∷ []
 mark_entries (Assign number becomes) = number ∷ []
 mark_entries (Target root selectors indexes) = []
 mark_entries (WholeTarget root selectors indexes type_id) = []
-mark_entries (Copied type_id cells) = []
-mark_entries (Fits fits) = []
+mark_entries (Copied type_id source cells) = []
+mark_entries (Fits root selectors fits) = []
 mark_entries (Write number name ends_line) = number ∷ []
 mark_entries (Text number characters) = number ∷ []
 mark_entries (Compared left right) = []
@@ -341,8 +343,8 @@ is_formed_mark outline block Begins = true
 is_formed_mark outline block (Operator number operation) = dyadic_is_well_formed outline block operation
 is_formed_mark outline block (Calls number name callee) = true
 is_formed_mark outline block (ForValue fits callee position) = passes_value outline block fits callee position
-is_formed_mark outline block (ForWhole type_id cells callee position) =
-    passes_whole outline block type_id cells callee position
+is_formed_mark outline block (ForWhole type_id source cells callee position) =
+    passes_whole outline block type_id source cells callee position
 is_formed_mark outline block (ForVariable type_id root selectors indexes callee position) =
     passes_variable outline block type_id root selectors indexes callee position
 is_formed_mark outline block (Called is_function callee count) = may_call outline block is_function callee count
@@ -353,9 +355,8 @@ is_formed_mark outline block (Target root selectors indexes) =
     leads_to_ordinal outline block root selectors indexes
 is_formed_mark outline block (WholeTarget root selectors indexes type_id) =
     leads_to_whole outline block type_id root selectors indexes
-is_formed_mark outline block (Copied type_id cells) =
-    may_copy outline block type_id cells
-is_formed_mark outline block (Fits fits) = is_well_formed_test outline block fits
+is_formed_mark outline block (Copied type_id source cells) = may_copy outline block type_id source cells
+is_formed_mark outline block (Fits root selectors fits) = fits_target outline block fits root selectors
 is_formed_mark outline block (Write number name ends_line) = true
 is_formed_mark outline block (Text number characters) = are_characters characters
 is_formed_mark outline block (Compared left right) = nat_eq left right

@@ -1,10 +1,12 @@
 -- Well formed trees: each constant and each range of a test lies in that of integer (ISO 7185:1990, 6.4.2.2), each
--- variable that a block names is one that it or a block round it declares (6.2.2), selectors lead to a component of the
--- type that is wanted (6.5.3), what is copied is as long as its target, a call passes to each formal parameter what it
--- takes (6.6.3), a control variable is a local one (6.8.3.9), each test names a site of the table, each loop stands in
--- the table of loops, and the variables of a block take no more cells than a block has. It does not say that a tree is
--- that of a program.
-use Rattle.std.specs.Prelude.{◌≡◌, ℕ, zero, suc, ℤ, ◌<◌, ◌≤◌, pos, neg_ℤ, ◌&&◌, ◌||◌, ◌++◌, Bool, true, false, List, []}
+-- variable that a block names is one that it or a block round it declares (6.2.2), selectors lead to a component of
+-- the type that is wanted (6.5.3), a value is tested for the range of its target's type, what is copied is of its
+-- target's type or a string as long (6.4.6), a call passes to each formal parameter what it takes (6.6.3), a control
+-- variable is a local one (6.8.3.9), each test names a site of the table, each loop stands in the table of loops,
+-- the variables of a block take no more cells than a block has, and the table of types begins with the required
+-- ones. It does not say that a tree is that of a program.
+use Rattle.std.specs.Prelude.{◌≡◌, ℕ, zero, suc, ℤ, ◌<◌, ◌≤◌, pos, neg_ℤ, ◌+ℤ◌, ◌-ℤ◌, ◌&&◌, ◌||◌, ◌++◌, Bool}
+use Rattle.std.specs.Prelude.{true, false, List, []}
 use Rattle.std.specs.Prelude.{Option, Some, None, Vec, IsPermutation, int_le, nat_lt, nat_le, nat_eq, not, length, map}
 use Rattle.std.specs.Prelude.{◌∷◌, filter, if◌then◌else◌, slice_get, sum_by}
 use Rattle.std.specs.Cmp.Lexicographic.{pointwise}
@@ -15,7 +17,8 @@ use Rattle.std.specs.declared.boxed.Box.{Box}
 use Rattle.types.specs.Forms.{Form}
 use Rattle.types.specs.declared.form.OrdinalRange.{OrdinalRange}
 use Rattle.types.specs.declared.form.TypeId.{TypeId}
-use Rattle.types.specs.Types.{cells_of, is_ordinal, is_same, most_cells, range_of}
+use Rattle.types.specs.Types.{BeginWithRequired, cells_of, have_one_length, is_ordinal, is_same, is_structured}
+use Rattle.types.specs.Types.{most_cells, range_of, string_length}
 use Rattle.typed_tree.specs.declared.tree.Tree.{Tree}
 use Rattle.typed_tree.specs.declared.tree.Selector.{Selector}
 use Rattle.typed_tree.specs.declared.tree.Selector.TheVariants.{Element, Field}
@@ -28,6 +31,10 @@ use Rattle.typed_tree.specs.declared.tree.FunctionResult.{FunctionResult}
 use Rattle.typed_tree.specs.declared.tree.Call.{Call}
 use Rattle.typed_tree.specs.declared.tree.Monadic.{Monadic}
 use Rattle.typed_tree.specs.declared.tree.Monadic.TheVariants as monadic
+use Rattle.typed_tree.specs.declared.tree.Calculation.{Calculation}
+use Rattle.typed_tree.specs.declared.tree.Calculation.TheVariants as calculation
+use Rattle.typed_tree.specs.declared.tree.Shift.{Shift}
+use Rattle.typed_tree.specs.declared.tree.Shift.TheVariants as shift
 use Rattle.typed_tree.specs.declared.tree.Dyadic.{Dyadic}
 use Rattle.typed_tree.specs.declared.tree.Dyadic.TheVariants as dyadic
 use Rattle.typed_tree.specs.declared.tree.RangeTest.{RangeTest}
@@ -58,6 +65,10 @@ use Rattle.typed_tree.specs.Threats.{controls_but, spares}
 abbrev pub most_variables : ℕ
 most_variables = 1000000
 
+-- the most statements and expressions of a program
+abbrev pub most_entries : ℕ
+most_entries = 4000000
+
 -- they all hold
 abbrev pub all_hold : List Bool → Bool
 all_hold tests = list_all (λ b. b) tests
@@ -78,6 +89,18 @@ are_characters characters = nat_le (length characters) 65536 && list_all is_char
 abbrev pub length_of : Whole → ℕ
 length_of (Text number characters) = length characters.items
 length_of (VariableOf access type_id cells defined) = cells
+
+-- the type of the variable of which a whole value is the value; a string has none
+abbrev pub source_of : Whole → Option TypeId
+source_of (Text number characters) = None
+source_of (VariableOf access type_id cells defined) = Some type_id
+
+-- a string of so many characters, or a value of a type, may be copied to a target of a type: one of the same type, or a
+-- string as long (6.4.6)
+abbrev pub is_alike : List Form → TypeId → Option TypeId → ℕ → Bool
+is_alike types target None cells = have_one_length (string_length types target) (Some cells)
+is_alike types target (Some source) cells =
+    is_same target source || have_one_length (string_length types target) (string_length types source)
 
 -- the index expressions of a whole value; a string has none
 abbrev pub whole_indexes : {A : Type 0} → Whole → List A → List A
@@ -168,12 +191,9 @@ takes_value outline fits formal =
     is_value_kind formal.kind
     && (is_ordinal outline.types formal.type_id && is_range_of fits.range (range_of outline.types formal.type_id))
 
--- a copy of so many cells may be passed to a value parameter of this structured type
-abbrev pub takes_whole : Outline → TypeId → ℕ → DeclaredVariable → Bool
-takes_whole outline type_id cells formal =
-    is_value_kind formal.kind
-    && (is_same type_id formal.type_id
-    && (not (is_ordinal outline.types type_id) && nat_eq (cells_of outline.types type_id) cells))
+-- a copy may be passed to a value parameter of this type
+abbrev pub takes_whole : TypeId → DeclaredVariable → Bool
+takes_whole type_id formal = is_value_kind formal.kind && is_same type_id formal.type_id
 
 -- a variable of this type may be passed to a variable parameter (6.6.3.3)
 abbrev pub takes_variable : TypeId → DeclaredVariable → Bool
@@ -228,6 +248,13 @@ module _ (outline : Outline) (block : ℕ) where
   abbrev pub leads_to_type : TypeId → ℕ → List Selector → ℕ → Bool
   leads_to_type type_id = leads_to (λ id. is_same id type_id)
 
+  -- the test of a value has the range of the type of what is accessed
+  abbrev pub fits_target : RangeTest → ℕ → List Selector → Bool
+  fits_target fits root selectors =
+      is_well_formed_test fits
+      && is_type (λ id. is_range_of fits.range (range_of outline.types id))
+      (accessed outline.variables outline.types root selectors)
+
   -- to a structured value of a type
   abbrev pub leads_to_whole : TypeId → ℕ → List Selector → ℕ → Bool
   leads_to_whole type_id = leads_to (λ id. is_same id type_id && not (is_ordinal outline.types id))
@@ -236,9 +263,11 @@ module _ (outline : Outline) (block : ℕ) where
   abbrev pub is_value_of : TypeId → ℕ → Bool
   is_value_of type_id cells = nat_eq cells (cells_of outline.types type_id) && nat_le cells most_cells
 
-  -- a value of so many cells may be copied to a target of a type
-  abbrev pub may_copy : TypeId → ℕ → Bool
-  may_copy target cells = nat_eq (cells_of outline.types target) cells
+  -- a string of so many characters, or a value of a type of so many cells, may be copied to a target of a type
+  abbrev pub may_copy : TypeId → Option TypeId → ℕ → Bool
+  may_copy target source cells =
+      is_structured outline.types target
+      && (nat_eq (cells_of outline.types target) cells && is_alike outline.types target source cells)
 
   abbrev pub is_well_formed_whole : Whole → ℕ → Bool
   is_well_formed_whole (Text number characters) indexes = are_characters characters.items
@@ -246,12 +275,19 @@ module _ (outline : Outline) (block : ℕ) where
       leads_to_whole type_id access.root access.selectors.items indexes
       && (is_value_of type_id cells && nat_lt defined outline.sites)
 
+  abbrev pub calculation_is_well_formed : Calculation → Bool
+  calculation_is_well_formed (calculation.Square overflow) = nat_lt overflow outline.sites
+  calculation_is_well_formed other = true
+
+  -- behind a test the next number, and the one before, are of type integer
+  abbrev pub shift_is_well_formed : OrdinalRange → Shift → Bool
+  shift_is_well_formed range shift.Same = true
+  shift_is_well_formed range shift.Next = is_whole (range.last +ℤ pos 1)
+  shift_is_well_formed range shift.Previous = is_whole (range.first -ℤ pos 1)
+
   abbrev pub monadic_is_well_formed : Monadic → Bool
-  monadic_is_well_formed (monadic.Sqr overflow) = nat_lt overflow outline.sites
-  monadic_is_well_formed (monadic.Chr no_char) = nat_lt no_char outline.sites
-  monadic_is_well_formed (monadic.Succ no_successor last) = nat_lt no_successor outline.sites && is_whole last
-  monadic_is_well_formed (monadic.Pred no_predecessor first) = nat_lt no_predecessor outline.sites && is_whole first
-  monadic_is_well_formed other = true
+  monadic_is_well_formed (monadic.Plain does) = calculation_is_well_formed does
+  monadic_is_well_formed (monadic.Tested fits does) = is_well_formed_test fits && shift_is_well_formed fits.range does
 
   abbrev pub dyadic_is_well_formed : Dyadic → Bool
   dyadic_is_well_formed (dyadic.Plus overflow) = nat_lt overflow outline.sites
@@ -272,13 +308,14 @@ module _ (outline : Outline) (block : ℕ) where
   abbrev pub is_passed_to : (DeclaredVariable → Bool) → ℕ → ℕ → Bool
   is_passed_to takes callee position = of_one takes (formal_of outline callee position)
 
-  -- a test of a value that is passed, a copy of so many cells, and a variable
+  -- a test of a value that is passed, a copy of a string or of a value of a type, of so many cells, and a variable
   abbrev pub passes_value : RangeTest → ℕ → ℕ → Bool
   passes_value fits callee position =
       is_well_formed_test fits && is_passed_to (takes_value outline fits) callee position
 
-  abbrev pub passes_whole : TypeId → ℕ → ℕ → ℕ → Bool
-  passes_whole type_id cells callee position = is_passed_to (takes_whole outline type_id cells) callee position
+  abbrev pub passes_whole : TypeId → Option TypeId → ℕ → ℕ → ℕ → Bool
+  passes_whole type_id source cells callee position =
+      may_copy type_id source cells && is_passed_to (takes_whole type_id) callee position
 
   abbrev pub passes_variable : TypeId → ℕ → List Selector → ℕ → ℕ → ℕ → Bool
   passes_variable type_id root selectors indexes callee position =
@@ -298,7 +335,7 @@ module _ (outline : Outline) (block : ℕ) where
   passed_is_well_formed (WholeOf type_id value indexes) callee position =
       all_hold (whole_indexes value indexes.items)
       && (is_well_formed_whole value (length indexes.items)
-      && passes_whole type_id (length_of value) callee position)
+      && passes_whole type_id (source_of value) (length_of value) callee position)
   passed_is_well_formed (Reference type_id access indexes) callee position =
       all_hold indexes.items
       && passes_variable type_id access.root access.selectors.items (length indexes.items) callee position
@@ -368,11 +405,12 @@ module _ (outline : Outline) (block : ℕ) where
   stmt_is_well_formed (Assign number becomes target indexes fits value) =
       are_well_formed indexes.items
       && (leads_to_ordinal target.root target.selectors.items (length indexes.items)
-      && (is_well_formed_expr value && is_well_formed_test fits))
+      && (is_well_formed_expr value && fits_target fits target.root target.selectors.items))
   stmt_is_well_formed (Copy number becomes target indexes type_id value value_indexes) =
       are_well_formed indexes.items
       && (leads_to_whole type_id target.root target.selectors.items (length indexes.items)
-      && (is_well_formed_value value value_indexes.items && may_copy type_id (length_of value)))
+      && (is_well_formed_value value value_indexes.items
+      && may_copy type_id (source_of value) (length_of value)))
   stmt_is_well_formed (Write number name parameters ends_line) =
       all_hold (map is_well_formed_parameter parameters.items)
   stmt_is_well_formed (Calling call actuals) =
@@ -386,8 +424,8 @@ module _ (outline : Outline) (block : ℕ) where
   stmt_is_well_formed (For number loop_number place control first first_fits direction last last_fits body) =
       is_control control
       && (is_well_formed_expr first
-      && (is_well_formed_test first_fits
-      && (is_well_formed_expr last && (is_well_formed_test last_fits && body.value))))
+      && (fits_target first_fits control []
+      && (is_well_formed_expr last && (fits_target last_fits control [] && body.value))))
   stmt_is_well_formed (Case number site index constants arms) =
       nat_lt site outline.sites
       && (is_well_formed_expr index && (list_all are_whole constants.items && all_hold arms.items))
@@ -479,6 +517,10 @@ are_well_formed_blocks outline number (block ∷ blocks) =
 pub record IsWellFormed (tree : Tree) : Type 0 where
   -- by their roots
   pub few_variables : length tree.variables.items ≤ most_variables
+  -- a program has no more blocks than it may have statements and expressions
+  pub few_blocks : length tree.blocks.items ≤ most_entries
+  -- the table of types begins with the required ones (6.4.2.2)
+  pub required : BeginWithRequired tree.types
   -- each is one that a block declares
   pub declared :
       list_all (λ variable. nat_lt variable.block (length tree.blocks.items)) tree.variables.items ≡ true

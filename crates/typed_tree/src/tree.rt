@@ -258,26 +258,43 @@ pub struct Width {
     pub site: u32,
 }
 
-/// An operation on one operand: a sign (6.7.2.2), `not` (6.7.2.3), or a required function (6.6.6.2, 6.6.6.5).
+/// An operation on one operand: a sign (6.7.2.2), `not` (6.7.2.3), or a required function (6.6.6.2, 6.6.6.4, 6.6.6.5).
 #[derive(Clone, Copy)]
 pub enum Monadic {
-    Plus,
-    Minus,
-    Not,
-    Abs,
+    /// What is calculated from the number of the operand.
+    Plain(Calculation),
+    /// The number has to pass the test, and then comes another of the same type.
+    Tested { fits: RangeTest, does: Shift },
+}
+
+/// What is calculated from any number.
+#[derive(Clone, Copy)]
+pub enum Calculation {
+    /// The number itself, as of `+`.
+    Same,
+    /// The number with the other sign.
+    Negative,
+    /// The other truth value.
+    Complement,
+    /// The number without its sign.
+    Absolute,
     /// The square, tested at the site `overflow`.
-    Sqr { overflow: u32 },
-    Odd,
-    /// The number of an ordinal (6.6.6.4).
-    Ord,
-    /// The char of a number, which has to be 0 to 127: it is tested at the site `no_char`.
-    Chr { no_char: u32 },
-    /// The next value of an ordinal, which has to lie below `last`, the last value of its host type: it is tested at
-    /// the site `no_successor`.
-    Succ { no_successor: u32, last: i32 },
-    /// The value before an ordinal, which has to lie above `first`, the first value of its host type: it is tested at
-    /// the site `no_predecessor`.
-    Pred { no_predecessor: u32, first: i32 },
+    Square { overflow: u32 },
+    /// Whether it is odd.
+    Parity,
+    /// The number itself, as of ord.
+    Ordinal,
+}
+
+/// The way from a number that passed a test to the result.
+#[derive(Clone, Copy)]
+pub enum Shift {
+    /// The number itself, as of chr.
+    Same,
+    /// The next one, as of succ.
+    Next,
+    /// The one before, as of pred.
+    Previous,
 }
 
 /// An operation on two operands (6.7.2.1).

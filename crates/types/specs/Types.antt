@@ -2,7 +2,7 @@
 -- ordinal type, host types, strings, compatible and assignment compatible types, the cells that a variable takes, the
 -- fields of a record, the elements of an array, and the forms that may be added. They say nothing of which type a
 -- denoter denotes.
-use Rattle.std.specs.Prelude.{ℕ, ◌+◌, ◌*◌, nat_eq, nat_lt, ℤ, pos, negsuc, neg_ℤ, ◌+ℤ◌, ◌-ℤ◌, int_lt}
+use Rattle.std.specs.Prelude.{◌≡◌, ℕ, ◌+◌, ◌*◌, nat_eq, nat_lt, ℤ, pos, negsuc, neg_ℤ, ◌+ℤ◌, ◌-ℤ◌, int_lt}
 use Rattle.std.specs.Prelude.{List, [], ◌∷◌, ◌++◌, length, fold, sum_by, slice_get, take, bytes_eq}
 use Rattle.std.specs.Prelude.{Bool, true, false, ◌&&◌, ◌||◌, if◌then◌else◌, Option, Some, None, is_some, ok_or}
 use Rattle.std.specs.Prelude.{Result, Ok, Err}
@@ -26,6 +26,10 @@ pub record Counted : Type 0 where
 -- the required types, in the order of their numbers
 abbrev pub required_forms : List Form
 required_forms = Integer ∷ Boolean ∷ Char ∷ []
+
+-- a table begins with the required types, and then come a program's own
+abbrev pub BeginWithRequired : List Form → Type 0
+BeginWithRequired types = (own : List Form) × (types ≡ required_forms ++ own)
 
 -- the type integer is the first of each table
 abbrev pub integer : TypeId
@@ -68,6 +72,15 @@ range_of types id = option_and_then form_range (form_at types id)
 -- a type is ordinal, if it has a first and a last value
 abbrev pub is_ordinal : List Form → TypeId → Bool
 is_ordinal types id = is_some (range_of types id)
+
+abbrev pub has_components : Option Form → Bool
+has_components (Some (Array packed index element)) = true
+has_components (Some (Record packed fields)) = true
+has_components form = false
+
+-- a type is structured: an array or a record
+abbrev pub is_structured : List Form → TypeId → Bool
+is_structured types id = has_components (form_at types id)
 
 abbrev pub host_in : TypeId → Option Form → TypeId
 host_in id (Some (Subrange host first last)) = host

@@ -37,7 +37,7 @@ impl Model for TypeTable {
 
 impl TypeTable {
     ghost use Rattle.types.specs.Types.{cells_of, element_of, field_of, host_of, is_assignable, is_compatible};
-    ghost use Rattle.types.specs.Types.{is_ordinal, is_string, range_of, string_length};
+    ghost use Rattle.types.specs.Types.{is_ordinal, is_string, is_structured, range_of, string_length};
 
     /// The type integer in each table.
     pub const INTEGER: TypeId = TypeId { index: 0 };
@@ -119,6 +119,16 @@ impl TypeTable {
         ensures { result ≡ is_ordinal self.now id }
     {
         self.range(id).is_some()
+    }
+
+    /// Whether a type is an array or a record (6.4.3).
+    pub fn is_structured(&self, id: TypeId) -> bool
+        ensures { result ≡ is_structured self.now id }
+    {
+        matches!(
+            self.form(id),
+            Some(TypeForm::Array { .. } | TypeForm::Record { .. })
+        )
     }
 
     /// How many components a string type has; none, where the type is no string (6.4.3.2).

@@ -2,12 +2,15 @@
 use denote.Ref.{Bor}
 use Rattle.std.specs.List.{list_any}
 use Rattle.std.specs.Cmp.Lexicographic.{pointwise}
-use Rattle.std.proofs.Common.{◌≡◌, ◌∷◌, ◌++◌, [], List, Some, None, Ok, Err, ℕ, if◌then◌else◌, nat_eq, ap, refl}
+use Rattle.std.proofs.Common.{◌≡◌, ◌∷◌, ◌++◌, [], List, Some, None, Ok, Err, ℕ, ℤ, if◌then◌else◌, nat_eq, ap, refl}
 use Rattle.std.specs.Prelude.{codes, pos, neg_ℤ, true, false}
 use Rattle.place.specs.declared.Place.{Place}
 use Rattle.scopes.specs.declared.denotation.Denotation.TheVariants as denotes
-use Rattle.scopes.specs.declared.denotation.RequiredFunction.TheVariants as function
+use Rattle.typed_tree.specs.declared.tree.Calculation.TheVariants as calculation
+use Rattle.typed_tree.specs.declared.tree.Monadic.{Monadic}
 use Rattle.typed_tree.specs.declared.tree.Monadic.TheVariants as monadic
+use Rattle.typed_tree.specs.declared.tree.Shift.{Shift}
+use Rattle.typed_tree.specs.declared.tree.Shift.TheVariants as shift
 use Rattle.syntax_tree.specs.declared.Operator.TheVariants as op
 use Rattle.syntax_tree.specs.declared.Sign.TheVariants as sign
 use Rattle.syntax_tree.specs.declared.ConstantValue.TheVariants as constant
@@ -16,12 +19,14 @@ use Rattle.types.specs.Forms.{FieldForm, Enumeration, Subrange, Array, Record}
 use Rattle.types.specs.declared.form.TypeId.{TypeId}
 use Rattle.types.specs.Types.{required_forms, integer, boolean, char, range_of, range, field_of}
 use Rattle.typing.specs.Names.{folded, required_region}
-use Rattle.typing.specs.Expressions.{copying, fitting, typed, typed_whole, result_type, applied, field_named, or_not_declared}
+use Rattle.typing.specs.Expressions.{copying, fitting, typed, typed_text, typed_variable, result_type, as_function, field_named, or_not_declared}
+use Rattle.typing.specs.Functions.{begins_as, calculation_of, applied}
+use Rattle.typing.specs.Passing.{Checked, and_then}
 use Rattle.typing.specs.declared.typed.Typed.{Typed}
 use Rattle.typing.specs.Constants.{as_constant, behind_sign, constant_place}
 use Rattle.typing.specs.Statements.{own_constant}
 use Rattle.typing.specs.Denoters.{named_type, between, named_fields}
-use Rattle.typing.specs.Steps.{value_of}
+use Rattle.typing.specs.Steps.{begins, site, told, value_of}
 use Rattle.typing.specs.Strings.{string_characters}
 use Rattle.syntax_tree.specs.declared.Name.{Name}
 use Rattle.typed_tree.specs.declared.fault.TypeFault.TheVariants as fault
@@ -75,6 +80,10 @@ abbrev own_types : List Form
 own_types =
     required_forms
     ++ Enumeration (pos 2) ∷ Subrange (record { index = 3 }) (pos 1) (pos 2) ∷ Subrange integer (neg_ℤ (pos 5)) (neg_ℤ (pos 1)) ∷ []
+
+-- an enumerated type of one value behind them
+abbrev alone : List Form
+alone = required_forms ++ Enumeration (pos 0) ∷ []
 
 abbrev colour : TypeId
 colour = record { index = 3 }
@@ -187,34 +196,67 @@ module _ (place behind : Place) where
   closes = refl
 
   -- two strings of the same length are compared, and others aren't
-  pub equally_long : result_type strings op.Less (typed_whole first 2 None) (typed_whole second 2 None) ≡ Some boolean
+  pub equally_long : result_type strings op.Less (typed_text first 2 None) (typed_text second 2 None) ≡ Some boolean
   equally_long = refl
 
-  pub longer : result_type strings op.Less (typed_whole first 2 None) (typed_whole third 3 None) ≡ None
+  pub longer : result_type strings op.Less (typed_text first 2 None) (typed_text third 3 None) ≡ None
   longer = refl
 
   -- no string is compared with a char, or added
-  pub string_and_char : result_type strings op.Equal (typed_whole first 2 None) (of char) ≡ None
+  pub string_and_char : result_type strings op.Equal (typed_text first 2 None) (of char) ≡ None
   string_and_char = refl
 
-  pub sum_of_strings : result_type strings op.Plus (typed_whole first 2 None) (typed_whole second 2 None) ≡ None
+  pub sum_of_strings : result_type strings op.Plus (typed_text first 2 None) (typed_text second 2 None) ≡ None
   sum_of_strings = refl
 
-  -- the successor of an enumerated type is below its last value, and its host type's decides
-  pub successor : applied own_types function.Succ (monadic.Succ 7 (pos 2147483647)) place (of colour) ≡ Ok (monadic.Succ 7 (pos 2), colour)
+  -- a string is copied to a target that is as long
+  pub copied_string : copying strings first (typed_text second 2 None) ≡ Some (record { source = None; cells = 2 })
+  copied_string = refl
+
+  -- what a required function, by its name, does to an argument, and the type of its result; its site is the first
+  abbrev called : List Form → List ℕ → Typed → Checked (Monadic × TypeId)
+  called types name argument =
+      and_then (told place (found (required_region ∷ []) name)) λ d.
+      and_then (as_function place d) λ f.
+      and_then (begins_as f.does place (begins place)) λ operation.
+      applied types f operation.answer place argument
+
+  abbrev tested : ℤ → ℤ → Shift → Monadic
+  tested first last does = monadic.Tested (record { site = 0; range = record { first = first; last = last } }) does
+
+  -- the successor of an enumerated type is that of a value below its last, and its host type's decides
+  pub successor : called own_types (codes "succ") (of colour) ≡ Ok (tested (pos 0) (pos 1) shift.Next, colour)
+  unfolding required_region begins_as site
   successor = refl
 
   -- the predecessor of an integer
-  pub predecessor : applied own_types function.Pred (monadic.Pred 7 (neg_ℤ (pos 2147483647))) place (of integer)
-      ≡ Ok (monadic.Pred 7 (neg_ℤ (pos 2147483647)), integer)
+  pub predecessor : called own_types (codes "pred") (of integer)
+      ≡ Ok (tested (neg_ℤ (pos 2147483646)) (pos 2147483647) shift.Previous, integer)
+  unfolding required_region begins_as site
   predecessor = refl
 
-  -- the number of a char; no char of a char
-  pub number_of_char : applied required_forms function.Ord monadic.Ord place (of char) ≡ Ok (monadic.Ord, integer)
+  -- a value that stands alone has none beside it
+  pub no_successor : called alone (codes "succ") (of colour) ≡ Ok (tested (pos 1) (pos 0) shift.Next, colour)
+  unfolding required_region begins_as site
+  no_successor = refl
+
+  -- the number of a char; the char of a number, and no char of a char
+  pub number_of_char : called required_forms (codes "ord") (of char) ≡ Ok (monadic.Plain calculation.Ordinal, integer)
+  unfolding required_region begins_as calculation_of site
   number_of_char = refl
 
-  pub char_of_char : applied required_forms function.Chr (monadic.Chr 7) place (of char) ≡ Err (fault.Mismatch place)
+  pub char_of_number : called required_forms (codes "chr") (of integer) ≡ Ok (tested (pos 0) (pos 127) shift.Same, char)
+  unfolding required_region begins_as site
+  char_of_number = refl
+
+  pub char_of_char : called required_forms (codes "chr") (of char) ≡ Err (fault.Mismatch place)
+  unfolding required_region begins_as site
   char_of_char = refl
+
+  -- a square has a site for its overflow
+  pub square : called required_forms (codes "sqr") (of integer) ≡ Ok (monadic.Plain (calculation.Square 0), integer)
+  unfolding required_region begins_as calculation_of site
+  square = refl
 
   -- a signed constant begins at its sign
   pub begins_at_sign : constant_place (record {
@@ -237,11 +279,11 @@ abbrev entry : TypeId
 entry = record { index = 5 }
 
 -- a value of two cells is copied to a target of its type
-pub copied_pair : copying pairs pair (typed_whole pair 2 None) ≡ Some 2
+pub copied_pair : copying pairs pair (typed_variable pair 2 None) ≡ Some (record { source = Some pair; cells = 2 })
 copied_pair = refl
 
 -- no other value of two cells, and no ordinal
-pub no_copy_of_another : copying pairs entry (typed_whole pair 2 None) ≡ None
+pub no_copy_of_another : copying pairs entry (typed_variable pair 2 None) ≡ None
 no_copy_of_another = refl
 
 pub no_copy_of_ordinal : copying pairs pair (of integer) ≡ None

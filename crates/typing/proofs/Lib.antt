@@ -1,4 +1,5 @@
 mod Examples
+pub mod Copying
 pub mod DenoterRows
 mod NamedFields
 pub mod Rows

@@ -1,5 +1,5 @@
 -- Each constant, each expression and each statement leaves the regions round it as they were.
-use Rattle.std.proofs.Common.{ℕ, ◌+◌, ◌&&◌, ◌||◌, ℤ, pos, neg_ℤ, Bool, true, false, if◌then◌else◌, List, [], ◌∷◌, ◌++◌, map, Option, Some}
+use Rattle.std.proofs.Common.{ℕ, ◌+◌, ◌&&◌, ◌||◌, ℤ, pos, Bool, true, false, if◌then◌else◌, List, [], ◌∷◌, ◌++◌, map, Option, Some}
 use Rattle.std.proofs.Common.{None, Vec, Ok, length, nat_le, nat_eq, sym, subst}
 use Rattle.std.specs.Prelude.{is_none}
 use Rattle.std.specs.declared.alloc.Global.{Global}
@@ -31,14 +31,17 @@ use Rattle.types.specs.declared.form.ArrayElement.{ArrayElement}
 use Rattle.types.specs.Types.{integer, char, boolean, is_ordinal, is_compatible, cells_of, element_of}
 use Rattle.scopes.specs.declared.denotation.Denotation.{Denotation}
 use Rattle.scopes.specs.declared.denotation.Denotation.TheVariants as denotes
-use Rattle.scopes.specs.declared.denotation.RequiredFunction.{RequiredFunction}
-use Rattle.scopes.specs.declared.denotation.RequiredFunction.TheVariants as function
+use Rattle.scopes.specs.declared.denotation.FunctionOperation.{FunctionOperation}
+use Rattle.scopes.specs.declared.denotation.FunctionOperation.TheVariants.{Calculates, Tests}
+use Rattle.scopes.specs.declared.denotation.FunctionValue.{FunctionValue}
+use Rattle.scopes.specs.declared.denotation.FunctionValue.TheVariants as function
 use Rattle.scopes.specs.declared.denotation.RequiredProcedure.{RequiredProcedure}
 use Rattle.typed_tree.specs.declared.fault.TypeFault.TheVariants as fault
 use Rattle.typed_tree.specs.declared.site.SiteKind.{SiteKind}
 use Rattle.typed_tree.specs.declared.site.SiteKind.TheVariants as kind
 use Rattle.typed_tree.specs.declared.tree.Dyadic.{Dyadic}
 use Rattle.typed_tree.specs.declared.tree.Dyadic.TheVariants as dyadic
+use Rattle.typed_tree.specs.declared.tree.Calculation.TheVariants as calculation
 use Rattle.typed_tree.specs.declared.tree.Monadic.TheVariants as monadic
 use Rattle.typed_tree.specs.declared.tree.Relation.TheVariants as relation
 use Rattle.typed_tree.specs.declared.tree.Selector.{Selector as TreeSelector}
@@ -52,6 +55,8 @@ use Rattle.typing.specs.Passing.{Passing, pure, given, each, ◌>>=◌, ◌>>◌
 use Rattle.typing.specs.Steps.{enter_as, fits, keep_text, or_mismatch, value_of}
 use Rattle.typing.specs.Strings.{string_characters, string_type, string_constant}
 use Rattle.typing.specs.Constants as Constants
+use Rattle.typing.specs.declared.functions.BegunFunction.TheVariants as begun
+use Rattle.typing.specs.Functions as Functions
 use Rattle.typing.specs.Expressions as Expressions
 use Rattle.typing.specs.Expressions.{Written, WrittenActual, WrittenLink, expression, written_actual, written_link}
 use Rattle.typing.specs.Statements as Statements
@@ -145,11 +150,11 @@ number_keeps value place lead =
     pure_keeps t
 
 long_keeps : (place : Place) (id : Option ℕ) (cs : List ℕ)
-    → Keeps (string_type place (length cs) >>= (λ type_id. enter_as (λ n. Look.Text n cs) >> pure (Expressions.typed_whole type_id (length cs) id)))
+    → Keeps (string_type place (length cs) >>= (λ type_id. enter_as (λ n. Look.Text n cs) >> pure (Expressions.typed_text type_id (length cs) id)))
 long_keeps place id cs =
     keeps_then (string_type_keeps place (length cs)) λ type_id.
     keeps_then (enter_as_keeps _) λ _.
-    pure_keeps (Expressions.typed_whole type_id (length cs) id)
+    pure_keeps (Expressions.typed_text type_id (length cs) id)
 
 spelled_keeps : (place : Place) (id : Option ℕ) (cs : List ℕ) → Keeps (Expressions.spelled place id cs)
 unfolding Expressions.spelled
@@ -195,7 +200,7 @@ value_keeps true root selectors type_id defined lead = keeps_then (mark_keeps (L
     (λ _. keeps_then (host_type_keeps type_id) (λ host. pure_keeps (Expressions.typed host lead)))
 value_keeps false root selectors type_id defined lead = keeps_then (by_types_keeps (λ types. Ok (cells_of types type_id)))
     (λ cells. keeps_then (mark_keeps (Look.WholeValue root selectors (index_count selectors) type_id cells defined))
-    (λ _. pure_keeps (Expressions.typed_whole type_id cells lead)))
+    (λ _. pure_keeps (Expressions.typed_variable type_id cells lead)))
 
 accessed_keeps : (root : ℕ) (type_id : TypeId) (selectors : List Selector) (ws : List Written) (place : Place) (lead : Option SiteKind) → AllKeep ws
     → Keeps (Expressions.accessed root type_id selectors ws place lead)
@@ -241,7 +246,7 @@ passed_value_keeps type_id w callee position law = keeps_then (tests_ordinal_kee
         (λ id. keeps_then (keeps_test (λ types t. or_mismatch w.first (Expressions.fitting types type_id t)) (law.typing None))
         (λ range. mark_keeps (Look.ForValue (record { site = id; range = range }) callee position)))
     by false = keeps_then (keeps_test (λ types t. or_mismatch w.first (Expressions.copying types type_id t)) (law.typing None))
-        (λ cells. mark_keeps (Look.ForWhole type_id cells callee position))
+        (λ copy. mark_keeps (Look.ForWhole type_id copy.source copy.cells callee position))
 
 passed_to_keeps : (formal : Option Variable) (w : Written) (callee position : ℕ) → WrittenKeeps w → Keeps (Expressions.passed_to formal w callee position)
 passed_to_keeps None w callee position law = fail_keeps (fault.WrongParameters w.first)
@@ -301,7 +306,7 @@ denoted_keeps (denotes.Text number type_id) place lead =
     keeps_then (behind_keeps lead place) λ id.
     keeps_then (text_at_keeps number) λ cs.
     keeps_then (enter_as_keeps _) λ _.
-    pure_keeps (Expressions.typed_whole type_id (length cs) id)
+    pure_keeps (Expressions.typed_text type_id (length cs) id)
 denoted_keeps (denotes.Variable root type_id) place lead = accessed_keeps root type_id [] [] place lead tt
 denoted_keeps (denotes.Procedure procedure) place lead = fail_keeps (fault.WrongParameters place)
 denoted_keeps (denotes.Function function) place lead = fail_keeps (fault.WrongParameters place)
@@ -326,7 +331,7 @@ negation_keeps place w lead law =
     keeps_then (behind_keeps lead place) λ id.
     keeps_then (enter_as_keeps _) λ _.
     keeps_then (keeps_test (λ types t. fits (Expressions.is_of boolean t) place t) (law.typing None)) λ _.
-    keeps_then (mark_keeps (Look.Applied monadic.Not)) λ _.
+    keeps_then (mark_keeps (Look.Applied (monadic.Plain calculation.Complement))) λ _.
     pure_keeps (Expressions.typed boolean id)
 
 signed_keeps : (s : Sign) (place : Place) (w : Written) (lead : Option SiteKind) → WrittenKeeps w → Keeps (Expressions.signed s place w lead)
@@ -389,15 +394,17 @@ chain_keeps w ls lead law laws =
     keeps_then (mark_keeps Look.Ends) λ _.
     pure_keeps t
 
-function_operation_keeps : (f : RequiredFunction) (place : Place) → Keeps (Expressions.function_operation f place)
-unfolding Expressions.function_operation
-function_operation_keeps function.Abs place = pure_keeps monadic.Abs
-function_operation_keeps function.Sqr place = keeps_then (site_keeps kind.Overflow place) (λ id. pure_keeps (monadic.Sqr id))
-function_operation_keeps function.Odd place = pure_keeps monadic.Odd
-function_operation_keeps function.Ord place = pure_keeps monadic.Ord
-function_operation_keeps function.Chr place = keeps_then (site_keeps kind.Chr place) (λ id. pure_keeps (monadic.Chr id))
-function_operation_keeps function.Succ place = keeps_then (site_keeps kind.Succ place) (λ id. pure_keeps (monadic.Succ id (pos 2147483647)))
-function_operation_keeps function.Pred place = keeps_then (site_keeps kind.Pred place) (λ id. pure_keeps (monadic.Pred id (neg_ℤ (pos 2147483647))))
+calculation_keeps : (calculated : FunctionValue) (place : Place) → Keeps (Functions.calculation_of calculated place)
+unfolding Functions.calculation_of
+calculation_keeps function.Same place = pure_keeps calculation.Ordinal
+calculation_keeps function.Absolute place = pure_keeps calculation.Absolute
+calculation_keeps function.Square place = keeps_then (site_keeps kind.Overflow place) (λ id. pure_keeps (calculation.Square id))
+calculation_keeps function.Parity place = pure_keeps calculation.Parity
+
+begins_as_keeps : (operation : FunctionOperation) (place : Place) → Keeps (Functions.begins_as operation place)
+unfolding Functions.begins_as
+begins_as_keeps (Calculates calculated) place = keeps_then (calculation_keeps calculated place) (λ does. pure_keeps (begun.Calculates does))
+begins_as_keeps (Tests tested) place = keeps_then (site_keeps (Functions.test_kind tested) place) (λ id. pure_keeps (begun.Tests id tested))
 
 -- the one actual of a required function, before its value is typed
 only_keeps : {B : Type 0} (place : Place) (actuals : List WrittenActual) (rest : Written → Passing B) → ActualsKeep actuals
@@ -418,11 +425,11 @@ required_call_keeps : (d : Denotation) (name : Name) (actuals : List WrittenActu
 unfolding Expressions.required_call
 required_call_keeps d name actuals lead laws =
     keeps_then (given_keeps (Expressions.as_function name.place d)) λ f.
-    keeps_then (function_operation_keeps f name.place) λ operation.
+    keeps_then (begins_as_keeps f.does name.place) λ operation.
     keeps_then (behind_keeps lead name.place) λ id.
     keeps_then (enter_as_keeps _) λ _.
     only_keeps name.place actuals _ laws λ w law.
-    keeps_then (keeps_test (λ types t. Expressions.applied types f operation w.first t) (law.typing None)) λ does.
+    keeps_then (keeps_test (λ types t. Functions.applied types f operation w.first t) (law.typing None)) λ does.
     keeps_then (mark_keeps (Look.Applied does.0)) λ _.
     pure_keeps (Expressions.typed does.1 id)
 
@@ -587,26 +594,26 @@ target_keeps name selectors ws laws =
     keeps_then (selected_keeps [] variable.1 selectors ws laws) λ component.
     keeps_then (tests_ordinal_keeps component.1) λ ordinal.
     keeps_then (mark_keeps (Statements.target_mark ordinal variable.0 component.0 component.1)) λ _.
-    pure_keeps component.1
+    pure_keeps (record { root = variable.0; selectors = component.0; type_id = component.1 })
 
-becomes_keeps : (ordinal : Bool) (type_id : TypeId) (place : Place) (w : Written) → WrittenKeeps w
-    → Keeps ((if ordinal then Statements.assigned else Statements.copied) type_id place w)
+becomes_keeps : (ordinal : Bool) (to : Statements.Accessed) (place : Place) (w : Written) → WrittenKeeps w
+    → Keeps (if ordinal then Statements.assigned to place w else Statements.copied to.type_id place w)
 unfolding Statements.assigned Statements.copied
-becomes_keeps true type_id place w law = keeps_then (site_keeps kind.Subrange place)
-    (λ id. keeps_then (keeps_test (λ types t. or_mismatch place (Expressions.fitting types type_id t)) (law.typing None))
-    (λ range. mark_keeps (Look.Fits (record { site = id; range = range }))))
-becomes_keeps false type_id place w law = keeps_then (pass_keeps place)
-    (λ _. keeps_then (keeps_test (λ types t. or_mismatch place (Expressions.copying types type_id t)) (law.typing None))
-    (λ cells. mark_keeps (Look.Copied type_id cells)))
+becomes_keeps true to place w law = keeps_then (site_keeps kind.Subrange place)
+    (λ id. keeps_then (keeps_test (λ types t. or_mismatch place (Expressions.fitting types to.type_id t)) (law.typing None))
+    (λ range. mark_keeps (Look.Fits to.root to.selectors (record { site = id; range = range }))))
+becomes_keeps false to place w law = keeps_then (pass_keeps place)
+    (λ _. keeps_then (keeps_test (λ types t. or_mismatch place (Expressions.copying types to.type_id t)) (law.typing None))
+    (λ copy. mark_keeps (Look.Copied to.type_id copy.source copy.cells)))
 
 assignment_keeps : (name : Name) (selectors : List Selector) (ws : List Written) (place : Place) (w : Written) → AllKeep ws → WrittenKeeps w
     → Keeps (Statements.assignment name selectors ws place w)
 unfolding Statements.assignment
 assignment_keeps name selectors ws place w laws law =
     keeps_then (enter_as_keeps _) λ _.
-    keeps_then (target_keeps name selectors ws laws) λ type_id.
-    keeps_then (tests_ordinal_keeps type_id) λ ordinal.
-    becomes_keeps ordinal type_id place w law
+    keeps_then (target_keeps name selectors ws laws) λ to.
+    keeps_then (tests_ordinal_keeps to.type_id) λ ordinal.
+    becomes_keeps ordinal to place w law
 
 names_file_keeps : (form : layer.Expr-F Expr Actual Link) → Keeps (Statements.names_file form)
 names_file_keeps (layer.Name name) = keeps_then (find_keeps name) (λ d. pure_keeps (Statements.is_output d))
@@ -720,11 +727,11 @@ repeat_keeps place statements w row law =
     keeps_then (condition_keeps w law) λ _.
     mark_keeps Look.Ends
 
-bound_keeps : (type_id : TypeId) (w : Written) → WrittenKeeps w → Keeps (Statements.bound type_id w)
+bound_keeps : (control : ℕ) (type_id : TypeId) (w : Written) → WrittenKeeps w → Keeps (Statements.bound control type_id w)
 unfolding Statements.bound
-bound_keeps type_id w law = keeps_then (site_keeps kind.Subrange w.first)
+bound_keeps control type_id w law = keeps_then (site_keeps kind.Subrange w.first)
     (λ id. keeps_then (keeps_test (λ types t. or_mismatch w.first (Expressions.fitting types type_id t)) (law.typing None))
-    (λ range. mark_keeps (Look.Fits (record { site = id; range = range }))))
+    (λ range. mark_keeps (Look.Fits control [] (record { site = id; range = range }))))
 
 for_head_keeps : (place : Place) (variable : Name) (first : Written) (direction : SyntaxDirection) (last : Written) → WrittenKeeps first → WrittenKeeps last
     → Keeps (Statements.for_head place variable first direction last)
@@ -737,8 +744,8 @@ for_head_keeps place variable first direction last one two =
     keeps_then (may_change_keeps variable.place control.0) λ _.
     keeps_then (may_control_keeps variable.place control.0) λ _.
     keeps_then (enter_loop_keeps _) λ _.
-    keeps_then (bound_keeps control.1 first one) λ _.
-    keeps_then (bound_keeps control.1 last two) λ _.
+    keeps_then (bound_keeps control.0 control.1 first one) λ _.
+    keeps_then (bound_keeps control.0 control.1 last two) λ _.
     pure_keeps control.0
 
 for_keeps : (place : Place) (variable : Name) (first : Written) (direction : SyntaxDirection) (last : Written) (body : Passing (Unit {0}))

@@ -3,7 +3,7 @@
 -- kind in, as the leading kind: that site stands behind the token's own, and before all others. It says nothing of what
 -- a program does.
 use Rattle.std.specs.Prelude.{ℕ, ◌+◌, ◌&&◌, ◌||◌, Bool, true, false, not, List, [], ◌∷◌, ◌++◌, Option, Some, None}
-use Rattle.std.specs.Prelude.{is_none, Ok, Err, pos, neg_ℤ, if◌then◌else◌, nat_eq, nat_le, length, option_map}
+use Rattle.std.specs.Prelude.{is_none, Ok, Err, pos, if◌then◌else◌, nat_eq, nat_le, length, option_map}
 use Rattle.std.specs.Prelude.{slice_get}
 use Rattle.place.specs.declared.Place.{Place}
 use Rattle.syntax_tree.specs.declared.Name.{Name}
@@ -32,12 +32,12 @@ use Rattle.types.specs.Types.{cells_of, element_of, field_of, form_at, range_of}
 use Rattle.scopes.specs.declared.denotation.Denotation.{Denotation}
 use Rattle.scopes.specs.declared.denotation.Denotation.TheVariants as denotes
 use Rattle.scopes.specs.declared.denotation.RequiredFunction.{RequiredFunction}
-use Rattle.scopes.specs.declared.denotation.RequiredFunction.TheVariants as function
 use Rattle.typed_tree.specs.declared.fault.TypeFault.TheVariants as fault
 use Rattle.typed_tree.specs.declared.site.SiteKind.{SiteKind}
 use Rattle.typed_tree.specs.declared.site.SiteKind.TheVariants as kind
 use Rattle.typed_tree.specs.declared.tree.Monadic.{Monadic}
 use Rattle.typed_tree.specs.declared.tree.Monadic.TheVariants as monadic
+use Rattle.typed_tree.specs.declared.tree.Calculation.TheVariants as calculation
 use Rattle.typed_tree.specs.declared.tree.Dyadic.{Dyadic}
 use Rattle.typed_tree.specs.declared.tree.Dyadic.TheVariants as dyadic
 use Rattle.typed_tree.specs.declared.tree.Relation.TheVariants as relation
@@ -53,15 +53,21 @@ use Rattle.typing.specs.Passing.{Checked, Passing, pure, fail, given, by_types, 
 use Rattle.typing.specs.Steps.{fits, or_mismatch, pass, enter_as, site, find, heading_at, host_type, may_change}
 use Rattle.typing.specs.Steps.{text_at, variable_at}
 use Rattle.typing.specs.Names.{folded}
+use Rattle.typing.specs.Functions.{begins_as, applied}
 use Rattle.typing.specs.Strings.{string_characters, string_type}
 
 -- an ordinal of a type, and the id of its leading site
 abbrev pub typed : TypeId → Option ℕ → Typed
-typed type_id site = record { type_id = type_id; length = None; site = site }
+typed type_id site = record { type_id = type_id; length = None; source = None; site = site }
 
--- the same of a structured value of so many components, as a string of so many characters is
-abbrev pub typed_whole : TypeId → ℕ → Option ℕ → Typed
-typed_whole type_id length site = record { type_id = type_id; length = Some length; site = site }
+-- the same of a string of its own, of so many characters
+abbrev pub typed_text : TypeId → ℕ → Option ℕ → Typed
+typed_text type_id length site = record { type_id = type_id; length = Some length; source = None; site = site }
+
+-- the same of the value of a structured variable, of so many cells
+abbrev pub typed_variable : TypeId → ℕ → Option ℕ → Typed
+typed_variable type_id cells site =
+    record { type_id = type_id; length = Some cells; source = Some type_id; site = site }
 
 -- it is an ordinal of this type
 abbrev pub is_of : TypeId → Typed → Bool
@@ -105,7 +111,7 @@ spelled place id (c ∷ []) = do
 spelled place id characters = do
   type_id ← string_type place (length characters)
   enter_as (λ n. Text n characters)
-  pure (typed_whole type_id (length characters) id)
+  pure (typed_text type_id (length characters) id)
 
 -- a string (6.1.7)
 unfoldable pub string : List ℕ → Place → Option SiteKind → Passing Typed
@@ -179,7 +185,7 @@ unfoldable pub whole_value : ℕ → List TreeSelector → TypeId → ℕ → Op
 whole_value root selectors type_id defined lead = do
   cells ← by_types (λ types. Ok (cells_of types type_id))
   mark (WholeValue root selectors (index_count selectors) type_id cells defined)
-  pure (typed_whole type_id cells lead)
+  pure (typed_variable type_id cells lead)
 
 -- a variable of a root and a type, or a component of it, as an expression (6.5.1)
 unfoldable pub accessed : ℕ → TypeId → List Selector → List Written → Place → Option SiteKind → Passing Typed
@@ -262,14 +268,22 @@ abbrev pub fitting : List Form → TypeId → Typed → Option OrdinalRange
 fitting types target value =
     if is_none value.length && is_assignable types target value.type_id then range_of types target else None
 
--- how many cells a structured value has, if it may be assigned to a target of a type, which has as many (6.4.6)
-abbrev pub copied_cells : List Form → TypeId → Typed → Option ℕ → Option ℕ
-copied_cells types target value None = None
-copied_cells types target value (Some cells) =
-    if is_assignable types target value.type_id && nat_eq (cells_of types target) cells then Some cells else None
+-- a structured value that is copied: the type of the variable whose value it is, which a string has none of, and its
+-- cells
+pub record Copy : Type 0 where
+  pub source : Option TypeId
+  pub cells : ℕ
 
-abbrev pub copying : List Form → TypeId → Typed → Option ℕ
-copying types target value = copied_cells types target value value.length
+-- it may be assigned to a target of a type, which has as many cells (6.4.6)
+abbrev pub copy_of : List Form → TypeId → Typed → Option ℕ → Option Copy
+copy_of types target value None = None
+copy_of types target value (Some cells) =
+    if is_assignable types target value.type_id && nat_eq (cells_of types target) cells
+    then Some (record { source = value.source; cells = cells })
+    else None
+
+abbrev pub copying : List Form → TypeId → Typed → Option Copy
+copying types target value = copy_of types target value value.length
 
 -- a value for a value parameter of an ordinal type; its site stands at its first token, before those of its own
 unfoldable pub passed_ordinal : TypeId → Written → ℕ → ℕ → Passing (Unit {0})
@@ -281,8 +295,8 @@ passed_ordinal type_id w callee position = do
 -- the same of a structured type
 unfoldable pub passed_whole : TypeId → Written → ℕ → ℕ → Passing (Unit {0})
 passed_whole type_id w callee position = do
-  cells ← w.typing None >>? (λ types t. or_mismatch w.first (copying types type_id t))
-  mark (ForWhole type_id cells callee position)
+  copy ← w.typing None >>? (λ types t. or_mismatch w.first (copying types type_id t))
+  mark (ForWhole type_id copy.source copy.cells callee position)
 
 unfoldable pub passed_value : TypeId → Written → ℕ → ℕ → Passing (Unit {0})
 passed_value type_id w callee position = do
@@ -355,7 +369,7 @@ denoted (denotes.Text number type_id) place lead = do
   id ← behind lead place
   characters ← text_at number
   enter_as (λ n. Text n characters)
-  pure (typed_whole type_id (length characters) id)
+  pure (typed_text type_id (length characters) id)
 denoted (denotes.Variable root type_id) place lead = accessed root type_id [] [] place lead
 denoted (denotes.Procedure procedure) place lead = fail (fault.WrongParameters place)
 denoted (denotes.Function function) place lead = fail (fault.WrongParameters place)
@@ -380,12 +394,12 @@ negation place operand lead = do
   id ← behind lead place
   enter_as Operation
   operand.typing None >>? (λ types t. fits (is_of boolean t) place t)
-  mark (Applied monadic.Not)
+  mark (Applied (monadic.Plain calculation.Complement))
   pure (typed boolean id)
 
 abbrev pub sign_operation : Sign → Monadic
-sign_operation sign.Plus = monadic.Plus
-sign_operation sign.Minus = monadic.Minus
+sign_operation sign.Plus = monadic.Plain calculation.Same
+sign_operation sign.Minus = monadic.Plain calculation.Negative
 
 -- a sign and the term that it covers
 unfoldable pub signed : Sign → Place → Written → Option SiteKind → Passing Typed
@@ -491,50 +505,6 @@ as_function place (denotes.Variable root type_id) = Err (fault.Mismatch place)
 as_function place (denotes.TypeName type_id) = Err (fault.Mismatch place)
 as_function place denotes.Output = Err (fault.Mismatch place)
 
--- whether a function takes a value of a type: an integer, or any ordinal (6.6.6.2, 6.6.6.4, 6.6.6.5)
-abbrev pub takes : List Form → RequiredFunction → TypeId → Bool
-takes types function.Abs argument = is_same argument integer
-takes types function.Sqr argument = is_same argument integer
-takes types function.Odd argument = is_same argument integer
-takes types function.Ord argument = is_ordinal types argument
-takes types function.Chr argument = is_same argument integer
-takes types function.Succ argument = is_ordinal types argument
-takes types function.Pred argument = is_ordinal types argument
-
--- the type of a required function's result, by that of its argument
-abbrev pub function_type : RequiredFunction → TypeId → TypeId
-function_type function.Abs argument = integer
-function_type function.Sqr argument = integer
-function_type function.Odd argument = boolean
-function_type function.Ord argument = integer
-function_type function.Chr argument = char
-function_type function.Succ argument = argument
-function_type function.Pred argument = argument
-
--- the operation of a function on integers; its site stands at the function's name
-unfoldable pub function_operation : RequiredFunction → Place → Passing Monadic
-function_operation function.Abs place = pure monadic.Abs
-function_operation function.Sqr place = site kind.Overflow place >>= (λ id. pure (monadic.Sqr id))
-function_operation function.Odd place = pure monadic.Odd
-function_operation function.Ord place = pure monadic.Ord
-function_operation function.Chr place = site kind.Chr place >>= (λ id. pure (monadic.Chr id))
-function_operation function.Succ place =
-    site kind.Succ place >>= (λ id. pure (monadic.Succ id (pos 2147483647)))
-function_operation function.Pred place =
-    site kind.Pred place >>= (λ id. pure (monadic.Pred id (neg_ℤ (pos 2147483647))))
-
--- the same operation on the values of a range
-abbrev pub on_range : Option OrdinalRange → Monadic → Monadic
-on_range (Some range) (monadic.Succ id last) = monadic.Succ id range.last
-on_range (Some range) (monadic.Pred id first) = monadic.Pred id range.first
-on_range range other = other
-
--- what a function does to its argument, and the type of its result; K1 at the place where it doesn't take the argument
-abbrev pub applied : List Form → RequiredFunction → Monadic → Place → Typed → Checked (Monadic × TypeId)
-applied types function operation place argument =
-    fits (is_none argument.length && takes types function argument.type_id) place
-    (on_range (range_of types argument.type_id) operation, function_type function argument.type_id)
-
 abbrev pub without_width : Place → Written → Option Written → Checked Written
 without_width place value None = Ok value
 without_width place value (Some width) = Err (fault.WrongParameters place)
@@ -549,7 +519,7 @@ only place (actual ∷ another ∷ others) = Err (fault.WrongParameters place)
 unfoldable pub required_call : Denotation → Name → List WrittenActual → Option SiteKind → Passing Typed
 required_call d name actuals lead = do
   f ← given (as_function name.place d)
-  operation ← function_operation f name.place
+  operation ← begins_as f.does name.place
   id ← behind lead name.place
   enter_as Operation
   actual ← given (only name.place actuals)

@@ -4,6 +4,7 @@ pub mod Steps
 pub mod Strings
 pub mod Constants
 pub mod Denoters
+pub mod Functions
 pub mod Expressions
 pub mod Statements
 pub mod Routines

@@ -2,7 +2,7 @@
 -- identifiers stand in a region round the program, and its block defines its parameters, its constants, its types, the
 -- constants of enumerated types, and its variables.
 -- It says nothing of the order in which definitions are passed.
-use Rattle.std.specs.Prelude.{ℕ, pos, ◌+◌, ◌&&◌, ◌++◌, Bool, List, [], ◌∷◌, Some, if◌then◌else◌, nat_le, map}
+use Rattle.std.specs.Prelude.{ℕ, pos, ◌+◌, ◌&&◌, ◌++◌, List, [], ◌∷◌, Some, if◌then◌else◌, nat_le, map}
 use Rattle.std.specs.Prelude.{codes, flat_map}
 use Rattle.syntax_tree.specs.declared.Name.{Name}
 use Rattle.syntax_tree.specs.declared.ConstantDefinition.{ConstantDefinition}
@@ -23,7 +23,14 @@ use Rattle.scopes.specs.declared.denotation.Denotation.{Denotation}
 use Rattle.scopes.specs.declared.denotation.Denotation.TheVariants.{TypeName, Constant}
 use Rattle.scopes.specs.declared.denotation.Denotation.TheVariants as denotes
 use Rattle.scopes.specs.declared.denotation.RequiredProcedure.TheVariants.{Write, Writeln}
-use Rattle.scopes.specs.declared.denotation.RequiredFunction.TheVariants.{Abs, Sqr, Odd, Ord, Chr, Succ, Pred}
+use Rattle.scopes.specs.declared.denotation.FunctionArgument.{FunctionArgument}
+use Rattle.scopes.specs.declared.denotation.FunctionArgument.TheVariants as takes
+use Rattle.scopes.specs.declared.denotation.FunctionType.{FunctionType}
+use Rattle.scopes.specs.declared.denotation.FunctionType.TheVariants as gives
+use Rattle.scopes.specs.declared.denotation.FunctionOperation.{FunctionOperation}
+use Rattle.scopes.specs.declared.denotation.FunctionOperation.TheVariants.{Calculates, Tests}
+use Rattle.scopes.specs.declared.denotation.FunctionValue.TheVariants as value
+use Rattle.scopes.specs.declared.denotation.FunctionTest.TheVariants as test
 
 -- a small letter for a capital one
 abbrev pub small : ℕ → ℕ
@@ -37,17 +44,29 @@ folded name = map small name
 abbrev pub all_folded : List Name → List (List ℕ)
 all_folded names = map (λ name. folded name.text.now) names
 
--- the required identifiers
+-- a required function, by what it takes and gives, and what it does
+abbrev pub function : FunctionArgument → FunctionType → FunctionOperation → Denotation
+function argument result operation = denotes.Function (record { takes = argument; gives = result; does = operation })
+
+-- the required functions (6.6.6)
+abbrev pub required_functions : List (List ℕ × Denotation)
+required_functions =
+    (codes "abs", function takes.Integer gives.Integer (Calculates value.Absolute))
+    ∷ (codes "sqr", function takes.Integer gives.Integer (Calculates value.Square))
+    ∷ (codes "odd", function takes.Integer gives.Boolean (Calculates value.Parity))
+    ∷ (codes "ord", function takes.Ordinal gives.Integer (Calculates value.Same))
+    ∷ (codes "chr", function takes.Integer gives.Char (Tests test.Character))
+    ∷ (codes "succ", function takes.Ordinal gives.OfArgument (Tests test.Next))
+    ∷ (codes "pred", function takes.Ordinal gives.OfArgument (Tests test.Previous)) ∷ []
+
+-- the required identifiers (6.2.2.10)
 abbrev pub required : List (List ℕ × Denotation)
 required =
     (codes "integer", TypeName integer) ∷ (codes "boolean", TypeName boolean) ∷ (codes "char", TypeName char)
     ∷ (codes "maxint", Constant (pos 2147483647) integer)
     ∷ (codes "false", Constant (pos 0) boolean) ∷ (codes "true", Constant (pos 1) boolean)
-    ∷ (codes "abs", denotes.Function Abs) ∷ (codes "sqr", denotes.Function Sqr)
-    ∷ (codes "odd", denotes.Function Odd) ∷ (codes "ord", denotes.Function Ord)
-    ∷ (codes "chr", denotes.Function Chr) ∷ (codes "succ", denotes.Function Succ)
-    ∷ (codes "pred", denotes.Function Pred) ∷ (codes "write", denotes.Procedure Write)
-    ∷ (codes "writeln", denotes.Procedure Writeln) ∷ []
+    ∷ (codes "write", denotes.Procedure Write) ∷ (codes "writeln", denotes.Procedure Writeln)
+    ∷ required_functions
 
 -- their region: all of them are defined
 unfoldable pub required_region : Region

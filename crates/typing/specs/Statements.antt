@@ -88,8 +88,13 @@ target_of None selectors place d = given (as_variable place d)
 target_of (Some routine) [] place d = function_target place routine.0
 target_of (Some routine) (selector ∷ others) place d = given (as_variable place d)
 
--- what is accessed left of `:=`, by its type
-unfoldable pub target : Name → List Selector → List Written → Passing TypeId
+-- what is accessed left of `:=`: the variable's root, the selectors, and the type
+pub record Accessed : Type 0 where
+  pub root : ℕ
+  pub selectors : List TreeSelector
+  pub type_id : TypeId
+
+unfoldable pub target : Name → List Selector → List Written → Passing Accessed
 target name selectors indexes = do
   d ← find name
   variable ← target_of (as_routine d) selectors name.place d
@@ -98,29 +103,29 @@ target name selectors indexes = do
   component ← selected [] variable.1 selectors indexes
   ordinal ← tests_ordinal component.1
   mark (target_mark ordinal variable.0 component.0 component.1)
-  pure component.1
+  pure (record { root = variable.0; selectors = component.0; type_id = component.1 })
 
--- a value that is assigned to an ordinal of a type, and then its test
-unfoldable pub assigned : TypeId → Place → Written → Passing (Unit {0})
-assigned type_id becomes value = do
+-- a value that is assigned to an ordinal, and then its test
+unfoldable pub assigned : Accessed → Place → Written → Passing (Unit {0})
+assigned to becomes value = do
   id ← site kind.Subrange becomes
-  range ← value.typing None >>? (λ types t. or_mismatch becomes (fitting types type_id t))
-  mark (Fits (record { site = id; range = range }))
+  range ← value.typing None >>? (λ types t. or_mismatch becomes (fitting types to.type_id t))
+  mark (Fits to.root to.selectors (record { site = id; range = range }))
 
 -- a value that is copied to a structured target of a type
 unfoldable pub copied : TypeId → Place → Written → Passing (Unit {0})
 copied type_id becomes value = do
   pass becomes
-  cells ← value.typing None >>? (λ types t. or_mismatch becomes (copying types type_id t))
-  mark (Copied type_id cells)
+  copy ← value.typing None >>? (λ types t. or_mismatch becomes (copying types type_id t))
+  mark (Copied type_id copy.source copy.cells)
 
 -- the variable is accessed first, and then comes the value (6.8.2.2)
 unfoldable pub assignment : Name → List Selector → List Written → Place → Written → Passing (Unit {0})
 assignment name selectors indexes becomes value = do
   enter_as (λ n. Assign n becomes)
-  type_id ← target name selectors indexes
-  ordinal ← tests_ordinal type_id
-  (if ordinal then assigned else copied) type_id becomes value
+  to ← target name selectors indexes
+  ordinal ← tests_ordinal to.type_id
+  if ordinal then assigned to becomes value else copied to.type_id becomes value
 
 -- the procedure that a name denotes
 abbrev pub as_procedure : Place → Denotation → Checked RequiredProcedure
@@ -294,12 +299,13 @@ abbrev pub way : SyntaxDirection → Direction
 way written.To = direction.To
 way written.DownTo = direction.DownTo
 
--- a bound of a for: the site of its test stands at its first token, before the sites of that token's own
-unfoldable pub bound : TypeId → Written → Passing (Unit {0})
-bound type_id w = do
+-- a bound of a for, by the root and the type of its control variable: the site of its test stands at its first token,
+-- before the sites of that token's own
+unfoldable pub bound : ℕ → TypeId → Written → Passing (Unit {0})
+bound control type_id w = do
   id ← site kind.Subrange w.first
   range ← w.typing None >>? (λ types t. or_mismatch w.first (fitting types type_id t))
-  mark (Fits (record { site = id; range = range }))
+  mark (Fits control [] (record { site = id; range = range }))
 
 -- a for as far as its `do`, by the root of its control variable
 unfoldable pub for_head : Place → Name → Written → SyntaxDirection → Written → Passing ℕ
@@ -311,8 +317,8 @@ for_head place variable first direction last = do
   may_change variable.place control.0
   may_control variable.place control.0
   enter_loop (λ n l. For n l place control.0 (way direction))
-  bound control.1 first
-  bound control.1 last
+  bound control.0 control.1 first
+  bound control.0 control.1 last
   pure control.0
 
 -- the statement of a for changes the control variable nowhere

@@ -22,17 +22,13 @@ use Rattle.typed_tree.specs.declared.site.SiteKind.{SiteKind}
 use Rattle.typed_tree.specs.Look.{Mark}
 use Rattle.typed_tree.specs.declared.tree.VariableKind.{VariableKind}
 use Rattle.typed_tree.specs.declared.tree.Variable.{Variable}
-use Rattle.typed_tree.specs.WellFormed.{is_local_kind, most_blocks, most_variables}
+use Rattle.typed_tree.specs.WellFormed.{is_local_kind, most_blocks, most_entries, most_variables}
 use Rattle.typing.specs.Names.{folded, required_region}
 use Rattle.typing.specs.Passing.{Headed, Enclosing, Passed, Checked, Passing, after, and_then, pure, mark, ◌>>=◌}
 
 -- the most sites of a program
 abbrev pub most_sites : ℕ
 most_sites = 1000000
-
--- the most statements and expressions of a program
-abbrev pub most_entries : ℕ
-most_entries = 4000000
 
 -- the heading of the program's block
 abbrev pub program_heading : Headed

@@ -2,7 +2,10 @@ ghost use Rattle.std.specs.Prelude.{◌≡◌, IfOk, OnOk};
 ghost use Rattle.typing.specs.Names.{folded};
 ghost use Rattle.typing.specs.Routines.{heading_name};
 
-use scopes::{Denotation, RequiredFunction, RequiredProcedure};
+use scopes::{
+    Denotation, FunctionArgument, FunctionOperation, FunctionTest, FunctionType, FunctionValue,
+    RequiredFunction, RequiredProcedure,
+};
 use std::alloc::{AllocError, Global};
 use syntax_tree::{Heading, Name};
 use types::{MAXINT, TypeTable};
@@ -63,16 +66,65 @@ pub const REQUIRED: [(&[u8], Denotation); 15] = [
             type_id: TypeTable::BOOLEAN,
         },
     ),
-    (b"abs", Denotation::Function(RequiredFunction::Abs)),
-    (b"sqr", Denotation::Function(RequiredFunction::Sqr)),
-    (b"odd", Denotation::Function(RequiredFunction::Odd)),
-    (b"ord", Denotation::Function(RequiredFunction::Ord)),
-    (b"chr", Denotation::Function(RequiredFunction::Chr)),
-    (b"succ", Denotation::Function(RequiredFunction::Succ)),
-    (b"pred", Denotation::Function(RequiredFunction::Pred)),
     (b"write", Denotation::Procedure(RequiredProcedure::Write)),
     (
         b"writeln",
         Denotation::Procedure(RequiredProcedure::Writeln),
+    ),
+    (
+        b"abs",
+        Denotation::Function(RequiredFunction {
+            takes: FunctionArgument::Integer,
+            gives: FunctionType::Integer,
+            does: FunctionOperation::Calculates(FunctionValue::Absolute),
+        }),
+    ),
+    (
+        b"sqr",
+        Denotation::Function(RequiredFunction {
+            takes: FunctionArgument::Integer,
+            gives: FunctionType::Integer,
+            does: FunctionOperation::Calculates(FunctionValue::Square),
+        }),
+    ),
+    (
+        b"odd",
+        Denotation::Function(RequiredFunction {
+            takes: FunctionArgument::Integer,
+            gives: FunctionType::Boolean,
+            does: FunctionOperation::Calculates(FunctionValue::Parity),
+        }),
+    ),
+    (
+        b"ord",
+        Denotation::Function(RequiredFunction {
+            takes: FunctionArgument::Ordinal,
+            gives: FunctionType::Integer,
+            does: FunctionOperation::Calculates(FunctionValue::Same),
+        }),
+    ),
+    (
+        b"chr",
+        Denotation::Function(RequiredFunction {
+            takes: FunctionArgument::Integer,
+            gives: FunctionType::Char,
+            does: FunctionOperation::Tests(FunctionTest::Character),
+        }),
+    ),
+    (
+        b"succ",
+        Denotation::Function(RequiredFunction {
+            takes: FunctionArgument::Ordinal,
+            gives: FunctionType::OfArgument,
+            does: FunctionOperation::Tests(FunctionTest::Next),
+        }),
+    ),
+    (
+        b"pred",
+        Denotation::Function(RequiredFunction {
+            takes: FunctionArgument::Ordinal,
+            gives: FunctionType::OfArgument,
+            does: FunctionOperation::Tests(FunctionTest::Previous),
+        }),
     ),
 ];

@@ -1,16 +1,15 @@
-use crate::rules::{applied, copying, fitting, representation, result_type};
+use crate::rules::{fitting, may_copy, representation, result_type};
 use crate::typed::Typed;
 use crate::typer::Typer;
 use place::Place;
-use scopes::RequiredFunction;
 use syntax_tree::Operator;
 use typed_tree::fault::TypeFault;
 use typed_tree::site::SiteKind;
-use typed_tree::tree::{Dyadic, Monadic, Relation, Representation};
-use types::{MAXINT, OrdinalRange, TypeId};
+use typed_tree::tree::{Dyadic, Relation, Representation};
+use types::{OrdinalRange, TypeId};
 
 impl Typer {
-    ghost use Rattle.std.specs.Prelude.{◌≡◌, ◌&&◌, is_none};
+    ghost use Rattle.std.specs.Prelude.{◌≡◌, ◌&&◌, is_none, is_some};
     ghost use Rattle.types.specs.Types.{is_compatible, is_ordinal, is_string};
     ghost use Rattle.typing.specs.Outcomes.{Takes};
     ghost use Rattle.typing.specs.Expressions as spec;
@@ -59,55 +58,11 @@ impl Typer {
         })
     }
 
-    /// The operation of a function on integers; its site stands at the function's name (6.6.6.2, 6.6.6.4, 6.6.6.5).
-    #[tactic(auto, unfolding(crate::specs::Expressions::function_operation))]
-    pub fn function_operation(
-        &mut self,
-        function: RequiredFunction,
-        place: Place,
-    ) -> Result<Monadic, TypeFault>
-        ensures { Takes (spec.function_operation function place self.old) result self.new }
-    {
-        match function {
-            RequiredFunction::Abs => Ok(Monadic::Abs),
-            RequiredFunction::Sqr => Ok(Monadic::Sqr {
-                overflow: self.site(SiteKind::Overflow, place)?,
-            }),
-            RequiredFunction::Odd => Ok(Monadic::Odd),
-            RequiredFunction::Ord => Ok(Monadic::Ord),
-            RequiredFunction::Chr => Ok(Monadic::Chr {
-                no_char: self.site(SiteKind::Chr, place)?,
-            }),
-            RequiredFunction::Succ => Ok(Monadic::Succ {
-                no_successor: self.site(SiteKind::Succ, place)?,
-                last: MAXINT,
-            }),
-            RequiredFunction::Pred => Ok(Monadic::Pred {
-                no_predecessor: self.site(SiteKind::Pred, place)?,
-                first: -MAXINT,
-            }),
-        }
-    }
-
     /// The type of an operator's result, if its operands fit it (6.7.2).
     pub fn result_type(&self, operator: Operator, left: Typed, right: Typed) -> Option<TypeId>
         ensures { result ≡ spec.result_type self.now.types operator left right }
     {
         result_type(&self.types, operator, left, right)
-    }
-
-    /// What a function does to its argument, by its operation on integers, and the type of its result: K1 at the
-    /// place where it doesn't take the argument.
-    pub fn applied(
-        &self,
-        function: RequiredFunction,
-        operation: Monadic,
-        place: Place,
-        argument: Typed,
-    ) -> Result<(Monadic, TypeId), TypeFault>
-        ensures { result ≡ spec.applied self.now.types function operation place argument }
-    {
-        applied(&self.types, function, operation, place, argument)
     }
 
     /// The values of a target's type, if an ordinal value may be assigned to it (6.4.6).
@@ -117,11 +72,11 @@ impl Typer {
         fitting(&self.types, target, value)
     }
 
-    /// How many cells a structured value has, if it may be assigned to a target of a type (6.4.6), which has as many.
-    pub fn copying(&self, target: TypeId, value: Typed) -> Option<usize>
-        ensures { result ≡ spec.copying self.now.types target value }
+    /// Whether a structured value may be assigned to a target of a type (6.4.6), which has as many cells.
+    pub fn may_copy(&self, target: TypeId, value: Typed) -> bool
+        ensures { result ≡ is_some (spec.copying self.now.types target value) }
     {
-        copying(&self.types, target, value)
+        may_copy(&self.types, target, value)
     }
 
     /// Whether a value is an ordinal, of an ordinal type (6.4.2).

@@ -1,8 +1,8 @@
 //! The rules of types, of operators and of calls, which need nothing else of a program.
-ghost use Rattle.std.specs.Prelude.{◌≡◌, nat_eq};
+ghost use Rattle.std.specs.Prelude.{◌≡◌, is_some, nat_eq};
 ghost use Rattle.typing.specs.Steps.{told};
-ghost use Rattle.typing.specs.Expressions.{sign_operation, both_of, compared, result_type, function_type, as_function};
-ghost use Rattle.typing.specs.Expressions.{takes, on_range, applied, as_routine, as_variable, fitting, copying};
+ghost use Rattle.typing.specs.Expressions.{sign_operation, both_of, compared, result_type, as_function};
+ghost use Rattle.typing.specs.Expressions.{as_routine, as_variable, fitting, copying};
 ghost use Rattle.typing.specs.Statements.{as_procedure, ends_line, is_output};
 ghost use Rattle.typing.specs.Statements.{representation_of, way};
 
@@ -11,7 +11,7 @@ use place::Place;
 use scopes::{Denotation, RequiredFunction, RequiredProcedure, ScopeFault};
 use syntax_tree::{Operator, Sign};
 use typed_tree::fault::TypeFault;
-use typed_tree::tree::{Direction, Monadic, Representation};
+use typed_tree::tree::{Calculation, Direction, Monadic, Representation};
 use types::{OrdinalRange, TypeForm, TypeId, TypeTable};
 
 // What the scopes answer, at a place.
@@ -31,10 +31,10 @@ pub(crate) fn placed<T>(answer: Result<T, ScopeFault>, place: Place) -> Result<T
 pub fn sign_operation(sign: Sign) -> Monadic
     ensures { result ≡ sign_operation sign }
 {
-    match sign {
-        Sign::Plus => Monadic::Plus,
-        Sign::Minus => Monadic::Minus,
-    }
+    Monadic::Plain(match sign {
+        Sign::Plus => Calculation::Same,
+        Sign::Minus => Calculation::Negative,
+    })
 }
 
 // A type, if both operands are of it.
@@ -73,68 +73,6 @@ pub fn result_type(
         Operator::And | Operator::Or => both_of(TypeTable::BOOLEAN, left, right),
         _ => compared(types, left, right),
     }
-}
-
-// The type of a required function's result, by that of its argument (6.6.6.2, 6.6.6.4, 6.6.6.5).
-fn function_type(function: RequiredFunction, argument: TypeId) -> TypeId
-    ensures { result ≡ function_type function argument }
-{
-    match function {
-        RequiredFunction::Abs | RequiredFunction::Sqr | RequiredFunction::Ord => TypeTable::INTEGER,
-        RequiredFunction::Odd => TypeTable::BOOLEAN,
-        RequiredFunction::Chr => TypeTable::CHAR,
-        RequiredFunction::Succ | RequiredFunction::Pred => argument,
-    }
-}
-
-// Whether a function takes a value of a type: an integer, or any ordinal.
-fn takes(types: &TypeTable, function: RequiredFunction, argument: TypeId) -> bool
-    ensures { result ≡ takes types.now function argument }
-{
-    match function {
-        RequiredFunction::Abs
-        | RequiredFunction::Sqr
-        | RequiredFunction::Odd
-        | RequiredFunction::Chr => argument.same(TypeTable::INTEGER),
-        RequiredFunction::Ord | RequiredFunction::Succ | RequiredFunction::Pred => {
-            types.is_ordinal(argument)
-        }
-    }
-}
-
-// An operation on the values of a range.
-fn on_range(range: Option<OrdinalRange>, operation: Monadic) -> Monadic
-    ensures { result ≡ on_range range operation }
-{
-    match (range, operation) {
-        (Some(range), Monadic::Succ { no_successor, .. }) => Monadic::Succ {
-            no_successor,
-            last: range.last,
-        },
-        (Some(range), Monadic::Pred { no_predecessor, .. }) => Monadic::Pred {
-            no_predecessor,
-            first: range.first,
-        },
-        _ => operation,
-    }
-}
-
-/// What a function does to its argument, by its operation on integers, and the type of its result: K1 at the place
-/// where it doesn't take the argument.
-pub fn applied(
-    types: &TypeTable,
-    function: RequiredFunction,
-    operation: Monadic,
-    place: Place,
-    argument: Typed,
-) -> Result<(Monadic, TypeId), TypeFault>
-    ensures { result ≡ applied types.now function operation place argument }
-{
-    if argument.length.is_some() || !takes(types, function, argument.type_id) {
-        return Err(TypeFault::Mismatch(place));
-    }
-    let operation = on_range(types.range(argument.type_id), operation);
-    Ok((operation, function_type(function, argument.type_id)))
 }
 
 /// The function that a name at a place denotes: K3 where it is a procedure, K1 where it is no routine.
@@ -210,15 +148,16 @@ pub fn fitting(types: &TypeTable, target: TypeId, value: Typed) -> Option<Ordina
     types.range(target)
 }
 
-/// How many cells a structured value has, if it may be assigned to a target of a type (6.4.6), which has as many.
-pub fn copying(types: &TypeTable, target: TypeId, value: Typed) -> Option<usize>
-    ensures { result ≡ copying types.now target value }
+/// Whether a structured value may be assigned to a target of a type (6.4.6), which has as many cells.
+pub fn may_copy(types: &TypeTable, target: TypeId, value: Typed) -> bool
+    ensures { result ≡ is_some (copying types.now target value) }
 {
-    let cells = value.length?;
-    if !types.assignable(target, value.type_id) || types.cells(target) as usize != cells {
-        return None;
+    match value.length {
+        None => false,
+        Some(cells) => {
+            types.assignable(target, value.type_id) && types.cells(target) as usize == cells
+        }
     }
-    Some(cells)
 }
 
 /// The way of a control variable (6.8.3.9).

@@ -11,6 +11,8 @@ pub struct Typed {
     /// How many components its value has, where that is structured, as a string has so many characters; none where it
     /// is an ordinal.
     pub length: Option<usize>,
+    /// The type of the variable whose value it is, where that is structured; a string of its own has none.
+    pub source: Option<TypeId>,
     /// The id of its leading site.
     pub site: Option<u32>,
 }

@@ -16,25 +16,28 @@ use Rattle.syntax_tree.specs.declared.Selector.TheVariants as select
 use Rattle.syntax_tree.specs.Places.{selector_places, joined_places}
 use Rattle.types.specs.Forms.{Form, Record}
 use Rattle.types.specs.declared.form.ArrayElement.{ArrayElement}
+use Rattle.types.specs.declared.form.OrdinalRange.{OrdinalRange}
 use Rattle.types.specs.declared.form.RecordField.{RecordField}
 use Rattle.types.specs.declared.form.TypeId.{TypeId}
 use Rattle.types.specs.Types.{cells_of, element_of, field_at, field_of, form_at, is_compatible, is_ordinal, is_same, most_cells}
+use Rattle.types.specs.Types.{range_of}
 use Rattle.types.proofs.Elements.{is_array}
 use Rattle.types.proofs.Fields.{is_field, named_at}
 use Rattle.typed_tree.specs.declared.fault.TypeFault.TheVariants as fault
 use Rattle.typed_tree.specs.declared.site.SiteKind.{SiteKind}
 use Rattle.typed_tree.specs.declared.site.SiteKind.TheVariants as kind
+use Rattle.typed_tree.specs.declared.tree.RangeTest.{RangeTest}
 use Rattle.typed_tree.specs.declared.tree.Selector.{Selector as TreeSelector}
 use Rattle.typed_tree.specs.declared.tree.Selector.TheVariants as tree
 use Rattle.typed_tree.specs.declared.tree.Variable.{Variable}
-use Rattle.typed_tree.specs.Accesses.{index_count, element_type, field_type, selected as selects, led as led_by, accessed as leads, is_type}
+use Rattle.typed_tree.specs.Accesses.{are_values_of, index_count, element_type, field_type, selected as selects, led as led_by, accessed as leads, is_type}
 use Rattle.typed_tree.specs.Look.{Access, Value, WholeValue}
 use Rattle.typed_tree.specs.WellFormed.{Outline, encloses, is_one_of, is_round, is_visible, is_well_formed_selector, leads_to, leads_to_whole, leads_to_ordinal}
-use Rattle.typed_tree.specs.WellFormed.{of_one}
+use Rattle.typed_tree.specs.WellFormed.{fits_target, is_range_of, of_one}
 use Rattle.typing.specs.Names.{folded}
 use Rattle.typing.specs.Passing.{Checked}
 use Rattle.typing.specs.Steps.{or_mismatch}
-use Rattle.typing.specs.Expressions.{Written, typed, typed_whole, or_not_declared, field_in, field_named, index, selected, tests_ordinal, ordinal_value}
+use Rattle.typing.specs.Expressions.{Written, typed, typed_variable, or_not_declared, field_in, field_named, index, selected, tests_ordinal, ordinal_value}
 use Rattle.typing.specs.Expressions.{whole_value, accessed}
 use Rattle.typing_laws.proofs.Covers.{Covers, covers_none, covers_skip, covers_both, leads_first, leads_more}
 use Rattle.typing_laws.proofs.Grown.{both_true}
@@ -44,8 +47,9 @@ use Rattle.typing_laws.proofs.Sound.{IsVariable}
 use Rattle.typing_laws.proofs.Strings.{fit_is, there}
 use Rattle.typing_laws.proofs.Steps.{Does, Nothing, joins, quietly, last, checks, sited, mark_does, pass_does, pure_does, by_types_does, fail_does, enter_does}
 use Rattle.typing_laws.proofs.Steps.{host_type_does, site_does, led, IsKnown, behind_does}
-use Rattle.typing_laws.proofs.Tables.{AreLawful, stands_longer, is_ordinal_longer, cells_of_longer, element_of_longer, field_of_longer}
-use Rattle.typing_laws.proofs.Leading.{IsLed, Types, known_later, lt_true, LawfulWritten, covers_test, led_covers, led_behind}
+use Rattle.typing_laws.proofs.Tables.{AreLawful, stands_longer, is_ordinal_longer, cells_of_longer, element_of_longer, field_of_longer, range_of_longer}
+use Rattle.typing_laws.proofs.WholeRanges.{IsWholeRange}
+use Rattle.typing_laws.proofs.Leading.{IsLed, Types, known_later, ordinal_types, lt_true, LawfulWritten, covers_test, led_covers, led_behind}
 
 -- ---- selectors
 
@@ -75,6 +79,12 @@ named_is types id name f is = by (form_at types id) is
     by (Some (Record packed fields)) h = field_is name.place (field_of types id (folded name.text.now)) f h
     by other h = absurd cc
 
+pub same_range : (range : OrdinalRange) → are_values_of range range ≡ true
+same_range range = both_true _ _ (same_value range.first) (same_value range.last)
+  where
+    same_value : (z : ℤ) → int_eq z z ≡ true
+    same_value z = grind (arith, ints)
+
 -- a field is of its own type, and so are elements
 field_selects : (found : Option RecordField) (f : RecordField) → found ≡ Some f → field_type f.offset found ≡ Some f.type_id
 field_selects found f is =
@@ -84,10 +94,7 @@ element_selects : (found : Option ArrayElement) (e : ArrayElement) → found ≡
 element_selects found e is =
     ap (element_type e.range e.cells) is
     ∙ ap (λ b. cond b (Some e.type_id) None)
-    (both_true _ _ (both_true _ _ (same_value e.range.first) (same_value e.range.last)) (eq-eqb e.cells e.cells refl))
-  where
-    same_value : (z : ℤ) → int_eq z z ≡ true
-    same_value z = grind (arith, ints)
+    (both_true _ _ (same_range e.range) (eq-eqb e.cells e.cells refl))
 
 module _ (here : Here) where
   -- selectors lead from a variable to a component of a type, which stands in the table
@@ -244,6 +251,15 @@ module _ (here : Here) where
       leads_formed root selectors id now l (λ other. is_same other id && not (is_ordinal o.types other)) o h
       (both_true _ _ (eq-eqb id.index id.index refl) (ap not (is_ordinal_longer h.types id l.stands ∙ is)))
 
+  -- what is accessed is tested for the range of its type
+  pub fits_formed : (root : ℕ) (selectors : List TreeSelector) (id : TypeId) (fits : RangeTest) (now : Reached) (o : Outline) → LeadsTo root selectors id now
+      → IsFurther now (whole_of o) → fits.site < now.sites → range_of now.types id ≡ Some fits.range → IsWholeRange fits.range
+      → fits_target o here.block fits root selectors ≡ true
+  fits_formed root selectors id fits now o l h known range whole =
+      both_true _ _ (both_true _ _ (lt_true fits.site o.sites (omega (arith, known, h.sites))) whole)
+      (ap (is_type (λ z. is_range_of fits.range (range_of o.types z))) (l.leads_there (whole_of o) h)
+      ∙ ap (is_range_of fits.range) (range_of_longer h.types id l.stands ∙ range) ∙ same_range fits.range)
+
   -- ---- values of accesses
 
   ordinal_value_does : {least : Reached} (root : ℕ) (selectors : List TreeSelector) (id : TypeId) (defined : ℕ) (lead : Option ℕ)
@@ -254,7 +270,7 @@ module _ (here : Here) where
       quietly (mark_does (Value root selectors (index_count selectors) defined) refl refl refl refl refl
       (λ o h. both_true _ _ (ordinal_formed root selectors id least o l ordinal h) (lt_true defined o.sites (omega (arith, test, h.sites))))) λ _ _ one _.
       quietly (host_type_does id) λ host _ two _.
-      pure_does (typed host lead) (λ n h. known_later lead least n (further_still one (further_still two h)) known)
+      pure_does (typed host lead) (λ n h. ordinal_types host lead least n (further_still one (further_still two h)) known)
 
   whole_value_does : {least : Reached} (root : ℕ) (selectors : List TreeSelector) (id : TypeId) (defined : ℕ) (lead : Option ℕ)
       → LeadsTo root selectors id least → is_ordinal least.types id ≡ false → defined < least.sites → IsKnown lead least
@@ -268,7 +284,11 @@ module _ (here : Here) where
       both_true _ _ (whole_formed root selectors id least o l structured (further_still one h))
       (both_true _ _ (value_formed now (whole_of o) cells (leads_later root selectors id least now one l).stands as_many is.0 h)
       (lt_true defined o.sites (omega (arith, test, one.sites, h.sites)))))) λ _ _ two _.
-      pure_does (typed_whole id cells lead) (λ n h. known_later lead least n (further_still one (further_still two h)) known)
+      pure_does (typed_variable id cells lead) (λ n h.
+      let seen = further_still one (further_still two h) in (
+        known_later lead least n seen known,
+        λ count long. (refl, is_ordinal_longer seen.types id l.stands ∙ structured, stands_longer seen.types id l.stands),
+      ))
     where
       counted : (now : Reached) (cells : ℕ) → ◌≡◌ {A = Checked ℕ} (Ok (cells_of now.types id)) (Ok cells) → cells ≡ cells_of now.types id
       counted now cells is = cc

@@ -1,15 +1,13 @@
 -- What calls of routines do: each actual parameter fits the formal one at its place, and there are as many.
-use Rattle.std.proofs.Common.{◌≡◌, ℕ, ℤ, ◌+◌, ◌<◌, Bool, true, false, ◌&&◌, ◌||◌, not, nat_eq, if◌then◌else◌, List, [], ◌∷◌, ◌++◌, length, Option, Some, None}
+use Rattle.std.proofs.Common.{◌≡◌, ℕ, ◌+◌, ◌<◌, Bool, true, false, ◌&&◌, ◌||◌, not, nat_eq, if◌then◌else◌, List, [], ◌∷◌, ◌++◌, length, Option, Some, None}
 use Rattle.std.proofs.Common.{Ok, Err, is_none, slice_get, refl, sym, ap, subst, ◌∙◌, arith, append_assoc, length-append, option_map}
-use Rattle.std.specs.Ordering.{int_eq}
 use Rattle.std.proofs.lemmas.Bool.{eq-eqb}
-use Rattle.std.proofs.lemmas.Int.{ints}
 use Rattle.place.specs.declared.Place.{Place}
 use Rattle.syntax_tree.specs.Places.{joined_places}
 use Rattle.types.specs.Forms.{Form}
 use Rattle.types.specs.declared.form.TypeId.{TypeId}
 use Rattle.types.specs.declared.form.OrdinalRange.{OrdinalRange}
-use Rattle.types.specs.Types.{cells_of, is_assignable, is_ordinal, range_of}
+use Rattle.types.specs.Types.{is_assignable, is_ordinal, range_of}
 use Rattle.scopes.specs.declared.denotation.Denotation.{Denotation}
 use Rattle.scopes.specs.declared.denotation.Denotation.TheVariants as denotes
 use Rattle.typed_tree.specs.declared.fault.TypeFault.TheVariants as fault
@@ -18,28 +16,28 @@ use Rattle.typed_tree.specs.declared.site.SiteKind.TheVariants as kind
 use Rattle.typed_tree.specs.declared.tree.FunctionResult.{FunctionResult}
 use Rattle.typed_tree.specs.declared.tree.RangeTest.{RangeTest}
 use Rattle.typed_tree.specs.declared.tree.Variable.{Variable}
-use Rattle.typed_tree.specs.Accesses.{are_values_of}
 use Rattle.typed_tree.specs.Look.{Calls, Called, ForValue, ForWhole}
 use Rattle.typed_tree.specs.WellFormed.{Outline, declarer, is_callable, is_kind_of, is_parameter_kind, is_range_of, is_round, is_value_kind, is_variable_kind}
 use Rattle.typed_tree.specs.WellFormed.{may_call, of_one, passes_value, passes_whole, takes_value, takes_whole}
 use Rattle.typing.specs.Steps.{or_mismatch}
 use Rattle.typing.specs.declared.typed.Typed.{Typed}
-use Rattle.typing.specs.Expressions.{Written, WrittenActual, actual, actuals_for, are_as_many, as_routine, copied_cells, copying, fitting, function_value}
+use Rattle.typing.specs.Expressions.{Written, WrittenActual, actual, actuals_for, are_as_many, as_routine, Copy, fitting, function_value}
 use Rattle.typing.specs.Expressions.{or_no_result, passed_ordinal, passed_to, passed_value, passed_whole, result_variable, routine_call, typed, unless_width}
 use Rattle.typing_laws.proofs.WholeRanges.{HaveWholeRanges, IsWholeRange}
+use Rattle.typing_laws.proofs.Copies.{IsCopyFor, copy_formed, copying_there}
 use Rattle.typing_laws.proofs.Covers.{Covers, covers_any, covers_both, covers_more, covers_none, leads_first}
 use Rattle.typing_laws.proofs.Reached.{Signature, signature_of, head_of, Reached, whole_of, IsFurther, further_still, Here, StandsIn, is_round_here, get_longer}
 use Rattle.typing_laws.proofs.Reached.{get_mapped, mapped_longer, stands_later}
 use Rattle.typing_laws.proofs.Grown.{heads_of, FitsHeading, both_true}
 use Rattle.typing_laws.proofs.Sound.{IsRoutine, routine_longer}
-use Rattle.typing_laws.proofs.Strings.{there, both_and}
+use Rattle.typing_laws.proofs.Strings.{there}
 use Rattle.typing_laws.proofs.Steps.{Does, Anything, Nothing, IsSoundThen, joins, quietly, last, checks_types, sited, answered, pure_does, given_does}
 use Rattle.typing_laws.proofs.Steps.{fail_does, mark_does, pass_does, enter_does, site_does, host_type_does, heading_at_does, variable_at_does, led}
 use Rattle.typing_laws.proofs.Steps.{behind_does}
-use Rattle.typing_laws.proofs.Tables.{cells_of_longer, is_ordinal_longer, range_of_longer}
-use Rattle.typing_laws.proofs.Leading.{IsLed, Types, led_alone, known_later, lt_true, IsFormalAt, formal_later, formal_is, LawfulWritten, covers_test}
+use Rattle.typing_laws.proofs.Tables.{is_ordinal_longer, range_of_longer}
+use Rattle.typing_laws.proofs.Leading.{IsLed, Types, led_alone, ordinal_types, lt_true, IsFormalAt, formal_later, formal_is, LawfulWritten, covers_test}
 use Rattle.typing_laws.proofs.Leading.{led_covers}
-use Rattle.typing_laws.proofs.Accesses.{round_formed, tests_ordinal_does, tested}
+use Rattle.typing_laws.proofs.Accesses.{round_formed, same_range, tests_ordinal_does, tested}
 
 -- ---- tests
 
@@ -54,28 +52,6 @@ fitting_is place types target value range is = by (is_none value.length && is_as
 pub fitting_whole : (place : Place) (types : List Form) → HaveWholeRanges types → (target : TypeId) (value : Typed) (range : OrdinalRange)
     → or_mismatch place (fitting types target value) ≡ Ok range → IsWholeRange range
 fitting_whole place types whole target value range is = whole target range (fitting_is place types target value range is)
-
-pub copying_is : (place : Place) (types : List Form) (target : TypeId) (value : Typed) (cells : ℕ) → or_mismatch place (copying types target value) ≡ Ok cells
-    → nat_eq (cells_of types target) cells ≡ true
-copying_is place types target value cells is = by value.length is
-  where
-    by : (length : Option ℕ) → or_mismatch place (copied_cells types target value length) ≡ Ok cells → nat_eq (cells_of types target) cells ≡ true
-    by None h = absurd cc
-    by (Some n) h = fits (is_assignable types target value.type_id && nat_eq (cells_of types target) n) refl h
-      where
-        fits : (test : Bool) → (is_assignable types target value.type_id && nat_eq (cells_of types target) n) ≡ test
-            → or_mismatch place (if test then Some n else None) ≡ Ok cells → nat_eq (cells_of types target) cells ≡ true
-        fits true both h =
-            let same : n ≡ cells = cc in
-            subst (λ c. nat_eq (cells_of types target) c ≡ true) same
-            (both_and (is_assignable types target value.type_id) (nat_eq (cells_of types target) n) both).1
-        fits false both h = absurd cc
-
-same_range : (range : OrdinalRange) → are_values_of range range ≡ true
-same_range range = both_true _ _ (by range.first) (by range.last)
-  where
-    by : (z : ℤ) → int_eq z z ≡ true
-    by z = grind (arith, ints)
 
 -- a parameter that is none by reference is one by value
 by_value : (value variable : Bool) → (value || variable) ≡ true → variable ≡ false → value ≡ true
@@ -186,32 +162,28 @@ module _ (here : Here) where
       IsRangeThere : OrdinalRange → Reached → Type 0
       IsRangeThere range n = IsRangeIn n.types range
 
-  whole_formed : (now : Reached) (callee position : ℕ) (formal : Variable) (cells : ℕ) (o : Outline) → IsFurther now (whole_of o)
+  whole_formed : (now : Reached) (callee position : ℕ) (formal : Variable) (copy : Copy) (o : Outline) → IsFurther now (whole_of o)
       → IsFormalAt now callee position formal → is_value_kind formal.kind ≡ true → is_ordinal now.types formal.type_id ≡ false
-      → nat_eq (cells_of now.types formal.type_id) cells ≡ true
-      → passes_whole o here.block formal.type_id cells callee position ≡ true
-  whole_formed now callee position formal cells o more at by_value structured as_many =
-      ap (of_one (takes_whole o formal.type_id cells)) (formal_is now callee position formal o more at)
-      ∙ both_true _ _ by_value
-      (both_true _ _ (eq-eqb formal.type_id.index formal.type_id.index refl)
-      (both_true _ _ (ap not (is_ordinal_longer more.types formal.type_id at.stands ∙ structured))
-      (ap (λ n. nat_eq n cells) (cells_of_longer more.types formal.type_id at.stands) ∙ as_many)))
+      → IsCopyFor now.types formal.type_id copy
+      → passes_whole o here.block formal.type_id copy.source copy.cells callee position ≡ true
+  whole_formed now callee position formal copy o more at by_value structured fits =
+      both_true _ _ (copy_formed here.block now formal.type_id copy o more at.stands structured fits)
+      (ap (of_one (takes_whole formal.type_id)) (formal_is now callee position formal o more at)
+      ∙ both_true _ _ by_value (eq-eqb formal.type_id.index formal.type_id.index refl))
 
   whole_does : {least : Reached} (w : Written) (places : List Place) (callee position : ℕ) (formal : Variable) → LawfulWritten here places w
       → IsFormalAt least callee position formal → is_value_kind formal.kind ≡ true → is_ordinal least.types formal.type_id ≡ false
       → Does here least (Covers 0 places) (passed_whole formal.type_id w callee position) Anything
   unfolding passed_whole
   whole_does {least} w places callee position formal law at by_value structured =
-      last (sited (covers_any 2 places) (checks_types {L = AreCellsThere} (law.types least None tt) λ types t cells next more same lawful copies _.
-      subst (λ l. nat_eq (cells_of l formal.type_id) cells ≡ true) (sym same) (copying_is w.first types formal.type_id t cells copies)))
-      λ cells next more as_many.
+      last (sited (covers_any 2 places) (checks_types {L = λ copy n. IsCopyFor n.types formal.type_id copy} (law.types least None tt)
+      λ types t copy next more same lawful copies own.
+      copying_there w.first next types formal.type_id t copy same lawful (is_ordinal_longer more.types formal.type_id at.stands ∙ structured) own.1 copies))
+      λ copy next more fits.
       let there = formal_later least next callee position formal more at in
-      mark_does (ForWhole formal.type_id cells callee position) refl refl refl refl refl
-      (λ o h. whole_formed next callee position formal cells o h there by_value
-      (is_ordinal_longer more.types formal.type_id at.stands ∙ structured) as_many)
-    where
-      AreCellsThere : ℕ → Reached → Type 0
-      AreCellsThere cells n = nat_eq (cells_of n.types formal.type_id) cells ≡ true
+      mark_does (ForWhole formal.type_id copy.source copy.cells callee position) refl refl refl refl refl
+      (λ o h. whole_formed next callee position formal copy o h there by_value
+      (is_ordinal_longer more.types formal.type_id at.stands ∙ structured) fits)
 
   value_does : {least : Reached} (w : Written) (places : List Place) (callee position : ℕ) (formal : Variable) → LawfulWritten here places w
       → IsFormalAt least callee position formal → is_value_kind formal.kind ≡ true
@@ -380,4 +352,4 @@ module _ (here : Here) where
       quietly (given_does (or_no_result place found)) λ result _ five _.
       quietly (host_type_does result.type_id) λ host _ six _.
       pure_does (typed host id)
-      (λ n h. known_later id now n (further_still three (further_still four (further_still five (further_still six h)))) known))
+      (λ n h. ordinal_types host id now n (further_still three (further_still four (further_still five (further_still six h)))) known))

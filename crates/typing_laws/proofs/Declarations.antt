@@ -1,9 +1,9 @@
 -- What declarations do: they add no site and no entry, each name denotes what is sound, and the variables have room.
 use Rattle.std.proofs.Common.{ℤ, pos, nat_le, map, Vec, ◌<◌, ◌≡◌, ℕ, ◌+◌, ◌-◌, ◌≤◌, ◌&&◌, Bool, true, false, nat_eq, nat_lt, if◌then◌else◌, List, [], ◌∷◌, ◌++◌}
-use Rattle.std.proofs.Common.{length, Option, Some, None, Result, Ok, Err, codes, length-append, refl, sym, ap, subst, ◌∙◌, arith, inl, ◌⊎◌, slice_get}
+use Rattle.std.proofs.Common.{length, Option, Some, None, Result, Ok, Err, codes, length-append, refl, sym, ap, subst, ◌∙◌, arith, inl, inr, ◌⊎◌, slice_get}
 use Rattle.std.proofs.lemmas.Bool.{eq-eqb}
 use Rattle.std.proofs.lemmas.Bool.Decides.{nat_tests}
-use Rattle.std.specs.List.{list_all}
+use Rattle.std.specs.List.{list_all, list_any}
 use Rattle.std.specs.declared.alloc.Global.{Global}
 use Rattle.std.specs.Cmp.Lexicographic.{pointwise}
 use Rattle.place.specs.declared.Place.{Place}
@@ -21,7 +21,8 @@ use Rattle.syntax_tree.specs.Places.{fields_of}
 use Rattle.syntax_tree.specs.declared.VariableGroup.{VariableGroup}
 use Rattle.types.specs.Forms.{Form, FieldForm, Enumeration, Subrange, Array, Record}
 use Rattle.types.specs.declared.form.TypeId.{TypeId}
-use Rattle.types.specs.Types.{char, cells_of, form_range, host_of, is_ordinal, is_same, most_cells}
+use Rattle.types.specs.Types.{char, cells_of, form_range, host_of, is_ordinal, is_same, is_string, most_cells}
+use Rattle.types.proofs.Built.{IsOver}
 use Rattle.scopes.specs.Scopes.{Region, said, put, is_defined, found, define, outer}
 use Rattle.scopes.specs.declared.denotation.Denotation.{Denotation}
 use Rattle.scopes.specs.declared.denotation.Denotation.TheVariants as denotes
@@ -43,12 +44,12 @@ use Rattle.typing.specs.Denoters.{array, named_fields, grouped_fields, record_ty
 use Rattle.typing.specs.Routines.{definition, type_definition, declared, local, group}
 use Rattle.typing.specs.Typing.{parameter_of_program}
 use Rattle.typing_laws.proofs.WholeRanges.{IfWhole}
-use Rattle.typing_laws.proofs.Tables.{lawful_more, texts_more}
+use Rattle.typing_laws.proofs.Tables.{is_string_longer, lawful_more, stands_longer, texts_more}
 use Rattle.typing_laws.proofs.Constants.{IsWhole, IsWholeOrdinal, number_whole, number_sound, constant_is, behind_sound, ordinal_whole}
-use Rattle.typing_laws.proofs.Strings.{fit_is, all_of_char, char_whole, type_added, string_type_is}
+use Rattle.typing_laws.proofs.Strings.{AreOfChar, IsStringOf, fit_is, all_of_char, no_characters, char_whole, type_added, string_type_is}
 use Rattle.typing_laws.proofs.Grown.{both_true}
 use Rattle.typing_laws.proofs.Owned.{cells_more, declares, parameters_of, results_of, roots_none_more, roots_one_more}
-use Rattle.typing_laws.proofs.Reached.{as_long, one_longer, Head, Here, is_round_here, get_last}
+use Rattle.typing_laws.proofs.Reached.{as_long, one_longer, Head, Here, is_round_here, get_last, last_or_before}
 use Rattle.typing_laws.proofs.Sound.{IsSound, IsVariable, found_holds, define_holds, inside_itself, regions_later}
 use Rattle.typing_laws.proofs.Ready.{base_variable}
 use Rattle.typing_laws.proofs.Keeping.{Silent, Ready, Keeps, Kept, silent_types, silent_regions, silent_as_is, silent_variable, silent_latest, silent_texts}
@@ -91,19 +92,50 @@ named_is name (Err scope.NotDeclared) type_id is = absurd cc
 abbrev IsWholeForm : Form → Type 0
 IsWholeForm form = IfWhole (form_range form)
 
+-- the same of a form that is made of no types
+abbrev IsScalarForm : Form → Type 0
+IsScalarForm form = IsWholeForm form × ((number : ℕ) → IsOver number form)
+
 value_whole : (number : ℕ) (place : Place) (c : ℤ) → value_of number place ≡ Ok c → IsWhole c
 value_whole number place c is =
     let fit = fit_is (nat_le number 2147483647) place (pos number) c is in
     subst IsWhole fit.1 (number_whole number fit.0)
 
 between_whole : (types : List Form) (place : Place) (first last : Option (ℤ × TypeId)) (form : Form) → between types place first last ≡ Ok form
-    → IsWholeOrdinal first → IsWholeOrdinal last → IsWholeForm form
+    → IsWholeOrdinal first → IsWholeOrdinal last → IsScalarForm form
 between_whole types place (Some first) (Some last) form is low high =
     let host = host_of types first.1 in
     let fit = fit_is (is_same host (host_of types last.1) && is_ordinal types first.1) place (Subrange host first.0 last.0) form is in
-    subst IsWholeForm fit.1 (both_true _ _ low high)
+    subst IsScalarForm fit.1 (both_true _ _ low high, λ number. tt)
 between_whole types place (Some first) None form is low high = absurd cc
 between_whole types place None last form is low high = absurd cc
+
+-- fields of the first so many types
+abbrev AreFieldsOver : ℕ → List FieldForm → Type 0
+AreFieldsOver number fields = (k : ℕ) (field : FieldForm) → slice_get fields k ≡ Some field → field.type_id.index < number
+
+abbrev field_named : Name → TypeId → FieldForm
+field_named name type_id = record { name = folded name.text.now; type_id = type_id }
+
+-- so are those that are named
+named_over : (number : ℕ) (fields : List FieldForm) (type_id : TypeId) (names : List Name) (more : List FieldForm) → type_id.index < number
+    → AreFieldsOver number fields → named_fields fields type_id names ≡ Ok more → AreFieldsOver number more
+named_over number fields type_id [] more stands over is = let same : fields ≡ more = cc in subst (AreFieldsOver number) same over
+named_over number fields type_id (name ∷ names) more stands over is =
+    by (list_any (λ (field : FieldForm). pointwise nat_eq field.name (folded name.text.now)) fields)
+    (named_over number (fields ++ field_named name type_id ∷ []) type_id names more stands
+    (λ k field there. one_over k field (last_or_before fields (field_named name type_id) k field there))) is
+  where
+    one_over : (k : ℕ) (field : FieldForm) → (slice_get fields k ≡ Some field) ⊎ ((k ≡ length fields) × (field_named name type_id ≡ field))
+        → field.type_id.index < number
+    one_over k field (inl before) = over k field before
+    one_over k field (inr last) = subst (λ (f : FieldForm). f.type_id.index < number) last.1 stands
+
+    by : (test : Bool) → (named_fields (fields ++ field_named name type_id ∷ []) type_id names ≡ Ok more → AreFieldsOver number more)
+        → (if test then Err (fault.DeclaredTwice name.place) else named_fields (fields ++ field_named name type_id ∷ []) type_id names) ≡ Ok more
+        → AreFieldsOver number more
+    by true rest h = absurd cc
+    by false rest h = rest h
 
 module _ (here : Here) (under : List Region) (counted : ℕ) (heads : List Head) where
   abbrev pub IsReady : Passed → Type 0
@@ -188,12 +220,13 @@ module _ (here : Here) (under : List Region) (counted : ℕ) (heads : List Head)
         subst (Kept counted s (λ x n. IsReady n × Says x)) same (refl, silent_as_is, (r, says x.0 x.1));
   }
 
-  string_type_keeps : (place : Place) (n : ℕ) → Keeps counted IsReady (string_type place n) (λ id s. IsReady s × (nat_le n 65536 ≡ true))
-  string_type_keeps place n = record {
+  string_type_keeps : (place : Place) (n : ℕ) → 1 < n
+      → Keeps counted IsReady (string_type place n) (λ id s. IsReady s × IsStringOf n id s.types)
+  string_type_keeps place n more = record {
     keeps = λ s a is r.
-        let made = string_type_is place n s a r.base.lawful is in
-        subst (Kept counted s (λ id m. IsReady m × (nat_le n 65536 ≡ true))) made.same
-        (refl, silent_types a.passed.types made.longer, (ready_types a.passed.types made.longer made.lawful r, made.few));
+        let made = string_type_is place n s a more r.base.lawful is in
+        subst (Kept counted s (λ id m. IsReady m × IsStringOf n id m.types)) made.same
+        (refl, silent_types a.passed.types made.longer, (ready_types a.passed.types made.longer made.lawful r, (made.few, made.string)));
   }
 
   keep_text_keeps : (text : List ℕ) → Keeps counted (λ s. IsReady s × (are_characters text ≡ true)) (keep_text text) Readied
@@ -215,18 +248,19 @@ module _ (here : Here) (under : List Region) (counted : ℕ) (heads : List Head)
         subst (Kept counted s Readied) same (refl, silent_texts (s.texts ++ text ∷ []), ready);
   }
 
-  text_keeps : (place : Place) (cs : List ℕ) → list_all is_character cs ≡ true
+  text_keeps : (place : Place) (cs : List ℕ) → 1 < length cs → list_all is_character cs ≡ true
       → Keeps counted IsReady (string_type place (length cs) >>= (λ type_id. keep_text cs >>= (λ number. pure (denotes.Text number type_id)))) Denotes
-  text_keeps place cs all =
-      keeps_then (string_type_keeps place (length cs)) λ type_id.
-      keeps_then (before (λ s from. (from.0, both_true _ _ from.1 all)) (keep_text_keeps cs)) λ number.
-      pure_keeps (denotes.Text number type_id) (λ s r. (r, tt))
+  text_keeps place cs more all =
+      keeps_then (string_type_keeps place (length cs) more) λ type_id.
+      keeps_then (before (λ s from. ((from.0, both_true _ _ from.1.0 all), from.1.1))
+      (aside {Also = λ s. is_string s.types type_id ≡ true} (λ s new silent. is_string_longer silent.types type_id) (keep_text_keeps cs))) λ number.
+      pure_keeps (denotes.Text number type_id) (λ s is. is)
 
-  string_constant_keeps : (place : Place) (cs : List ℕ) → list_all is_character cs ≡ true → Keeps counted IsReady (string_constant place cs) Denotes
+  string_constant_keeps : (place : Place) (cs : List ℕ) → AreOfChar cs → Keeps counted IsReady (string_constant place cs) Denotes
   unfolding string_constant
-  string_constant_keeps place [] all = text_keeps place [] all
-  string_constant_keeps place (c ∷ []) all = pure_keeps (denotes.Constant (pos c) char) (λ s r. (r, char_whole c all))
-  string_constant_keeps place (c ∷ d ∷ cs) all = text_keeps place (c ∷ d ∷ cs) all
+  string_constant_keeps place [] all = absurd (no_characters all)
+  string_constant_keeps place (c ∷ []) all = pure_keeps (denotes.Constant (pos c) char) (λ s r. (r, char_whole c all.1))
+  string_constant_keeps place (c ∷ d ∷ cs) all = text_keeps place (c ∷ d ∷ cs) (omega arith) all.1
 
   unsigned_keeps : (v : ConstantValue) → Keeps counted IsReady (unsigned_constant v) Denotes
   unfolding unsigned_constant
@@ -235,7 +269,7 @@ module _ (here : Here) (under : List Region) (counted : ℕ) (heads : List Head)
   unsigned_keeps (value.String text place) =
       keeps_then
       (keeps_then (pass_keeps place) λ _.
-      given_keeps (string_characters place text.now) (λ cs. list_all is_character cs ≡ true) (all_of_char place text.now)) λ cs.
+      given_keeps (string_characters place text.now) AreOfChar (all_of_char place text.now)) λ cs.
       record { keeps = λ s a is from. (string_constant_keeps place cs from.1).keeps s a is from.0 }
   unsigned_keeps (value.Name name) = keeps_checks (find_keeps name) λ types d c s same is k. (k.0, subst (IsFit s) (constant_is name.place d c is) k.1)
 
@@ -442,11 +476,12 @@ module _ (here : Here) (under : List Region) (counted : ℕ) (heads : List Head)
         subst (Kept counted s IsTyped) same (refl, silent_latest name.place, (ready_latest name.place r, one));
   }
 
-  add_type_keeps : (place : Place) (form : Form) → Keeps counted (λ s. IsReady s × IsWholeForm form) (add_type place form) IsTyped
+  add_type_keeps : (place : Place) (form : Form)
+      → Keeps counted (λ s. IsReady s × IsWholeForm form × IsOver (length s.types) form) (add_type place form) IsTyped
   add_type_keeps place form = record {
     keeps = λ s a is from.
         let x = type_added place form s a is in
-        let lawful = lawful_more s.types form x.0 from.0.base.lawful from.1 x.1 in
+        let lawful = lawful_more s.types form x.0 from.0.base.lawful from.1 from.2 x.1 in
         subst (Kept counted s IsTyped) x.2 (
           refl,
           silent_types (s.types ++ form ∷ []) (one_longer s.types form),
@@ -497,13 +532,16 @@ module _ (here : Here) (under : List Region) (counted : ℕ) (heads : List Head)
       keeps_then latest_keeps λ place.
       keeps_then (given_keeps (value_of (length names - 1) place) (λ last. IsWholeForm (Enumeration last))
       (λ last is. both_true _ _ refl (value_whole (length names - 1) place last is))) λ last.
-      keeps_then (add_type_keeps place (Enumeration last)) λ type_id.
+      keeps_then (before (λ s is. (is.0, is.1, tt)) (add_type_keeps place (Enumeration last))) λ type_id.
       keeps_then (constants_from_keeps type_id 0 names) λ _.
       pure_keeps type_id (λ s is. is)
 
   subrange_keeps : (first : Constant) (place : Place) (last : Constant) → Keeps counted IsReady (subrange first place last) IsTyped
   unfolding subrange
-  subrange_keeps first place last = keeps_then (ordinal_keeps first) λ f. keeps_then (form_keeps f) λ form. add_type_keeps place form
+  subrange_keeps first place last =
+      keeps_then (ordinal_keeps first) λ f.
+      keeps_then (form_keeps f) λ form.
+      before (λ s is. (is.0, is.1.0, is.1.1 (length s.types))) (add_type_keeps place form)
     where
       last_keeps : (f : Option (ℤ × TypeId)) → Keeps counted (Whole f) (ordinal_constant last) (λ l s. Whole l s × IsWholeOrdinal f)
       last_keeps f = record {
@@ -513,7 +551,7 @@ module _ (here : Here) (under : List Region) (counted : ℕ) (heads : List Head)
       }
 
       form_keeps : (f : Option (ℤ × TypeId))
-          → Keeps counted (Whole f) (ordinal_constant last >>? (λ types l. between types place f l)) (λ form s. IsReady s × IsWholeForm form)
+          → Keeps counted (Whole f) (ordinal_constant last >>? (λ types l. between types place f l)) (λ form s. IsReady s × IsScalarForm form)
       form_keeps f = keeps_checks (last_keeps f) λ types l form s same is k. (k.0.0, between_whole types place f l form is k.1 k.0.1)
 
   -- ---- arrays and records
@@ -526,27 +564,51 @@ module _ (here : Here) (under : List Region) (counted : ℕ) (heads : List Head)
   KeepDenoters [] = Unit {0}
   KeepDenoters (w ∷ ws) = KeepsDenoter w × KeepDenoters ws
 
-  index_type_keeps : (w : WrittenDenoter) → KeepsDenoter w → Keeps counted IsReady (index_type w) Readied
+  -- what stands in the table stays there
+  abbrev Stands : TypeId → Passed → Type 0
+  Stands id s = id.index < length s.types
+
+  abbrev AllStand : List TypeId → Passed → Type 0
+  AllStand [] s = Unit {0}
+  AllStand (id ∷ ids) s = Stands id s × AllStand ids s
+
+  abbrev FieldsStand : List FieldForm → Passed → Type 0
+  FieldsStand fields s = AreFieldsOver (length s.types) fields
+
+  stays : (id : TypeId) (s new : Passed) → Silent counted s new → Stands id s → Stands id new
+  stays id s new silent is = stands_longer silent.types id is
+
+  all_stay : (ids : List TypeId) (s new : Passed) → Silent counted s new → AllStand ids s → AllStand ids new
+  all_stay [] s new silent all = tt
+  all_stay (id ∷ ids) s new silent all = (stays id s new silent all.0, all_stay ids s new silent all.1)
+
+  fields_stay : (fields : List FieldForm) (s new : Passed) → Silent counted s new → FieldsStand fields s → FieldsStand fields new
+  fields_stay fields s new silent all = λ k field is. stays field.type_id s new silent (all k field is)
+
+  index_type_keeps : (w : WrittenDenoter) → KeepsDenoter w → KeepsDenoter (index_type w)
   unfolding index_type
   index_type_keeps w law =
       keeps_then law λ id.
-      keeps_then (before (λ s is. is.0) latest_keeps) λ place.
-      keeps_checks {p = pure (tt {0})} {test = λ types _. fits (is_ordinal types id) place id} {Between = λ _ s. IsReady s}
-      (pure_keeps tt (λ s r. r)) λ types _ b s same is r. r
+      keeps_then (aside {Also = Stands id} (stays id) latest_keeps) λ place.
+      keeps_checks {p = pure (tt {0})} {test = λ types _. fits (is_ordinal types id) place id} {Between = λ _ s. IsTyped id s}
+      (pure_keeps tt (λ s is. is)) λ types _ b s same fit is.
+      subst (λ (z : TypeId). IsTyped z s) (fit_is (is_ordinal types id) place id b fit).1 is
 
   index_types_keep : (ws : List WrittenDenoter) → KeepDenoters ws
-      → Keeps counted IsReady (index_types ws) Readied
-  index_types_keep [] laws = pure_keeps [] (λ s r. r)
+      → Keeps counted IsReady (index_types ws) (λ ids s. IsReady s × AllStand ids s)
+  index_types_keep [] laws = pure_keeps [] (λ s r. (r, tt))
   index_types_keep (w ∷ ws) laws =
       keeps_then (index_type_keeps w laws.0) λ id.
-      keeps_then (index_types_keep ws laws.1) λ ids.
-      pure_keeps (id ∷ ids) (λ s r. r)
+      keeps_then (aside {Also = Stands id} (stays id) (index_types_keep ws laws.1)) λ ids.
+      pure_keeps (id ∷ ids) (λ s is. (is.0.0, (is.1, is.0.1)))
 
   arrays_keep : (packed : Bool) (place : Place) (indexes : List TypeId) (element : TypeId)
-      → Keeps counted (IsTyped element) (arrays packed place indexes element) IsTyped
-  arrays_keep packed place [] element = pure_keeps element (λ s is. is)
+      → Keeps counted (λ s. IsTyped element s × AllStand indexes s) (arrays packed place indexes element) IsTyped
+  arrays_keep packed place [] element = pure_keeps element (λ s is. is.0)
   arrays_keep packed place (index ∷ indexes) element =
-      keeps_then (arrays_keep packed place indexes element) λ inner. before (λ s is. (is.0, tt)) (add_type_keeps place (Array packed index inner))
+      keeps_then (before (λ s is. ((is.0, is.1.1), is.1.0))
+      (aside {Also = Stands index} (stays index) (arrays_keep packed place indexes element))) λ inner.
+      before (λ s is. (is.0.0, tt, (is.1, is.0.1))) (add_type_keeps place (Array packed index inner))
 
   array_keeps : (packed : Bool) (place : Place) (indexes : List WrittenDenoter) (element : WrittenDenoter) → KeepDenoters indexes
       → KeepsDenoter element → Keeps counted IsReady (array packed place indexes element) IsTyped
@@ -554,25 +616,38 @@ module _ (here : Here) (under : List Region) (counted : ℕ) (heads : List Head)
   array_keeps packed place indexes element laws law =
       keeps_then (pass_keeps place) λ _.
       keeps_then (index_types_keep indexes laws) λ ids.
-      keeps_then law λ inner.
+      keeps_then (aside {Also = AllStand ids} (all_stay ids) law) λ inner.
       arrays_keep packed place ids inner
 
+  abbrev HaveFields : List FieldForm → Passed → Type 0
+  HaveFields fields s = IsReady s × FieldsStand fields s
+
+  named_keeps : (fields : List FieldForm) (type_id : TypeId) (names : List Name)
+      → Keeps counted (λ s. IsTyped type_id s × FieldsStand fields s) (given (named_fields fields type_id names)) HaveFields
+  named_keeps fields type_id names = record {
+    keeps = λ s a is from.
+        let x = split (named_fields fields type_id names) (λ answer. Ok (after answer [] s)) a is in
+        let same : after x.0 [] s ≡ a = cc in
+        subst (Kept counted s HaveFields) same
+        (refl, silent_as_is, (from.0.0, named_over (length s.types) fields type_id names x.0 from.0.1 from.1 x.1));
+  }
+
   grouped_fields_keep : (fields : List FieldForm) (rows : List (Vec Name Global)) (ws : List WrittenDenoter) → KeepDenoters ws
-      → Keeps counted IsReady (grouped_fields fields (fields_of rows ws)) Readied
-  grouped_fields_keep fields [] ws laws = pure_keeps fields (λ s r. r)
-  grouped_fields_keep fields (row ∷ rows) [] laws = pure_keeps fields (λ s r. r)
+      → Keeps counted (HaveFields fields) (grouped_fields fields (fields_of rows ws)) HaveFields
+  grouped_fields_keep fields [] ws laws = pure_keeps fields (λ s is. is)
+  grouped_fields_keep fields (row ∷ rows) [] laws = pure_keeps fields (λ s is. is)
   grouped_fields_keep fields (row ∷ rows) (w ∷ ws) laws =
-      keeps_then laws.0 λ type_id.
-      keeps_then (before (λ s is. is.0) (given_keeps (named_fields fields type_id row.items) (λ more. Unit {0}) (λ more is. tt))) λ more.
-      before (λ s is. is.0) (grouped_fields_keep more rows ws laws.1)
+      keeps_then (aside {Also = FieldsStand fields} (fields_stay fields) laws.0) λ type_id.
+      keeps_then (named_keeps fields type_id row.items) λ more.
+      grouped_fields_keep more rows ws laws.1
 
   record_keeps : (packed : Bool) (place : Place) (rows : List (Vec Name Global)) (ws : List WrittenDenoter) → KeepDenoters ws
       → Keeps counted IsReady (record_type packed place (fields_of rows ws)) IsTyped
   unfolding record_type
   record_keeps packed place rows ws laws =
       keeps_then (pass_keeps place) λ _.
-      keeps_then (grouped_fields_keep [] rows ws laws) λ fields.
-      before (λ s r. (r, tt)) (add_type_keeps place (Record packed fields))
+      keeps_then (before (λ s r. (r, λ k field is. absurd cc)) (grouped_fields_keep [] rows ws laws)) λ fields.
+      before (λ s is. (is.0, tt, is.1)) (add_type_keeps place (Record packed fields))
 
   -- ---- every denoter
 

@@ -13,7 +13,7 @@ use Rattle.typing.specs.declared.typed.Typed.{Typed}
 use Rattle.typing.specs.Expressions.{Written, WrittenActual, WrittenLink, expression, written_actual, written_link, expression_step, actual_step, link_step}
 use Rattle.typing.specs.Expressions.{links, only, without_width}
 use Rattle.typing_laws.proofs.Covers.{Covers, covers_more}
-use Rattle.typing_laws.proofs.Steps.{Does, Anything, IsKnown, sited}
+use Rattle.typing_laws.proofs.Steps.{Does, Anything, sited}
 use Rattle.typing_laws.proofs.Reached.{Here, Reached}
 use Rattle.typing_laws.proofs.Leading.{LawfulWritten, LawfulLink, Types}
 use Rattle.typing_laws.proofs.Accesses.{AreLawfulRows}
@@ -99,7 +99,7 @@ module _ (here : Here) where
   abbrev bare_links : List WithLink → List Link
   bare_links ys = map (λ (y : WithLink). y.0) ys
 
-  links_lawful : (ys : List WithLink) (now : Reached) (t : Typed) → IsKnown t.site now
+  links_lawful : (ys : List WithLink) (now : Reached) (t : Typed) → Types t now
       → Does here now (Covers 2 (joined_places (map link_places (bare_links ys)))) (links t (map written_link (bare_links ys))) Types
   links_lawful [] now t known = links_none here t known
   links_lawful (y ∷ ys) now t known =

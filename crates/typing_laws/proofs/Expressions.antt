@@ -1,6 +1,6 @@
 -- What expressions do, form by form.
 use Rattle.std.proofs.Common.{◌≡◌, ℕ, Bool, true, false, not, nat_le, if◌then◌else◌, List, [], ◌∷◌, length, Option, Some, None, Ok, Err, pos, refl, sym, ap}
-use Rattle.std.proofs.Common.{subst, ◌∙◌}
+use Rattle.std.proofs.Common.{subst, ◌∙◌, ◌<◌, arith}
 use Rattle.std.proofs.lemmas.Bool.{eq-eqb, eqb-true}
 use Rattle.std.specs.List.{list_all}
 use Rattle.place.specs.declared.Place.{Place}
@@ -16,6 +16,7 @@ use Rattle.scopes.specs.declared.denotation.Denotation.{Denotation}
 use Rattle.scopes.specs.declared.denotation.Denotation.TheVariants as denotes
 use Rattle.typed_tree.specs.declared.fault.TypeFault.TheVariants as fault
 use Rattle.typed_tree.specs.declared.site.SiteKind.{SiteKind}
+use Rattle.typed_tree.specs.declared.tree.Calculation.TheVariants as calculation
 use Rattle.typed_tree.specs.declared.tree.Monadic.TheVariants as monadic
 use Rattle.typed_tree.specs.declared.tree.Selector.{Selector as TreeSelector}
 use Rattle.typed_tree.specs.declared.tree.Variable.{Variable}
@@ -26,18 +27,20 @@ use Rattle.typing.specs.Passing.{Checked, pure, ◌>>=◌, ◌>>◌}
 use Rattle.typing.specs.Steps.{fits, enter_as}
 use Rattle.typing.specs.Strings.{string_characters, string_type}
 use Rattle.typing.specs.declared.typed.Typed.{Typed}
-use Rattle.typing.specs.Expressions.{Written, written, written_variable, typed, typed_whole, number, spelled, string, as_variable, component, denoted, named}
+use Rattle.typing.specs.Expressions.{Written, written, written_variable, typed, typed_text, number, spelled, string, as_variable, component, denoted, named}
 use Rattle.typing.specs.Expressions.{parenthesized, negation, signed, sign_operation, is_of_packed, passable, passed_variable}
 use Rattle.typing_laws.proofs.Reached.{Reached, IsFurther, further_still, Here}
 use Rattle.typing_laws.proofs.Kept.{change_later}
 use Rattle.typing_laws.proofs.Sound.{IsVariable, variable_later}
 use Rattle.typing_laws.proofs.Covers.{Covers, Leads, leads_first}
 use Rattle.typing_laws.proofs.Grown.{both_true}
-use Rattle.typing_laws.proofs.Strings.{fit_is, all_of_char, char_whole, string_type_does}
+use Rattle.typing_laws.proofs.Strings.{AreOfChar, fit_is, all_of_char, no_characters, char_whole, string_type_does}
+use Rattle.typing_laws.proofs.Tables.{is_string_longer}
 use Rattle.typing_laws.proofs.Steps.{Does, Anything, Nothing, IsSoundThen, IsFound, joins, quietly, last, checks, sited, mark_does, change_does, text_at_does}
 use Rattle.typing_laws.proofs.Steps.{pass_does, pure_does, given_does, by_types_does, fail_does, find_does, enter_does, may_change_does, led, IsKnown}
 use Rattle.typing_laws.proofs.Steps.{behind_does}
-use Rattle.typing_laws.proofs.Leading.{IsLed, Types, led_alone, known_later, IsFormalAt, formal_later, formal_is, LawfulWritten, no_variable_lawful, led_covers}
+use Rattle.typing_laws.proofs.Leading.{IsLed, Types, led_alone, known_later, ordinal_types, IsFormalAt, formal_later, formal_is, LawfulWritten}
+use Rattle.typing_laws.proofs.Leading.{no_variable_lawful, led_covers}
 use Rattle.typing_laws.proofs.Accesses.{AreLawfulRows, accessed_does, leads_nowhere, leads_later, leads_formed, selected_does}
 use Rattle.typing_laws.proofs.Calls.{function_does}
 
@@ -71,25 +74,28 @@ module _ (here : Here) where
           quietly (given_does (fits (nat_le value 2147483647) place (typed integer id))) λ t _ one is.
           let fit = fit_is (nat_le value 2147483647) place (typed integer id) t is in
           quietly (enter_does (λ n. Constant n (pos value)) (λ n. refl) (λ n. refl) (λ n. refl) (λ n. refl) (λ n. refl) (λ n o h. fit.0)) λ _ _ two _.
-          pure_does t (λ n h. subst (λ (z : Typed). IsKnown z.site n) fit.1 (known_later id now n (further_still one (further_still two h)) known))
+          pure_does t (λ n h. subst (λ (z : Typed). Types z n) fit.1 (ordinal_types integer id now n (further_still one (further_still two h)) known))
 
   -- two or more characters
-  text_does : (place : Place) (id : Option ℕ) {least : Reached} (cs : List ℕ) → IsKnown id least → list_all is_character cs ≡ true
+  text_does : (place : Place) (id : Option ℕ) {least : Reached} (cs : List ℕ) → IsKnown id least → 1 < length cs → list_all is_character cs ≡ true
       → Does here least Nothing
-      (string_type place (length cs) >>= (λ type_id. enter_as (λ n. Text n cs) >> pure (typed_whole type_id (length cs) id))) Types
-  text_does place id {least} cs known all =
-      quietly (string_type_does place (length cs)) λ type_id _ one few.
-      quietly (enter_does (λ n. Text n cs) (λ n. refl) (λ n. refl) (λ n. refl) (λ n. refl) (λ n. refl) (λ n o h. both_true _ _ few all)) λ _ _ two _.
-      pure_does (typed_whole type_id (length cs) id) (λ n h. known_later id least n (further_still one (further_still two h)) known)
+      (string_type place (length cs) >>= (λ type_id. enter_as (λ n. Text n cs) >> pure (typed_text type_id (length cs) id))) Types
+  text_does place id {least} cs known more all =
+      quietly (string_type_does place (length cs) more) λ type_id _ one made.
+      quietly (enter_does (λ n. Text n cs) (λ n. refl) (λ n. refl) (λ n. refl) (λ n. refl) (λ n. refl) (λ n o h. both_true _ _ made.0 all)) λ _ _ two _.
+      pure_does (typed_text type_id (length cs) id) (λ n h. (
+        known_later id least n (further_still one (further_still two h)) known,
+        λ count long. is_string_longer (further_still two h).types type_id made.1,
+      ))
 
-  spelled_does : (place : Place) (id : Option ℕ) {least : Reached} (cs : List ℕ) → IsKnown id least → list_all is_character cs ≡ true
+  spelled_does : (place : Place) (id : Option ℕ) {least : Reached} (cs : List ℕ) → IsKnown id least → AreOfChar cs
       → Does here least Nothing (spelled place id cs) Types
   unfolding spelled
-  spelled_does place id [] known all = text_does place id [] known all
+  spelled_does place id [] known all = absurd (no_characters all)
   spelled_does place id {least} (c ∷ []) known all =
-      quietly (enter_does (λ n. Constant n (pos c)) (λ n. refl) (λ n. refl) (λ n. refl) (λ n. refl) (λ n. refl) (λ n o h. char_whole c all)) λ _ _ more _.
-      pure_does (typed char id) (λ n h. known_later id least n (further_still more h) known)
-  spelled_does place id (c ∷ d ∷ cs) known all = text_does place id (c ∷ d ∷ cs) known all
+      quietly (enter_does (λ n. Constant n (pos c)) (λ n. refl) (λ n. refl) (λ n. refl) (λ n. refl) (λ n. refl) (λ n o h. char_whole c all.1)) λ _ _ more _.
+      pure_does (typed char id) (λ n h. ordinal_types char id least n (further_still more h) known)
+  spelled_does place id (c ∷ d ∷ cs) known all = text_does place id (c ∷ d ∷ cs) known (omega arith) all.1
 
   pub string_does : (text : List ℕ) (place : Place) → LawfulWritten here (place ∷ []) (written place (string text place))
   unfolding string
@@ -113,15 +119,19 @@ module _ (here : Here) where
       by =
           joins (leads_first 2 place (led lead) []) (behind_does lead place) λ id now _ known.
           quietly (enter_does (λ n. Constant n value) (λ n. refl) (λ n. refl) (λ n. refl) (λ n. refl) (λ n. refl) (λ n o h. sound.0)) λ _ _ more _.
-          pure_does (typed type_id id) (λ n h. known_later id now n (further_still more h) known)
-  denoted_does (denotes.Text number type_id) place lead is sound = led_covers here 2 place [] (led lead) (led_alone lead is) by
+          pure_does (typed type_id id) (λ n h. ordinal_types type_id id now n (further_still more h) known)
+  denoted_does (denotes.Text number type_id) place {least} lead is sound = led_covers here 2 place [] (led lead) (led_alone lead is) by
     where
-      by : {least : Reached} → Does here least (Leads place (led lead) []) (denoted (denotes.Text number type_id) place lead) Types
+      by : Does here least (Leads place (led lead) []) (denoted (denotes.Text number type_id) place lead) Types
       by =
-          joins (leads_first 2 place (led lead) []) (behind_does lead place) λ id now _ known.
+          joins (leads_first 2 place (led lead) []) (behind_does lead place) λ id now seen known.
           quietly (text_at_does number) λ cs _ one are.
           quietly (enter_does (λ n. Text n cs) (λ n. refl) (λ n. refl) (λ n. refl) (λ n. refl) (λ n. refl) (λ n o h. are)) λ _ _ two _.
-          pure_does (typed_whole type_id (length cs) id) (λ n h. known_later id now n (further_still one (further_still two h)) known)
+          pure_does (typed_text type_id (length cs) id) (λ n h.
+          let later = further_still one (further_still two h) in (
+            known_later id now n later known,
+            λ count long. is_string_longer (further_still seen later).types type_id sound.0,
+          ))
   denoted_does (denotes.Variable root type_id) place {least} lead is sound =
       accessed_does here root type_id [] [] [] place lead is tt (leads_nowhere here root type_id least sound.0 sound.1)
   denoted_does (denotes.Procedure procedure) place lead is sound = fail_does (fault.WrongParameters place)
@@ -163,7 +173,8 @@ module _ (here : Here) where
       let led = leads_later here variable.0 component.0 component.1 met next six l in
       let formal_there = formal_later least next callee position formal (further_still one (further_still seen (further_still five six))) at in
       let may_there = change_later here changed next variable.0 (further_still four (further_still five six)) may in
-      change_does (ForVariable formal.type_id variable.0 component.0 (index_count component.0) callee position) variable.0 refl refl refl refl refl refl may_there
+      change_does (ForVariable formal.type_id variable.0 component.0 (index_count component.0) callee position) variable.0
+      refl refl refl refl refl refl may_there
       (λ o h. both_true _ _ (leads_formed here variable.0 component.0 component.1 next led (λ id. is_same id formal.type_id) o h same)
       (ap (of_one (takes_variable formal.type_id)) (formal_is next callee position formal o h formal_there)
       ∙ both_true _ _ is (eq-eqb formal.type_id.index formal.type_id.index refl))))
@@ -203,12 +214,12 @@ module _ (here : Here) where
       by least lead =
           quietly (pass_does place) λ _ _ _ _.
           joins (leads_first 2 place (led lead) places) (behind_does lead place) λ id now _ known.
-          checks (law.types now None tt) λ types t b n more is _. answer id now n b t known more is
+          checks (law.types now None tt) λ types t b n more is own. answer id now n b t known own more is
         where
-          answer : (id : Option ℕ) (now n : Reached) (b t : Typed) → IsKnown id now → IsFurther now n
-              → ◌≡◌ {A = Checked Typed} (Ok (record t { site = id })) (Ok b) → IsKnown b.site n
-          answer id now n b t known more is =
-              let same : record t { site = id } ≡ b = cc in subst (λ (z : Typed). IsKnown z.site n) same (known_later id now n more known)
+          answer : (id : Option ℕ) (now n : Reached) (b t : Typed) → IsKnown id now → Types t n → IsFurther now n
+              → ◌≡◌ {A = Checked Typed} (Ok (record t { site = id })) (Ok b) → Types b n
+          answer id now n b t known own more is =
+              let same : record t { site = id } ≡ b = cc in subst (λ (z : Typed). Types z n) same (known_later id now n more known, own.1)
 
   pub negation_does : (place : Place) (places : List Place) (operand : Written) → LawfulWritten here places operand
       → LawfulWritten here (place ∷ places) (written place (negation place operand))
@@ -223,8 +234,8 @@ module _ (here : Here) where
           joins (leads_first 2 place (led lead) places) (behind_does lead place) λ id now _ known.
           quietly (enter_does Operation (λ n. refl) (λ n. refl) (λ n. refl) (λ n. refl) (λ n. refl) (λ n o h. refl)) λ _ next one _.
           last (checks {L = Anything} (law.types next None tt) λ types t b n more is _. tt) λ _ _ two _.
-          quietly (mark_does (Applied monadic.Not) refl refl refl refl refl (λ o h. refl)) λ _ _ three _.
-          pure_does (typed boolean id) (λ n h. known_later id now n (further_still one (further_still two (further_still three h))) known)
+          quietly (mark_does (Applied (monadic.Plain calculation.Complement)) refl refl refl refl refl (λ o h. refl)) λ _ _ three _.
+          pure_does (typed boolean id) (λ n h. ordinal_types boolean id now n (further_still one (further_still two (further_still three h))) known)
 
   signs_formed : (s : Sign) (o : Outline) → monadic_is_well_formed o here.block (sign_operation s) ≡ true
   signs_formed sign.Plus o = refl
@@ -244,4 +255,4 @@ module _ (here : Here) where
           quietly (enter_does Operation (λ n. refl) (λ n. refl) (λ n. refl) (λ n. refl) (λ n. refl) (λ n o h. refl)) λ _ next one _.
           last (checks {L = Anything} (law.types next None tt) λ types t b n more is _. tt) λ _ _ two _.
           quietly (mark_does (Applied (sign_operation s)) refl refl refl refl refl (λ o h. signs_formed s o)) λ _ _ three _.
-          pure_does (typed integer id) (λ n h. known_later id now n (further_still one (further_still two (further_still three h))) known)
+          pure_does (typed integer id) (λ n h. ordinal_types integer id now n (further_still one (further_still two (further_still three h))) known)

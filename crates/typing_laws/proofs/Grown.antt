@@ -8,10 +8,10 @@ use Rattle.std.proofs.lemmas.Grind.{flat_map-append}
 use Rattle.types.specs.Types.{is_ordinal}
 use Rattle.typed_tree.specs.declared.tree.Variable.{Variable}
 use Rattle.typed_tree.specs.Ids.{Stands}
-use Rattle.typed_tree.specs.WellFormed.{Outline, is_parameter_kind}
+use Rattle.typed_tree.specs.WellFormed.{Outline, is_parameter_kind, most_entries}
 use Rattle.typed_tree.specs.Look.{Mark, Look, mark_entries, entries_of_look, mark_loops, loops_of_look, blocks_of_look, mark_blocks, is_formed_mark}
 use Rattle.typing.specs.Passing.{Enclosing, Passed}
-use Rattle.typing.specs.Steps.{most_sites, most_entries}
+use Rattle.typing.specs.Steps.{most_sites}
 use Rattle.typing_laws.proofs.Reached.{IsLonger, longer_still, same_longer, get_longer, Signature, signature_passed, Head, head_of, Reached, reached, whole_of}
 use Rattle.typing_laws.proofs.Reached.{IsFurther, further_still, mapped_longer, Here, StandsIn, stands_later}
 use Rattle.typing_laws.proofs.Sound.{AreSound, inside_itself, regions_later, or_right}

@@ -4,9 +4,9 @@ use Rattle.place.specs.declared.Place.{Place}
 use Rattle.types.specs.Forms.{Form}
 use Rattle.scopes.specs.Scopes.{Region, outer}
 use Rattle.typed_tree.specs.declared.tree.Variable.{Variable}
-use Rattle.typed_tree.specs.WellFormed.{variables_of}
+use Rattle.typed_tree.specs.WellFormed.{most_entries, variables_of}
 use Rattle.typing.specs.Passing.{Passed, Checked, After, Passing, after, and_then, behind_marks, pure, each, ◌>>=◌, ◌>>?◌}
-use Rattle.typing.specs.Steps.{most_sites, most_entries}
+use Rattle.typing.specs.Steps.{most_sites}
 use Rattle.typing_laws.proofs.Owned.{Fails, cells_of_block, others_kept, block_cells_longer}
 use Rattle.typing_laws.proofs.Reached.{IsLonger, as_long, longer_still, one_longer, Head, Here}
 use Rattle.typing_laws.proofs.Ready.{Base, base_types}

@@ -12,6 +12,7 @@ pub mod Unthreatened
 pub mod Grown
 pub mod Steps
 pub mod Strings
+mod Copies
 pub mod Leading
 pub mod Accesses
 pub mod Calls

@@ -1,6 +1,7 @@
 -- What operators, chains and calls do, each with the site of its operation.
-use Rattle.std.proofs.Common.{◌≡◌, ℕ, ◌<◌, Bool, true, false, ◌&&◌, ◌||◌, if◌then◌else◌, nat_lt, nat_eq, List, [], ◌∷◌, ◌++◌, length, Option, None, Some, Ok}
-use Rattle.std.proofs.Common.{is_none, pos, neg_ℤ, refl, ap, subst, arith}
+use Rattle.std.proofs.Common.{◌≡◌, ℕ, ◌<◌, Bool, true, false, ◌&&◌, ◌||◌, if◌then◌else◌, nat_eq, List, [], ◌∷◌, ◌++◌, length, Option, None, Some}
+use Rattle.std.proofs.Common.{Ok, ℤ, ◌+ℤ◌, ◌-ℤ◌, ◌≤ℤ◌, int_lt, int_le, is_none, pos, neg_ℤ, refl, ap, subst, ◌∙◌, arith}
+use Rattle.std.proofs.lemmas.Int.{ints}
 use Rattle.place.specs.declared.Place.{Place}
 use Rattle.syntax_tree.specs.declared.Name.{Name}
 use Rattle.syntax_tree.specs.declared.Operator.{Operator}
@@ -12,30 +13,104 @@ use Rattle.types.specs.declared.form.OrdinalRange.{OrdinalRange}
 use Rattle.types.specs.Types.{integer, boolean, is_same, is_compatible, is_string, range_of}
 use Rattle.scopes.specs.declared.denotation.Denotation.{Denotation}
 use Rattle.scopes.specs.declared.denotation.RequiredFunction.{RequiredFunction}
-use Rattle.scopes.specs.declared.denotation.RequiredFunction.TheVariants as function
+use Rattle.scopes.specs.declared.denotation.FunctionOperation.{FunctionOperation}
+use Rattle.scopes.specs.declared.denotation.FunctionOperation.TheVariants.{Calculates, Tests}
+use Rattle.scopes.specs.declared.denotation.FunctionTest.{FunctionTest}
+use Rattle.scopes.specs.declared.denotation.FunctionTest.TheVariants as test
+use Rattle.scopes.specs.declared.denotation.FunctionValue.{FunctionValue}
+use Rattle.scopes.specs.declared.denotation.FunctionValue.TheVariants as function
 use Rattle.typed_tree.specs.declared.site.SiteKind.{SiteKind}
 use Rattle.typed_tree.specs.declared.site.SiteKind.TheVariants as kind
+use Rattle.typed_tree.specs.declared.tree.Calculation.TheVariants as calculation
 use Rattle.typed_tree.specs.declared.tree.Monadic.{Monadic}
-use Rattle.typed_tree.specs.declared.tree.Monadic.TheVariants as monadic
 use Rattle.typed_tree.specs.declared.tree.Dyadic.{Dyadic}
 use Rattle.typed_tree.specs.declared.tree.Dyadic.TheVariants as dyadic
 use Rattle.typed_tree.specs.declared.tree.Relation.TheVariants as relation
-use Rattle.typed_tree.specs.WellFormed.{Outline, is_whole, monadic_is_well_formed, dyadic_is_well_formed}
+use Rattle.typed_tree.specs.WellFormed.{Outline, is_whole, calculation_is_well_formed, shift_is_well_formed, monadic_is_well_formed, dyadic_is_well_formed}
 use Rattle.typed_tree.specs.Look.{Operation, Applied, Begins, Operator as OperatorMark, Compared, Ends}
 use Rattle.typing.specs.Steps.{fits, or_mismatch}
 use Rattle.typing.specs.declared.typed.Typed.{Typed}
 use Rattle.typing.specs.Expressions.{Written, WrittenActual, WrittenLink, written, typed, tested, operation, both_of, are_alike, compared, result_type}
-use Rattle.typing.specs.Expressions.{compares, link, links, chain, as_function, as_routine, takes, function_type, function_operation, on_range, applied, call}
+use Rattle.typing.specs.Expressions.{compares, link, links, chain, as_function, as_routine, call}
+use Rattle.typing.specs.declared.functions.BegunFunction.{BegunFunction}
+use Rattle.typing.specs.declared.functions.BegunFunction.TheVariants as begun
+use Rattle.typing.specs.Functions.{is_taken, given_type, test_kind, shift_of, no_values, all_but_last, all_but_first, passing_values, calculation_of, begins_as}
+use Rattle.typing.specs.Functions.{operation_on, applied}
 use Rattle.typing.specs.Expressions.{call_by, required_call, only}
-use Rattle.typing_laws.proofs.WholeRanges.{HaveWholeRanges, IfWhole, if_whole}
+use Rattle.typing_laws.proofs.WholeRanges.{HaveWholeRanges, IsWholeRange, IfWhole, if_whole}
 use Rattle.typing_laws.proofs.Covers.{AreAbove, at_place, Covers, Leads, covers_both, leads_first, leads_more}
 use Rattle.typing_laws.proofs.Grown.{both_true}
 use Rattle.typing_laws.proofs.Reached.{Reached, whole_of, IsFurther, further_still, Here}
 use Rattle.typing_laws.proofs.Steps.{Does, Anything, Nothing, IsFound, joins, quietly, last, checks_types, pure_does, given_does, by_types_does, find_does}
-use Rattle.typing_laws.proofs.Steps.{mark_does, enter_does, site_does, led, IsKnown, behind_does}
+use Rattle.typing_laws.proofs.Steps.{mark_does, enter_does, site_does, led, behind_does}
 use Rattle.typing_laws.proofs.Strings.{fit_is, there, both_and}
-use Rattle.typing_laws.proofs.Leading.{IsLed, Types, led_alone, led_behind, known_later, lt_true, LawfulWritten, LawfulLink, no_variable_lawful, led_covers}
+use Rattle.typing_laws.proofs.Leading.{IsLed, Types, led_alone, led_behind, ordinal_types, types_later, lt_true, LawfulWritten, LawfulLink}
+use Rattle.typing_laws.proofs.Leading.{no_variable_lawful, led_covers}
 use Rattle.typing_laws.proofs.Calls.{AreLawfulActuals, routine_is, function_does as function_does_call}
+
+-- ---- the values that pass the test of a function, and what comes of them, are numbers of integer
+
+le_further : (a b c : ℤ) → int_le a b ≡ true → b ≤ℤ c → int_le a c ≡ true
+le_further a b c is more = grind (arith, ints)
+
+le_within : (a b c : ℤ) → a ≤ℤ b → int_le b c ≡ true → int_le a c ≡ true
+le_within a b c less is = grind (arith, ints)
+
+whole_between : (low middle high : ℤ) → is_whole low ≡ true → is_whole high ≡ true → low ≤ℤ middle → middle ≤ℤ high → is_whole middle ≡ true
+whole_between low middle high one two above below =
+    both_true (int_le (neg_ℤ (pos 2147483647)) middle) (int_le middle (pos 2147483647))
+    (le_further (neg_ℤ (pos 2147483647)) low middle (both_and _ _ one).0 above) (le_within middle high (pos 2147483647) below (both_and _ _ two).1)
+
+one_less : (m n : ℤ) → int_lt m n ≡ true → (m ≤ℤ (n -ℤ pos 1)) × ((n -ℤ pos 1) ≤ℤ n)
+one_less m n is = (grind (arith, ints), omega (arith, ints))
+
+one_more : (m n : ℤ) → int_lt m n ≡ true → (m ≤ℤ (m +ℤ pos 1)) × ((m +ℤ pos 1) ≤ℤ n)
+one_more m n is = (omega (arith, ints), grind (arith, ints))
+
+less_and_more : (n : ℤ) → (n -ℤ pos 1) +ℤ pos 1 ≡ n
+less_and_more n = omega (arith, ints)
+
+more_and_less : (n : ℤ) → (n +ℤ pos 1) -ℤ pos 1 ≡ n
+more_and_less n = omega (arith, ints)
+
+abbrev IsWholeShift : FunctionTest → OrdinalRange → Type 0
+IsWholeShift tested values =
+    IsWholeRange values × ((w : Outline) (block : ℕ) → shift_is_well_formed w block values (shift_of tested) ≡ true)
+
+but_last_whole : (values : OrdinalRange) → IsWholeRange values → IsWholeShift test.Next (all_but_last values)
+but_last_whole values whole = by (int_lt values.first values.last) refl
+  where
+    by : (several : Bool) → int_lt values.first values.last ≡ several
+        → IsWholeShift test.Next (if several then record values { last = values.last -ℤ pos 1 } else no_values)
+    by false is = (refl, λ w block. refl)
+    by true is =
+        let ends = both_and (is_whole values.first) (is_whole values.last) whole in
+        let less = one_less values.first values.last is in
+        (
+          both_true _ _ ends.0 (whole_between values.first (values.last -ℤ pos 1) values.last ends.0 ends.1 less.0 less.1),
+          λ w block. ap is_whole (less_and_more values.last) ∙ ends.1,
+        )
+
+but_first_whole : (values : OrdinalRange) → IsWholeRange values → IsWholeShift test.Previous (all_but_first values)
+but_first_whole values whole = by (int_lt values.first values.last) refl
+  where
+    by : (several : Bool) → int_lt values.first values.last ≡ several
+        → IsWholeShift test.Previous (if several then record values { first = values.first +ℤ pos 1 } else no_values)
+    by false is = (refl, λ w block. refl)
+    by true is =
+        let ends = both_and (is_whole values.first) (is_whole values.last) whole in
+        let more = one_more values.first values.last is in
+        (
+          both_true _ _ (whole_between values.first (values.first +ℤ pos 1) values.last ends.0 ends.1 more.0 more.1) ends.1,
+          λ w block. ap is_whole (more_and_less values.first) ∙ ends.0,
+        )
+
+passing_whole : (tested : FunctionTest) (values : Option OrdinalRange) → IfWhole values → IsWholeShift tested (passing_values tested values)
+passing_whole test.Character values whole = (refl, λ w block. refl)
+passing_whole test.Next None whole = (refl, λ w block. refl)
+passing_whole test.Next (Some values) whole = but_last_whole values whole
+passing_whole test.Previous None whole = (refl, λ w block. refl)
+passing_whole test.Previous (Some values) whole = but_first_whole values whole
 
 module _ (here : Here) where
   -- ---- operators
@@ -71,9 +146,12 @@ module _ (here : Here) where
   operator_ascending op.LessOrEqual = tt
   operator_ascending op.GreaterOrEqual = tt
 
-  -- its site is among those that there are
+  -- its sites are among those that there are
+  abbrev IsFormedBy : {A : Type 0} → (Outline → ℕ → A → Bool) → A → Reached → Type 0
+  IsFormedBy is_formed x now = (w : Outline) → IsFurther now (whole_of w) → is_formed w here.block x ≡ true
+
   abbrev IsFormed : Dyadic → Reached → Type 0
-  IsFormed o now = (w : Outline) → IsFurther now (whole_of w) → dyadic_is_well_formed w here.block o ≡ true
+  IsFormed = IsFormedBy dyadic_is_well_formed
 
   tested_does : {least : Reached} (made : ℕ → Dyadic) (kind : SiteKind) (place : Place)
       → ((w : Outline) (id : ℕ) → id < w.sites → dyadic_is_well_formed w here.block (made id) ≡ true)
@@ -151,7 +229,7 @@ module _ (here : Here) where
     types = λ least left known. led_covers here 2 place places (operator_kinds o) (operator_ascending o) (by least left known);
   }
     where
-      by : (least : Reached) (left : Typed) → IsKnown left.site least
+      by : (least : Reached) (left : Typed) → Types left least
           → Does here least (Leads place (operator_kinds o) places) (link o place operand left) Types
       by least left known =
           joins (leads_first 2 place (operator_kinds o) places) (operation_does o place) λ tests now one formed.
@@ -161,22 +239,22 @@ module _ (here : Here) where
           let result = there place (result_type now.types o left right) type_id is.1 in
           quietly (compares_does left.length right.length (result_alike now.types o left right type_id result)) λ _ _ five _.
           let later = further_still one (further_still two (further_still three (further_still four five))) in
-          pure_does (typed type_id left.site) (λ n h. known_later left.site least n (further_still later h) known)
+          pure_does (typed type_id left.site) (λ n h. ordinal_types type_id left.site least n (further_still later h) known.0)
 
   -- ---- chains
 
-  pub links_none : {least : Reached} (left : Typed) → IsKnown left.site least → Does here least (Covers 2 []) (links left []) Types
-  links_none {least} left known = pure_does left (λ n h. known_later left.site least n h known)
+  pub links_none : {least : Reached} (left : Typed) → Types left least → Does here least (Covers 2 []) (links left []) Types
+  links_none {least} left known = pure_does left (λ n h. types_later left least n h known)
 
-  pub links_more : {least : Reached} (left : Typed) (l : WrittenLink) (ls : List WrittenLink) (first rest : List Place) → IsKnown left.site least
+  pub links_more : {least : Reached} (left : Typed) (l : WrittenLink) (ls : List WrittenLink) (first rest : List Place) → Types left least
       → LawfulLink here first l
-      → ((now : Reached) (t : Typed) → IsKnown t.site now → Does here now (Covers 2 rest) (links t ls) Types)
+      → ((now : Reached) (t : Typed) → Types t now → Does here now (Covers 2 rest) (links t ls) Types)
       → Does here least (Covers 2 (first ++ rest)) (links left (l ∷ ls)) Types
   links_more {least} left l ls first rest known law more =
       joins (covers_both 2 first rest) (law.types least left known) λ t now _ known. more now t known
 
   pub chain_does : (first : Written) (ls : List WrittenLink) (places others : List Place) → LawfulWritten here places first
-      → ((now : Reached) (t : Typed) → IsKnown t.site now → Does here now (Covers 2 others) (links t ls) Types)
+      → ((now : Reached) (t : Typed) → Types t now → Does here now (Covers 2 others) (links t ls) Types)
       → LawfulWritten here (places ++ others) (written first.first (chain first ls))
   unfolding chain
   chain_does first ls places others law more =
@@ -187,74 +265,63 @@ module _ (here : Here) where
       last (more met f known) λ t there _ known.
       quietly (given_does (fits (is_none f.length || nat_eq (length ls) 1) first.first t)) λ _ _ one _.
       quietly (mark_does Ends refl refl refl refl refl (λ o h. refl)) λ _ _ two _.
-      pure_does t (λ n h. known_later t.site there n (further_still one (further_still two h)) known))
+      pure_does t (λ n h. types_later t there n (further_still one (further_still two h)) known))
 
   -- ---- calls
 
-  abbrev function_kinds : RequiredFunction → List SiteKind
-  function_kinds function.Abs = []
-  function_kinds function.Sqr = kind.Overflow ∷ []
-  function_kinds function.Odd = []
-  function_kinds function.Ord = []
-  function_kinds function.Chr = kind.Chr ∷ []
-  function_kinds function.Succ = kind.Succ ∷ []
-  function_kinds function.Pred = kind.Pred ∷ []
+  abbrev calculation_kinds : FunctionValue → List SiteKind
+  calculation_kinds function.Square = kind.Overflow ∷ []
+  calculation_kinds other = []
 
-  function_ascending : (f : RequiredFunction) (lead : Option SiteKind) → IsLed lead → AreAbove 2 (function_kinds f ++ led lead)
-  function_ascending function.Abs lead is = led_alone lead is
-  function_ascending function.Sqr lead is = led_behind kind.Overflow lead (omega arith) (omega arith) is
-  function_ascending function.Odd lead is = led_alone lead is
-  function_ascending function.Ord lead is = led_alone lead is
-  function_ascending function.Chr lead is = led_behind kind.Chr lead (omega arith) (omega arith) is
-  function_ascending function.Succ lead is = led_behind kind.Succ lead (omega arith) (omega arith) is
-  function_ascending function.Pred lead is = led_behind kind.Pred lead (omega arith) (omega arith) is
+  abbrev function_kinds : FunctionOperation → List SiteKind
+  function_kinds (Calculates calculated) = calculation_kinds calculated
+  function_kinds (Tests tested) = test_kind tested ∷ []
 
-  abbrev IsFormedMonadic : Monadic → Reached → Type 0
-  IsFormedMonadic o now = (w : Outline) → IsFurther now (whole_of w) → monadic_is_well_formed w here.block o ≡ true
+  function_ascending : (operation : FunctionOperation) (lead : Option SiteKind) → IsLed lead → AreAbove 2 (function_kinds operation ++ led lead)
+  function_ascending (Calculates function.Same) lead is = led_alone lead is
+  function_ascending (Calculates function.Absolute) lead is = led_alone lead is
+  function_ascending (Calculates function.Square) lead is = led_behind kind.Overflow lead (omega arith) (omega arith) is
+  function_ascending (Calculates function.Parity) lead is = led_alone lead is
+  function_ascending (Tests test.Character) lead is = led_behind kind.Chr lead (omega arith) (omega arith) is
+  function_ascending (Tests test.Next) lead is = led_behind kind.Succ lead (omega arith) (omega arith) is
+  function_ascending (Tests test.Previous) lead is = led_behind kind.Pred lead (omega arith) (omega arith) is
 
-  function_does : {least : Reached} (f : RequiredFunction) (place : Place)
-      → Does here least (λ added. added ≡ at_place place (function_kinds f)) (function_operation f place) IsFormedMonadic
-  unfolding function_operation
-  function_does function.Abs place = pure_does monadic.Abs (λ m h w more. refl)
-  function_does function.Sqr place =
+  calculation_does : {least : Reached} (calculated : FunctionValue) (place : Place)
+      → Does here least (λ added. added ≡ at_place place (calculation_kinds calculated)) (calculation_of calculated place)
+      (IsFormedBy calculation_is_well_formed)
+  unfolding calculation_of
+  calculation_does function.Same place = pure_does calculation.Ordinal (λ m h w more. refl)
+  calculation_does function.Absolute place = pure_does calculation.Absolute (λ m h w more. refl)
+  calculation_does function.Square place =
       last (site_does kind.Overflow place) λ id now _ known.
-      pure_does (monadic.Sqr id) (λ m h w more. lt_true id w.sites (omega (arith, known, h.sites, more.sites)))
-  function_does function.Odd place = pure_does monadic.Odd (λ m h w more. refl)
-  function_does function.Ord place = pure_does monadic.Ord (λ m h w more. refl)
-  function_does function.Chr place =
-      last (site_does kind.Chr place) λ id now _ known.
-      pure_does (monadic.Chr id) (λ m h w more. lt_true id w.sites (omega (arith, known, h.sites, more.sites)))
-  function_does function.Succ place =
-      last (site_does kind.Succ place) λ id now _ known.
-      pure_does (monadic.Succ id (pos 2147483647)) (λ m h w more. both_true _ _ (lt_true id w.sites (omega (arith, known, h.sites, more.sites))) refl)
-  function_does function.Pred place =
-      last (site_does kind.Pred place) λ id now _ known.
-      pure_does (monadic.Pred id (neg_ℤ (pos 2147483647))) (λ m h w more. both_true _ _ (lt_true id w.sites (omega (arith, known, h.sites, more.sites))) refl)
+      pure_does (calculation.Square id) (λ m h w more. lt_true id w.sites (omega (arith, known, h.sites, more.sites)))
+  calculation_does function.Parity place = pure_does calculation.Parity (λ m h w more. refl)
 
-  -- on the values of a range it is formed as well
-  on_range_formed : (values : Option OrdinalRange) (o : Monadic) (w : Outline) → IfWhole values
-      → monadic_is_well_formed w here.block o ≡ true
-      → monadic_is_well_formed w here.block (on_range values o) ≡ true
-  on_range_formed None o w whole formed = formed
-  on_range_formed (Some values) (monadic.Succ id last) w whole formed =
-      both_true _ _ (both_and (nat_lt id w.sites) (is_whole last) formed).0 (both_and (is_whole values.first) (is_whole values.last) whole).1
-  on_range_formed (Some values) (monadic.Pred id first) w whole formed =
-      both_true _ _ (both_and (nat_lt id w.sites) (is_whole first) formed).0 (both_and (is_whole values.first) (is_whole values.last) whole).0
-  on_range_formed (Some values) monadic.Plus w whole formed = refl
-  on_range_formed (Some values) monadic.Minus w whole formed = refl
-  on_range_formed (Some values) monadic.Not w whole formed = refl
-  on_range_formed (Some values) monadic.Abs w whole formed = refl
-  on_range_formed (Some values) (monadic.Sqr id) w whole formed = formed
-  on_range_formed (Some values) monadic.Odd w whole formed = refl
-  on_range_formed (Some values) monadic.Ord w whole formed = refl
-  on_range_formed (Some values) (monadic.Chr id) w whole formed = formed
+  -- the operation on an argument of any type is formed
+  abbrev IsFormedFunction : BegunFunction → Reached → Type 0
+  IsFormedFunction operation now = (types : List Form) → HaveWholeRanges types → (id : TypeId)
+      → IsFormedBy monadic_is_well_formed (operation_on types id operation) now
 
-  applied_formed : (types : List Form) → HaveWholeRanges types → (f : RequiredFunction) (o : Monadic) (place : Place) (t : Typed) (does : Monadic × TypeId)
-      → applied types f o place t ≡ Ok does → (now n : Reached) → IsFurther now n → IsFormedMonadic o now → IsFormedMonadic does.0 n
-  applied_formed types whole f o place t does is now n more formed m h =
-      let fit = fit_is (is_none t.length && takes types f t.type_id) place (on_range (range_of types t.type_id) o, function_type f t.type_id) does is in
+  function_does : {least : Reached} (operation : FunctionOperation) (place : Place)
+      → Does here least (λ added. added ≡ at_place place (function_kinds operation)) (begins_as operation place) IsFormedFunction
+  unfolding begins_as
+  function_does (Calculates calculated) place =
+      last (calculation_does calculated place) λ does now _ formed.
+      pure_does (begun.Calculates does) (λ m h types whole id w more. formed w (further_still h more))
+  function_does (Tests tested) place =
+      last (site_does (test_kind tested) place) λ site now _ known.
+      pure_does (begun.Tests site tested) (λ m h types whole id w more.
+      let shifted = passing_whole tested (range_of types id) (if_whole types whole id) in
+      both_true _ _ (both_true _ _ (lt_true site w.sites (omega (arith, known, h.sites, more.sites))) shifted.0) (shifted.1 w here.block))
+
+  applied_formed : (types : List Form) → HaveWholeRanges types → (f : RequiredFunction) (operation : BegunFunction) (place : Place) (t : Typed)
+      (does : Monadic × TypeId) → applied types f operation place t ≡ Ok does → (now n : Reached) → IsFurther now n → IsFormedFunction operation now
+      → IsFormedBy monadic_is_well_formed does.0 n
+  applied_formed types whole f operation place t does is now n more formed m h =
+      let answer : Monadic × TypeId = (operation_on types t.type_id operation, given_type f.gives t.type_id) in
+      let fit = fit_is (is_none t.length && is_taken types f.takes t.type_id) place answer does is in
       subst (λ (z : Monadic × TypeId). monadic_is_well_formed m here.block z.0 ≡ true) fit.1
-      (on_range_formed (range_of types t.type_id) o m (if_whole types whole t.type_id) (formed m (further_still more h)))
+      (formed types whole t.type_id m (further_still more h))
 
   required_does : {least : Reached} (d : Denotation) (name : Name) (actuals : List WrittenActual) (places : List Place) (lead : Option SiteKind) → IsLed lead
       → ((w : Written) → only name.place actuals ≡ Ok w → LawfulWritten here places w)
@@ -262,17 +329,18 @@ module _ (here : Here) where
   unfolding required_call
   required_does d name actuals places lead is laws =
       quietly (given_does (as_function name.place d)) λ f there _ _.
-      led_covers here 2 name.place places (function_kinds f ++ led lead) (function_ascending f lead is)
-      (joins (leads_more name.place (function_kinds f) (led lead) places) (function_does f name.place) λ tests met _ formed.
+      let kinds = function_kinds f.does in
+      led_covers here 2 name.place places (kinds ++ led lead) (function_ascending f.does lead is)
+      (joins (leads_more name.place kinds (led lead) places) (function_does f.does name.place) λ operation met _ formed.
       joins (leads_first 2 name.place (led lead) places) (behind_does lead name.place) λ id now seen known.
       quietly (enter_does Operation (λ n. refl) (λ n. refl) (λ n. refl) (λ n. refl) (λ n. refl) (λ n o h. refl)) λ _ _ one _.
       quietly (given_does (only name.place actuals)) λ actual m two right.
-      last (checks_types {L = λ does n. IsFormedMonadic does.0 n} ((laws actual right).types m None tt) λ types t does n later same lawful is _.
-      applied_formed types lawful.whole f tests actual.first t does is met n
+      last (checks_types {L = λ does n. IsFormedBy monadic_is_well_formed does.0 n} ((laws actual right).types m None tt)
+      λ types t does n later same lawful is _. applied_formed types lawful.whole f operation actual.first t does is met n
       (further_still seen (further_still one (further_still two later))) formed) λ does _ three formed.
       quietly (mark_does (Applied does.0) refl refl refl refl refl (λ o h. formed o h)) λ _ _ four _.
       let later = further_still one (further_still two (further_still three four)) in
-      pure_does (typed does.1 id) (λ n h. known_later id now n (further_still later h) known))
+      pure_does (typed does.1 id) (λ n h. ordinal_types does.1 id now n (further_still later h) known))
 
   called_does : {least : Reached} (found : Option (ℕ × Bool)) (d : Denotation) → as_routine d ≡ found → (name : Name) (actuals : List WrittenActual)
       (rows : List (List Place)) (lead : Option SiteKind) → IsLed lead → IsFound here d least

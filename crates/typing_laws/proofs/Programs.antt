@@ -18,10 +18,10 @@ use Rattle.typed_tree.specs.declared.tree.Heading.{Heading as TreeHeading}
 use Rattle.typed_tree.specs.declared.tree.Variable.{Variable}
 use Rattle.typed_tree.specs.Ids.{Stands, AreByPlace}
 use Rattle.typed_tree.specs.Look.{Look, Mark, BlockEnds, mark_entries, entries_of_look, mark_loops, loops_of_look, mark_blocks, blocks_of_look, are_formed}
-use Rattle.typed_tree.specs.WellFormed.{Outline, are_few_cells, is_heading}
+use Rattle.typed_tree.specs.WellFormed.{Outline, are_few_cells, is_heading, most_entries}
 use Rattle.typing.specs.Names.{all_folded, required_region}
 use Rattle.typing.specs.Passing.{Headed, Passed, Checked, After, Passing, after, behind_marks, each, ◌>>◌}
-use Rattle.typing.specs.Steps.{begins, most_entries, open_block, open_required, program_heading}
+use Rattle.typing.specs.Steps.{begins, open_block, open_required, program_heading}
 use Rattle.typing.specs.Routines.{TypedBlock, block_end, typed_block}
 use Rattle.typing.specs.Typing.{parameter_of_program, parameters_of_program, program_typing, typing}
 use Rattle.typing_laws.specs.Lawful.{IsOutlineOf, Lawful}
@@ -68,6 +68,7 @@ begins_base = record {
   by_blocks = refl;
   have_types = tt;
   few_variables = omega arith;
+  few_blocks = omega arith;
   few_cells = λ block. omega arith;
 }
   where
@@ -435,6 +436,7 @@ module _ (program : Program) (a : After (Unit {0})) (w : Whole program a) where
     headings = heading_is;
     few_cells = cells_are_few;
     few_variables = base.few_variables;
+    few_blocks = subst (λ n. n ≤ most_entries) (heads_count a.passed.headings) base.few_blocks;
     declared =
         subst (λ n. list_all (λ (v : Variable). nat_lt v.block n) a.passed.variables ≡ true) (heads_count a.passed.headings) base.by_blocks;
     unthreatened = has_controls;

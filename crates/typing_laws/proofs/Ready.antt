@@ -11,7 +11,7 @@ use Rattle.types.specs.Forms.{Form}
 use Rattle.types.specs.Types.{cells_of, is_ordinal, most_cells}
 use Rattle.typed_tree.specs.declared.tree.Variable.{Variable}
 use Rattle.typed_tree.specs.declared.tree.VariableKind.{VariableKind}
-use Rattle.typed_tree.specs.WellFormed.{declarer, is_local_kind, is_parameter_kind, is_result_kind, is_one_of, most_blocks, most_variables}
+use Rattle.typed_tree.specs.WellFormed.{declarer, is_local_kind, is_parameter_kind, is_result_kind, is_one_of, most_blocks, most_entries, most_variables}
 use Rattle.typing.specs.Passing.{Headed, Passed}
 use Rattle.typing_laws.proofs.Grown.{AreFit, FitsHeading, IsFormal, both_true}
 use Rattle.typing_laws.proofs.Owned.{Fails, HasRoot, declares, parameters_of, results_of, roots_of, root_there, roots_none_more, not_both, local_no_parameter}
@@ -63,6 +63,7 @@ pub record Base (types : List Form) (variables : List Variable) (headings : List
   pub by_blocks : list_all (λ variable. nat_lt variable.block blocks) variables ≡ true
   pub have_types : HaveTypes types variables
   pub few_variables : length variables ≤ most_variables
+  pub few_blocks : blocks ≤ most_entries
   pub few_cells : (block : ℕ) → cells_of_block types block variables ≤ most_cells
 
 pub type_stands : (types : List Form) (variables : List Variable) (root : ℕ) (v : Variable) → HaveTypes types variables → slice_get variables root ≡ Some v
@@ -90,6 +91,7 @@ base_types old new variables headings blocks longer lawful b = record {
   by_blocks = b.by_blocks;
   have_types = have_types_longer longer variables b.have_types;
   few_variables = b.few_variables;
+  few_blocks = b.few_blocks;
   few_cells = λ block. omega (arith, block_cells_longer longer block variables b.have_types, b.few_cells block);
 }
 
@@ -141,6 +143,7 @@ base_variable types variables headings blocks variable b there stands few room u
       ∙ both_true _ _ b.by_blocks (both_true _ true (lt_is variable.block blocks there) refl);
   have_types = one_has_type types variables variable b.have_types stands;
   few_variables = omega (arith, few, length-append variables (variable ∷ []));
+  few_blocks = b.few_blocks;
   few_cells = λ block. by block (nat_eq variable.block block) refl;
 }
   where
@@ -163,14 +166,15 @@ more_blocks (v ∷ variables) few many h all =
     by is = grind (arith, nat_tests)
 
 -- variables may belong to more blocks
-pub base_blocks : (types : List Form) (variables : List Variable) (headings : List Headed) (few many : ℕ) → few ≤ many → Base types variables headings few
-    → Base types variables headings many
-base_blocks types variables headings few many h b = record {
+pub base_blocks : (types : List Form) (variables : List Variable) (headings : List Headed) (few many : ℕ) → few ≤ many → many ≤ most_entries
+    → Base types variables headings few → Base types variables headings many
+base_blocks types variables headings few many h room b = record {
   lawful = b.lawful;
   headed = b.headed;
   by_blocks = more_blocks variables few many h b.by_blocks;
   have_types = b.have_types;
   few_variables = b.few_variables;
+  few_blocks = room;
   few_cells = b.few_cells;
 }
 
@@ -184,6 +188,7 @@ base_heading types variables headings blocks headed b new = record {
   by_blocks = b.by_blocks;
   have_types = b.have_types;
   few_variables = b.few_variables;
+  few_blocks = b.few_blocks;
   few_cells = b.few_cells;
 }
   where

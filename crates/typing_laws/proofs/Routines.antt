@@ -16,10 +16,10 @@ use Rattle.scopes.specs.declared.denotation.Denotation.{Denotation}
 use Rattle.scopes.specs.declared.denotation.Denotation.TheVariants as denotes
 use Rattle.typed_tree.specs.declared.fault.TypeFault.TheVariants as fault
 use Rattle.typed_tree.specs.declared.tree.Variable.{Variable}
-use Rattle.typed_tree.specs.WellFormed.{is_one_of, most_blocks, of_one, variables_of}
+use Rattle.typed_tree.specs.WellFormed.{is_one_of, most_blocks, most_entries, of_one, variables_of}
 use Rattle.typing.specs.Names.{folded}
 use Rattle.typing.specs.Passing.{Enclosing, Passed, Checked, After, Passing, after, pure, ◌>>=◌, ◌>>◌}
-use Rattle.typing.specs.Steps.{declare, may_nest, most_entries, next_block}
+use Rattle.typing.specs.Steps.{declare, may_nest, next_block}
 use Rattle.typing.specs.Routines.{Begun, begun, headed, heading, is_same_kind, is_waiting, new_heading, or_mismatched, or_new, procedure_headed, resumed}
 use Rattle.typing.specs.Routines.{waiting_for, waits}
 use Rattle.typing_laws.proofs.Built.{IsOpen, Standing, open_later}
@@ -31,20 +31,22 @@ use Rattle.typing_laws.proofs.Reached.{IsLonger, as_long, one_longer, get_last, 
 use Rattle.typing_laws.proofs.Reached.{apart_kept, is_round_here, stands_later}
 use Rattle.typing_laws.proofs.Ready.{base_blocks, heads_passed}
 use Rattle.typing_laws.proofs.Sound.{IsRoutine, inside_itself, regions_later}
-use Rattle.typing_laws.proofs.Steps.{split_if, split_unless}
+use Rattle.typing_laws.proofs.Steps.{below, split_if, split_unless}
 use Rattle.typing_laws.proofs.Strings.{behind_nothing}
 use Rattle.typing_laws.proofs.Waiting.{waits_in}
 
 -- ---- a new heading
 
 -- with one head more, of a block that comes
-ready_heads : (here : Here) (under : List Region) (heads : List Head) (head : Head) (s : Passed) → Ready here under here.block heads s.variables s
-    → Ready here under here.block (heads ++ head ∷ []) s.variables s
-ready_heads here under heads head s r = record {
+ready_heads : (here : Here) (under : List Region) (heads : List Head) (head : Head) (s : Passed) → length heads < most_entries
+    → Ready here under here.block heads s.variables s → Ready here under here.block (heads ++ head ∷ []) s.variables s
+ready_heads here under heads head s room r = record {
   sound = regions_later inside_itself as_long as_long (one_longer heads head) s.regions r.sound;
   under_it = r.under_it;
   base =
-      base_blocks s.types s.variables s.headings (length heads) (length (heads ++ head ∷ [])) (omega (arith, length-append heads (head ∷ []))) r.base;
+      let one_more = length-append heads (head ∷ []) in
+      base_blocks s.types s.variables s.headings (length heads) (length (heads ++ head ∷ [])) (omega (arith, one_more)) (omega (arith, room, one_more))
+      r.base;
   texts = r.texts;
   few_sites = r.few_sites;
   few_entries = r.few_entries;
@@ -75,10 +77,12 @@ module _ (here : Here) (under : List Region) where
   unfolding may_nest
   nested_few place s a is = split_if (nat_lt (length s.enclosing.around + 1) most_blocks) (fault.NestedTooDeep place) (after tt [] s) a is
 
-  next_is : (place : Place) (s : Passed) (a : After ℕ) → next_block place s ≡ Ok a → after (length s.headings) [] s ≡ a
+  next_is : (place : Place) (s : Passed) (a : After ℕ) → next_block place s ≡ Ok a
+      → (length s.headings < most_entries) × (after (length s.headings) [] s ≡ a)
   unfolding next_block
   next_is place s a is =
-      (split_unless (nat_le most_entries (length s.headings)) (fault.TooMany place) (after (length s.headings) [] s) a is).1
+      let next = split_unless (nat_le most_entries (length s.headings)) (fault.TooMany place) (after (length s.headings) [] s) a is in
+      (below most_entries (length s.headings) next.0, next.1)
 
   less_is : (a b : ℕ) → nat_lt a b ≡ true → a < b
   less_is a b h = grind (arith, nat_tests)
@@ -86,6 +90,7 @@ module _ (here : Here) (under : List Region) where
   -- from where the routine's name is declared
   record Named (name : Name) (groups : List FormalGroup) (of_result : Option Name) (s : Passed) (a : After ℕ) : Type 0 where
     pub few : nat_lt (length s.enclosing.around + 1) most_blocks ≡ true
+    pub room : length s.headings < most_entries
     pub is :
         (declare name (denotes.Routine (length s.headings) (not (is_none of_result)))
         >> (heading (length s.headings) name groups of_result >> pure (length s.headings))) s
@@ -102,9 +107,9 @@ module _ (here : Here) (under : List Region) where
       let few = nested_few name.place s x.0 x.1 in
       let on : (next_block name.place >>= behind) s ≡ Ok a =
       subst (λ (c : After (Unit {0})). (next_block name.place >>= behind) c.passed ≡ Ok a) (sym few.1) x.2 in
-      let y = quiet_parts (next_block name.place) behind s a on (λ b goes. ap (λ (c : After ℕ). c.look) (sym (next_is name.place s b goes))) in
+      let y = quiet_parts (next_block name.place) behind s a on (λ b goes. ap (λ (c : After ℕ). c.look) (sym (next_is name.place s b goes).1)) in
       let next = next_is name.place s y.0 y.1 in
-      record { few = few.0; is = subst (λ (c : After ℕ). behind c.answer c.passed ≡ Ok a) (sym next) y.2 }
+      record { few = few.0; room = next.0; is = subst (λ (c : After ℕ). behind c.answer c.passed ≡ Ok a) (sym next.1) y.2 }
 
   pub new_begins : (name : Name) (groups : List FormalGroup) (of_result : Option Name) (s : Passed) (a : After ℕ) → Standing here under s
       → new_heading name groups of_result s ≡ Ok a → (a.look ≡ []) × Began here under a.answer s a.passed
@@ -114,7 +119,8 @@ module _ (here : Here) (under : List Region) where
       let head : Head = record { around = here.around ++ here.block ∷ []; is_function = function } in
       let heads = heads_passed s.headings ++ head ∷ [] in
       let n = named name groups of_result s a is in
-      let ready = ready_heads here under (heads_passed s.headings) head s st.ready in
+      let room : length (heads_passed s.headings) < most_entries = omega (arith, n.room, heads_count s.headings) in
+      let ready = ready_heads here under (heads_passed s.headings) head s room st.ready in
       let at_number : slice_get heads number ≡ Some head =
       ap (slice_get heads) (sym (heads_count s.headings)) ∙ get_last (heads_passed s.headings) head in
       let own = eq-eqb here.block here.block refl in

@@ -5,6 +5,7 @@ use Rattle.std.proofs.Common.{subst, arith, length, slice_get, ◌||◌}
 use Rattle.std.proofs.lemmas.Bool.{eq-eqb, eqb-true}
 use Rattle.std.specs.Cmp.Lexicographic.{pointwise}
 use Rattle.types.specs.Forms.{Form}
+use Rattle.types.specs.Types.{is_string}
 use Rattle.types.specs.declared.form.TypeId.{TypeId}
 use Rattle.scopes.specs.Scopes.{Region, said, decided, found, put, opened, listing, is_listed, opened_beside, is_defined, define}
 use Rattle.scopes.specs.declared.fault.ScopeFault.TheVariants.{DeclaredTwice}
@@ -14,7 +15,7 @@ use Rattle.typed_tree.specs.declared.tree.Variable.{Variable}
 use Rattle.typed_tree.specs.WellFormed.{is_whole, is_one_of, of_one, declarer}
 use Rattle.typing.specs.Names.{required_region}
 use Rattle.typing_laws.proofs.Reached.{IsLonger, Here, Head, Reached, IsFurther, is_round_here, get_longer}
-use Rattle.typing_laws.proofs.Tables.{stands_longer}
+use Rattle.typing_laws.proofs.Tables.{is_string_longer, stands_longer}
 
 -- ---- what holds of each thing that is denoted
 
@@ -127,7 +128,7 @@ pub record IsRoutine (here : Here) (heads : List Head) (block : ℕ) (is_functio
 -- with these variables, types and heads of blocks
 abbrev pub IsSound : Here → List Variable → List Form → List Head → Denotation → Type 0
 IsSound here variables types heads (denotes.Constant value type_id) = is_whole value ≡ true
-IsSound here variables types heads (denotes.Text number type_id) = Unit {0}
+IsSound here variables types heads (denotes.Text number type_id) = is_string types type_id ≡ true
 IsSound here variables types heads (denotes.Variable root type_id) = IsVariable here variables types root type_id
 IsSound here variables types heads (denotes.Procedure procedure) = Unit {0}
 IsSound here variables types heads (denotes.Function function) = Unit {0}
@@ -232,7 +233,7 @@ module _ {outer inner : Here} (inside : IsInside outer inner) {old_variables new
   pub sound_more : (denotation : Denotation) → IsSound outer old_variables old old_heads denotation
       → IsSound inner new_variables new new_heads denotation
   sound_more (denotes.Constant value type_id) sound = sound
-  sound_more (denotes.Text number type_id) sound = tt
+  sound_more (denotes.Text number type_id) sound = is_string_longer types type_id sound
   sound_more (denotes.Variable root type_id) sound = variable_more root type_id sound
   sound_more (denotes.Procedure procedure) sound = tt
   sound_more (denotes.Function function) sound = tt

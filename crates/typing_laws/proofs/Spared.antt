@@ -1,10 +1,10 @@
 -- Forms that change none of the control variables of the for statements round them.
-use Rattle.std.proofs.Common.{◌≡◌, ℕ, Bool, true, false, ◌||◌, not, nat_eq, if◌then◌else◌, List, [], ◌∷◌, ◌++◌, Option, Some, None, refl, ap, ◌∙◌}
+use Rattle.std.proofs.Common.{◌≡◌, ℕ, Bool, true, false, not, nat_eq, if◌then◌else◌, List, [], ◌∷◌, ◌++◌, Option, Some, None, refl, ap, ◌∙◌}
 use Rattle.std.specs.List.{list_all, list_any}
 use Rattle.std.specs.Option.{option_and_then}
 use Rattle.typed_tree.specs.Look.{Look, Mark, Controls, ForEnds}
 use Rattle.typed_tree.specs.Threats.{is_none_of}
-use Rattle.typing_laws.specs.Controls.{Each, is_bracket, mark_behind, mark_changes, spared_behind}
+use Rattle.typing_laws.specs.Controls.{is_bracket, mark_behind, mark_changes, spared_behind}
 
 -- these are control variables of for statements round a place
 abbrev pub AreHeld : List ℕ → List ℕ → Type 0

@@ -1,15 +1,10 @@
 -- What the look of a statement tells of the variables that it spares, and of the control variables of its for statements.
 use Rattle.std.specs.declared.alloc.Global.{Global}
-use Rattle.std.proofs.Common.{Vec, ℤ, ◌≡◌, ℕ, suc, Bool, true, false, ◌&&◌, ◌||◌, not, nat_eq, if◌then◌else◌, List, [], ◌∷◌, ◌++◌, length, map, Option, Some, None}
-use Rattle.std.proofs.Common.{refl, sym, ap, subst, ◌∙◌}
+use Rattle.std.proofs.Common.{Vec, ℤ, ◌≡◌, ℕ, suc, Bool, true, false, ◌&&◌, if◌then◌else◌, List, [], ◌∷◌, ◌++◌, length, map, Option}
+use Rattle.std.proofs.Common.{Some, None, refl, sym, ap, subst, ◌∙◌}
 use Rattle.std.specs.Prelude.{flat_map}
-use Rattle.std.specs.List.{list_all, list_any}
 use Rattle.std.specs.Option.{option_and_then}
-use Rattle.std.proofs.lemmas.Bool.{and_from, or_cases, or_left, or_right}
-use Rattle.std.proofs.lemmas.Grind.{flat_map-append}
-use Rattle.std.proofs.lemmas.List.Folds.{list_any-append}
-use Rattle.typed_tree.specs.declared.tree.Access.{Access}
-use Rattle.typed_tree.specs.declared.tree.Call.{Call}
+use Rattle.std.proofs.lemmas.Bool.{and_from}
 use Rattle.typed_tree.specs.declared.tree.RangeTest.{RangeTest}
 use Rattle.typed_tree.specs.declared.tree.Width.{Width as TotalWidth}
 use Rattle.typed_tree.specs.declared.tree.WriteParameter.{WriteParameter}
@@ -32,13 +27,13 @@ use Rattle.typed_tree.specs.declared.tree.Stmt.TheFolds.{map-Stmt, fold-roll-Stm
 use Rattle.typed_tree.specs.declared.tree.Stmt.TheViews.{roll-Stmt}
 use Rattle.typed_tree.specs.Entries.{joined}
 use Rattle.typed_tree.specs.WellFormed.{placed}
-use Rattle.typed_tree.specs.Look.{Look, Mark, Ends, Then, Else, Do, Until, Fits, Controls, ForEnds, For as ForMark, Target, WholeTarget, Copied, Width, Written}
-use Rattle.typed_tree.specs.Look.{WrittenString, access_look, whole_look, call_look, passed_look, link_look, expression_look, look_expr, look_passed}
-use Rattle.typed_tree.specs.Look.{look_link, look_access, look_whole, look_width, look_written, look_parameter, arms_look, statement_look, look_stmt}
+use Rattle.typed_tree.specs.Look.{Look, Mark, Ends, Then, Else, Do, Until, Fits, Controls, ForEnds, For as ForMark, Target, WholeTarget, Width, Written}
+use Rattle.typed_tree.specs.Look.{WrittenString, whole_look, passed_look, link_look, expression_look, look_expr, look_passed}
+use Rattle.typed_tree.specs.Look.{look_link, look_whole, look_width, look_written, look_parameter, arms_look, statement_look, look_stmt}
 use Rattle.typed_tree.specs.Threats.{Spares, all_so, all_spare, expr_spares, indexes_so, is_none_of, link_spares, passed_spares, spares, spares_in_expr}
 use Rattle.typed_tree.specs.Threats.{spares_in_indexes, spares_in_link, spares_in_parameter, spares_in_passed, spares_in_whole, spares_in_width}
 use Rattle.typed_tree.specs.Threats.{spares_in_written, statement_spares}
-use Rattle.typing_laws.specs.Controls.{mark_behind, mark_changes, spared_behind}
+use Rattle.typing_laws.specs.Controls.{mark_behind, spared_behind}
 use Rattle.typing_laws.proofs.Spared.{spared_append}
 
 -- ---- forms one after another
@@ -71,7 +66,8 @@ tells_then look more so also one two roots behind is =
     (and_from (so roots) (also roots) first.0 second.0, second.1)
 
 -- a form behind others that tells nothing
-tells_before : (look : Look) (end : Mark) (so : Spares) → ((roots : List ℕ) → mark_behind end roots ≡ Some roots) → Tells look so → Tells (look ++ (end ∷ [])) so
+tells_before : (look : Look) (end : Mark) (so : Spares) → ((roots : List ℕ) → mark_behind end roots ≡ Some roots) → Tells look so
+    → Tells (look ++ (end ∷ [])) so
 tells_before look end so plain one roots behind is =
     let parts = cut roots behind look (end ∷ []) is in
     let first = one roots parts.0 parts.1 in
@@ -321,7 +317,8 @@ tells_arms (row ∷ rows) (arm ∷ arms) =
     (tells_arms rows arms)
 
 -- the statement of a for spares its control variable too
-tells_body : (control : ℕ) (body : Stmt) → TellsStmt body → Tells (Controls control ∷ (look_stmt body ++ (ForEnds ∷ []))) (λ roots. spares body (control ∷ roots))
+tells_body : (control : ℕ) (body : Stmt) → TellsStmt body
+    → Tells (Controls control ∷ (look_stmt body ++ (ForEnds ∷ []))) (λ roots. spares body (control ∷ roots))
 tells_body control body told roots behind is =
     let parts = cut (control ∷ roots) behind (look_stmt body) (ForEnds ∷ []) is in
     let k = told (control ∷ roots) parts.0 parts.1 in
@@ -359,26 +356,29 @@ tells_assigned access does root rest so also changes one two roots behind is =
 
 tells_for : (begins : Mark) (control : ℕ) (first : Expr) (first_fits : RangeTest) (last : Expr) (last_fits : RangeTest) (body : Stmt)
     → ((roots : List ℕ) → mark_behind begins roots ≡ (if is_none_of roots control && true then Some roots else None)) → TellsStmt body
-    → Tells (begins ∷ (look_expr first ++ (Fits first_fits ∷ (look_expr last ++ (Fits last_fits ∷ Controls control ∷ (look_stmt body ++ (ForEnds ∷ [])))))))
+    → Tells (begins
+    ∷ (look_expr first
+    ++ (Fits control [] first_fits ∷ (look_expr last ++ (Fits control [] last_fits ∷ Controls control ∷ (look_stmt body ++ (ForEnds ∷ [])))))))
     (λ roots. is_none_of roots control && (spares_in_expr roots first && (spares_in_expr roots last && spares body (control ∷ roots))))
 tells_for begins control first first_fits last last_fits body changes told roots behind is =
-    let inside = Controls control ∷ (look_stmt body ++ (ForEnds ∷ [])) in
+    let inside = Fits control [] last_fits ∷ Controls control ∷ (look_stmt body ++ (ForEnds ∷ [])) in
     let in_body = λ (all : List ℕ). spares body (control ∷ all) in
-    let bounds = look_expr first ++ (Fits first_fits ∷ (look_expr last ++ (Fits last_fits ∷ inside))) in
+    let bounds = look_expr first ++ (Fits control [] first_fits ∷ (look_expr last ++ inside)) in
     let one = changed (is_none_of roots control) roots behind bounds
     (sym (ap (option_and_then (λ (more : List ℕ). spared_behind more bounds)) (changes roots)) ∙ is) in
-    let two = tells_then (look_expr first) (Fits first_fits ∷ (look_expr last ++ (Fits last_fits ∷ inside))) (λ all. spares_in_expr all first)
+    let two = tells_then (look_expr first) (Fits control [] first_fits ∷ (look_expr last ++ inside)) (λ all. spares_in_expr all first)
     (λ all. spares_in_expr all last && in_body all) (tells_expr first)
-    (tells_then (look_expr last) (Fits last_fits ∷ inside) (λ all. spares_in_expr all last) in_body (tells_expr last)
+    (tells_then (look_expr last) inside (λ all. spares_in_expr all last) in_body (tells_expr last)
     (tells_body control body told)) roots behind one.1 in
     (and_from (is_none_of roots control) (spares_in_expr roots first && (spares_in_expr roots last && in_body roots)) one.0 two.0, two.1)
 
 tells_stmt_layer : (y : Stmt-F ToldStmt) → Tells (stmt_layer (bare_stmt y)) (so_stmt_layer (bare_stmt y))
 tells_stmt_layer (Empty number) = nothing
 tells_stmt_layer (Assign number becomes target indexes fits value) =
+    let end = Fits target.root target.selectors.items fits in
     tells_assigned (joined (map look_expr indexes.items)) (Target target.root target.selectors.items (length indexes.items)) target.root
-    (look_expr value ++ (Fits fits ∷ [])) (λ roots. spares_in_indexes roots indexes.items) (λ roots. spares_in_expr roots value) (λ roots. refl)
-    (tells_exprs indexes.items) (tells_before (look_expr value) (Fits fits) (λ roots. spares_in_expr roots value) (λ roots. refl) (tells_expr value))
+    (look_expr value ++ (end ∷ [])) (λ roots. spares_in_indexes roots indexes.items) (λ roots. spares_in_expr roots value) (λ roots. refl)
+    (tells_exprs indexes.items) (tells_before (look_expr value) end (λ roots. spares_in_expr roots value) (λ roots. refl) (tells_expr value))
 tells_stmt_layer (Copy number becomes target indexes type_id value value_indexes) =
     tells_assigned (joined (map look_expr indexes.items)) (WholeTarget target.root target.selectors.items (length indexes.items) type_id) target.root
     (look_whole value value_indexes.items ++ (_ ∷ [])) (λ roots. spares_in_indexes roots indexes.items)

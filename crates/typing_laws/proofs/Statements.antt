@@ -1,6 +1,6 @@
 -- What statements do, form by form, and the law of every statement, by induction over its form.
-use Rattle.std.proofs.Common.{◌≡◌, ℕ, ℤ, Vec, ◌<◌, ap, ◌∙◌, length, nat_eq, Bool, true, false, if◌then◌else◌, List, [], ◌∷◌, ◌++◌, map, Option, Some, None, Ok}
-use Rattle.std.proofs.Common.{refl, sym, slice_get, subst, append_assoc, arith, is_none, option_map, ◌&&◌}
+use Rattle.std.proofs.Common.{◌≡◌, ℕ, ℤ, Vec, ap, ◌∙◌, nat_eq, Bool, true, false, if◌then◌else◌, List, [], ◌∷◌, ◌++◌, map, Option, Some, None, Ok}
+use Rattle.std.proofs.Common.{refl, sym, slice_get, subst, append_assoc, arith, is_none, option_map, ◌&&◌, ◌<◌, length}
 use Rattle.std.specs.List.{flat_map}
 use Rattle.std.specs.declared.alloc.Global.{Global}
 use Rattle.place.specs.declared.Place.{Place}
@@ -21,7 +21,7 @@ use Rattle.syntax_tree.specs.Places.{Places, selector_places, joined_places, exp
 use Rattle.syntax_tree.specs.Places.{statement_step as statement_row}
 use Rattle.types.specs.Forms.{Form}
 use Rattle.types.specs.declared.form.TypeId.{TypeId}
-use Rattle.types.specs.Types.{integer, cells_of, is_ordinal, is_string}
+use Rattle.types.specs.Types.{integer, is_ordinal, is_string, range_of}
 use Rattle.scopes.specs.declared.denotation.Denotation.{Denotation}
 use Rattle.scopes.specs.declared.denotation.RequiredProcedure.{RequiredProcedure}
 use Rattle.typed_tree.specs.declared.fault.TypeFault.TheVariants as fault
@@ -33,16 +33,17 @@ use Rattle.typed_tree.specs.declared.tree.Variable.{Variable}
 use Rattle.typed_tree.specs.Look.{Assign, Copied, Fits, Write, Written as WrittenMark, Width, Empty, Compound, If, Then, Else, While, Do, Repeat, Until, For}
 use Rattle.typed_tree.specs.Look.{Case, Arm, Ends, Mark, WrittenString, mark_entries, mark_loops, mark_blocks, is_formed_mark}
 use Rattle.typed_tree.specs.WellFormed.{Outline, is_declared, is_local_kind, of_one}
-use Rattle.typing.specs.Passing.{Passing, and_then, each}
+use Rattle.typing.specs.Passing.{Passing, and_then, each, ◌>>?◌}
 use Rattle.typing.specs.Steps.{fits, is_local, or_mismatch}
 use Rattle.typing.specs.declared.typed.Typed.{Typed}
-use Rattle.typing.specs.Expressions.{Written, WrittenActual, is_of, as_routine, as_variable, expression, written_actual}
-use Rattle.typing.specs.Statements.{assigned, copied, assignment, as_procedure, ends_line, is_output, names_file, unless_wide, is_file, written_values}
-use Rattle.typing.specs.Statements.{has_values, representation_of, written_as, measured, width, parameter, write, required_call, declared_call, call_by}
-use Rattle.typing.specs.Statements.{procedure_call, compound, condition, alternative, tested, choice, while_loop, repeat_loop, way, bound, for_head}
+use Rattle.typing.specs.Expressions.{Written, WrittenActual, fitting, is_of, as_routine, as_variable, expression, written_actual}
+use Rattle.typing.specs.Statements.{Accessed, assigned, copied, assignment, as_procedure, ends_line, is_output, names_file, unless_wide, is_file}
+use Rattle.typing.specs.Statements.{written_values, has_values, representation_of, written_as, measured, width, parameter, write, required_call, declared_call}
+use Rattle.typing.specs.Statements.{call_by, procedure_call, compound, condition, alternative, tested, choice, while_loop, repeat_loop, way, bound, for_head}
 use Rattle.typing.specs.Statements.{for_loop, case_arms, case_head, case_body, case_statement, statement_step, statement}
-use Rattle.typing_laws.proofs.Tables.{stands_longer, cells_of_longer}
+use Rattle.typing_laws.proofs.Tables.{is_ordinal_longer, stands_longer}
 use Rattle.typing_laws.proofs.WholeRanges.{IsWholeRange}
+use Rattle.typing_laws.proofs.Copies.{IsCopyFor, copy_formed, copying_there}
 use Rattle.typing_laws.proofs.Covers.{Covers, covers_both, covers_none, covers_behind, covers_skip, covers_lower, leads_first}
 use Rattle.typing_laws.proofs.Grown.{heads_of, both_true}
 use Rattle.typing_laws.proofs.Reached.{Reached, whole_of, IsFurther, further_still, Here, StandsIn, get_longer}
@@ -52,14 +53,15 @@ use Rattle.typing_laws.proofs.Steps.{fail_does, find_does, pass_does, wants_outp
 use Rattle.typing_laws.specs.Controls.{is_bracket}
 use Rattle.typing_laws.proofs.Steps.{for_body_does, site_does, IsKnown, controlled_does}
 use Rattle.typing_laws.proofs.Leading.{IsLed, Types, lt_true, LawfulWritten, covers_test, led_covers}
-use Rattle.typing_laws.proofs.Accesses.{AreLawfulRows, leads_nowhere, leads_later, tests_ordinal_does, ordinal_formed}
-use Rattle.typing_laws.proofs.Calls.{IsLawfulWidth, LawfulActual, fitting_whole, copying_is, routine_is, routine_call_does}
+use Rattle.typing_laws.proofs.Accesses.{AreLawfulRows, LeadsTo, fits_formed, leads_nowhere, leads_later, tested as tested_is, tests_ordinal_does}
+use Rattle.typing_laws.proofs.Accesses.{ordinal_formed}
+use Rattle.typing_laws.proofs.Calls.{IsLawfulWidth, LawfulActual, fitting_is, fitting_whole, routine_is, routine_call_does}
 use Rattle.typing_laws.proofs.Expressions.{variable_is}
 use Rattle.typing_laws.proofs.Constants.{row_does}
 use Rattle.typing_laws.proofs.Strings.{there, fit_is}
 use Rattle.typing_laws.proofs.EveryExpression.{expression_lawful, actual_lawful, indexes_lawful, every_actual_lawful}
 use Rattle.typing_laws.specs.Controls.{mark_changes}
-use Rattle.typing_laws.proofs.Targets.{target_does}
+use Rattle.typing_laws.proofs.Targets.{IsAccessed, target_does}
 
 -- ---- tests
 
@@ -97,40 +99,48 @@ module _ (here : Here) where
 
   -- ---- assignments
 
-  -- it is of a type that stands in the table
-  abbrev StandsThere : TypeId → Reached → Type 0
-  StandsThere id now = id.index < length now.types
+  -- the range of a test is that of the type
+  ranges_do : {least : Reached} {Has : List Stands → Type 0} {p : Passing Typed} (id : TypeId) (place : Place) → Does here least Has p Types
+      → Does here least Has (p >>? (λ types t. or_mismatch place (fitting types id t)))
+      (λ range n. (range_of n.types id ≡ Some range) × IsWholeRange range)
+  ranges_do id place typed =
+      checks_types typed λ types t range n more same lawful fits _. (
+        ap (λ l. range_of l id) same ∙ fitting_is place types id t range fits,
+        fitting_whole place types lawful.whole id t range fits,
+      )
 
-  assigned_does : {least : Reached} (id : TypeId) (becomes : Place) (places : List Place) (value : Written) → LawfulWritten here places value
-      → Does here least (Covers 0 (becomes ∷ places)) (assigned id becomes value) Anything
+  assigned_does : {least : Reached} (to : Accessed) (becomes : Place) (places : List Place) (value : Written) → IsAccessed here to least
+      → LawfulWritten here places value → Does here least (Covers 0 (becomes ∷ places)) (assigned to becomes value) Anything
   unfolding assigned
-  assigned_does id becomes places value law =
+  assigned_does {least} to becomes places value led law =
       led_covers here 0 becomes places (kind.Subrange ∷ []) (omega arith, tt)
-      (joins (leads_first 0 becomes (kind.Subrange ∷ []) places) (site_does kind.Subrange becomes) λ site there _ known.
-      last (checks_types {L = λ range n. IsWholeRange range} (typed_does there places value None law tt) λ types t range n more same lawful fits _.
-      fitting_whole becomes types lawful.whole id t range fits) λ range n more whole.
-      mark_does (Fits (record { site = site; range = range })) refl refl refl refl refl
-      (λ o h. both_true _ _ (lt_true site o.sites (omega (arith, known, more.sites, h.sites))) whole))
+      (joins (leads_first 0 becomes (kind.Subrange ∷ []) places) (site_does kind.Subrange becomes) λ site there one known.
+      last (ranges_do to.type_id becomes (typed_does there places value None law tt)) λ range n more is.
+      mark_does (Fits to.root to.selectors (record { site = site; range = range })) refl refl refl refl refl
+      (λ o h.
+      let led_there = leads_later here to.root to.selectors to.type_id least n (further_still one more) led in
+      fits_formed here to.root to.selectors to.type_id (record { site = site; range = range }) n o led_there h (omega (arith, known, more.sites)) is.0 is.1))
 
   copied_does : {least : Reached} (id : TypeId) (becomes : Place) (places : List Place) (value : Written) → id.index < length least.types
-      → LawfulWritten here places value → Does here least (Covers 0 (becomes ∷ places)) (copied id becomes value) Anything
+      → is_ordinal least.types id ≡ false → LawfulWritten here places value → Does here least (Covers 0 (becomes ∷ places)) (copied id becomes value) Anything
   unfolding copied
-  copied_does id becomes places value stands law =
+  copied_does id becomes places value stands structured law =
       sited (λ sites. covers_skip 0 becomes places sites)
       (quietly (pass_does becomes) λ _ now one _.
-      last (checks_types {L = λ cells n. nat_eq (cells_of n.types id) cells ≡ true} (typed_does now places value None law tt)
-      λ types t cells n more same lawful copies _.
-      subst (λ l. nat_eq (cells_of l id) cells ≡ true) (sym same) (copying_is becomes types id t cells copies)) λ cells n two as_many.
-      mark_does (Copied id cells) refl refl refl refl refl
-      (λ m h.
-      let there = stands_longer (further_still one two).types id stands in
-      ap (λ c. nat_eq c cells) (cells_of_longer h.types id there) ∙ as_many))
+      last (checks_types {L = λ copy n. IsCopyFor n.types id copy} (typed_does now places value None law tt)
+      λ types t copy n more same lawful copies own.
+      let plain = is_ordinal_longer (further_still one more).types id stands ∙ structured in
+      copying_there becomes n types id t copy same lawful plain own.1 copies) λ copy n two fits.
+      mark_does (Copied id copy.source copy.cells) refl refl refl refl refl
+      (λ o h.
+      let seen = (further_still one two).types in
+      copy_formed here.block n id copy o h (stands_longer seen id stands) (is_ordinal_longer seen id stands ∙ structured) fits))
 
-  value_does : {least : Reached} (ordinal : Bool) (id : TypeId) (becomes : Place) (places : List Place) (value : Written) → id.index < length least.types
-      → LawfulWritten here places value
-      → Does here least (Covers 0 (becomes ∷ places)) ((if ordinal then assigned else copied) id becomes value) Anything
-  value_does true id becomes places value stands law = assigned_does id becomes places value law
-  value_does false id becomes places value stands law = copied_does id becomes places value stands law
+  value_does : {least : Reached} (ordinal : Bool) (to : Accessed) (becomes : Place) (places : List Place) (value : Written) → IsAccessed here to least
+      → is_ordinal least.types to.type_id ≡ ordinal → LawfulWritten here places value
+      → Does here least (Covers 0 (becomes ∷ places)) (if ordinal then assigned to becomes value else copied to.type_id becomes value) Anything
+  value_does true to becomes places value led is law = assigned_does to becomes places value led law
+  value_does false to becomes places value led is law = copied_does to.type_id becomes places value led.stands is law
 
   assignment_does : (name : Name) (selectors : List Selector) (rows : List (List Place)) (ws : List Written) (becomes : Place) (places : List Place)
       (value : Written) → ((h : Here) → AreLawfulRows h rows ws) → LawfulWritten here places value
@@ -140,9 +150,10 @@ module _ (here : Here) where
     passes = λ least.
         sited (λ sites. covers_skip 0 name.place (selector_places selectors rows ++ (becomes ∷ places)) sites)
         (quietly (enter_does (λ n. Assign n becomes) (λ n. refl) (λ n. refl) (λ n. refl) (λ n. refl) (λ n. refl) (λ n m h. refl)) λ _ _ _ _.
-        joins (covers_both 0 (selector_places selectors rows) (becomes ∷ places)) (target_does here name selectors rows ws laws) λ id now _ stands.
-        quietly (tests_ordinal_does here id) λ ordinal next one _.
-        value_does ordinal id becomes places value (stands_longer one.types id stands) law);
+        joins (covers_both 0 (selector_places selectors rows) (becomes ∷ places)) (target_does here name selectors rows ws laws) λ to now _ led.
+        quietly (tests_ordinal_does here to.type_id) λ ordinal next one ordered.
+        value_does ordinal to becomes places value (leads_later here to.root to.selectors to.type_id now next one led)
+        (tested_is here next to.type_id ordinal ordered.1) law);
   }
 
   -- ---- what is written
@@ -187,7 +198,7 @@ module _ (here : Here) where
       (pure_does {K = Anything} tt (λ n h. tt))
   width_does least places (Some w) law =
       last (checks {L = λ id n. IsKnown (Some id) n} (typed_does least places w (Some kind.Width) law (omega arith)) λ types t id n more is known.
-      subst (λ z. IsKnown z n) (measured_is w.first t id is) known) λ id n more known.
+      subst (λ z. IsKnown z n) (measured_is w.first t id is) known.0) λ id n more known.
       mark_does (Width id) refl refl refl refl refl (λ m h. lt_true id m.sites (omega (arith, known, h.sites)))
 
   parameter_does : (least : Reached) (places : List Place) (a : WrittenActual) → LawfulActual here places a
@@ -214,7 +225,8 @@ module _ (here : Here) where
   unfolding write
   write_does least name actuals procedure =
       quietly (wants_output_does name.place) λ _ _ _ _.
-      quietly (enter_does (λ n. Write n name.place (ends_line procedure)) (λ n. refl) (λ n. refl) (λ n. refl) (λ n. refl) (λ n. refl) (λ n m h. refl)) λ _ _ _ _.
+      quietly (enter_does (λ n. Write n name.place (ends_line procedure)) (λ n. refl) (λ n. refl) (λ n. refl) (λ n. refl) (λ n. refl)
+      (λ n m h. refl)) λ _ _ _ _.
       quietly (written_values_do actuals) λ values now _ among.
       sited among
       (quietly (given_does (has_values name.place procedure values)) λ _ there _ _.
@@ -336,15 +348,16 @@ module _ (here : Here) where
   }
 
   -- the test of a bound stands before its first token's own sites
-  bound_does : (least : Reached) (type_id : TypeId) (places : List Place) (w : Written) → LawfulWritten here places w
-      → Does here least (Covers 0 places) (bound type_id w) Anything
+  bound_does : (least : Reached) (control : ℕ) (type_id : TypeId) (places : List Place) (w : Written) → LeadsTo here control [] type_id least
+      → LawfulWritten here places w → Does here least (Covers 0 places) (bound control type_id w) Anything
   unfolding bound
-  bound_does least type_id places w law =
-      joins (covers_test here kind.Subrange (omega arith) (omega arith) places w law) (site_does kind.Subrange w.first) λ id there _ known.
-      last (checks_types {L = λ range n. IsWholeRange range} (law.types there None tt) λ types t range n more same lawful fits _.
-      fitting_whole w.first types lawful.whole type_id t range fits) λ range n more whole.
-      mark_does (Fits (record { site = id; range = range })) refl refl refl refl refl
-      (λ m h. both_true _ _ (lt_true id m.sites (omega (arith, known, more.sites, h.sites))) whole)
+  bound_does least control type_id places w led law =
+      joins (covers_test here kind.Subrange (omega arith) (omega arith) places w law) (site_does kind.Subrange w.first) λ id there one known.
+      last (ranges_do type_id w.first (law.types there None tt)) λ range n more is.
+      mark_does (Fits control [] (record { site = id; range = range })) refl refl refl refl refl
+      (λ o h.
+      let led_there = leads_later here control [] type_id least n (further_still one more) led in
+      fits_formed here control [] type_id (record { site = id; range = range }) n o led_there h (omega (arith, known, more.sites)) is.0 is.1)
 
   -- a variable of the variable declaration part of the block
   local_formed : (root : ℕ) (now : Reached) (o : Outline) → IsFurther now (whole_of o) → is_local here.block (slice_get now.variables root) ≡ true
@@ -379,8 +392,9 @@ module _ (here : Here) where
       both_true _ _ (local_formed control.0 known o h local)
       (ordinal_formed here control.0 [] control.1 tests o seen ordinal (further_still further (further_still later h))))
       (λ now later.
-      joins (covers_both 0 firsts lasts) (bound_does now control.1 firsts first one) λ _ next _ _.
-      last (bound_does next control.1 lasts end two) λ _ _ _ _.
+      let led_now = leads_later here control.0 [] control.1 tests now (further_still further later) seen in
+      joins (covers_both 0 firsts lasts) (bound_does now control.0 control.1 firsts first led_now one) λ _ next more _.
+      last (bound_does next control.0 control.1 lasts end (leads_later here control.0 [] control.1 now next more led_now) two) λ _ _ _ _.
       pure_does control.0 (λ n h. tt)))
 
   for_does : (place : Place) (name : Name) (firsts lasts inside : List Place) (first : Written) (d : SyntaxDirection) (end : Written)

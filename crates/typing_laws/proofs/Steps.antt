@@ -20,11 +20,11 @@ use Rattle.typed_tree.specs.declared.fault.TypeFault.{TypeFault}
 use Rattle.typed_tree.specs.declared.fault.TypeFault.TheVariants as fault
 use Rattle.typed_tree.specs.declared.site.SiteKind.{SiteKind}
 use Rattle.typed_tree.specs.Ids.{Stands}
-use Rattle.typed_tree.specs.WellFormed.{Outline, are_characters, is_local_kind}
+use Rattle.typed_tree.specs.WellFormed.{Outline, are_characters, is_local_kind, most_entries}
 use Rattle.typed_tree.specs.Threats.{is_none_of}
 use Rattle.typed_tree.specs.Look.{For, Controls, ForEnds, Mark, Look, mark_entries, mark_loops, mark_blocks, is_formed_mark}
 use Rattle.typing.specs.Passing.{Passed, Checked, After, Passing, and_then, after, pure, fail, given, by_types, mark, behind_marks, ◌>>=◌, ◌>>?◌}
-use Rattle.typing.specs.Steps.{most_sites, most_entries, pass, enter, enter_as, number_loop, begin_loop, enter_loop, site, find, told, may_change}
+use Rattle.typing.specs.Steps.{most_sites, pass, enter, enter_as, number_loop, begin_loop, enter_loop, site, find, told, may_change}
 use Rattle.typing.specs.Steps.{begin_control, end_control, wants_output, host_type, text_at, keep_text, is_own, is_local, may_control, with_one}
 use Rattle.typing.specs.Steps.{with_threatened, assign_result, enclosing_now, heading_at, variable_at, program_heading}
 use Rattle.typing.specs.Expressions.{behind}
@@ -243,7 +243,8 @@ pub pure_does : {here : Here} {least : Reached} {A : Type 0} {K : A → Reached 
 pure_does {here} {least} {A} {K} x known = record {
   does = λ s a is fine h.
       let same : after x [] s ≡ a = cc in
-      subst (Leaves here Nothing s K) same (grown_silent here s s refl refl refl refl refl refl refl refl refl (λ root is. is) refl refl fine, known (reached s) h);
+      subst (Leaves here Nothing s K) same
+      (grown_silent here s s refl refl refl refl refl refl refl refl refl (λ root is. is) refl refl fine, known (reached s) h);
 }
 
 pub given_does : {here : Here} {least : Reached} {A : Type 0} (checked : Checked A)
@@ -287,8 +288,10 @@ find_does {here} name = record {
       let x = split (told name.place (found s.regions text)) (λ denotation. Ok (after denotation [] (record s { latest = name.place }))) a is in
       let same : after x.0 [] (record s { latest = name.place }) ≡ a = cc in
       let there = found_holds (IsSound here s.variables s.types (heads_of (reached s))) s.regions text x.0 fine.sound (by (found s.regions text) x.0 x.1) in
-      subst (Leaves here Nothing s (λ denotation now. IsFound here denotation now)) same
-      (grown_silent here s (record s { latest = name.place }) refl refl refl refl refl refl refl refl refl (λ root is. is) refl refl fine, (there, fine.stands));
+      subst (Leaves here Nothing s (λ denotation now. IsFound here denotation now)) same (
+        grown_silent here s (record s { latest = name.place }) refl refl refl refl refl refl refl refl refl (λ root is. is) refl refl fine,
+        (there, fine.stands),
+      );
 }
   where
     by : (r : Result Denotation ScopeFault) (d : Denotation) → told name.place r ≡ Ok d → r ≡ Ok d

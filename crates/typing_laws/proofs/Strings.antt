@@ -1,6 +1,7 @@
 -- What strings do: a string has at most as many characters as a type has cells, and its type leaves all others as they are.
 use Rattle.std.proofs.Common.{◌≡◌, ℕ, ℤ, ◌*◌, ◌≤◌, Bool, true, false, ◌&&◌, not, nat_le, List, [], ◌∷◌, ◌++◌, length, Option, Some, None, Result, Ok, Err, pos}
-use Rattle.std.proofs.Common.{refl, sym, ap, ap₂, subst, ◌∙◌, arith, slice_get, append-nil, append_assoc, inl}
+use Rattle.std.proofs.Common.{refl, sym, ap, ap₂, subst, ◌∙◌, arith, slice_get, append-nil, append_assoc, inl, ◌<◌, is_some, int_lt, if◌then◌else◌}
+use Rattle.std.proofs.Common.{length-append}
 use Rattle.std.specs.Prelude.{◌==◌, ◌-ℤ◌, ◌+ℤ◌}
 use Rattle.std.specs.List.{list_all}
 use Rattle.std.specs.Option.{option_and_then}
@@ -11,14 +12,15 @@ use Rattle.types.specs.Forms.{Form, Subrange, Array}
 use Rattle.types.specs.declared.form.TypeId.{TypeId}
 use Rattle.types.specs.declared.refusal.TypeRefusal.{TypeRefusal}
 use Rattle.types.specs.Types.{integer, char, natural, admitted_cells, numbered, counted, cells_at, values_at, index_values, form_range, most_cells}
+use Rattle.types.specs.Types.{form_at, is_string, string_in, string_last}
 use Rattle.types.proofs.Counts.{values_counted}
 use Rattle.scopes.specs.declared.denotation.Denotation.TheVariants as denotes
 use Rattle.typed_tree.specs.WellFormed.{is_character, is_whole}
 use Rattle.typing.specs.Passing.{Passed, Checked, After, Passing, and_then, after, given, behind_marks, pure, ◌>>=◌}
 use Rattle.typing.specs.Steps.{fits, or_mismatch, value_of, added, add_type, keep_text}
 use Rattle.typing.specs.Strings.{characters, string_characters, string_type, string_constant}
-use Rattle.typing_laws.proofs.Tables.{AreLawful, admitted_few, char_cell, lawful_more}
-use Rattle.typing_laws.proofs.Reached.{IsLonger, Here, Reached}
+use Rattle.typing_laws.proofs.Tables.{AreLawful, admitted_few, char_cell, is_string_longer, lawful_more, required_stand}
+use Rattle.typing_laws.proofs.Reached.{IsLonger, Here, Reached, further_still, get_longer, one_longer}
 use Rattle.typing_laws.proofs.Grown.{Grown, both_true}
 use Rattle.typing_laws.proofs.Steps.{Does, Nothing, Leaves, IsSoundThen, split, quietly, pure_does, keep_text_does}
 
@@ -38,12 +40,18 @@ both_and true true is = (refl, refl)
 both_and true false is = absurd cc
 both_and false b is = absurd cc
 
--- the characters of a string are of type char
-pub all_of_char : (place : Place) (bytes cs : List ℕ) → string_characters place bytes ≡ Ok cs → list_all is_character cs ≡ true
+-- a string has characters, of type char
+abbrev pub AreOfChar : List ℕ → Type 0
+AreOfChar cs = (not (length cs == 0) ≡ true) × (list_all is_character cs ≡ true)
+
+pub no_characters : AreOfChar [] → ⊥
+no_characters all = let none : ◌≡◌ {A = Bool} false true = all.0 in absurd cc
+
+pub all_of_char : (place : Place) (bytes cs : List ℕ) → string_characters place bytes ≡ Ok cs → AreOfChar cs
 all_of_char place bytes cs is =
     let x = split (or_mismatch place (characters bytes)) (λ found. fits (not (length found == 0) && list_all is_character found) place found) cs is in
     let fit = fit_is (not (length x.0 == 0) && list_all is_character x.0) place x.0 cs x.2 in
-    subst (λ z. list_all is_character z ≡ true) fit.1 (both_and (not (length x.0 == 0)) (list_all is_character x.0) fit.0).1
+    subst AreOfChar fit.1 (both_and (not (length x.0 == 0)) (list_all is_character x.0) fit.0)
 
 -- ---- a type more
 
@@ -117,16 +125,33 @@ few_components types n cells are is =
     le_true : (m : ℕ) → m ≤ most_cells → nat_le m 65536 ≡ true
     le_true m h = grind (arith, nat_tests)
 
+-- it is a string type of more than one character
+string_at_end : (types : List Form) (n : ℕ) → 1 < n
+    → is_string ((types ++ Subrange integer (pos 1) (pos n) ∷ []) ++ Array true (record { index = length types }) char ∷ [])
+    (record { index = length (types ++ Subrange integer (pos 1) (pos n) ∷ []) })
+    ≡ true
+string_at_end types n more =
+    let form = Subrange integer (pos 1) (pos n) in
+    let array = Array true (record { index = length types }) char in
+    let all = (types ++ form ∷ []) ++ array ∷ [] in
+    let index : form_at all (record { index = length types }) ≡ Some form =
+    get_longer (one_longer (types ++ form ∷ []) array) (length types) form (at_end types form) in
+    let long : int_lt (pos 1) (pos n) ≡ true = grind (arith, ints) in
+    ap (λ found. is_some (string_in all found)) (at_end (types ++ form ∷ []) array) ∙ ap (λ found. is_some (string_last found)) index
+    ∙ ap (λ test. is_some (if test then Some n else None)) long
+
 -- a string type is new, and leaves all other types
 pub record IsStringType (n : ℕ) (s : Passed) (a : After TypeId) : Type 0 where
   pub same : after a.answer [] (record s { types = a.passed.types }) ≡ a
   pub longer : IsLonger s.types a.passed.types
   pub lawful : AreLawful a.passed.types
   pub few : nat_le n 65536 ≡ true
+  pub string : is_string a.passed.types a.answer ≡ true
 
-pub string_type_is : (place : Place) (n : ℕ) (s : Passed) (a : After TypeId) → AreLawful s.types → string_type place n s ≡ Ok a → IsStringType n s a
+pub string_type_is : (place : Place) (n : ℕ) (s : Passed) (a : After TypeId) → 1 < n → AreLawful s.types → string_type place n s ≡ Ok a
+    → IsStringType n s a
 unfolding string_type
-string_type_is place n s a are is =
+string_type_is place n s a more are is =
     let form : ℤ → Form = λ last. Subrange integer (pos 1) last in
     let array : Form = Array true (next_type s) char in
     let x = given_then (value_of n place) (λ last. add_type place (form last) >>= (λ index. add_type place (Array true index char))) s a is in
@@ -135,19 +160,26 @@ string_type_is place n s a are is =
     subst (λ last. (add_type place (form last) >>= (λ index. add_type place (Array true index char))) s ≡ Ok a) (sym fit.1) x.2 in
     let y = add_type_then place (form (pos n)) (λ index. add_type place (Array true index char)) s a rest in
     let z = type_added place array (with_form (form (pos n)) s) a y.2 in
-    let one = lawful_more s.types (form (pos n)) y.0 are fit.0 y.1 in
+    let one = lawful_more s.types (form (pos n)) y.0 are fit.0 tt y.1 in
+    let chars = required_stand s.types are.begin in
+    let longer = length-append s.types (form (pos n) ∷ []) in
     subst (IsStringType n s) z.2 (record {
       same = refl;
       longer = record { more = form (pos n) ∷ array ∷ []; goes_on = append_assoc s.types (form (pos n) ∷ []) (array ∷ []) };
-      lawful = lawful_more (s.types ++ form (pos n) ∷ []) array z.0 one tt z.1;
+      lawful = lawful_more (s.types ++ form (pos n) ∷ []) array z.0 one tt (omega (arith, longer), omega (arith, chars, longer)) z.1;
       few = few_components s.types n z.0 one z.1;
+      string = string_at_end s.types n more;
     })
 
+-- of so many characters, and of a string type
+abbrev pub IsStringOf : ℕ → TypeId → List Form → Type 0
+IsStringOf n id types = (nat_le n 65536 ≡ true) × (is_string types id ≡ true)
+
 module _ {here : Here} {least : Reached} where
-  pub string_type_does : (place : Place) (n : ℕ) → Does here least Nothing (string_type place n) (λ id now. nat_le n 65536 ≡ true)
-  string_type_does place n = record {
+  pub string_type_does : (place : Place) (n : ℕ) → 1 < n → Does here least Nothing (string_type place n) (λ id now. IsStringOf n id now.types)
+  string_type_does place n more = record {
     does = λ s a is fine h.
-        let made = string_type_is place n s a fine.lawful is in
+        let made = string_type_is place n s a more fine.lawful is in
         let new : Passed = record s { types = a.passed.types } in
         let g : Grown here Nothing [] s new = record {
           regions = refl;
@@ -176,7 +208,7 @@ module _ {here : Here} {least : Reached} where
           controls_kept = refl;
           spared = λ roots held. refl;
         } in
-        subst (Leaves here Nothing s (λ id now. nat_le n 65536 ≡ true)) made.same (g, made.few);
+        subst (Leaves here Nothing s (λ id now. IsStringOf n id now.types)) made.same (g, (made.few, made.string));
   }
 
 -- ---- constants
@@ -187,17 +219,17 @@ char_whole c is = grind (arith, nat_tests)
 
 module _ {here : Here} {least : Reached} where
   -- two or more characters
-  text_does : (place : Place) (cs : List ℕ) → list_all is_character cs ≡ true
+  text_does : (place : Place) (cs : List ℕ) → 1 < length cs → list_all is_character cs ≡ true
       → Does here least Nothing (string_type place (length cs) >>= (λ type_id. keep_text cs >>= (λ number. pure (denotes.Text number type_id))))
       (λ d now. IsSoundThen here d now)
-  text_does place cs all =
-      quietly (string_type_does place (length cs)) λ type_id _ _ few.
-      quietly (keep_text_does cs (both_true _ _ few all)) λ number _ _ _.
-      pure_does (denotes.Text number type_id) (λ n h. tt)
+  text_does place cs more all =
+      quietly (string_type_does place (length cs) more) λ type_id _ _ made.
+      quietly (keep_text_does cs (both_true _ _ made.0 all)) λ number _ one _.
+      pure_does (denotes.Text number type_id) (λ n h. is_string_longer (further_still one h).types type_id made.1)
 
-  pub string_constant_does : (place : Place) (cs : List ℕ) → list_all is_character cs ≡ true
+  pub string_constant_does : (place : Place) (cs : List ℕ) → AreOfChar cs
       → Does here least Nothing (string_constant place cs) (λ d now. IsSoundThen here d now)
   unfolding string_constant
-  string_constant_does place [] all = text_does place [] all
-  string_constant_does place (c ∷ []) all = pure_does (denotes.Constant (pos c) char) (λ n h. char_whole c all)
-  string_constant_does place (c ∷ d ∷ cs) all = text_does place (c ∷ d ∷ cs) all
+  string_constant_does place [] all = absurd (no_characters all)
+  string_constant_does place (c ∷ []) all = pure_does (denotes.Constant (pos c) char) (λ n h. char_whole c all.1)
+  string_constant_does place (c ∷ d ∷ cs) all = text_does place (c ∷ d ∷ cs) (omega arith) all.1

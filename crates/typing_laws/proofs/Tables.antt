@@ -1,22 +1,32 @@
 -- Tables of types as a program makes them, each longer than the one before, and texts that are characters.
 use Rattle.std.proofs.Common.{◌≡◌, ℕ, zero, suc, ◌<◌, ◌≤◌, Bool, true, false, if◌then◌else◌, nat_lt, List, [], ◌∷◌, ◌++◌, length, sum_by, Some, None, Ok, Err}
-use Rattle.std.proofs.Common.{ok_or, slice_get, get_or, refl, sym, ap, subst, ◌∙◌, arith, length-append, append_assoc}
+use Rattle.std.proofs.Common.{ok_or, slice_get, get_or, refl, sym, ap, subst, ◌∙◌, arith, length-append, append_assoc, Option, is_some}
 use Rattle.std.proofs.lemmas.Bool.Decides.{nat_tests}
 use Rattle.std.proofs.lemmas.List.Sums.{sum_by-cons}
+use Rattle.std.proofs.lemmas.Option.{slice_get_within}
 use Rattle.types.specs.Forms.{Form}
 use Rattle.types.specs.declared.form.TypeId.{TypeId}
 use Rattle.types.specs.declared.refusal.TypeRefusal.TheVariants.{TooManyCells, FirstAboveLast}
-use Rattle.types.specs.Types.{Counted, admitted_cells, cells_of, char, counted, element_of, entry_cells, few, field_at, form_cells, form_range, is_ordinal}
-use Rattle.types.specs.Types.{range_of, is_turned, most_cells, required_forms}
+use Rattle.types.specs.Types.{BeginWithRequired, Counted, admitted_cells, cells_of, char, counted, element_of, entry_cells, few, field_at, form_cells}
+use Rattle.types.specs.Types.{form_at, form_range, is_ordinal, is_string, range_of, is_turned, most_cells, required_forms, string_in, string_length}
+use Rattle.types.proofs.Built.{AreBuilt, IsOver, built_more, required_built, string_elements}
 use Rattle.types.proofs.Counts.{counted_more, one_cell}
-use Rattle.types.proofs.Longer.{cells_longer, element_longer, field_at_longer, ordinal_longer, range_longer}
+use Rattle.types.proofs.Longer.{cells_longer, element_longer, field_at_longer, ordinal_longer, range_longer, string_stays}
+use Rattle.types.proofs.Strings.{indexes, string_cells}
 use Rattle.typed_tree.specs.declared.tree.Variable.{Variable}
 use Rattle.typed_tree.specs.WellFormed.{are_characters}
-use Rattle.typing_laws.specs.Lawful.{BeginWithRequired}
 use Rattle.typing_laws.proofs.Reached.{IsLonger}
 use Rattle.typing_laws.proofs.WholeRanges.{HaveWholeRanges, IfWhole, required_have, whole_more}
 
 -- ---- longer tables
+
+-- a string stands in the table
+string_stands : (types : List Form) (id : TypeId) (n : ℕ) → string_length types id ≡ Some n → id.index < length types
+string_stands types id n is = by (form_at types id) refl is
+  where
+    by : (form : Option Form) → form_at types id ≡ form → string_in types form ≡ Some n → id.index < length types
+    by None found h = absurd cc
+    by (Some form) found h = slice_get_within types id.index form found
 
 module _ {old new : List Form} (longer : IsLonger old new) where
   pub begin_longer : BeginWithRequired old → BeginWithRequired new
@@ -42,11 +52,24 @@ module _ {old new : List Form} (longer : IsLonger old new) where
     pub field_of_longer : (position : ℕ) → field_at new id position ≡ field_at old id position
     field_of_longer position = ap (λ types. field_at types id position) longer.goes_on ∙ field_at_longer old longer.more id there position
 
+  -- a string is as long
+  pub string_longer : (id : TypeId) (n : ℕ) → string_length old id ≡ Some n → string_length new id ≡ Some n
+  string_longer id n is =
+      ap (λ types. string_length types id) longer.goes_on ∙ string_stays old longer.more id (string_stands old id n is) n is
+
+  pub is_string_longer : (id : TypeId) → is_string old id ≡ true → is_string new id ≡ true
+  is_string_longer id is = by (string_length old id) refl is
+    where
+      by : (n : Option ℕ) → string_length old id ≡ n → is_some n ≡ true → is_string new id ≡ true
+      by None found h = absurd cc
+      by (Some n) found h = ap is_some (string_longer id n found)
+
 -- ---- what the types of a program have
 
 pub record AreLawful (types : List Form) : Type 0 where
   pub begin : BeginWithRequired types
   pub whole : HaveWholeRanges types
+  pub built : AreBuilt types
   -- a variable of one takes no more cells than a type may
   pub few_cells : (id : TypeId) → cells_of types id ≤ most_cells
 
@@ -54,11 +77,19 @@ pub required_lawful : AreLawful required_forms
 required_lawful = record {
   begin = ([], refl);
   whole = required_have;
+  built = required_built;
   few_cells = λ id. omega (arith, one_cell id);
 }
 
 pub char_cell : (types : List Form) → BeginWithRequired types → cells_of types char ≡ 1
 char_cell types begin = ap (λ t. cells_of t char) begin.1 ∙ cells_longer required_forms begin.0 char (omega arith) ∙ one_cell char
+
+-- a string has as many cells as characters
+pub string_has_cells : (types : List Form) → AreLawful types → (id : TypeId) (n : ℕ) → string_length types id ≡ Some n → cells_of types id ≡ n
+string_has_cells types are id n string =
+    let elements = string_elements types are.built id n string in
+    let chars = ap (λ t. is_ordinal t char) are.begin.1 ∙ ordinal_longer required_forms are.begin.0 char (omega arith) in
+    string_cells types id (record { index = elements.0; range = indexes n; type_id = char; cells = cells_of types char }) n elements.1 string chars
 
 pub required_stand : (types : List Form) → BeginWithRequired types → 2 < length types
 required_stand types begin = omega (arith, ap length begin.1, length-append required_forms begin.0)
@@ -87,13 +118,14 @@ each_few (first ∷ entries) entry all one zero = all zero
 each_few (first ∷ entries) entry all one (suc n) = each_few entries entry (λ k. all (suc k)) one n
 
 -- a type more, which is admitted
-pub lawful_more : (types : List Form) (form : Form) (cells : ℕ) → AreLawful types → IfWhole (form_range form) → admitted_cells types form ≡ Ok cells
-    → AreLawful (types ++ form ∷ [])
-lawful_more types form cells are whole admits =
+pub lawful_more : (types : List Form) (form : Form) (cells : ℕ) → AreLawful types → IfWhole (form_range form) → IsOver (length types) form
+    → admitted_cells types form ≡ Ok cells → AreLawful (types ++ form ∷ [])
+lawful_more types form cells are whole over admits =
     let entry : Counted = record { form = form; cells = form_cells (counted types) form } in
     record {
       begin = begin_longer (record { more = form ∷ []; goes_on = refl }) are.begin;
       whole = whole_more types form are.whole whole;
+      built = built_more types form are.built over;
       few_cells = λ id.
           subst (λ entries. entry_cells (slice_get entries id.index) ≤ most_cells) (sym (counted_more types form))
           (each_few (counted types) entry (λ k. are.few_cells (record { index = k })) (admitted_few types form cells admits) id.index);

@@ -21,7 +21,7 @@ use Rattle.typed_tree.specs.Look.{Access, Target, WholeTarget, Look}
 use Rattle.typed_tree.specs.WellFormed.{is_one_of}
 use Rattle.typing.specs.Passing.{Enclosing, Passing, and_then, mark, After, Checked, Passed, given, after, behind_marks, pure, ◌>>=◌, ◌>>◌}
 use Rattle.typing.specs.Expressions.{Written, as_routine, as_variable, selected, tests_ordinal}
-use Rattle.typing.specs.Statements.{target_mark, result_target, or_no_variable, function_target, target_of, target}
+use Rattle.typing.specs.Statements.{Accessed, target_mark, result_target, or_no_variable, function_target, target_of, target}
 use Rattle.typing.specs.Names.{folded}
 use Rattle.typing.specs.Steps.{assign_result, enclosing_now, enter_as, find, heading_at, may_change, program_heading, told, variable_at, with_one}
 use Rattle.typing_laws.proofs.Tables.{stands_longer}
@@ -40,6 +40,9 @@ use Rattle.typing_laws.proofs.Strings.{there}
 use Rattle.typing_laws.proofs.Kept.{MayChange, change_later, changes_of, controls_of, each_more}
 use Rattle.typing_laws.specs.Results.{is_target}
 
+abbrev accessed_by : ℕ → List TreeSelector × TypeId → Accessed
+accessed_by root component = record { root = root; selectors = component.0; type_id = component.1 }
+
 module _ (here : Here) where
   target_formed : {least : Reached} (root : ℕ) (selectors : List TreeSelector) (id : TypeId) (ordinal : Bool) → LeadsTo here root selectors id least
       → is_ordinal least.types id ≡ ordinal → MayChange here least root → Does here least Nothing (mark (target_mark ordinal root selectors id)) Anything
@@ -50,9 +53,9 @@ module _ (here : Here) where
       change_does (WholeTarget root selectors (index_count selectors) id) root refl refl refl refl refl refl may
       (λ n h. whole_formed here root selectors id least n l is h)
 
-  -- it is of a type that stands in the table
-  abbrev StandsThere : TypeId → Reached → Type 0
-  StandsThere id now = id.index < length now.types
+  -- selectors lead to what is accessed
+  abbrev pub IsAccessed : Accessed → Reached → Type 0
+  IsAccessed to now = LeadsTo here to.root to.selectors to.type_id now
 
   -- the result of a function, inside its block
   result_target_does : {least : Reached} (place : Place) (inside : Bool) (result : Option ℕ)
@@ -125,18 +128,18 @@ module _ (here : Here) where
   target_of_does (Some routine) (selector ∷ others) place d same sound owing = variable_does place d sound
 
   -- what comes behind the variable
-  abbrev access_typing : Name → List Selector → List Written → ℕ × TypeId → Passing TypeId
+  abbrev access_typing : Name → List Selector → List Written → ℕ × TypeId → Passing Accessed
   access_typing name selectors ws variable = do
     may_change name.place variable.0
     enter_as Access
     component ← selected [] variable.1 selectors ws
     ordinal ← tests_ordinal component.1
     mark (target_mark ordinal variable.0 component.0 component.1)
-    pure component.1
+    pure (accessed_by variable.0 component)
 
   access_does : {least : Reached} (name : Name) (selectors : List Selector) (rows : List (List Place)) (ws : List Written) → AreLawfulRows here rows ws
       → (variable : ℕ × TypeId) → IsTarget variable least
-      → Does here least (Covers 0 (selector_places selectors rows)) (access_typing name selectors ws variable) StandsThere
+      → Does here least (Covers 0 (selector_places selectors rows)) (access_typing name selectors ws variable) IsAccessed
   access_does {least} name selectors rows ws laws variable found =
       quietly (may_change_does name.place variable.0 variable.1 found.0) λ _ changed two may.
       quietly (enter_does Access (λ n. refl) (λ n. refl) (λ n. refl) (λ n. refl) (λ n. refl) (λ n m h. refl)) λ _ entered three _.
@@ -148,10 +151,11 @@ module _ (here : Here) where
       let may_there = change_later here changed next variable.0 (further_still three (further_still later four)) may in
       let led = leads_later here variable.0 component.0 component.1 met next four l in
       quietly (target_formed variable.0 component.0 component.1 ordinal led (tested_is here next component.1 ordinal ordered.1) may_there) λ _ _ five _.
-      pure_does component.1 (λ n h. stands_longer (further_still five h).types component.1 led.stands)
+      pure_does (accessed_by variable.0 component)
+      (λ n h. leads_later here variable.0 component.0 component.1 next n (further_still five h) led)
 
   found_does : {least : Reached} (name : Name) (selectors : List Selector) (rows : List (List Place)) (ws : List Written) → AreLawfulRows here rows ws
-      → here.owing ≡ true → Does here least (Covers 0 (selector_places selectors rows)) (target name selectors ws) StandsThere
+      → here.owing ≡ true → Does here least (Covers 0 (selector_places selectors rows)) (target name selectors ws) IsAccessed
   unfolding target
   found_does name selectors rows ws laws owing =
       quietly (find_does name) λ d _ _ sound.
@@ -257,7 +261,7 @@ told_behind p f root s b is tells =
     let y = split_behind x.0.look (f x.0.answer x.0.passed) b x.2 in
     subst (λ (z : After _). is_target z.look root ≡ true) y.2 (target_second x.0.look y.0.look root (tells x.0 y.0 y.1))
 
-access_told : (here : Here) (name : Name) (selectors : List Selector) (ws : List Written) (variable : ℕ × TypeId) (s : Passed) (a : After TypeId)
+access_told : (here : Here) (name : Name) (selectors : List Selector) (ws : List Written) (variable : ℕ × TypeId) (s : Passed) (a : After Accessed)
     → access_typing here name selectors ws variable s ≡ Ok a → is_target a.look variable.0 ≡ true
 access_told here name selectors ws variable s a is =
     told_behind (may_change name.place variable.0) _ variable.0 s a is λ a1 b1 h1.
@@ -269,14 +273,15 @@ access_told here name selectors ws variable s a is =
     own : (rest : List ℕ) → list_any (nat_eq variable.0) (variable.0 ∷ rest) ≡ true
     own rest = ap (λ b. b || list_any (nat_eq variable.0) rest) (eq-eqb variable.0 variable.0 refl)
 
-    last : (ordinal : Bool) (component : List TreeSelector × TypeId) (n : Passed) (b : After TypeId)
-        → (mark (target_mark ordinal variable.0 component.0 component.1) >> pure component.1) n ≡ Ok b → is_target b.look variable.0 ≡ true
+    last : (ordinal : Bool) (component : List TreeSelector × TypeId) (n : Passed) (b : After Accessed)
+        → (mark (target_mark ordinal variable.0 component.0 component.1) >> pure (accessed_by variable.0 component)) n ≡ Ok b
+        → is_target b.look variable.0 ≡ true
     last true component n b h =
-        let same : after component.1 (target_mark true variable.0 component.0 component.1 ∷ []) n ≡ b = cc in
-        subst (λ (z : After TypeId). is_target z.look variable.0 ≡ true) same (own [])
+        let same : after (accessed_by variable.0 component) (target_mark true variable.0 component.0 component.1 ∷ []) n ≡ b = cc in
+        subst (λ (z : After Accessed). is_target z.look variable.0 ≡ true) same (own [])
     last false component n b h =
-        let same : after component.1 (target_mark false variable.0 component.0 component.1 ∷ []) n ≡ b = cc in
-        subst (λ (z : After TypeId). is_target z.look variable.0 ≡ true) same (own [])
+        let same : after (accessed_by variable.0 component) (target_mark false variable.0 component.0 component.1 ∷ []) n ≡ b = cc in
+        subst (λ (z : After Accessed). is_target z.look variable.0 ≡ true) same (own [])
 
 -- ---- the target of an assignment
 
@@ -358,14 +363,14 @@ module _ (here : Here) where
   -- its target is told behind what is assigned
   pub target_does : {least : Reached} (name : Name) (selectors : List Selector) (rows : List (List Place)) (ws : List Written)
       → ((h : Here) → AreLawfulRows h rows ws)
-      → Does here least (Covers 0 (selector_places selectors rows)) (target name selectors ws) (StandsThere here)
+      → Does here least (Covers 0 (selector_places selectors rows)) (target name selectors ws) (IsAccessed here)
   unfolding target
   target_does {least} name selectors rows ws laws = record {
     does = λ s a is fine h.
         let o = owing_here here in
         let known = fine_owing here s fine in
         let k = (found_does o {least = least} name selectors rows ws (laws o) refl).does s a is known h in
-        let behind_name : Denotation → Passing TypeId = λ d. target_of (as_routine d) selectors name.place d >>= access_typing here name selectors ws in
+        let behind_name : Denotation → Passing Accessed = λ d. target_of (as_routine d) selectors name.place d >>= access_typing here name selectors ws in
         let x = split (find name s) (λ b. behind_marks b.look (behind_name b.answer b.passed)) a is in
         let y = split_behind x.0.look (behind_name x.0.answer x.0.passed) a x.2 in
         let one = (find_does {here = o} {least = least} name).does s x.0 x.1 known h in
@@ -392,16 +397,16 @@ module _ (here : Here) where
         let from_name = find_assigned name s x.0 x.1 in
         let from_target = target_of_assigned (as_routine d) selectors name.place d x.0.passed u.0 u.1 in
         let look : a.look ≡ x.0.look ++ (u.0.look ++ v.0.look) =
-        ap (λ (z : After TypeId). z.look) (sym y.2) ∙ ap (λ (z : After TypeId). x.0.look ++ z.look) (sym v.2) in
+        ap (λ (z : After Accessed). z.look) (sym y.2) ∙ ap (λ (z : After Accessed). x.0.look ++ z.look) (sym v.2) in
         let passed : a.passed ≡ v.0.passed =
-        ap (λ (z : After TypeId). z.passed) (sym y.2) ∙ ap (λ (z : After TypeId). z.passed) (sym v.2) in (
+        ap (λ (z : After Accessed). z.passed) (sym y.2) ∙ ap (λ (z : After Accessed). z.passed) (sym v.2) in (
           settled k.0 (λ is root there.
               let in_last = ap (λ (n : Passed). list_any (nat_eq root) n.assigned) (sym passed) ∙ there in
               let in_look : is_target v.0.look root ≡ true → is_target a.look root ≡ true =
               λ t. subst (λ l. is_target l root ≡ true) (sym look)
               (target_second x.0.look (u.0.look ++ v.0.look) root (target_second u.0.look v.0.look root t)) in
               by s root x.0.passed.assigned u.0.answer.0 a.look v.0.look from_name (from_target root) told in_look (three.0.assigned is root in_last)),
-          k.1,
+          record { formed = k.1.formed; leads_there = k.1.leads_there; visible = k.1.visible; stands = k.1.stands },
         );
   }
     where

@@ -17,7 +17,8 @@ use Rattle.typed_tree.specs.Ids.{AreByPlace}
 use Rattle.typed_tree.specs.Look.{Look, Mark, BlockEnds, are_formed, blocks_of_look, entries_of_look, loops_of_look, heading_look, look_block, look_stmt}
 use Rattle.typed_tree.specs.Look.{mark_blocks, tree_look}
 use Rattle.typed_tree.specs.Loops.{loops_of}
-use Rattle.typed_tree.specs.WellFormed.{IsWellFormed, heading_of, is_well_formed_block, most_variables, outline_of}
+use Rattle.types.specs.Types.{BeginWithRequired}
+use Rattle.typed_tree.specs.WellFormed.{IsWellFormed, heading_of, is_well_formed_block, most_entries, most_variables, outline_of}
 use Rattle.typed_tree.proofs.Blocks.{are_well_formed, bodies_are_formed}
 use Rattle.typed_tree.proofs.LoopNumbers.{loop_numbers_are}
 use Rattle.typed_tree.proofs.Measured.{entries_are}
@@ -25,7 +26,7 @@ use Rattle.typed_tree.proofs.Quiet.{inner_stmt}
 use Rattle.typed_tree.proofs.Rows.{loops_have_rows}
 use Rattle.typing.specs.Passing.{After, after}
 use Rattle.typing.specs.Sound.{HasLoops, IsLeft, IsTyped, stands}
-use Rattle.typing_laws.specs.Lawful.{BeginWithRequired, IsOutlineOf, Lawful, TellsHeading, TellsHeadings}
+use Rattle.typing_laws.specs.Lawful.{IsOutlineOf, Lawful, TellsHeading, TellsHeadings}
 use Rattle.typing_laws.proofs.Grown.{both_true}
 use Rattle.typing_laws.proofs.Programs.{typing_is_lawful}
 use Rattle.typing_laws.proofs.Reached.{mapped_get}
@@ -119,10 +120,15 @@ module _ (program : Program) (a : After (Unit {0})) (tree : Tree) (lawful : Lawf
       told ∙ lawful.loops ∙ ap (λ numbers. range_with_len 0 (length numbers)) (sym told)
       ∙ ap (range_with_len 0) (length-map (loops_of tree) (λ one. one.0))
 
+  pub has_types : BeginWithRequired tree.types
+  has_types = subst BeginWithRequired (sym left.types) lawful.types
+
   -- it is well formed, if its table of loops is
   pub is_well_formed : HasLoops tree → IsWellFormed tree
   is_well_formed loops = record {
     few_variables = subst (λ variables. length variables ≤ most_variables) (sym left.variables) lawful.few_variables;
+    few_blocks = subst (λ n. n ≤ most_entries) (sym count) lawful.few_blocks;
+    required = has_types;
     declared =
         subst (λ n. list_all (λ (v : Variable). nat_lt v.block n) tree.variables.items ≡ true) (sym count)
         (subst (λ variables. list_all (λ (v : Variable). nat_lt v.block (length a.passed.headings)) variables ≡ true) (sym left.variables)
@@ -138,9 +144,6 @@ module _ (program : Program) (a : After (Unit {0})) (tree : Tree) (lawful : Lawf
     unthreatened =
         are_unthreatened tree has_bodies (subst AreUnthreatened (sym looks) lawful.unthreatened) (ap (spared_behind []) looks ∙ lawful.spared);
   }
-
-  pub has_types : BeginWithRequired tree.types
-  has_types = subst BeginWithRequired (sym left.types) lawful.types
 
   pub sites_by_place : ArePlacesInOrder (program_places program) → AreByPlace (map stands tree.sites.items)
   sites_by_place order = subst AreByPlace (sym left.sites) (lawful.by_place order)

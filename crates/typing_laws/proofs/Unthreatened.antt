@@ -1,7 +1,7 @@
 -- In a tree that looks as a typed one does, no block threatens the control variables of another, and no for statement its own.
 use Rattle.std.specs.declared.alloc.Global.{Global}
-use Rattle.std.proofs.Common.{Vec, ℤ, ◌≡◌, ℕ, suc, zero, ◌+◌, ◌<◌, Bool, true, false, ◌&&◌, ◌||◌, not, nat_eq, if◌then◌else◌, List, [], ◌∷◌, ◌++◌, length, map}
-use Rattle.std.proofs.Common.{Option, Some, None, slice_get, refl, sym, ap, subst, ◌∙◌, arith, append_assoc, append-nil, ⊎_elim, ◌⊎◌, inl, inr}
+use Rattle.std.proofs.Common.{Vec, ℤ, ◌≡◌, ℕ, suc, zero, ◌+◌, Bool, true, false, ◌&&◌, ◌||◌, not, nat_eq, if◌then◌else◌, List, [], ◌∷◌, ◌++◌, length, map}
+use Rattle.std.proofs.Common.{Option, Some, None, slice_get, refl, sym, ap, subst, ◌∙◌, arith, append_assoc, ⊎_elim}
 use Rattle.std.specs.Prelude.{IsPermutation, flat_map}
 use Rattle.std.specs.List.{Contains, list_all, list_any, range_with_len}
 use Rattle.std.specs.Option.{option_and_then}
@@ -16,9 +16,9 @@ use Rattle.typed_tree.specs.declared.tree.Stmt.TheOpen.Stmt-F.{Empty, Assign, Wr
 use Rattle.typed_tree.specs.declared.tree.Stmt.TheFolds.{map-Stmt, fold-roll-Stmt, ind-Stmt}
 use Rattle.typed_tree.specs.declared.tree.Stmt.TheViews.{roll-Stmt}
 use Rattle.typed_tree.specs.Entries.{joined, of_block}
-use Rattle.typed_tree.specs.Loops.{Inside, all_inside, both_inside, controls_of, inside_of, statement_inside}
-use Rattle.typed_tree.specs.Look.{Look, Mark, Ends, Else, Then, Do, Until, Fits, Controls, ForEnds, arms_look, blocks_of_look, heading_look, look_block, look_expr}
-use Rattle.typed_tree.specs.Look.{look_stmt, statement_look, tree_look}
+use Rattle.typed_tree.specs.Loops.{Inside, all_inside, controls_of, inside_of, statement_inside}
+use Rattle.typed_tree.specs.Look.{Look, Mark, Ends, Else, Then, Do, Until, Fits, Controls, ForEnds, arms_look, heading_look, look_block}
+use Rattle.typed_tree.specs.Look.{look_expr, look_stmt, statement_look, tree_look}
 use Rattle.typed_tree.specs.Threats.{controls_but, is_none_of, spares}
 use Rattle.typed_tree.proofs.Blocks.{among_bodies}
 use Rattle.typed_tree.proofs.Quiet.{inner_stmt}
@@ -26,7 +26,6 @@ use Rattle.std.proofs.lemmas.Option.{slice_get_within}
 use Rattle.typing_laws.specs.Controls.{AreUnthreatened, Each, IsKeptBy, in_blocks, mark_behind, mark_changes, mark_controls, spared_behind}
 use Rattle.typing_laws.proofs.Kept.{changes_of}
 use Rattle.typing_laws.proofs.Placed.{placed_as_far, placed_inner}
-use Rattle.typing_laws.proofs.Spared.{spared_append}
 use Rattle.typing_laws.proofs.Sparing.{cut, some_same, tells_stmt}
 
 -- ---- the control variables of a statement are told by how it looks
@@ -50,7 +49,8 @@ before_others look more controls told root is =
     ap (λ (roots : List ℕ). has roots root) (flat_map-append mark_controls look more) ∙ list_any-append (λ one. nat_eq one root) (told_in look) (told_in more)
     ∙ or_left (has (told_in look) root) (has (told_in more) root) (told root is)
 
-both_told : (look more : Look) (controls others : List ℕ) → HasControls look controls → HasControls more others → HasControls (look ++ more) (controls ++ others)
+both_told : (look more : Look) (controls others : List ℕ) → HasControls look controls → HasControls more others
+    → HasControls (look ++ more) (controls ++ others)
 both_told look more controls others one two root is =
     ⊎_elim (λ first. before_others look more controls one root first) (λ second. behind_others look more others two root second)
     (or_cases (has controls root) (has others root) (sym (list_any-append (λ one. nat_eq one root) controls others) ∙ is))
@@ -107,10 +107,10 @@ controls_layer (While number loop_number place condition body) =
 controls_layer (Repeat number loop_number place statements condition) = all_told statements.items (Until ∷ (look_expr condition ++ (Ends ∷ [])))
 controls_layer (For number loop_number place control first first_fits direction last last_fits body) = λ root is.
     let own = (inside_of body.value.0).controls in
-    let inside = Controls control ∷ (look_stmt body.value.0 ++ (ForEnds ∷ [])) in
-    let bounds = look_expr first ++ (Fits first_fits ∷ (look_expr last ++ (Fits last_fits ∷ inside))) in
-    let told = behind_others (look_expr first) (Fits first_fits ∷ (look_expr last ++ (Fits last_fits ∷ inside))) own
-    (behind_others (look_expr last) (Fits last_fits ∷ inside) own
+    let inside = Fits control [] last_fits ∷ Controls control ∷ (look_stmt body.value.0 ++ (ForEnds ∷ [])) in
+    let bounds = look_expr first ++ (Fits control [] first_fits ∷ (look_expr last ++ inside)) in
+    let told = behind_others (look_expr first) (Fits control [] first_fits ∷ (look_expr last ++ inside)) own
+    (behind_others (look_expr last) inside own
     (before_others (look_stmt body.value.0) (ForEnds ∷ []) own body.value.1)) in
     ⊎_elim (λ same. or_left (nat_eq control root) (has (told_in bounds) root) same)
     (λ later. or_right (nat_eq control root) (has (told_in bounds) root) (told root later))
@@ -177,7 +177,8 @@ all_parts extra [] more all = (refl, all)
 all_parts extra (root ∷ first) more all =
     by (is_none_of extra root) (all_parts extra first more) all
   where
-    by : (b : Bool) → (SparesAll extra (first ++ more) → SparesAll extra first × SparesAll extra more) → (b && list_all (is_none_of extra) (first ++ more)) ≡ true
+    by : (b : Bool) → (SparesAll extra (first ++ more) → SparesAll extra first × SparesAll extra more)
+        → (b && list_all (is_none_of extra) (first ++ more)) ≡ true
         → ((b && list_all (is_none_of extra) first) ≡ true) × SparesAll extra more
     by true rest is = rest is
     by false rest is = absurd cc
@@ -219,7 +220,8 @@ module _ (tree : Tree) where
 
   -- a block's own part of what is told block by block
   part_of : (roots : Mark → List ℕ) (Holds : ℕ × ℕ → Type 0) → ((number : ℕ) (block : Block) → roots (heading_look number block.heading block.end) ≡ [])
-      → (bodies : List ℕ) → Each Holds (in_blocks roots (flat_map look_at bodies)) → (number : ℕ) (block : Block) → slice_get tree.blocks.items number ≡ Some block
+      → (bodies : List ℕ) → Each Holds (in_blocks roots (flat_map look_at bodies)) → (number : ℕ) (block : Block)
+      → slice_get tree.blocks.items number ≡ Some block
       → has bodies number ≡ true → (root : ℕ) → has (flat_map roots (look_stmt block.body)) root ≡ true → Holds (number, root)
   part_of roots Holds none [] all number block is among root told = absurd cc
   part_of roots Holds none (first ∷ bodies) all number block is among root told =

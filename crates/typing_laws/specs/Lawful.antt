@@ -1,27 +1,22 @@
 -- What a typed program has: by how its typed tree looks, and by what is known behind it. It says nothing of what the
 -- program does.
-use Rattle.std.specs.Prelude.{◌≡◌, ℕ, ◌<◌, ◌≤◌, ◌++◌, List, [], ◌∷◌, Option, Some, true, IsPermutation, nat_lt, length}
+use Rattle.std.specs.Prelude.{◌≡◌, ℕ, ◌<◌, ◌≤◌, List, [], ◌∷◌, Option, Some, true, IsPermutation, nat_lt, length}
 use Rattle.std.specs.Prelude.{slice_get, Ok}
 use Rattle.std.specs.List.{range_with_len, list_all}
 use Rattle.place.specs.Place.{ArePlacesInOrder}
 use Rattle.syntax_tree.specs.declared.Program.{Program}
 use Rattle.syntax_tree.specs.Places.{program_places}
-use Rattle.types.specs.Forms.{Form}
-use Rattle.types.specs.Types.{required_forms}
+use Rattle.types.specs.Types.{BeginWithRequired}
 use Rattle.typed_tree.specs.declared.tree.FunctionResult.{FunctionResult}
 use Rattle.typed_tree.specs.declared.tree.Heading.{Heading}
 use Rattle.typed_tree.specs.Ids.{AreByPlace}
 use Rattle.typed_tree.specs.Look.{Look, Mark, BlockEnds, entries_of_look, loops_of_look, blocks_of_look, are_formed}
-use Rattle.typed_tree.specs.WellFormed.{Outline, most_variables, are_few_cells, is_heading}
+use Rattle.typed_tree.specs.WellFormed.{Outline, most_entries, most_variables, are_few_cells, is_heading}
 use Rattle.typing.specs.Passing.{After}
-use Rattle.typing.specs.Steps.{most_sites, most_entries}
+use Rattle.typing.specs.Steps.{most_sites}
 use Rattle.typing.specs.Typing.{typing}
 use Rattle.typing_laws.specs.Controls.{AreUnthreatened, spared_behind}
 use Rattle.typing_laws.specs.Results.{are_assigned}
-
--- the required types, and then a program's own
-abbrev pub BeginWithRequired : List Form → Type 0
-BeginWithRequired types = (own : List Form) × (types ≡ required_forms ++ own)
 
 -- the block of a number has this heading: the blocks round it, its parameters and its result
 abbrev pub HasHeading : List Heading → ℕ → List ℕ → List ℕ → Option FunctionResult → Type 0
@@ -73,6 +68,7 @@ pub record Lawful (program : Program) (a : After (Unit {0})) : Type 0 where
   -- the result of each function is assigned somewhere
   pub assigned : are_assigned a.look ≡ true
   pub few_variables : length a.passed.variables ≤ most_variables
+  pub few_blocks : length a.passed.headings ≤ most_entries
   -- each variable is one that a block declares
   pub declared : list_all (λ variable. nat_lt variable.block (length a.passed.headings)) a.passed.variables ≡ true
   pub few_sites : length a.passed.sites ≤ most_sites

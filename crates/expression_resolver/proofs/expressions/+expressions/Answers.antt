@@ -12,10 +12,11 @@ use Rattle.typed_tree.specs.Look.{Begins}
 use Rattle.typing.specs.Passing.{after, behind_marks}
 use Rattle.typing.specs.Expressions.{Written, expression, written_actual, written_link}
 use Rattle.typing.specs.Steps.{program_heading}
+use Rattle.typing.proofs.Copying.{copied_as, copy_made}
 use Rattle.typing.proofs.Written.{typing_component}
 use Rattle.typing.specs.Expressions as spec
 use Rattle.typing.specs.Outcomes.{IsFault, Makes}
-use Rattle.expression_resolver.specs.Made.{typed_of, look_value, operators, MakesTyped}
+use Rattle.expression_resolver.specs.Made.{typed_of, look_value, operators, value_source, MakesTyped}
 use Rattle.expression_resolver.proofs.Chains.{stops_at_first, goes_on, ordinal_stops, ordinal_made}
 use Rattle.expression_resolver.proofs.Chains.{nothing, string_alone, string_stops, more_stop, more_refused, string_made}
 use Rattle.expression_resolver.proofs.Operands.{was_some, fits_behind}
@@ -26,7 +27,7 @@ use Rattle.expression_resolver.specs.Accesses.{value, look_selection, SelectsOne
 use Rattle.expression_resolver.proofs.Selecting.{variable_stops, selectors_stop, component_is, elements_take_one, field_selects, element_selects}
 use Rattle.expression_resolver.proofs.Actuals.{ArePassedFrom, one_passed}
 use Rattle.expression_resolver.proofs.Calls.{actual_stops, call_made, count_stops, value_is, value_stops}
-use Rattle.expression_resolver.proofs.PassedForms.{cells_copied, other_kind, to_none, to_value, to_variable, value_by_kind, variable_made, variable_passes}
+use Rattle.expression_resolver.proofs.PassedForms.{other_kind, to_none, to_value, to_variable, value_by_kind, variable_made, variable_passes}
 use Rattle.expression_resolver.proofs.PassedForms.{whole_made, whole_passes}
 use Rattle.expression_resolver.proofs.expressions.+expressions.Goals as goal
 
@@ -257,18 +258,17 @@ pub passed_whole-returns : goal.passed_whole-returns
 passed_whole-returns t c =
     let made = c.in_ok-made.made in
     let now = c.expression.new.typer in
-    let count = c.in_ok-ok_or.field-0 in
     let value = c.in_ok-value.value in
     let is = c.in_ok-value.ensures in
-    let copies : spec.copying now.types c.args.type_id (typed_of made) ≡ Some count =
-    ap (spec.copying now.types c.args.type_id) (sym c.typed.ensures) ∙ sym c.copying.ensures
-    ∙ was_some c.copying.result count _ (sym c.ok_or.ensures.value ∙ c.in_ok-ok_or.was) in
+    let source = value_source made.value in
+    let cells = length_of value in
+    let may : is_some (spec.copying now.types c.args.type_id (typed_of made)) ≡ true =
+    ap (λ t. is_some (spec.copying now.types c.args.type_id t)) (sym c.typed.ensures) ∙ sym c.may_copy.ensures ∙ c.if-not-may_copy.false in
     λ callee position.
-    whole_passes c.args.type_id (expression c.args.written.now) callee position c.args.typer.now (typed_of made) (look_value made.value) now count
-    c.in_ok-made.ensures copies
-    ∙ ap (λ look. Ok (after tt (look ++ (ForWhole c.args.type_id count callee position ∷ [])) now)) is.1
-    ∙ whole_made c.args.type_id value c.in_ok-value.indexes callee position count now
-    (cells_copied now.types c.args.type_id (typed_of made) (length_of value) count is.0 copies)
+    whole_passes c.args.type_id (expression c.args.written.now) callee position c.args.typer.now (typed_of made) (look_value made.value) now
+    (copy_made source cells) c.in_ok-made.ensures (copied_as now.types c.args.type_id (typed_of made) cells is.0 may)
+    ∙ ap (λ look. Ok (after tt (look ++ (ForWhole c.args.type_id source cells callee position ∷ [])) now)) is.2
+    ∙ whole_made c.args.type_id value c.in_ok-value.indexes callee position source now is.1
 
 -- a variable for a variable parameter
 pub passed_access-returns : goal.passed_access-returns

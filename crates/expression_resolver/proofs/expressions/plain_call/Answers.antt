@@ -11,7 +11,8 @@ pub returns-in_err-found : goal.returns-in_err-found
 returns-in_err-found c =
     let why = c.in_err-found.field-0.0 in
     let stops : IsFault (spec.routine_call true c.args.block c.args.place [] c.args.typer.now) why =
-    count_stops true c.args.block c.args.place [] c.args.typer.now c.enter.new.self c.in_ok-number.number c.in_ok-number.ensures why c.in_err-found.ensures.found in
+    count_stops true c.args.block c.args.place [] c.args.typer.now c.enter.new.self c.in_ok-number.number c.in_ok-number.ensures why
+    c.in_err-found.ensures.found in
     search rules
 
 pub returns : goal.returns

@@ -26,7 +26,8 @@ pub returns-in-Err-clause-left_out : goal.returns-in-Err-clause-left_out
 returns-in-Err-clause-left_out c =
     let tokens = c.args.tokens.now in
     let none : first_left_out tokens ≡ None = search rules in
-    let own : IsOfRules c.fault_of.result = subst IsOfRules (sym c.fault_of.ensures) (of_rules tokens (length c.program.new.cursor.rest.now) c.in-Err.refusal) in
+    let left = length c.program.new.cursor.rest.now in
+    let own : IsOfRules c.fault_of.result = subst IsOfRules (sym c.fault_of.ensures) (of_rules tokens left c.in-Err.refusal) in
     rw none own
 
 pub returns-in-Err-clause-deep : goal.returns-in-Err-clause-deep

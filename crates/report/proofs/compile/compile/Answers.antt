@@ -24,7 +24,8 @@ pub returns-clause-states_hold : goal.returns-clause-states_hold
 returns-clause-states_hold c = if_whole _ c.args.source.now (text_of c.args.certificate) c.whole.result c.whole.ensures (λ compiled h. h.judgement.states_hold)
 
 pub returns-clause-calls_change : goal.returns-clause-calls_change
-returns-clause-calls_change c = if_whole _ c.args.source.now (text_of c.args.certificate) c.whole.result c.whole.ensures (λ compiled h. h.judgement.calls_change)
+returns-clause-calls_change c =
+    if_whole _ c.args.source.now (text_of c.args.certificate) c.whole.result c.whole.ensures (λ compiled h. h.judgement.calls_change)
 
 pub returns-clause-follows : goal.returns-clause-follows
 returns-clause-follows c = if_whole _ c.args.source.now (text_of c.args.certificate) c.whole.result c.whole.ensures (λ compiled h. h.codes.follows)

@@ -14,16 +14,15 @@ returns-in_err-change c = λ visits.
     let root = c.args.target.now.root in
     let selectors = c.args.target.now.selectors.items in
     let reach = said_reach c.args.reach in
-    let values = c.args.values in
     let form = bound_form c.args.value.now in
     let old = c.args.self.now in
     let fault = c.in_err-change.field-0.0 in
     let left = c.from_residual in
     let none : (length selectors == 0) ≡ true = search (rules, c.is_empty.ensures, c.if-is_empty.true) in
-    given-up (assign_to place root selectors reach values form c.args.passed) old old visits visits fault left.result left.ensures
-    (goes-as (assign_to place root selectors reach values form c.args.passed) (change place root values >>= λ _. assign root form c.args.passed) old old
-    visits visits (Err fault) (assigned-entire place root selectors reach values form c.args.passed none)
-    (goes-stopped (change place root values) (λ _. assign root form c.args.passed) old old visits visits fault (c.in_err-change.ensures visits)))
+    given-up (assign_to place root selectors reach form c.args.passed) old old visits visits fault left.result left.ensures
+    (goes-as (assign_to place root selectors reach form c.args.passed) (change place root >>= λ _. assign root form c.args.passed) old old
+    visits visits (Err fault) (assigned-entire place root selectors reach form c.args.passed none)
+    (goes-stopped (change place root) (λ _. assign root form c.args.passed) old old visits visits fault (c.in_err-change.ensures visits)))
 
 pub returns-in_ok-change : goal.returns-in_ok-change
 returns-in_ok-change c = λ visits.
@@ -31,13 +30,12 @@ returns-in_ok-change c = λ visits.
     let root = c.args.target.now.root in
     let selectors = c.args.target.now.selectors.items in
     let reach = said_reach c.args.reach in
-    let values = c.args.values in
     let form = bound_form c.args.value.now in
     let old = c.args.self.now in
     let none : (length selectors == 0) ≡ true = search (rules, c.is_empty.ensures, c.if-is_empty.true) in
-    goes-as (assign_to place root selectors reach values form c.args.passed) (change place root values >>= λ _. assign root form c.args.passed) old
-    c.assign.new.self visits visits c.assign.result (assigned-entire place root selectors reach values form c.args.passed none)
-    (goes-then (change place root values) (λ _. assign root form c.args.passed) old old c.assign.new.self visits visits visits tt c.assign.result
+    goes-as (assign_to place root selectors reach form c.args.passed) (change place root >>= λ _. assign root form c.args.passed) old
+    c.assign.new.self visits visits c.assign.result (assigned-entire place root selectors reach form c.args.passed none)
+    (goes-then (change place root) (λ _. assign root form c.args.passed) old old c.assign.new.self visits visits visits tt c.assign.result
     (c.in_ok-change.ensures visits) (c.assign.ensures visits))
 
 pub returns-else-is_empty : goal.returns-else-is_empty
@@ -47,6 +45,6 @@ returns-else-is_empty c = λ visits.
     let reach = said_reach c.args.reach in
     let form = bound_form c.args.value.now in
     let some : (length selectors == 0) ≡ false = search (rules, c.is_empty.ensures, c.if-is_empty.false) in
-    goes-as (assign_to c.args.becomes root selectors reach c.args.values form c.args.passed)
+    goes-as (assign_to c.args.becomes root selectors reach form c.args.passed)
     (assign_component c.args.becomes root selectors reach c.args.passed) c.args.self.now c.assign_component.new.self visits visits c.assign_component.result
-    (assigned-component c.args.becomes root selectors reach c.args.values form c.args.passed some) (c.assign_component.ensures visits)
+    (assigned-component c.args.becomes root selectors reach form c.args.passed some) (c.assign_component.ensures visits)

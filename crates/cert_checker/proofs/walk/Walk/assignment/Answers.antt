@@ -1,7 +1,6 @@
 use Rattle.std.proofs.Common.{refl, ap₂, ◌∙◌, Err, List, Ok}
 use Rattle.typed_tree.specs.Calls.{holds_call}
 use Rattle.typed_tree.specs.declared.tree.Selector.{Selector}
-use Rattle.abstract_state.specs.State.{limits_of}
 use Rattle.abstract_state.specs.Conditions.{bound_form}
 use Rattle.component_states.specs.View.{said_reach}
 use Rattle.abstract_state.specs.declared.known.Known.{Known}
@@ -20,8 +19,8 @@ returns-in_err-known c =
     let fits = c.args.fits in
     let value = c.args.value.now in
     let stored = λ (reach : Reach) (known : Known).
-    fitting fits known >>= assign_to c.args.becomes target.root target.selectors.items (reach_stored target.selectors.items (holds_call value) reach) (limits_of fits.range)
-    (bound_form value) in
+    fitting fits known
+    >>= assign_to c.args.becomes target.root target.selectors.items (reach_stored target.selectors.items (holds_call value) reach) (bound_form value) in
     let reach = said_reach c.in_ok-reach.reach in
     let fault = c.in_err-known.field-0.0 in
     let left = c.from_residual-in_err-known in
@@ -40,7 +39,7 @@ returns-in_err-passed c =
     let value = c.args.value.now in
     let reach = said_reach c.in_ok-reach.reach in
     let before = reach_stored target.selectors.items (holds_call value) reach in
-    let stored = assign_to c.args.becomes target.root target.selectors.items before (limits_of fits.range) (bound_form value) in
+    let stored = assign_to c.args.becomes target.root target.selectors.items before (bound_form value) in
     let valued = c.expression.new.self in
     let new = record valued { flow = c.fitting.new.self } in
     let after = c.expression.new.visits in
@@ -48,8 +47,8 @@ returns-in_err-passed c =
     let fault = c.in_err-passed.field-0.0 in
     let left = c.from_residual-in_err-passed in
     given-up (assignment c.args.becomes target (index_pieces indexes) fits value) c.args.self.now new c.args.visits.now after fault left.result left.ensures
-    (assignment-done c.args.becomes target indexes fits value (limits_of fits.range) reach before c.args.self.now c.access.new.self valued
-    c.args.visits.now c.access.new.visits after known (Err fault) new refl refl c.in_ok-reach.ensures c.in_ok-known.ensures
+    (assignment-done c.args.becomes target indexes fits value reach before c.args.self.now c.access.new.self valued c.args.visits.now
+    c.access.new.visits after known (Err fault) new refl c.in_ok-reach.ensures c.in_ok-known.ensures
     (goes-stopped (fitting fits known) stored valued new after after fault (λ ready. c.in_err-passed.ensures after (context_of valued).claims)))
 
 pub returns : goal.returns
@@ -59,18 +58,18 @@ returns c =
     let fits = c.args.fits in
     let value = c.args.value.now in
     let reach = said_reach c.in_ok-reach.reach in
-    let values = c.limits.result in
     let before = said_reach c.reach_stored-reach.result in
-    let stored = assign_to c.args.becomes target.root target.selectors.items before values (bound_form value) in
+    let stored = assign_to c.args.becomes target.root target.selectors.items before (bound_form value) in
     let valued = c.expression.new.self in
     let tested = record valued { flow = c.fitting.new.self } in
     let new = c.assign_to.new.self in
     let after = c.expression.new.visits in
     let known = c.in_ok-known.known in
     let passed = c.in_ok-passed.passed in
-    assignment-done c.args.becomes target indexes fits value values reach before c.args.self.now c.access.new.self valued c.args.visits.now
-    c.access.new.visits after known c.assign_to.result new c.limits.ensures
-    (c.reach_stored-reach.ensures ∙ ap₂ (λ (own : List Selector) holds. reach_stored own holds reach) c.deref.ensures.value c.holds_call.ensures) c.in_ok-reach.ensures c.in_ok-known.ensures
+    assignment-done c.args.becomes target indexes fits value reach before c.args.self.now c.access.new.self valued c.args.visits.now
+    c.access.new.visits after known c.assign_to.result new
+    (c.reach_stored-reach.ensures ∙ ap₂ (λ (own : List Selector) holds. reach_stored own holds reach) c.deref.ensures.value c.holds_call.ensures)
+    c.in_ok-reach.ensures c.in_ok-known.ensures
     (goes-then (fitting fits known) stored valued tested new after after after passed c.assign_to.result
     (lifted (fitting fits known) valued c.fitting.new.self after after (Ok passed) (c.in_ok-passed.ensures after)) (c.assign_to.ensures after))
 
@@ -81,8 +80,8 @@ returns-in_err-reach c =
     let fits = c.args.fits in
     let value = c.args.value.now in
     let stored = λ (reach : Reach) (known : Known).
-    fitting fits known >>= assign_to c.args.becomes target.root target.selectors.items (reach_stored target.selectors.items (holds_call value) reach) (limits_of fits.range)
-    (bound_form value) in
+    fitting fits known
+    >>= assign_to c.args.becomes target.root target.selectors.items (reach_stored target.selectors.items (holds_call value) reach) (bound_form value) in
     let fault = c.in_err-reach.field-0.0 in
     let left = c.from_residual in
     let new = c.access.new.self in

@@ -13,7 +13,7 @@ loop-number-preserved c = λ result new after goes are.
     let number = here.number in
     let block = c.index-block.result.now in
     let count : c.in_ok-number-end.number-end ≡ length blocks =
-    c.in_ok-number-end.ensures ∙ ap (λ (t : Tree). length t.blocks.items) c.tree-tree.ensures in
+    c.in_ok-number-end.ensures.count ∙ ap (λ (t : Tree). length t.blocks.items) c.tree-tree.ensures in
     let inside : number < length blocks = omega (arith, c.loop-number-test.true, count) in
     let is : block ≡ get_or blocks number block =
     c.index-block.ensures ∙ ap (λ (t : Tree). get_or t.blocks.items number block) c.tree-tree.ensures in
@@ -27,7 +27,7 @@ returns c = λ are.
     let here = c.loop-number in
     let blocks = c.args.self.now.flow.grounds.rows.now.blocks.items in
     let count : c.in_ok-number-end.number-end ≡ length blocks =
-    c.in_ok-number-end.ensures ∙ ap (λ (t : Tree). length t.blocks.items) c.tree-tree.ensures in
+    c.in_ok-number-end.ensures.count ∙ ap (λ (t : Tree). length t.blocks.items) c.tree-tree.ensures in
     let past : length blocks ≤ here.number = omega (arith, c.loop-number-test.false, count) in
     here.invariant (Ok tt) here.self here.visits (λ here_are. blocks-end blocks here.number here.self here.visits past) are
 
@@ -42,7 +42,7 @@ returns-in_err-block c = λ are.
     let fault = c.in_err-block.field-0.0 in
     let left = c.from_residual-in_err-block in
     let count : c.in_ok-number-end.number-end ≡ length blocks =
-    c.in_ok-number-end.ensures ∙ ap (λ (t : Tree). length t.blocks.items) c.tree-tree.ensures in
+    c.in_ok-number-end.ensures.count ∙ ap (λ (t : Tree). length t.blocks.items) c.tree-tree.ensures in
     let inside : number < length blocks = omega (arith, c.loop-number-test.true, count) in
     let is : block ≡ get_or blocks number block =
     c.index-block.ensures ∙ ap (λ (t : Tree). get_or t.blocks.items number block) c.tree-tree.ensures in

@@ -12,5 +12,5 @@ returns c = λ visits.
     let old = c.args.self.now in
     copy-goes c.args.becomes target.root target.selectors.items (said_reach c.args.reach) (numbers c.accessed-rows.result) c.deref-2.result.now old
     c.store_to.new.self visits c.store_to.result
-    (c.accessed-rows.ensures ∙ ap (rows_accessed (rows_of (context_of old).tree) target.root) c.deref.ensures.value) c.args.type_id c.args.value.now
-    c.args.ranges.now c.fits_rows-fits.result c.fits_rows-fits.ensures (c.deref-2.ensures.value ∙ c.in_ok-stores.ensures) (c.store_to.ensures visits)
+    (c.accessed-rows.ensures ∙ ap (rows_accessed (rows_of (context_of old).tree) target.root) c.deref.ensures.value)
+    c.args.ranges.now (c.deref-2.ensures.value ∙ c.in_ok-stores.ensures) (c.store_to.ensures visits)

@@ -20,15 +20,15 @@ use Rattle.typed_tree.specs.declared.tree.Selector.{Selector}
 use Rattle.abstract_state.specs.Forms.{bound_of}
 use Rattle.abstract_state.specs.View.{said_form}
 use Rattle.call_states.specs.declared.actuals.Actual.{Actual as KeptActual}
-use Rattle.call_states.specs.Actuals.{Actual, OfValue, OfVariable}
+use Rattle.call_states.specs.Actuals.{Actual, OfRows, OfValue, OfVariable}
 use Rattle.call_states.specs.View.{said_actual}
 use Rattle.leaf_rows.specs.Limits.{all_limits}
 use Rattle.expression_checker.specs.declared.flow.Flow.{Flow}
-use Rattle.expression_checker.specs.Walk.{actuals_hold_call, actuals_walk, call_walk, called, called_block, copied, fitting, function_walk, passed_piece_of}
+use Rattle.expression_checker.specs.Walk.{actuals_hold_call, actuals_walk, call_walk, called, called_block, fitting, function_walk, passed_piece_of}
 use Rattle.expression_checker.specs.Walk.{piece_of, range_in, result_of, result_walk, value_passed, variable_passed, whole_passed}
 use Rattle.expression_checker.specs.View.{Goes, said_actuals, state_of}
 use Rattle.expression_checker.proofs.Forms.{bound-same}
-use Rattle.expression_checker.proofs.Passing.{actuals-hold, copied-goes, passing-begun, passing-end, passing-step, passing-stopped, prefixed, result-goes}
+use Rattle.expression_checker.proofs.Passing.{actuals-hold, passing-begun, passing-end, passing-step, passing-stopped, prefixed, result-goes}
 use Rattle.expression_checker.proofs.Passing.{value_given}
 use Rattle.expression_checker.proofs.Steps.{actuals_from, passed-Reference, passed-Value, passed-Whole, range-in, value-Call}
 use Rattle.expression_checker.proofs.flow.Flow.+expression.Goals as goal
@@ -348,10 +348,10 @@ actual-returns-in_err-ranges-in-Whole t c =
     let it = c.in-Whole in
     let fault = c.in_err-ranges-in-Whole.field-0.0 in
     let left = c.from_residual-in_err-ranges-in-Whole in
-    stopped-as (passed_piece_of c.args.actual.now).walk (whole_walk it.value (index_pieces c.deref.result.now)) (λ ranges. copied it.type_id it.value ranges)
+    stopped-as (passed_piece_of c.args.actual.now).walk (whole_walk it.value (index_pieces c.deref.result.now)) (λ ranges. give (OfRows ranges))
     c.args.self.now c.whole_value.new.self c.args.visits.now c.whole_value.new.visits fault (seen said_actual left.result)
     (ap (λ p. (passed_piece_of p).walk) it.is ∙ passed-Whole it.type_id it.value it.indexes
-    ∙ ap (λ items. whole_passed it.type_id it.value (index_pieces items)) (sym c.deref.ensures.value))
+    ∙ ap (λ items. whole_passed it.value (index_pieces items)) (sym c.deref.ensures.value))
     (seen-fault said_actual left.result fault left.ensures) c.in_err-ranges-in-Whole.ensures
 
 pub actual-returns-in_err-reach-in-Reference : goal.actual-returns-in_err-reach-in-Reference
@@ -395,13 +395,13 @@ actual-returns-in_ok-ranges-in-Whole t c =
     let new = c.whole_value.new.self in
     let after = c.whole_value.new.visits in
     let ranges = said_ranges c.in_ok-ranges-in-Whole.ranges in
-    let result = Ok (said_actual c.copied.result) in
-    goes-as walk (whole_passed it.type_id it.value (index_pieces c.deref.result.now)) c.args.self.now new c.args.visits.now after result
+    let result = Ok (OfRows ranges) in
+    goes-as walk (whole_passed it.value (index_pieces c.deref.result.now)) c.args.self.now new c.args.visits.now after result
     (ap (λ p. (passed_piece_of p).walk) it.is ∙ passed-Whole it.type_id it.value it.indexes
-    ∙ ap (λ items. whole_passed it.type_id it.value (index_pieces items)) (sym c.deref.ensures.value))
-    (goes-then (whole_walk it.value (index_pieces c.deref.result.now)) (λ ranges. copied it.type_id it.value ranges) c.args.self.now new new
+    ∙ ap (λ items. whole_passed it.value (index_pieces items)) (sym c.deref.ensures.value))
+    (goes-then (whole_walk it.value (index_pieces c.deref.result.now)) (λ ranges. give (OfRows ranges)) c.args.self.now new new
     c.args.visits.now after after ranges result c.in_ok-ranges-in-Whole.ensures
-    (copied-goes it.type_id it.value ranges (said_actual c.copied.result) new after c.copied.ensures))
+    (goes-give (OfRows ranges) new after))
 
 pub actual-returns-in_ok-reach-in-Reference : goal.actual-returns-in_ok-reach-in-Reference
 actual-returns-in_ok-reach-in-Reference t c =

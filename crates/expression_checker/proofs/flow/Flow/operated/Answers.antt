@@ -1,36 +1,40 @@
-use Rattle.std.proofs.Common.{rules, ◌≡◌, ℤ, subst, to_z, of_z, w32}
-use Rattle.std.proofs.lemmas.Int.{to_z-of_z}
+use Rattle.std.proofs.Common.{◌≡◌, ◌∙◌, ap, refl, subst, sym, Ok}
+use Rattle.domain.specs.Interval.{Interval, common, held}
 use Rattle.abstract_state.specs.declared.known.Known.TheVariants.{Ordinal}
-use Rattle.expression_checker.specs.Walk.{operated}
-use Rattle.typed_tree.specs.declared.tree.Monadic.TheVariants as monadic
-use Rattle.expression_checker.proofs.Held.{GoesSo, operated-done, square-done}
+use Rattle.abstract_state.specs.State.{limits_of}
+use Rattle.expression_checker.specs.View.{Goes}
+use Rattle.expression_checker.specs.Walk.{operated, ordinal, shifted, within}
+use Rattle.expression_checker.proofs.Held.{calculated-done, shifted-held, tested-as}
+use Rattle.expression_checker.proofs.Steps.{passed-goes, stopped-as}
 use Rattle.expression_checker.proofs.flow.Flow.operated.Goals as goal
 
-pub returns-in-Sqr : goal.returns-in-Sqr
-returns-in-Sqr c =
-    square-done c.args.operation c.args.known c.in-Sqr.overflow c.range-range.result c.square.result c.whole.result c.args.self.now c.whole.new.self
-    c.square.ensures.ends c.range-range.ensures c.in-Sqr.is c.whole.ensures
+pub returns-in-Plain : goal.returns-in-Plain
+returns-in-Plain c =
+    calculated-done c.args.operation c.in-Plain.does c.args.known c.overflow_of.result c.calculated.result c.range-range.result c.unless_overflow.result
+    c.args.self.now c.unless_overflow.new.self c.in-Plain.is c.range-range.ensures c.overflow_of.ensures c.calculated.ensures c.unless_overflow.ensures
 
-pub returns-in-Chr : goal.returns-in-Chr
-returns-in-Chr c =
-    let it = c.in-Chr in
-    operated-done c.args.operation (monadic.Chr it.no_char) c.args.known c.range-range.result c.character.result c.args.self.now c.character.new.self
-    c.range-range.ensures it.is c.character.ensures
+pub returns-in_err-passed-in-Tested : goal.returns-in_err-passed-in-Tested
+returns-in_err-passed-in-Tested c = λ visits.
+    let it = c.in-Tested in
+    let operation = c.args.operation in
+    let range = c.range-range.result in
+    stopped-as (operated operation c.args.known) (within c.limits.result it.fits.site range) (λ passed. ordinal (shifted it.does passed)) c.args.self.now
+    c.within.new.self visits visits c.in_err-passed-in-Tested.field-0.0 c.from_residual.result
+    (tested-as operation it.fits it.does c.args.known c.limits.result range it.is c.range-range.ensures c.limits.ensures) c.from_residual.ensures
+    (c.in_err-passed-in-Tested.ensures visits)
 
-pub returns-in-Succ : goal.returns-in-Succ
-returns-in-Succ c =
-    let it = c.in-Succ in
-    let given : ◌≡◌ {A = ℤ} (to_z w32 (of_z w32 it.last)) it.last = search (rules, to_z-of_z) in
-    operated-done c.args.operation (monadic.Succ it.no_successor it.last) c.args.known c.range-range.result c.successor.result c.args.self.now
-    c.successor.new.self c.range-range.ensures it.is
-    (subst (λ n. GoesSo (operated (monadic.Succ it.no_successor n) (Ordinal c.range-range.result)) c.args.self.now c.successor.result c.successor.new.self)
-    given c.successor.ensures)
-
-pub returns-in-Pred : goal.returns-in-Pred
-returns-in-Pred c =
-    let it = c.in-Pred in
-    let given : ◌≡◌ {A = ℤ} (to_z w32 (of_z w32 it.first)) it.first = search (rules, to_z-of_z) in
-    operated-done c.args.operation (monadic.Pred it.no_predecessor it.first) c.args.known c.range-range.result c.predecessor.result c.args.self.now
-    c.predecessor.new.self c.range-range.ensures it.is
-    (subst (λ n. GoesSo (operated (monadic.Pred it.no_predecessor n) (Ordinal c.range-range.result)) c.args.self.now c.predecessor.result
-    c.predecessor.new.self) given c.predecessor.ensures)
+pub returns-in_ok-passed-in-Tested : goal.returns-in_ok-passed-in-Tested
+returns-in_ok-passed-in-Tested c = λ visits.
+    let it = c.in-Tested in
+    let operation = c.args.operation in
+    let range = c.range-range.result in
+    let own = limits_of it.fits.range in
+    let passed = c.in_ok-passed-in-Tested.passed in
+    passed-goes (operated operation c.args.known) (within own it.fits.site range) (λ r. Ordinal (shifted it.does r)) passed (common range own) _
+    c.args.self.now c.within.new.self visits
+    (tested-as operation it.fits it.does c.args.known own range it.is c.range-range.ensures refl)
+    (λ context. refl)
+    (λ is. ap Ordinal (c.shifted.ensures
+    ∙ subst (λ (r : Interval). held (shifted it.does r) ≡ shifted it.does r) (sym is) (shifted-held range it.fits.range it.does)))
+    (subst (λ (l : Interval). Goes (within l it.fits.site range) c.args.self.now visits (Ok passed) c.within.new.self visits) c.limits.ensures
+    (c.in_ok-passed-in-Tested.ensures visits))

@@ -1,6 +1,4 @@
-use Rattle.std.proofs.Common.{◌≡◌, ◌+◌, List, ◌∷◌, OnOk, Option, option_map, reverse, sym, ◌∙◌, ap, subst}
-use Rattle.interpreter.specs.declared.interpreter.Run.{Run}
-use Rattle.interpreter.specs.Weight.{callees_in, pending_weight, weight_of, weight_of_selectors}
+use Rattle.std.proofs.Common.{List, ◌∷◌, Option, option_map, reverse, sym, ◌∙◌, ap}
 use Rattle.typed_tree.specs.declared.tree.Selector.{Selector}
 use Rattle.interpreter_state.specs.declared.work.Work.TheVariants as work
 use Rattle.meaning.specs.Store.{Place}
@@ -28,12 +26,3 @@ returns-clause-does c = λ env outer s agrees.
     ∙ ap (λ (l : List Selector). giving_place (selected l indexes env place) (resumed env later works) (operands_of old) s) (sym c.deref.ensures.value)
     ∙ sym (selecting-on env c.deref.result.now c.args.indexes.now place (resumed env later works) (operands_of old) s))
     agrees c.plan.ensures.does
-
-pub returns-clause-weight : goal.returns-clause-weight
-returns-clause-weight c =
-    let old = c.args.self.now in
-    let access = c.args.access.now in
-    let weighs : List Selector → Run → Type 0 = λ selectors run. OnOk c.plan.result (pending_weight c.plan.new.self ≡
-    pending_weight run + weight_of (callees_in run) run.turns c.args.later
-    + weight_of_selectors (callees_in run) selectors c.args.indexes.now run.turns) in
-    subst (λ l. weighs l old) c.deref.ensures.value (subst (weighs c.deref.result.now) c.push.ensures.same c.plan.ensures.weight)

@@ -1,4 +1,4 @@
-use Rattle.std.proofs.Common.{◌≡◌, ◌+◌, ◌-◌, ◌≤◌, ◌∷◌, List, OnOk, Some, suc, map, reverse, refl, slice_get, sym, arith, ◌∙◌, ap, subst}
+use Rattle.std.proofs.Common.{◌≡◌, ◌∷◌, List, Some, map, reverse, refl, slice_get, sym, arith, ◌∙◌, ap, subst}
 use Rattle.std.proofs.lemmas.Option.{slice_get_read}
 use Rattle.typed_tree.specs.declared.tree.Block.{Block}
 use Rattle.meaning.specs.declared.outcome.Ending.TheVariants as ending
@@ -6,10 +6,8 @@ use Rattle.meaning.specs.Meaning.{Argument}
 use Rattle.interpreter_state.specs.Views.{operand_seen}
 use Rattle.interpreter.specs.declared.interpreter.Run.{Run}
 use Rattle.interpreter.specs.Pending.{Does, beginning, left_below, operands_of, pending_of, taken_from}
-use Rattle.interpreter.specs.Weight.{begun_weight, callees_in, callees_of, pending_weight}
 use Rattle.interpreter.proofs.Activating.{calls_block, calls_starved}
 use Rattle.interpreter.proofs.Resuming.{goes_on_below, stops_below}
-use Rattle.interpreter.proofs.Weights.{lighter_than}
 use Rattle.interpreter.proofs.interpreter.Run.activate.Goals as goal
 
 pub returns-clause-does : goal.returns-clause-does
@@ -55,23 +53,3 @@ returns-then-self-eq0-clause-does c = λ env outer s agrees.
     stops_below old taken env outer (record s { starved = number ∷ s.living }) _ ending.More same
     (calls_starved tree env number count old.activation.depth block (pending_of env outer (reverse old.pending.items)) (operands_of old) s agrees.calls found
     none) agrees
-
-pub returns-clause-fewer : goal.returns-clause-fewer
-returns-clause-fewer c =
-    let old = c.args.self.now in
-    let tree = old.tree.now in
-    let taken = c.arguments.new.self in
-    let depth = old.activation.depth - 1 in
-    let number = c.args.number in
-    let block = c.in-Some.block.now in
-    let same = c.in_ok-arguments.ensures.same in
-    let one : taken.activation.depth ≡ old.activation.depth = ap (λ (r : Run). r.activation.depth) same in
-    let deep : old.activation.depth ≡ suc depth = omega (arith, one, c.if-self-eq0.false) in
-    let found : slice_get tree.blocks.items number ≡ Some block =
-    ap (λ (r : Run). slice_get r.tree.now.blocks.items number) (sym same) ∙ ap (λ (l : List Block). slice_get l number) (sym c.deref.ensures.value)
-    ∙ slice_get_read c.deref.result.now _ number block refl (omega (arith, c.in-Some.ensures.lookup)) c.in-Some.ensures.lookup.1 in
-    let weighs : Run → Type 0 = λ r. OnOk c.begin.result (pending_weight c.begin.new.self ≤
-    pending_weight r + 1 + begun_weight (callees_of r.tree.now (r.activation.depth - 1)) (Some block) r.turns) in
-    let callee : callees_in old number old.turns ≡ begun_weight (callees_of tree depth) (Some block) old.turns =
-    ap (λ d. callees_of tree d number old.turns) deep ∙ ap (λ o. begun_weight (callees_of tree depth) o old.turns) found in
-    lighter_than c.begin.result _ _ _ (subst weighs same c.begin.ensures.fewer) (omega (arith, callee))

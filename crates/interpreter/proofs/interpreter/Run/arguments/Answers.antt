@@ -2,15 +2,8 @@ use Rattle.std.proofs.Common.{◌≡◌, map, reverse, arith, ◌∙◌, ap}
 use Rattle.std.proofs.lemmas.List.{reverse-reverse}
 use Rattle.interpreter_state.specs.Views.{operand_seen}
 use Rattle.interpreter.specs.Pending.{operands_of, taken_from}
-use Rattle.interpreter.specs.Weight.{pending_weight}
 use Rattle.interpreter.proofs.Resuming.{map_reverse}
 use Rattle.interpreter.proofs.interpreter.Run.arguments.Goals as goal
-
-pub returns-in_err-push-clause-weight : goal.returns-in_err-push-clause-weight
-returns-in_err-push-clause-weight c = c.popped_operand-operand.ensures.weight ∙ ap pending_weight c.loop.invariant.0
-
-pub returns-clause-weight : goal.returns-clause-weight
-returns-clause-weight c = ap pending_weight c.loop.invariant.0
 
 pub returns-clause-taken : goal.returns-clause-taken
 returns-clause-taken c =

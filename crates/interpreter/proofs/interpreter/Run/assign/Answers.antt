@@ -1,7 +1,8 @@
-use Rattle.std.proofs.Common.{◌≡◌, List, ℤ, Option, Some, None, slice_get, refl, sym, arith, ◌∙◌, ap, subst}
+use Rattle.std.proofs.Common.{◌≡◌, List, Option, Some, None, slice_get, refl, sym, arith, ◌∙◌, ap, subst}
 use Rattle.std.proofs.lemmas.Option.{slice_get_past, slice_get_read}
 use Rattle.typed_tree.specs.declared.tree.Variable.{Variable as DeclaredVariable}
 use Rattle.types.specs.Components.{components_of}
+use Rattle.meaning.specs.declared.store.Value.{Value}
 use Rattle.meaning.specs.Store.{Place, kept}
 use Rattle.meaning.specs.Meaning.{Argument, OfRow, assign}
 use Rattle.interpreter_state.specs.Views.{operand_seen}
@@ -36,7 +37,7 @@ returns-in-Some-clause-agrees c = then_ok c.keep_row.result c.keep_row.ensures.a
       ap (λ (a : Argument). assign tree.types (visible.variables root) (slice_get tree.variables.items root) a s) (ap operand_seen c.in-Row.is)
           ∙ ap (λ (o : Option DeclaredVariable). assign tree.types (visible.variables root) o (OfRow row) s) found
           ∙ stored_all (visible.variables root) components row s,
-      subst (λ (l : List ℤ). StoreAgrees c.keep_row.new.self.store (kept_all s.store (visible.variables root) components l))
+      subst (λ (l : List Value). StoreAgrees c.keep_row.new.self.store (kept_all s.store (visible.variables root) components l))
           c.deref-in-Some.ensures.value
           (subst (λ (p : Option Place). StoreAgrees c.keep_row.new.self.store (kept_all s.store p components c.deref-in-Some.result.now)) home
           (keeps s.store agrees)),

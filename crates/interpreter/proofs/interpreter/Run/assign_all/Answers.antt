@@ -5,18 +5,8 @@ use Rattle.meaning.specs.Meaning.{assign, assign_all}
 use Rattle.interpreter_state.specs.Views.{operand_seen}
 use Rattle.interpreter.specs.declared.interpreter.Run.{Run}
 use Rattle.interpreter.specs.Pending.{Sees, StoresIn}
-use Rattle.interpreter.specs.Weight.{pending_weight}
 use Rattle.interpreter.proofs.Resuming.{none_left}
 use Rattle.interpreter.proofs.interpreter.Run.assign_all.Goals as goal
-
-pub returns-in_err-assign-clause-weight : goal.returns-in_err-assign-clause-weight
-returns-in_err-assign-clause-weight c = c.assign.ensures.weight ∙ ap pending_weight c.loop-root.invariant.0
-
-pub returns-in_default-split_first-clause-weight : goal.returns-in_default-split_first-clause-weight
-returns-in_default-split_first-clause-weight c = ap pending_weight c.loop-root.invariant.0
-
-pub returns-in_default-clause-weight : goal.returns-in_default-clause-weight
-returns-in_default-clause-weight c = ap pending_weight c.loop-root.invariant.0
 
 pub loop-root-preserved : goal.loop-root-preserved
 loop-root-preserved c =

@@ -1,4 +1,4 @@
-use Rattle.std.proofs.Common.{◌≡◌, ◌+◌, ◌-◌, ◌∷◌, [], ℕ, suc, List, OnOk, filter, map, reverse, refl, sym, arith, ◌∙◌, ap, subst}
+use Rattle.std.proofs.Common.{◌≡◌, ◌+◌, ◌-◌, ◌∷◌, [], ℕ, suc, List, filter, map, reverse, refl, sym, arith, ◌∙◌, ap, subst}
 use Rattle.interpreter_state.specs.declared.activation.Activation.{Activation}
 use Rattle.interpreter_state.specs.declared.work.Caller.{Caller}
 use Rattle.interpreter_state.specs.declared.work.Work.{Work}
@@ -9,10 +9,8 @@ use Rattle.interpreter_state.specs.Views.{Visible, operand_seen, pairs_passed, v
 use Rattle.interpreter_state.proofs.Sees.{own_of, sees_inner}
 use Rattle.interpreter.specs.declared.interpreter.Run.{Run}
 use Rattle.interpreter.specs.Pending.{Sees, operands_of, pending_of}
-use Rattle.interpreter.specs.Weight.{callees_in, pending_weight, weight_of_statement}
 use Rattle.interpreter.proofs.Activating.{after_begin, agrees_begun, begins, begun_activation, behind, inside, starves}
 use Rattle.interpreter.proofs.Resuming.{continues_as}
-use Rattle.interpreter.proofs.Weights.{begin_weighs, no_heavier}
 use Rattle.interpreter.proofs.interpreter.Run.begin.Goals as goal
 
 pub returns-then-self-eq0-clause-does : goal.returns-then-self-eq0-clause-does
@@ -94,19 +92,3 @@ returns-clause-does c = λ env outer s agrees.
     ∙ ap (λ (l : List Argument). and_then (effect_of block.body there s2) (λ _. pending_of there outer_there (reverse new.pending.items) l))
     (sym (ap operands_of same)))
     (c.do_next.ensures.does there outer_there s2 agreed)
-
-pub returns-clause-fewer : goal.returns-clause-fewer
-returns-clause-fewer c =
-    let old = c.args.self.now in
-    let left = old.turns - 1 in
-    let dest = c.replace-activation.new.dest in
-    let some : old.turns ≡ suc left = omega (arith, c.if-self-eq0.false) in
-    let caller : Caller = record { activation = c.replace-activation.result; pending = c.replace-pending.result } in
-    let begun = begin_weighs old.tree.now old.activation dest old.pending.items c.replace-pending.new.dest.items old.callers.items c.push.new.self.items caller
-    c.args.block.now old.turns left some
-    (ap (λ (a : Activation). a.depth) c.replace-activation.ensures.after ∙ c.in_ok-activation.ensures.depth)
-    (ap (λ v. v.items) c.replace-pending.ensures.after ∙ c.new.ensures.items) c.in_ok-push.ensures.items c.replace-activation.ensures.value
-    (ap (λ v. v.items) c.replace-pending.ensures.value) in
-    let weighs : Run → Type 0 = λ r. OnOk c.do_next.result (pending_weight c.do_next.new.self ≡
-    pending_weight r + weight_of_statement (callees_in r) c.args.block.now.body r.turns) in
-    no_heavier c.do_next.result _ _ _ (subst weighs c.assign_all.ensures.same c.do_next.ensures.weight) (omega (arith, begun))

@@ -1,23 +1,28 @@
-use Rattle.std.proofs.Common.{◌+◌, ◌<◌, OnOk, arith, subst}
-use Rattle.interpreter.specs.Weight.{callees_in, for_weight, pending_weight, weight_of_statement}
-use Rattle.interpreter.proofs.Weights.{heavier}
 use mir.Syntax.{w32}
 use mir.Val.{SFits}
-use Rattle.std.proofs.Common.{◌≡◌, ℕ, ℤ, rules, Option, Some, None, Result, Ok, Err, reverse, sym, ◌∙◌, ap}
+use Rattle.std.proofs.Common.{◌≡◌, ℕ, ℤ, List, rules, Option, Some, None, Result, Ok, Err, reverse, sym, ◌∙◌, ap, subst}
 use Rattle.interpreter.specs.declared.interpreter.Run.{Run}
-use Rattle.meaning.specs.declared.store.Value.{Value}
-use Rattle.meaning.specs.Effect.{Reply, and_then}
+use Rattle.meaning.specs.Effect.{Reply, and_then, number_of}
+use Rattle.meaning.specs.Meaning.{Argument}
 use Rattle.operations.specs.Answers.{bounds_tested}
 use Rattle.interpreter.specs.Pending.{Does, counting_on, forgetting, pending_of, top_of, below_top, operands_of}
+use Rattle.interpreter.specs.Size.{Adds}
 use Rattle.interpreter.proofs.Counts.{bounds-leave, looped-counting}
 use Rattle.interpreter.proofs.Resuming.{goes_on_below, passed, stops_below}
 use Rattle.interpreter.proofs.Unrolling.{does-bounds}
 use Rattle.interpreter.proofs.interpreter.Run.bounds.Goals as goal
 
+pub returns-in-Ok-Some-clause-fewer : goal.returns-in-Ok-Some-clause-fewer
+returns-in-Ok-Some-clause-fewer c =
+    let taken = c.popped_number-first.new.self in
+    let same = c.popped_number-first.ensures.same
+    ∙ ap (λ (r : Run). record r { operands = taken.operands }) c.popped_number-last.ensures.same in
+    subst (λ (r : Run). Adds 0 r c.for_round.result c.for_round.new.self) same c.for_round.ensures.size
+
 pub returns-in-Ok-Some-clause-does : goal.returns-in-Ok-Some-clause-does
 returns-in-Ok-Some-clause-does c = λ env outer s agrees.
     let old = c.args.self.now in
-    let taken = c.popped-first.new.self in
+    let taken = c.popped_number-first.new.self in
     let control = c.args.control in
     let direction = c.args.direction in
     let body = c.args.body.now in
@@ -28,14 +33,16 @@ returns-in-Ok-Some-clause-does c = λ env outer s agrees.
     let does : ℤ → ℤ → Type 0 = λ n m. Does (λ env. counting_on env control direction n m body) taken c.for_round.result c.for_round.new.self in
     let operands = operands_of old in
     let below = below_top (below_top operands) in
-    let last = c.popped-last.ensures in
-    let first = c.popped-first.ensures in
+    let last = c.popped_number-last.ensures in
+    let first = c.popped_number-first.ensures in
     let same = first.same ∙ ap (λ (r : Run). record r { operands = taken.operands }) last.same in
-    let found : Value → Value → Result (Option (ℤ × ℤ)) ℕ = λ a b. bounds_tested direction c.args.first_fits a c.args.last_fits b in
-    let tested : found (top_of (below_top operands)) (top_of operands) ≡ Ok (Some (value, final)) =
-    ap (found (top_of (below_top operands))) (sym last.top) ∙ ap (λ v. found v c.popped-last.result) (sym (first.top ∙ ap top_of last.below))
+    let found : ℤ → ℤ → Result (Option (ℤ × ℤ)) ℕ = λ a b. bounds_tested direction c.args.first_fits a c.args.last_fits b in
+    let tested : found (number_of (top_of (below_top operands))) (number_of (top_of operands)) ≡ Ok (Some (value, final)) =
+    ap (found (number_of (top_of (below_top operands)))) (sym last.top)
+    ∙ ap (λ n. found n c.popped_number-last.result) (sym (first.top ∙ ap (λ (l : List Argument). number_of (top_of l)) last.below))
     ∙ sym c.tested_bounds.ensures ∙ c.in-Ok-Some.is ∙ ap Ok c.in-Ok-Some.field-0-is in
-    let left = bounds-leave direction c.args.first_fits (top_of (below_top operands)) c.args.last_fits (top_of operands) value final tested in
+    let left = bounds-leave direction c.args.first_fits (number_of (top_of (below_top operands))) c.args.last_fits (number_of (top_of operands)) value final
+    tested in
     goes_on_below old taken c.for_round.new.self env outer s (λ env. counting_on env control direction value final body) below c.for_round.result _
     same (first.below ∙ ap below_top last.below)
     (does-bounds env outer control c.args.first_fits direction c.args.last_fits body (reverse old.pending.items) operands s (Ok (Some (value, final))) tested
@@ -46,15 +53,16 @@ returns-in-Ok-Some-clause-does c = λ env outer s agrees.
 pub returns-in-Ok-None-clause-does : goal.returns-in-Ok-None-clause-does
 returns-in-Ok-None-clause-does c = λ env outer s agrees.
     let old = c.args.self.now in
-    let taken = c.popped-first.new.self in
+    let taken = c.popped_number-first.new.self in
     let control = c.args.control in
     let operands = operands_of old in
-    let last = c.popped-last.ensures in
-    let first = c.popped-first.ensures in
+    let last = c.popped_number-last.ensures in
+    let first = c.popped_number-first.ensures in
     let same = first.same ∙ ap (λ (r : Run). record r { operands = taken.operands }) last.same in
-    let found : Value → Value → Result (Option (ℤ × ℤ)) ℕ = λ a b. bounds_tested c.args.direction c.args.first_fits a c.args.last_fits b in
-    let tested : found (top_of (below_top operands)) (top_of operands) ≡ Ok None =
-    ap (found (top_of (below_top operands))) (sym last.top) ∙ ap (λ v. found v c.popped-last.result) (sym (first.top ∙ ap top_of last.below))
+    let found : ℤ → ℤ → Result (Option (ℤ × ℤ)) ℕ = λ a b. bounds_tested c.args.direction c.args.first_fits a c.args.last_fits b in
+    let tested : found (number_of (top_of (below_top operands))) (number_of (top_of operands)) ≡ Ok None =
+    ap (found (number_of (top_of (below_top operands)))) (sym last.top)
+    ∙ ap (λ n. found n c.popped_number-last.result) (sym (first.top ∙ ap (λ (l : List Argument). number_of (top_of l)) last.below))
     ∙ sym c.tested_bounds.ensures ∙ c.in-Ok-None.is ∙ ap Ok c.in-Ok-None.field-0-is in
     goes_on_below old taken c.forget.new.self env outer s (λ env. forgetting (env.visible.variables control)) (below_top (below_top operands)) c.forget.result _
     same (first.below ∙ ap below_top last.below)
@@ -64,24 +72,17 @@ returns-in-Ok-None-clause-does c = λ env outer s agrees.
 pub returns-in-Err-clause-does : goal.returns-in-Err-clause-does
 returns-in-Err-clause-does c = λ env outer s agrees.
     let old = c.args.self.now in
-    let taken = c.popped-first.new.self in
+    let taken = c.popped_number-first.new.self in
     let operands = operands_of old in
-    let last = c.popped-last.ensures in
-    let first = c.popped-first.ensures in
+    let last = c.popped_number-last.ensures in
+    let first = c.popped_number-first.ensures in
     let same = first.same ∙ ap (λ (r : Run). record r { operands = taken.operands }) last.same in
-    let found : Value → Value → Result (Option (ℤ × ℤ)) ℕ = λ a b. bounds_tested c.args.direction c.args.first_fits a c.args.last_fits b in
-    let tested : found (top_of (below_top operands)) (top_of operands) ≡ Err c.in-Err.site =
-    ap (found (top_of (below_top operands))) (sym last.top) ∙ ap (λ v. found v c.popped-last.result) (sym (first.top ∙ ap top_of last.below))
+    let found : ℤ → ℤ → Result (Option (ℤ × ℤ)) ℕ = λ a b. bounds_tested c.args.direction c.args.first_fits a c.args.last_fits b in
+    let tested : found (number_of (top_of (below_top operands))) (number_of (top_of operands)) ≡ Err c.in-Err.site =
+    ap (found (number_of (top_of (below_top operands)))) (sym last.top)
+    ∙ ap (λ n. found n c.popped_number-last.result) (sym (first.top ∙ ap (λ (l : List Argument). number_of (top_of l)) last.below))
     ∙ sym c.tested_bounds.ensures ∙ c.in-Err.is in
     stops_below old taken env outer s _ _ same
     (does-bounds env outer c.args.control c.args.first_fits c.args.direction c.args.last_fits c.args.body.now (reverse old.pending.items) operands s
     (Err c.in-Err.site) tested)
     agrees
-
-pub returns-in-Ok-Some-clause-fewer : goal.returns-in-Ok-Some-clause-fewer
-returns-in-Ok-Some-clause-fewer c =
-    let taken = c.popped-first.new.self in
-    let same = c.popped-first.ensures.same ∙ ap (λ (r : Run). record r { operands = taken.operands }) c.popped-last.ensures.same in
-    let weighs : Run → Type 0 = λ r. OnOk c.for_round.result (pending_weight c.for_round.new.self <
-    pending_weight r + for_weight (weight_of_statement (callees_in r) c.args.body.now) r.turns) in
-    heavier c.for_round.result _ _ _ (subst weighs same c.for_round.ensures.fewer) (omega arith)

@@ -1,19 +1,15 @@
-use Rattle.std.proofs.Common.{◌≡◌, Option, Some, None, Bor, option_map, reverse, sym, ◌∙◌, ap}
+use Rattle.std.proofs.Common.{◌≡◌, ◌+◌, Option, Some, None, Bor, option_map, reverse, sym, ◌∙◌, ap, subst}
+use Rattle.interpreter.specs.declared.interpreter.Run.{Run}
 use Rattle.typed_tree.specs.declared.tree.Stmt.{Stmt}
 use Rattle.meaning.specs.Effect.{Reply, and_then}
 use Rattle.meaning.specs.Effect.{number_of}
 use Rattle.operations.specs.Answers.{arm_at}
 use Rattle.interpreter.specs.Pending.{top_of, below_top, pending_of, operands_of}
-use Rattle.interpreter.proofs.FoundArms.{arm_or_error, arm-found, arm-lightens}
+use Rattle.interpreter.proofs.FoundArms.{arm_or_error, arm-found, size-found}
 use Rattle.interpreter.proofs.Resuming.{executing, goes_on_below, stops_below}
+use Rattle.interpreter.specs.Size.{Adds, size_of_statement}
+use Rattle.interpreter.proofs.Sizes.{adds_within}
 use Rattle.interpreter.proofs.interpreter.Run.case.Goals as goal
-
-pub returns-in-Some-clause-fewer : goal.returns-in-Some-clause-fewer
-returns-in-Some-clause-fewer c =
-    let found : arm_at c.args.constants.now c.args.arms.now c.number_of-index.result ≡ Some c.in-Some.arm.now =
-    sym c.arm_at.ensures ∙ ap (option_map (λ (arm : Bor Stmt). arm.now)) c.in-Some.is in
-    arm-lightens c.args.self.now c.popped.new.self c.do_next.new.self c.args.constants.now c.args.arms.now c.number_of-index.result c.in-Some.arm.now
-    c.do_next.result found c.popped.ensures.same c.do_next.ensures.weight
 
 pub returns-in-Some-clause-does : goal.returns-in-Some-clause-does
 returns-in-Some-clause-does c = λ env outer s agrees.
@@ -23,10 +19,10 @@ returns-in-Some-clause-does c = λ env outer s agrees.
     let rows = c.args.constants.now in
     let arms = c.args.arms.now in
     let found : arm_at rows arms (number_of (top_of operands)) ≡ Some c.in-Some.arm.now =
-    ap (arm_at rows arms) (ap number_of (sym c.popped.ensures.top) ∙ sym c.number_of-index.ensures)
+    ap (arm_at rows arms) (sym c.popped_number-index.ensures.top)
     ∙ sym c.arm_at.ensures ∙ ap (option_map (λ (arm : Bor Stmt). arm.now)) c.in-Some.is in
-    goes_on_below old c.popped.new.self c.do_next.new.self env outer s (executing c.in-Some.arm.now) (below_top operands) c.do_next.result _
-    c.popped.ensures.same c.popped.ensures.below
+    goes_on_below old c.popped_number-index.new.self c.do_next.new.self env outer s (executing c.in-Some.arm.now) (below_top operands) c.do_next.result _
+    c.popped_number-index.ensures.same c.popped_number-index.ensures.below
     (ap (λ (r : Reply (Unit {0})). and_then r (λ _. next (below_top operands)))
     (arm-found c.args.site rows arms (number_of (top_of operands)) env s ∙ ap (λ (o : Option Stmt). arm_or_error c.args.site o env s) found))
     agrees c.do_next.ensures.does
@@ -39,9 +35,18 @@ returns-in-None-clause-does c = λ env outer s agrees.
     let rows = c.args.constants.now in
     let arms = c.args.arms.now in
     let found : arm_at rows arms (number_of (top_of operands)) ≡ None =
-    ap (arm_at rows arms) (ap number_of (sym c.popped.ensures.top) ∙ sym c.number_of-index.ensures)
+    ap (arm_at rows arms) (sym c.popped_number-index.ensures.top)
     ∙ sym c.arm_at.ensures ∙ ap (option_map (λ (arm : Bor Stmt). arm.now)) c.in-None.is in
-    stops_below old c.popped.new.self env outer s _ _ c.popped.ensures.same
+    stops_below old c.popped_number-index.new.self env outer s _ _ c.popped_number-index.ensures.same
     (ap (λ (r : Reply (Unit {0})). and_then r (λ _. next (below_top operands)))
     (arm-found c.args.site rows arms (number_of (top_of operands)) env s ∙ ap (λ (o : Option Stmt). arm_or_error c.args.site o env s) found))
     agrees
+
+pub returns-in-Some-clause-fewer : goal.returns-in-Some-clause-fewer
+returns-in-Some-clause-fewer c =
+    let arm = c.in-Some.arm.now in
+    let found : arm_at c.args.constants.now c.args.arms.now c.popped_number-index.result ≡ Some arm =
+    sym c.arm_at.ensures ∙ ap (option_map (λ (arm : Bor Stmt). arm.now)) c.in-Some.is in
+    let adds = λ (r : Run). Adds (1 + size_of_statement arm) r c.do_next.result c.do_next.new.self in
+    adds_within c.args.self.now c.do_next.new.self c.do_next.result _ _ (subst adds c.popped_number-index.ensures.same c.do_next.ensures.size)
+    (size-found c.args.constants.now c.args.arms.now c.popped_number-index.result arm found)

@@ -1,8 +1,3 @@
-use Rattle.std.proofs.Common.{◌+◌, OnOk, arith, subst}
-use Rattle.interpreter_state.specs.declared.work.Work.TheVariants as work
-use Rattle.interpreter.specs.declared.interpreter.Run.{Run}
-use Rattle.interpreter.specs.Weight.{callees_in, pending_weight, weight_of, weight_of_alternative, weight_of_statement}
-use Rattle.interpreter.proofs.Weights.{lighter}
 use Rattle.std.proofs.Common.{◌≡◌, true, false, Option, Box, Global, reverse, sym, ◌∙◌, ap}
 use Rattle.typed_tree.specs.declared.tree.Stmt.{Stmt}
 use Rattle.meaning.specs.Effect.{and_then}
@@ -34,21 +29,3 @@ returns-in-Some-clause-does c = λ env outer s agrees.
     ∙ ap (λ (o : Option (Box Stmt Global)). and_then (otherwise o env s) (λ _. next (below_top operands))) c.in-Some.is
     ∙ ap (λ (e : Stmt). and_then (effect_of e env s) (λ _. next (below_top operands))) (sym c.deref.ensures))
     agrees c.do_next-in-Some.ensures.does
-
-pub returns-then-truth_of-clause-fewer : goal.returns-then-truth_of-clause-fewer
-returns-then-truth_of-clause-fewer c =
-    let chosen_work = work.Statement c.args.consequence in
-    let weighs : Run → Type 0 = λ r. OnOk c.do_next.result (pending_weight c.do_next.new.self ≡
-    pending_weight r + weight_of (callees_in r) r.turns chosen_work) in
-    lighter c.do_next.result _ _ _ (subst weighs c.popped.ensures.same c.do_next.ensures.weight) (omega arith)
-
-pub returns-in-Some-clause-fewer : goal.returns-in-Some-clause-fewer
-returns-in-Some-clause-fewer c =
-    let old = c.args.self.now in
-    let chosen_work = work.Statement c.deref.result in
-    let weighs : Run → Type 0 = λ r. OnOk c.do_next-in-Some.result (pending_weight c.do_next-in-Some.new.self ≡
-    pending_weight r + weight_of (callees_in r) r.turns chosen_work) in
-    let other : weight_of_alternative (callees_in old) c.args.alternative.now old.turns ≡ weight_of_statement (callees_in old) c.deref.result.now old.turns =
-    ap (λ o. weight_of_alternative (callees_in old) o old.turns) c.in-Some.is
-    ∙ ap (λ e. weight_of_statement (callees_in old) e old.turns) (sym c.deref.ensures) in
-    lighter c.do_next-in-Some.result _ _ _ (subst weighs c.popped.ensures.same c.do_next-in-Some.ensures.weight) (omega (arith, other))

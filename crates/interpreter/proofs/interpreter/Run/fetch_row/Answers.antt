@@ -1,7 +1,8 @@
-use Rattle.std.proofs.Common.{◌≡◌, ◌∷◌, List, ℤ, Option, Some, None, option_map, reverse, sym, ap, ◌∙◌}
+use Rattle.std.proofs.Common.{◌≡◌, ◌∷◌, List, Option, Some, None, option_map, reverse, sym, ap, ◌∙◌}
 use Rattle.types.specs.Forms.{Form}
 use Rattle.types.specs.Components.{components_of}
 use Rattle.interpreter.specs.declared.interpreter.Run.{Run}
+use Rattle.meaning.specs.declared.store.Value.{Value}
 use Rattle.meaning.specs.Store.{Place}
 use Rattle.meaning.specs.Effect.{Reply, and_then}
 use Rattle.meaning.specs.Meaning.{OfRow}
@@ -29,7 +30,7 @@ returns-in-Some-clause-does c = λ env outer s agrees.
     ∙ ap (option_map items_of) c.in-Some.is in
     goes_on_to env outer old new s works (OfRow row ∷ below_top (operands_of old)) _ (agreed_below old new env outer s same agrees)
     (ap (λ (r : Run). reverse r.pending.items) same) (c.in_ok-push-in-Some.ensures.top ∙ ap (λ l. OfRow row ∷ l) top.below)
-    (ap (λ (r : Reply (List ℤ)). and_then r (λ row. pending_of env outer works (OfRow row ∷ below_top (operands_of old))))
+    (ap (λ (r : Reply (List Value)). and_then r (λ row. pending_of env outer works (OfRow row ∷ below_top (operands_of old))))
     (fetched_all place components c.args.defined s ∙ ap (λ o. row_fetched o c.args.defined s) held))
 
 pub returns-clause-does : goal.returns-clause-does
@@ -47,6 +48,6 @@ returns-clause-does c = λ env outer s agrees.
     top.top)
     ∙ ap (option_map items_of) c.in-None.is in
     stops_below old popped env outer s _ _ top.same
-    (ap (λ (r : Reply (List ℤ)). and_then r (λ row. pending_of env outer works (OfRow row ∷ below_top (operands_of old))))
+    (ap (λ (r : Reply (List Value)). and_then r (λ row. pending_of env outer works (OfRow row ∷ below_top (operands_of old))))
     (fetched_all place components c.args.defined s ∙ ap (λ o. row_fetched o c.args.defined s) held))
     agrees

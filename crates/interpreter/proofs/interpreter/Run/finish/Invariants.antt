@@ -1,16 +1,10 @@
-use Rattle.std.specs.Prelude.{◌≡◌}
-use Rattle.meaning.specs.Effect.{State}
-use Rattle.meaning.specs.Meaning.{Surroundings}
-use Rattle.interpreter.specs.Pending.{Agrees, Resumption, rest_of}
-use Rattle.interpreter.specs.Weight.{pending_weight}
+use Rattle.std.specs.Prelude.{Ok, None}
+use Rattle.interpreter.specs.Pending.{Advances}
 use Rattle.interpreter.proofs.interpreter.Run.finish.Given as goal
 
--- what is pending means what it did at the begin
-abbrev pub invariant-loop-work : goal.invariant-loop-work
-invariant-loop-work l =
-    (env : Surroundings) (outer : Resumption) (s : State) → Agrees env outer l.initial.self s →
-    (there : Surroundings) × (next : Resumption) × (t : State) × Agrees there next l.self t
-    × (rest_of env outer l.initial.self s ≡ rest_of there next l.self t)
+-- the run went on
+abbrev pub invariant-loop-ending : goal.invariant-loop-ending
+invariant-loop-ending l = Advances l.initial.self (Ok None) l.self
 
-abbrev pub decreases-loop-work : goal.decreases-loop-work
-decreases-loop-work l = pending_weight l.self
+abbrev pub decreases-loop-ending : goal.decreases-loop-ending
+decreases-loop-ending l = l.self.turns

@@ -1,8 +1,3 @@
-use mir.Syntax.{w32}
-use mir.Val.{to_z, of_z}
-use Rattle.std.proofs.Common.{◌+◌, ◌≤◌, OnOk}
-use Rattle.interpreter.specs.Weight.{callees_in, pending_weight, turn_weight}
-use Rattle.interpreter.proofs.Weights.{for_turn_weighs, lighter_than}
 use Rattle.std.proofs.lemmas.Int.{ints}
 use Rattle.std.proofs.Common.{◌≡◌, ℤ, arith, option_map, reverse, sym, ◌∙◌, ap, subst}
 use Rattle.interpreter.specs.declared.interpreter.Run.{Run}
@@ -49,14 +44,3 @@ returns-clause-does c = λ env outer s agrees.
     (pending_of env outer (reverse old.pending.items)) (operands_of old) s
     ∙ ap (λ (r : Run). turning env (work.Statement body) later (pending_of env outer (reverse r.pending.items)) (operands_of r) after) (sym same))
     (passed does c.args.value c.args.last c.ranges.value c.ranges.last c.turn.ensures.does env outer after agreed)
-
-pub returns-clause-fewer : goal.returns-clause-fewer
-returns-clause-fewer c =
-    let old = c.args.self.now in
-    let body = c.args.body in
-    let weighs : Run → Type 0 = λ r. OnOk c.turn.result (pending_weight c.turn.new.self ≤
-    pending_weight r + turn_weight (callees_in r) r.turns (work.Statement body) (work.Next c.args.control c.args.direction
-    (to_z w32 (of_z w32 c.args.value)) (to_z w32 (of_z w32 c.args.last)) body)) in
-    let turn = for_turn_weighs (callees_in old) old.turns c.args.control c.args.direction (to_z w32 (of_z w32 c.args.value))
-    (to_z w32 (of_z w32 c.args.last)) body in
-    lighter_than c.turn.result _ _ _ (subst weighs c.keep.ensures.same c.turn.ensures.weight) (omega (arith, turn))

@@ -1,24 +1,11 @@
-use Rattle.std.proofs.Common.{◌≡◌, ◌∷◌, [], ◌++◌, refl, arith, ◌∙◌, ap}
+use Rattle.std.proofs.Common.{◌≡◌, refl, ◌∙◌, ap}
 use Rattle.meaning.specs.Effect.{Gives}
 use Rattle.meaning.specs.Meaning.{result_of}
 use Rattle.operations.specs.Answers.{answered}
 use Rattle.interpreter.specs.declared.interpreter.Run.{Run}
-use Rattle.interpreter.specs.Weight.{callers_weight}
 use Rattle.interpreter.proofs.Activating.{goes_back, stops_without}
 use Rattle.interpreter.proofs.Resuming.{continues_as}
-use Rattle.interpreter.proofs.Weights.{callers_push}
 use Rattle.interpreter.proofs.interpreter.Run.leave.Goals as goal
-
-pub returns-in-Some-clause-fewer : goal.returns-in-Some-clause-fewer
-returns-in-Some-clause-fewer c = λ none some.
-    let old = c.args.self.now in
-    let caller = c.in-Some.caller in
-    let left = c.pop.new.self.items in
-    let weighs = callers_weight old.tree.now old.turns in
-    let pushed : weighs old.callers.items ≡ weighs (left ++ caller ∷ []) = ap weighs c.in-Some.ensures.items in
-    let all = callers_push old.tree.now old.turns left caller in
-    let same = c.go_on.ensures.weight in
-    omega (arith, pushed, all, same)
 
 pub returns-in-Some-clause-does : goal.returns-in-Some-clause-does
 returns-in-Some-clause-does c = λ env outer s agrees none some.

@@ -3,10 +3,10 @@ use Rattle.interpreter_state.specs.declared.work.Work.{Work}
 use Rattle.interpreter_state.specs.declared.work.Work.TheVariants as work
 use Rattle.meaning.specs.Meaning.{value_of}
 use Rattle.interpreter.specs.Pending.{giving, operands_of, pending_of, tested, with_top}
-use Rattle.interpreter.specs.Weight.{callees_in}
 use Rattle.interpreter.proofs.Resuming.{continues_as, reverse_pushed}
 use Rattle.interpreter.proofs.Unrolling.{does-passed, does-passed-Value, does-passed-Whole, does-passed-Reference, entered}
-use Rattle.interpreter.proofs.Weights.{lighter, passed_weighs, reference_weighs, whole_weighs}
+use Rattle.interpreter.specs.Size.{size_of_passed}
+use Rattle.interpreter.proofs.Sizes.{adds_within, reference-size, row-first, whole-size}
 use Rattle.interpreter.proofs.interpreter.Run.pass.Goals as goal
 
 pub returns-in_ok-put-in-Value-clause-does : goal.returns-in_ok-put-in-Value-clause-does
@@ -54,19 +54,17 @@ returns-in-Reference-clause-does c = λ env outer s agrees.
 
 pub returns-in-Whole-clause-fewer : goal.returns-in-Whole-clause-fewer
 returns-in-Whole-clause-fewer c =
-    let run = c.args.self.now in
     let given = c.in-Whole in
     let first = c.in-Some.first.now in
-    let all = passed_weighs (callees_in run) first c.in-Some.rest.now c.args.actuals.now run.turns c.in-Some.ensures.cases.0 in
-    let one = whole_weighs (callees_in run) given.type_id given.value given.indexes first given.is c.deref.result.now c.deref.ensures.value run.turns in
-    lighter c.plan-in-Whole.result _ _ _ c.plan-in-Whole.ensures.weight (omega (arith, all, one))
+    let all = row-first 1 size_of_passed first c.in-Some.rest.now c.args.actuals.now c.in-Some.ensures.cases.0 in
+    let one = whole-size given.type_id given.value given.indexes first given.is c.deref.result.now c.deref.ensures.value in
+    adds_within c.args.self.now c.plan-in-Whole.new.self c.plan-in-Whole.result _ _ c.plan-in-Whole.ensures.size (omega (arith, all, one))
 
 pub returns-in-Reference-clause-fewer : goal.returns-in-Reference-clause-fewer
 returns-in-Reference-clause-fewer c =
-    let run = c.args.self.now in
     let given = c.in-Reference in
     let first = c.in-Some.first.now in
-    let all = passed_weighs (callees_in run) first c.in-Some.rest.now c.args.actuals.now run.turns c.in-Some.ensures.cases.0 in
-    let one = reference_weighs (callees_in run) given.type_id given.access given.indexes first given.is c.deref-in-Reference.result.now
-    c.deref-in-Reference.ensures.value run.turns in
-    lighter c.access.result _ _ _ c.access.ensures.weight (omega (arith, all, one))
+    let all = row-first 1 size_of_passed first c.in-Some.rest.now c.args.actuals.now c.in-Some.ensures.cases.0 in
+    let one = reference-size given.type_id given.access given.indexes first given.is c.deref-in-Reference.result.now
+    c.deref-in-Reference.ensures.value in
+    adds_within c.args.self.now c.access.new.self c.access.result _ _ c.access.ensures.size (omega (arith, all, one))

@@ -2,10 +2,9 @@ use Rattle.std.proofs.Common.{◌≡◌, ◌+◌, ◌++◌, ◌∷◌, ◌<◌, 
 use Rattle.std.proofs.lemmas.List.{drop_all}
 use Rattle.types.specs.Components.{components_of}
 use Rattle.types.proofs.Laid.{length_components}
-use Rattle.meaning.specs.Effect.{number_of}
 use Rattle.meaning.specs.Store.{held, part}
 use Rattle.interpreter_state.specs.Views.{place_seen}
-use Rattle.interpreter.specs.Pending.{held_all, number_before}
+use Rattle.interpreter.specs.Pending.{held_all, joined}
 use Rattle.interpreter.proofs.Rows.{in_front, from-component, one_more}
 use Rattle.interpreter.proofs.interpreter.Run.row.Goals as goal
 
@@ -21,7 +20,7 @@ returns-in-None c = λ s agrees.
     sym (c.found.ensures s agrees ∙ ap (held s) c.in_ok-part.ensures) ∙ c.in-None.is in
     sym (now.invariant s agrees
     ∙ ap (λ l. in_front now.row.items (held_all s place l)) (from-component components now.component there)
-    ∙ ap (λ o. in_front now.row.items (number_before o rest)) none)
+    ∙ ap (λ o. in_front now.row.items (joined o rest)) none)
 
 pub loop-component-preserved : goal.loop-component-preserved
 loop-component-preserved c = λ s agrees.
@@ -34,13 +33,11 @@ loop-component-preserved c = λ s agrees.
     let value = c.in-Some.value in
     let some : held s (part place (slice_index_or components now.component [])) ≡ Some value =
     sym (c.found.ensures s agrees ∙ ap (held s) c.in_ok-part.ensures) ∙ c.in-Some.is in
-    let pushed : c.push.new.self.items ≡ now.row.items ++ number_of value ∷ [] =
-    c.in_ok-push-in-Some.ensures.items ∙ ap (λ n. now.row.items ++ n ∷ []) c.number_of.ensures in
     now.invariant s agrees
     ∙ ap (λ l. in_front now.row.items (held_all s place l)) (from-component components now.component there)
-    ∙ ap (λ o. in_front now.row.items (number_before o rest)) some
+    ∙ ap (λ o. in_front now.row.items (joined o rest)) some
     ∙ one_more now.row.items value rest
-    ∙ ap (λ l. in_front l rest) (sym pushed)
+    ∙ ap (λ l. in_front l rest) (sym c.in_ok-push-in-Some.ensures.items)
 
 pub returns : goal.returns
 returns c = λ s agrees.

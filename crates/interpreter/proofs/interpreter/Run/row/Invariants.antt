@@ -6,7 +6,7 @@ use Rattle.interpreter.specs.Pending.{StoreAgrees, held_all}
 use Rattle.interpreter.proofs.Rows.{in_front}
 use Rattle.interpreter.proofs.interpreter.Run.row.Given as goal
 
--- the numbers so far stand before those of the components that are left
+-- the values so far stand before those of the components that are left
 abbrev pub invariant-loop-component : goal.invariant-loop-component
 invariant-loop-component l =
     (s : Store) → StoreAgrees l.self.store s →

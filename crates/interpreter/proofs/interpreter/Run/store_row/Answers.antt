@@ -1,7 +1,8 @@
-use Rattle.std.proofs.Common.{◌≡◌, List, ℤ, Option, reverse, subst, sym, ap, ◌∙◌}
+use Rattle.std.proofs.Common.{◌≡◌, List, Option, reverse, subst, sym, ap, ◌∙◌}
 use Rattle.types.specs.Forms.{Form}
 use Rattle.types.specs.Components.{components_of}
 use Rattle.interpreter.specs.declared.interpreter.Run.{Run}
+use Rattle.meaning.specs.declared.store.Value.{Value}
 use Rattle.meaning.specs.Store.{Place}
 use Rattle.meaning.specs.Effect.{State, Reply, and_then}
 use Rattle.interpreter.specs.Pending.{Agrees, StoreAgrees, below_top, kept_all, operands_of, pending_of, rest_of, top_place, top_row}
@@ -31,7 +32,7 @@ returns-clause-does c = λ env outer s agrees.
       deep = agreed.deep;
       few = agreed.few;
       store = subst (λ (l : List Form). StoreAgrees new.store (kept_all s.store place (components_of l c.args.type_id) row)) (sym agreed.visible.types)
-          (subst (λ (l : List ℤ). StoreAgrees new.store (kept_all s.store place (components_of popped.tree.now.types c.args.type_id) l))
+          (subst (λ (l : List Value). StoreAgrees new.store (kept_all s.store place (components_of popped.tree.now.types c.args.type_id) l))
           (c.deref.ensures.value ∙ top.top)
           (subst (λ (p : Option Place). StoreAgrees new.store (kept_all s.store p (components_of popped.tree.now.types c.args.type_id) c.deref.result.now))
           (under.top ∙ ap top_place top.below) (c.in_ok-keep_row.ensures.agrees s.store agreed.store)));

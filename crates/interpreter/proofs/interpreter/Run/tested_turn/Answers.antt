@@ -4,15 +4,7 @@ use Rattle.meaning.specs.Meaning.{value_of}
 use Rattle.interpreter_state.specs.declared.work.Work.{Work}
 use Rattle.interpreter.specs.Pending.{Agrees, giving, operands_of, pending_of, resumed}
 use Rattle.interpreter.proofs.Resuming.{continues_as, reverse_pushed}
-use Rattle.interpreter.proofs.Weights.{tested_turn_weighs}
 use Rattle.interpreter.proofs.interpreter.Run.tested_turn.Goals as goal
-
-pub returns-clause-weight : goal.returns-clause-weight
-returns-clause-weight c =
-    let old = c.args.self.now in
-    let some : old.turns ≡ suc (old.turns - 1) = omega (arith, c.if-self-eq0.false) in
-    tested_turn_weighs old.tree.now old.activation old.pending.items old.callers.items old.turns (old.turns - 1) some c.put.new.pending.items c.args.next
-    c.args.condition.now c.args.later _ c.plan.result c.in_ok-put.ensures c.plan.ensures.weight
 
 pub returns-clause-does : goal.returns-clause-does
 returns-clause-does c = λ env outer s agrees.

@@ -2,15 +2,7 @@ use Rattle.std.proofs.Common.{◌≡◌, suc, ◌-◌, reverse, arith, refl, sym
 use Rattle.meaning.specs.Effect.{State, and_then, take_turn}
 use Rattle.interpreter.specs.Pending.{Agrees, pending_of, resumed, operands_of}
 use Rattle.interpreter.proofs.Resuming.{continues_as}
-use Rattle.interpreter.proofs.Weights.{turn_weighs}
 use Rattle.interpreter.proofs.interpreter.Run.turn.Goals as goal
-
-pub returns-clause-weight : goal.returns-clause-weight
-returns-clause-weight c =
-    let old = c.args.self.now in
-    let some : old.turns ≡ suc (old.turns - 1) = omega (arith, c.if-self-eq0.false) in
-    turn_weighs old.tree.now old.activation old.pending.items old.callers.items old.turns (old.turns - 1) some c.args.next c.args.later _ c.plan.result
-    c.plan.ensures.weight
 
 pub returns-clause-does : goal.returns-clause-does
 returns-clause-does c = λ env outer s agrees.

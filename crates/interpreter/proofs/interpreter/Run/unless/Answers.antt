@@ -1,7 +1,3 @@
-use Rattle.std.proofs.Common.{◌+◌, ◌<◌, OnOk, subst}
-use Rattle.interpreter_state.specs.declared.work.Work.TheVariants as work
-use Rattle.interpreter.specs.declared.interpreter.Run.{Run}
-use Rattle.interpreter.specs.Weight.{callees_in, pending_weight, weight_of}
 use Rattle.std.proofs.Common.{◌≡◌, false, reverse, sym, ◌∙◌, ap}
 use Rattle.meaning.specs.Meaning.{is_so}
 use Rattle.interpreter.specs.Pending.{top_of, below_top, repeating, operands_of}
@@ -20,9 +16,3 @@ returns-else-truth_of-clause-does c = λ env outer s agrees.
     c.repeat_round.result _ c.popped.ensures.same c.popped.ensures.below
     (does-unless env outer statements condition (reverse old.pending.items) operands s so)
     agrees c.repeat_round.ensures.does
-
-pub returns-else-truth_of-clause-fewer : goal.returns-else-truth_of-clause-fewer
-returns-else-truth_of-clause-fewer c =
-    subst (λ (r : Run). OnOk c.repeat_round.result (pending_weight c.repeat_round.new.self <
-    pending_weight r + weight_of (callees_in r) r.turns (work.Unless c.args.statements c.args.condition)))
-    c.popped.ensures.same c.repeat_round.ensures.fewer

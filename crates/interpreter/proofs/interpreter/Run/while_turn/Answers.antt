@@ -1,7 +1,3 @@
-use Rattle.std.proofs.Common.{◌+◌, ◌≤◌, OnOk, arith, subst}
-use Rattle.interpreter.specs.declared.interpreter.Run.{Run}
-use Rattle.interpreter.specs.Weight.{callees_in, pending_weight, tested_turn_weight}
-use Rattle.interpreter.proofs.Weights.{lighter_than, while_turn_weighs}
 use Rattle.std.proofs.Common.{◌≡◌, true, reverse, sym, ◌∙◌, ap}
 use Rattle.interpreter_state.specs.declared.work.Work.TheVariants as work
 use Rattle.meaning.specs.Meaning.{is_so}
@@ -22,13 +18,3 @@ returns-then-truth_of-clause-does c = λ env outer s agrees.
     c.tested_turn.result _ c.popped.ensures.same c.popped.ensures.below
     (does-while-turn env outer (calls_extended env outer old s agrees) condition body (reverse old.pending.items) operands s so)
     agrees c.tested_turn.ensures.does
-
-pub returns-then-truth_of-clause-fewer : goal.returns-then-truth_of-clause-fewer
-returns-then-truth_of-clause-fewer c =
-    let old = c.args.self.now in
-    let condition = c.args.condition in
-    let body = c.args.body in
-    let weighs : Run → Type 0 = λ r. OnOk c.tested_turn.result (pending_weight c.tested_turn.new.self ≤
-    pending_weight r + tested_turn_weight (callees_in r) r.turns (work.Statement body) condition.now (work.WhileTurn condition body)) in
-    let turn = while_turn_weighs (callees_in old) old.turns condition body in
-    lighter_than c.tested_turn.result _ _ _ (subst weighs c.popped.ensures.same c.tested_turn.ensures.weight) (omega (arith, turn))

@@ -1,5 +1,6 @@
 use Rattle.std.proofs.Common.{◌∷◌, map, pos, reverse, ap, ◌∙◌}
 use Rattle.interpreter.specs.declared.interpreter.Run.{Run}
+use Rattle.meaning.specs.declared.store.Value.TheVariants.{Number}
 use Rattle.meaning.specs.Meaning.{OfRow}
 use Rattle.interpreter.specs.Pending.{operands_of}
 use Rattle.interpreter.proofs.Resuming.{agreed_below, continues_as, goes_on_to}
@@ -17,7 +18,7 @@ returns-in_ok-push-in-Text-clause-does c = λ env outer s agrees.
     (agreed_below old new env outer there c.push.ensures.same agrees)
     (ap (λ (r : Run). reverse r.pending.items) c.push.ensures.same) c.in_ok-push-in-Text.ensures.top
     (does-Text text.number text.characters c.args.value.now text.is c.args.indexes.now row
-    (c.in_ok-row-in-Text.ensures ∙ ap (map pos) c.deref.ensures.value) env outer (reverse old.pending.items) (operands_of old) s)
+    (c.in_ok-row-in-Text.ensures ∙ ap (map (λ c. Number (pos c))) c.deref.ensures.value) env outer (reverse old.pending.items) (operands_of old) s)
 
 pub returns-in-Variable-clause-does : goal.returns-in-Variable-clause-does
 returns-in-Variable-clause-does c = λ env outer s agrees.

@@ -51,7 +51,7 @@ loop-step-preserved c =
           let names : NamesOn tree path (fact.Elements ∷ rest) c.loop-step.type_id c.loop-step.part =
           subst (λ (s : Step). NamesOn tree path (said_step s ∷ rest) c.loop-step.type_id c.loop-step.part) w.in-Element.is so_far in
           record {
-            fits = subst (λ part. end_of tree.types part < 2 ^ 32) (sym w.part-is) w.elements-part.ensures.fits;
+            fits = subst (λ part. end_of tree.types part < 2 ^ 64) (sym w.part-is) w.elements-part.ensures.fits;
             so_far =
                 subst (λ id. NamesOn tree path rest id c.match-step.part) (sym w.type_id-is)
                 (element_on tree path rest c.loop-step.type_id c.loop-step.part c.match-step.part e found (w.part-is ∙ w.elements-part.ensures.part) names);
@@ -65,7 +65,7 @@ loop-step-preserved c =
           let names : NamesOn tree path (fact.Field name ∷ rest) c.loop-step.type_id c.loop-step.part =
           subst (λ (s : Step). NamesOn tree path (said_step s ∷ rest) c.loop-step.type_id c.loop-step.part) w.in-Field.is so_far in
           record {
-            fits = subst (λ part. end_of tree.types part < 2 ^ 32) (sym w.part-is) w.field-part.ensures.fits;
+            fits = subst (λ part. end_of tree.types part < 2 ^ 64) (sym w.part-is) w.field-part.ensures.fits;
             so_far =
                 subst (λ id. NamesOn tree path rest id c.match-step.part) (sym w.type_id-is)
                 (field_on tree path rest c.loop-step.type_id c.loop-step.part c.match-step.part name f found (w.part-is ∙ w.field-part.ensures.part) names);

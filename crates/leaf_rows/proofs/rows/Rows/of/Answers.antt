@@ -24,11 +24,11 @@ loop-variable-preserved c =
     let item = slice_index_or all n no_variable in
     let more : take (n + 1) all ≡ take n all ++ item ∷ [] =
     take_more all n no_variable (subst (λ (l : List Variable). n < length l) c.deref-variable-items.ensures.value c.loop-variable-test.true) in
-    let count : c.in_ok-row_number.field-0 ≡ 0 + length (flat_map (variable_ranges types) (take n all)) =
-    omega (arith, c.in_ok-row_number.ensures.number, c.len.ensures, c.loop-variable.rows.ok.0, ap length so_far.rows) in
+    let count : c.len.result ≡ 0 + length (flat_map (variable_ranges types) (take n all)) =
+    omega (arith, c.len.ensures, c.loop-variable.rows.ok.0, ap length so_far.rows) in
     record {
       firsts =
-          c.in_ok-push.ensures.items ∙ ap (λ l. l ++ c.in_ok-row_number.field-0 ∷ []) so_far.firsts
+          c.in_ok-push.ensures.items ∙ ap (λ l. l ++ c.len.result ∷ []) so_far.firsts
           ∙ ap (λ k. firsts_from types 0 (take n all) ++ k ∷ []) count ∙ sym (firsts_push types 0 (take n all) item) ∙ ap (firsts_from types 0) (sym more);
       rows =
           c.in_ok-add_variable.ensures
@@ -51,6 +51,5 @@ invariant_of-result c =
       counts_are = c.in_ok-counts.ensures;
       firsts_are = so_far.firsts ∙ ap (firsts_from types 0) past;
       rows_are = so_far.rows ∙ ap (flat_map (variable_ranges types)) past ∙ sym (ranges_from types 0 all);
-      few = (let few = c.in_ok-row_number-2.ensures.few in omega (arith, few, c.len-2.ensures, c.loop-variable.rows.ok.0));
       limits_are = c.in_ok-limits.ensures;
     }

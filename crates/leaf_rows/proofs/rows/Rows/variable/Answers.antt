@@ -1,4 +1,4 @@
-use Rattle.std.proofs.Common.{◌∙◌, sym, ap, subst, ◌<◌, ◌^◌, ℕ, List}
+use Rattle.std.proofs.Common.{arith, ◌∙◌, sym, ap, subst, ◌<◌, ◌^◌, ℕ, List}
 use Rattle.std.specs.Prelude.{slice_get}
 use Rattle.typed_tree.specs.declared.tree.Tree.{Tree}
 use Rattle.typed_tree.specs.declared.tree.Variable.{Variable}
@@ -27,7 +27,8 @@ returns-clause-fits c =
     (c.variable_at.ensures ∙ ap (λ (l : List Variable). slice_get l root) c.deref.ensures.value)
     ∙ ap (part_by tree.types (slice_get tree.variables.items root)) (c.first_at.ensures ∙ ap (λ (l : List ℕ). slice_get l root) c.deref-2.ensures.value)
     ∙ found_kept tree c.self.inside.counts.items c.self.inside.firsts.items c.self.inside.rows.items c.self.inside.limits.items c.self.invariant root in
-    let here : end_of tree.types c.variable_part.result < 2 ^ 32 =
-    subst (λ part. end_of tree.types part < 2 ^ 32) (sym same)
-    (ends_kept tree c.self.inside.counts.items c.self.inside.firsts.items c.self.inside.rows.items c.self.inside.limits.items c.self.invariant root) in
-    subst (λ (t : Tree). end_of t.types c.variable_part.result < 2 ^ 32) c.self.view_is here
+    let here : end_of tree.types c.variable_part.result < 2 ^ 64 =
+    subst (λ part. end_of tree.types part < 2 ^ 64) (sym same)
+    (ends_kept tree c.self.inside.counts.items c.self.inside.firsts.items c.self.inside.rows.items c.self.inside.limits.items c.self.invariant
+    (omega (arith, c.self.inside.rows.ok.0, c.self.inside.rows.ok.1, c.self.inside.rows.small)) root) in
+    subst (λ (t : Tree). end_of t.types c.variable_part.result < 2 ^ 64) c.self.view_is here

@@ -1,0 +1,10 @@
+pub mod Declarations
+pub mod Deep
+pub mod Expressions
+pub mod Laws
+pub mod Lexemes
+pub mod Notation
+pub mod Outline
+pub mod Reading
+pub mod Statements
+pub mod Trees
