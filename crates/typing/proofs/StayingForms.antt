@@ -143,10 +143,10 @@ number_keeps : (value : ℕ) (place : Place) (lead : Option SiteKind) → Keeps 
 unfolding Expressions.number
 number_keeps value place lead =
     keeps_then (pass_keeps place) λ _.
+    keeps_then (given_keeps (value_of value place)) λ _.
     keeps_then (behind_keeps lead place) λ id.
-    keeps_then (given_keeps (fits (nat_le value 2147483647) place (Expressions.typed integer id))) λ t.
     keeps_then (enter_as_keeps _) λ _.
-    pure_keeps t
+    pure_keeps (Expressions.typed integer id)
 
 long_keeps : (place : Place) (id : Option ℕ) (cs : List ℕ)
     → Keeps (string_type place (length cs) >>= (λ type_id. enter_as (λ n. Look.Text n cs) >> pure (Expressions.typed_text type_id (length cs) id)))
@@ -368,7 +368,7 @@ chain_keeps w ls lead law laws =
     keeps_then (links_keep f ls laws) λ t.
     keeps_then (given_keeps (fits (is_none f.length) w.first t)) λ _.
     keeps_then (mark_keeps Look.Ends) λ _.
-    pure_keeps t
+    pure_keeps (Expressions.typed t.type_id f.site)
 
 compares_keeps : (left right : Option ℕ) → Keeps (Expressions.compares left right)
 unfolding Expressions.compares

@@ -3,7 +3,7 @@
 -- kind in, as the leading kind: that site stands behind the token's own, and before all others. It says nothing of what
 -- a program does.
 use Rattle.std.specs.Prelude.{ℕ, ◌+◌, ◌&&◌, ◌||◌, Bool, true, false, not, List, [], ◌∷◌, ◌++◌, Option, Some, None}
-use Rattle.std.specs.Prelude.{is_none, Ok, Err, pos, if◌then◌else◌, nat_eq, nat_le, length, option_map}
+use Rattle.std.specs.Prelude.{is_none, Ok, Err, pos, if◌then◌else◌, nat_eq, length, option_map}
 use Rattle.std.specs.Prelude.{slice_get}
 use Rattle.place.specs.declared.Place.{Place}
 use Rattle.syntax_tree.specs.declared.Name.{Name}
@@ -54,7 +54,7 @@ use Rattle.typed_tree.specs.Look.{Calls, Called, ForValue, ForVariable, ForWhole
 use Rattle.typing.specs.declared.typed.Typed.{Typed}
 use Rattle.typing.specs.Passing.{Checked, Passing, pure, fail, given, by_types, mark, ◌>>=◌, ◌>>◌, ◌>>?◌}
 use Rattle.typing.specs.Steps.{fits, or_mismatch, pass, enter_as, site, find, heading_at, host_type, may_change}
-use Rattle.typing.specs.Steps.{text_at, variable_at}
+use Rattle.typing.specs.Steps.{text_at, value_of, variable_at}
 use Rattle.typing.specs.Names.{folded}
 use Rattle.typing.specs.Functions.{begins_as, applied}
 use Rattle.typing.specs.Strings.{string_characters, string_type}
@@ -101,10 +101,10 @@ behind (Some kind) place = site kind place >>= (λ id. pure (Some id))
 unfoldable pub number : ℕ → Place → Option SiteKind → Passing Typed
 number value place lead = do
   pass place
+  given (value_of value place)
   id ← behind lead place
-  t ← given (fits (nat_le value 2147483647) place (typed integer id))
   enter_as (λ n. Constant n (pos value))
-  pure t
+  pure (typed integer id)
 
 -- the value of a string: one character is a constant of type char, more are a string of a type of its own
 unfoldable pub spelled : Place → Option ℕ → List ℕ → Passing Typed
@@ -456,15 +456,23 @@ abbrev pub links : Typed → List WrittenLink → Passing Typed
 links left [] = pure left
 links left (l ∷ ls) = l left >>= (λ t. links t ls)
 
--- a chain of operators behind a first operand, an ordinal as the others are
-unfoldable pub chain : Written → List WrittenLink → Option SiteKind → Passing Typed
-chain first rest lead = do
+-- a first operand, and what stands behind it
+abbrev pub begun_by : Written → (Typed → Passing Typed) → Option SiteKind → Passing Typed
+begun_by first behind_it lead = do
   mark Begins
   f ← first.typing lead
+  behind_it f
+
+-- the operators of a chain behind its first operand, which begins at a place: an ordinal, as the others are
+abbrev pub chain_behind : Place → List WrittenLink → Typed → Passing Typed
+chain_behind place rest f = do
   t ← links f rest
-  given (fits (is_none f.length) first.first t)
+  given (fits (is_none f.length) place t)
   mark Ends
-  pure t
+  pure (typed t.type_id f.site)
+
+unfoldable pub chain : Written → List WrittenLink → Option SiteKind → Passing Typed
+chain first rest = begun_by first (chain_behind first.first rest)
 
 abbrev pub relation_of : RelationalOperator → Relation
 relation_of relational.Equal = relate.Equal
@@ -491,16 +499,18 @@ unfoldable pub compares : Option ℕ → Option ℕ → Passing (Unit {0})
 compares (Some left) (Some right) = mark (Compared left right)
 compares left right = pure tt
 
--- a relation (6.7.2.5), which has no site; K1 at its operator where its operands can't be compared
-unfoldable pub relation : Written → RelationalOperator → Place → Written → Option SiteKind → Passing Typed
-relation left operator place right lead = do
-  mark Begins
-  l ← left.typing lead
+-- a relation (6.7.2.5) behind its left operand, which has no site; K1 at its operator where its operands can't be
+-- compared
+abbrev pub relation_behind : RelationalOperator → Place → Written → Typed → Passing Typed
+relation_behind operator place right l = do
   enter_as (λ n. OperatorMark n (dyadic.Relation (relation_of operator)))
   r ← right.typing None >>? (λ types t. fits (may_compare types l t) place t)
   compares l.length r.length
   mark Ends
   pure (typed boolean l.site)
+
+unfoldable pub relation : Written → RelationalOperator → Place → Written → Option SiteKind → Passing Typed
+relation left operator place right = begun_by left (relation_behind operator place right)
 
 -- the function that a name denotes
 abbrev pub as_function : Place → Denotation → Checked RequiredFunction

@@ -25,7 +25,7 @@ use Rattle.typed_tree.specs.Accesses.{index_count}
 use Rattle.typed_tree.specs.WellFormed.{Outline, monadic_is_well_formed, is_character, is_variable_kind, of_one, takes_variable}
 use Rattle.typed_tree.specs.Look.{Access, Constant, Text, Operation, Applied, ForVariable}
 use Rattle.typing.specs.Passing.{Checked, pure, ◌>>=◌, ◌>>◌}
-use Rattle.typing.specs.Steps.{fits, enter_as}
+use Rattle.typing.specs.Steps.{enter_as, value_of}
 use Rattle.typing.specs.Strings.{string_characters, string_type}
 use Rattle.typing.specs.declared.typed.Typed.{Typed}
 use Rattle.typing.specs.Expressions.{Written, written, written_variable, typed, typed_text, number, spelled, string, as_variable, component, denoted, named}
@@ -71,11 +71,11 @@ module _ (here : Here) where
       by : (least : Reached) (lead : Option SiteKind) → Does here least (Leads place (led lead) []) (number value place lead) Types
       by least lead =
           quietly (pass_does place) λ _ _ _ _.
+          quietly (given_does (value_of value place)) λ v _ _ is.
+          let fit = fit_is (nat_le value 2147483647) place (pos value) v is in
           joins (leads_first 2 place (led lead) []) (behind_does lead place) λ id now _ known.
-          quietly (given_does (fits (nat_le value 2147483647) place (typed integer id))) λ t _ one is.
-          let fit = fit_is (nat_le value 2147483647) place (typed integer id) t is in
-          quietly (enter_does (λ n. Constant n (pos value)) (λ n. refl) (λ n. refl) (λ n. refl) (λ n. refl) (λ n. refl) (λ n o h. fit.0)) λ _ _ two _.
-          pure_does t (λ n h. subst (λ (z : Typed). Types z n) fit.1 (ordinal_types integer id now n (further_still one (further_still two h)) known))
+          quietly (enter_does (λ n. Constant n (pos value)) (λ n. refl) (λ n. refl) (λ n. refl) (λ n. refl) (λ n. refl) (λ n o h. fit.0)) λ _ _ one _.
+          pure_does (typed integer id) (λ n h. ordinal_types integer id now n (further_still one h) known)
 
   -- two or more characters
   text_does : (place : Place) (id : Option ℕ) {least : Reached} (cs : List ℕ) → IsKnown id least → 1 < length cs → list_all is_character cs ≡ true

@@ -194,11 +194,12 @@ module _ (here : Here) where
       no_variable_lawful here (places ++ others) (law.begins.0 ++ others) first.first _ (ap (λ l. l ++ others) law.begins.1)
       (λ least lead is.
       quietly (mark_does Begins refl refl refl refl refl (λ o h. refl)) λ _ now _ _.
-      joins (covers_both 2 places others) (law.types now lead is) λ f met _ known.
-      last (more met f known) λ t there _ known.
+      joins (covers_both 2 places others) (law.types now lead is) λ f met _ led.
+      last (more met f led) λ t _ behind _.
       quietly (given_does (fits (is_none f.length) first.first t)) λ _ _ one _.
       quietly (mark_does Ends refl refl refl refl refl (λ o h. refl)) λ _ _ two _.
-      pure_does t (λ n h. types_later t there n (further_still one (further_still two h)) known))
+      pure_does (typed t.type_id f.site)
+      (λ n h. ordinal_types t.type_id f.site met n (further_still behind (further_still one (further_still two h))) led.0))
 
   -- ---- relations
 
