@@ -2,7 +2,7 @@ ghost use Rattle.std.specs.Prelude.{◌≡◌, [], ◌∷◌, Ok};
 ghost use Rattle.typed_tree.specs.Look.{Constant};
 ghost use Rattle.typing.specs.Expressions.{typed, typed_text};
 ghost use Rattle.typing.specs.Passing.{after};
-ghost use Rattle.expression_resolver.specs.Accesses.{IsCounted, MakesEntered, SelectsField, begun, valued};
+ghost use Rattle.expression_resolver.specs.Accesses.{FindsVariable, IsCounted, MakesEntered, SelectsField, begun, valued};
 ghost use Rattle.expression_resolver.specs.Made.{Begins, MakesTyped, text_entered, typed_of, look_value};
 
 use crate::typed::{Begun, Entered, Selection, TypedExpr, Value};
@@ -14,6 +14,7 @@ use typed_tree::site::SiteKind;
 use typed_tree::tree::{Access, Expr, Selector, Whole};
 use types::TypeId;
 use typing::Typer;
+use typing::rules::as_variable;
 
 impl Selection {
     ghost use Rattle.expression_resolver.specs.Accesses.{IsNothing};
@@ -74,6 +75,14 @@ pub(crate) fn text(
         type_id,
         site,
     })
+}
+
+/// The variable that a name denotes, by its root and its type: K2 where it is none.
+pub(crate) fn variable(typer: &mut Typer, name: &Name) -> Result<(u32, TypeId), TypeFault>
+    ensures { FindsVariable name.now typer.old result typer.new }
+{
+    let denotation = typer.find(name)?;
+    as_variable(name.place, denotation)
 }
 
 /// A variable is entered, at the place of its name: its test, the leading site, and its number.

@@ -8,7 +8,7 @@ ghost use Rattle.expression_resolver.specs.Made.{typed_of, look_value};
 ghost use Rattle.expression_resolver.specs.Made.{MakesTyped, MakesLink, MakesLinks, IsOnly, is_alone};
 ghost use Rattle.expression_resolver.specs.Accesses.{MakesSelection, MakesIndex, SelectsElement, SelectsOne, IsCounted};
 
-use crate::accesses::{accessed_value, begin, constant, enter, select_field, text};
+use crate::accesses::{accessed_value, begin, constant, enter, select_field, text, variable};
 use crate::operators::{self, monadic};
 use crate::typed::{Begun, Selection, TypedCall, TypedExpr, TypedLinks, Value};
 use place::Place;
@@ -21,7 +21,7 @@ use typed_tree::tree::{
 };
 use types::{ArrayElement, TypeId, TypeTable};
 use typing::rules::{
-    as_function, as_routine, as_variable, operand_type, relation_of, sign_operation, takes_operands,
+    as_function, as_routine, operand_type, relation_of, sign_operation, takes_operands,
 };
 use typing::{Typed, Typer, characters};
 
@@ -177,8 +177,7 @@ fn component(
     ensures { MakesTyped (spec.component name.now selectors.now (map spec.expression indexes.now) lead typer.old) result
         typer.new }
 {
-    let denotation = typer.find(name)?;
-    let (root, type_id) = as_variable(name.place, denotation)?;
+    let (root, type_id) = variable(typer, name)?;
     accessed(typer, root, type_id, selectors, indexes, name.place, lead)
 }
 
@@ -593,8 +592,7 @@ fn passed_access(
     ensures { MakesPassed (spec.passed_variable name.now selectors.now (map spec.expression indexes.now) wanted)
         typer.old result typer.new }
 {
-    let denotation = typer.find(name)?;
-    let (root, type_id) = as_variable(name.place, denotation)?;
+    let (root, type_id) = variable(typer, name)?;
     typer.may_change(name.place, root)?;
     let number = typer.enter()?;
     let component = selected(typer, type_id, selectors, indexes)?;

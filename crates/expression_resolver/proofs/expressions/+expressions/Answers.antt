@@ -274,9 +274,9 @@ passed_access-returns t c =
     search rules in
     λ callee position.
     variable_passes name c.args.selectors.now (map expression c.args.indexes.now) c.args.wanted callee position
-    c.in_ok-denotation.denotation (c.in_ok-root.root, c.in_ok-root.type_id) c.in_ok-number.number
-    c.args.typer.now c.find.new.self c.may_change.new.self c.enter.new.self
-    (search rules) (search rules) (search rules) (search rules)
+    c.in_ok-root.ensures.0 (c.in_ok-root.root, c.in_ok-root.type_id) c.in_ok-number.number
+    c.args.typer.now c.variable.new.typer c.may_change.new.self c.enter.new.self
+    c.in_ok-root.ensures.1 c.in_ok-root.ensures.2 (search rules) (search rules)
     (made.selectors.items, made.type_id) (look_selection made) c.selected.new.typer c.in_ok-component.ensures.made fits
     ∙ variable_made c.args.wanted c.in_ok-number.number c.in_ok-root.root made callee position c.selected.new.typer c.in_ok-component.ensures.counted
 
