@@ -22,9 +22,8 @@ use Rattle.typed_tree.specs.declared.tree.Variable.{Variable}
 use Rattle.types.specs.declared.form.TypeId.{TypeId}
 use Rattle.types.specs.Types.{boolean}
 use Rattle.typed_tree.specs.Entries.{joined}
-use Rattle.typed_tree.specs.Look as look
-use Rattle.typed_tree.specs.Look.{Look, Text, Operation, Applied, Operator, Compared, Ends, look_call, look_expr}
-use Rattle.typed_tree.specs.Look.{look_link, look_passed, look_whole}
+use Rattle.typed_tree.specs.Look.{Look, Text, Operation, Applied, Begins, Operator, Compared, Ends, look_call}
+use Rattle.typed_tree.specs.Look.{look_expr, look_link, look_passed, look_whole}
 use Rattle.typed_tree.specs.WellFormed.{length_of, placed, source_of}
 use Rattle.typing.specs.declared.typed.Typed.{Typed}
 use Rattle.typing.specs.Passing.{Passed, Passing, Checked, After, after, and_then, behind_marks, given, pure, ◌>>=◌}
@@ -70,11 +69,11 @@ MakesTyped = Makes typed_of (λ made. look_value made.value)
 -- ---- expressions that are entered
 
 -- an expression is entered behind its leading site; or it has none, or one too many is entered
-abbrev pub Begins : Option SiteKind → Place → Passed → Result Begun TypeFault → Passed → Type 0
-Begins lead place old (Ok made) new =
+abbrev pub MakesBegun : Option SiteKind → Place → Passed → Result Begun TypeFault → Passed → Type 0
+MakesBegun lead place old (Ok made) new =
     (middle : Passed) × (behind lead place old ≡ Ok (after made.site [] middle))
     × (enter middle ≡ Ok (after made.number [] new))
-Begins lead place old (Err why) new =
+MakesBegun lead place old (Err why) new =
     IsFault (behind lead place old) why
     ⊎ ((site : Option ℕ) × (middle : Passed) × (behind lead place old ≡ Ok (after site [] middle))
     × (enter middle ≡ Err why))
@@ -110,7 +109,7 @@ MakesLinks = Makes (λ made. made.typed) (λ made. flat_map look_link made.links
 -- a chain of a first operand, an ordinal with this leading site, and the operators behind it
 pub record IsChainOf (first : Expr) (site : Option ℕ) (rest : TypedLinks) (made : TypedExpr) : Type 0 where
   pub looks : look_value made.value
-      ≡ look.Begins ∷ (look_expr first ++ (flat_map look_link rest.links.items ++ (Ends ∷ [])))
+      ≡ Begins ∷ (look_expr first ++ (flat_map look_link rest.links.items ++ (Ends ∷ [])))
   pub is : typed_of made ≡ typed rest.typed.type_id site
 
 -- how two strings look that are compared, behind the right one
@@ -121,8 +120,8 @@ look_compared left right = []
 -- the relation of two operands
 pub record IsRelationOf (number : ℕ) (relation : Relation) (left right : TypedExpr) (made : TypedExpr) : Type 0 where
   pub looks : look_value made.value
-      ≡ look.Begins ∷ (look_value left.value ++ (Operator number (dyadic.Relation relation)
-      ∷ (look_value right.value ++ (look_compared (value_length left.value) (value_length right.value) ++ (Ends ∷ [])))))
+      ≡ Begins ∷ (look_value left.value ++ (Operator number (dyadic.Relation relation) ∷ (look_value right.value
+      ++ (look_compared (value_length left.value) (value_length right.value) ++ (Ends ∷ [])))))
   pub is : typed_of made ≡ typed boolean left.site
 
 -- the value of the only actual

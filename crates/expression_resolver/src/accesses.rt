@@ -2,8 +2,9 @@ ghost use Rattle.std.specs.Prelude.{◌≡◌, [], ◌∷◌, Ok};
 ghost use Rattle.typed_tree.specs.Look.{Constant};
 ghost use Rattle.typing.specs.Expressions.{typed, typed_text};
 ghost use Rattle.typing.specs.Passing.{after};
-ghost use Rattle.expression_resolver.specs.Accesses.{FindsVariable, IsCounted, MakesEntered, SelectsField, begun, valued};
-ghost use Rattle.expression_resolver.specs.Made.{Begins, MakesTyped, text_entered, typed_of, look_value};
+ghost use Rattle.expression_resolver.specs.Accesses.{FindsVariable, IsCounted, MakesEntered, SelectsField};
+ghost use Rattle.expression_resolver.specs.Accesses.{begun, valued};
+ghost use Rattle.expression_resolver.specs.Made.{MakesBegun, MakesTyped, text_entered, typed_of, look_value};
 
 use crate::typed::{Begun, Entered, Selection, TypedExpr, Value};
 use place::Place;
@@ -37,7 +38,7 @@ pub(crate) fn begin(
     lead: Option<SiteKind>,
     place: Place,
 ) -> Result<Begun, TypeFault>
-    ensures { Begins lead place typer.old result typer.new }
+    ensures { MakesBegun lead place typer.old result typer.new }
 {
     let site = typer.behind(lead, place)?;
     let number = typer.enter()?;

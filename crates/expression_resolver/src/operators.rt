@@ -53,7 +53,7 @@ pub(crate) fn chain(
 }
 
 /// The relation of two ordinals, or of two strings.
-#[tactic(auto, using(typed_tree::proofs::Looks::look_chain, typed_tree::proofs::Looks::look_compare, typed_tree::proofs::Looks::look_linked))]
+#[tactic(auto, using(crate::proofs::Operands::look_relation))]
 pub(crate) fn relation(
     alloc: Global,
     number: u32,
