@@ -2,4 +2,3 @@ pub mod Cursor
 pub mod LeftOut
 pub mod Level
 pub mod ParseFault
-pub mod Refusal

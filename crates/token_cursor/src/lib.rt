@@ -7,4 +7,3 @@ pub mod fault;
 pub mod left_out;
 pub mod nesting;
 pub mod operator;
-pub mod refusal;

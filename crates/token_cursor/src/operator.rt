@@ -1,7 +1,6 @@
-ghost use Rattle.std.specs.Prelude.{◌≡◌, IfSome, IfNone};
-ghost use Rattle.syntax_tree.specs.declared.Operator.{Operator};
-ghost use Rattle.grammar.specs.Spelling.{operator_kind};
-ghost use Rattle.grammar.specs.WellFormed.{operator_level};
+ghost use Rattle.std.specs.Prelude.{◌≡◌};
+ghost use Rattle.reading.specs.Outline.{operator_level};
+ghost use Rattle.reading.specs.Reading.{operator_in};
 ghost use Rattle.token_cursor.specs.Level.{level_number};
 
 use lexer::token::{Kind, Symbol, Word};
@@ -17,8 +16,7 @@ pub enum Level {
 
 /// The operator that a token of this kind is, if it is one.
 pub fn operator_of(kind: Kind) -> Option<Operator>
-    ensures given { IfSome result (λ operator. operator_kind operator ≡ kind) }
-    ensures missed { IfNone result ((operator : Operator) → ¬ (operator_kind operator ≡ kind)) }
+    ensures { result ≡ operator_in kind }
 {
     match kind {
         Kind::Symbol(Symbol::Plus) => Some(Operator::Plus),
