@@ -110,4 +110,5 @@ module _ (levels : ℕ) (old : List Token) (constants : List (Vec Constant Globa
     pub arms_stop_behind : (why : Refusal) (next : List Token) → behind_arm others ≡ Err (why, next)
         → parts_to_end (arm levels (statement levels)) old ≡ Err (why, next)
     arms_stop_behind why next e =
-        ended_stops_behind (arm levels (statement levels)) tokens so_far.turns (form.arm (map constant_outline c.items) (stmt_outline a)) others (why, next) is e
+        ended_stops_behind (arm levels (statement levels)) tokens so_far.turns (form.arm (map constant_outline c.items) (stmt_outline a)) others
+        (why, next) is e

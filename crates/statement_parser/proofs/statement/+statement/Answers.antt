@@ -94,7 +94,8 @@ arms-returns-in_err-put t c =
     let stops : ¬ (c.in_err-put.field-0.0 ≡ Memory)
     → spec.parts_to_end (spec.arm c.args.levels (spec.statement c.args.levels)) c.args.cursor.now.rest.now
     ≡ Err (c.in_err-put.field-0.0, c.row.new.cursor.rest.now) =
-    λ other. arms_stop c.args.levels c.args.cursor.now.rest.now c.loop-arms.constants.items c.loop-arms.arms.items c.loop-arms.cursor.rest.now c.loop-arms.invariant
+    λ other. arms_stop c.args.levels c.args.cursor.now.rest.now c.loop-arms.constants.items c.loop-arms.arms.items c.loop-arms.cursor.rest.now
+    c.loop-arms.invariant
     c.in_err-put.field-0.0 c.row.new.cursor.rest.now
     (row_stops c.args.levels c.loop-arms.cursor.rest.now c.row.new.cursor.rest.now c.in_err-put.field-0.0
     (not_put constants_outlines (spec.row c.loop-arms.cursor.rest.now) c.row.result c.row.new.cursor c.loop-arms.constants.items c.put.new.list.items
@@ -108,7 +109,8 @@ arms-returns-in_err-put-2 t c =
     let stops : ¬ (c.in_err-put-2.field-0.0 ≡ Memory)
     → spec.parts_to_end (spec.arm c.args.levels (spec.statement c.args.levels)) c.args.cursor.now.rest.now
     ≡ Err (c.in_err-put-2.field-0.0, c.statement.new.cursor.rest.now) =
-    λ other. arms_stop c.args.levels c.args.cursor.now.rest.now c.loop-arms.constants.items c.loop-arms.arms.items c.loop-arms.cursor.rest.now c.loop-arms.invariant
+    λ other. arms_stop c.args.levels c.args.cursor.now.rest.now c.loop-arms.constants.items c.loop-arms.arms.items c.loop-arms.cursor.rest.now
+    c.loop-arms.invariant
     c.in_err-put-2.field-0.0 c.statement.new.cursor.rest.now
     (statement_stops c.args.levels c.loop-arms.cursor.rest.now c.row.new.cursor.rest.now (constants_outlines r.made) c.in_err-put-2.field-0.0
     c.statement.new.cursor.rest.now r.read
@@ -128,7 +130,8 @@ arms-returns-in_err-semicolon t c =
     let stops : ¬ (c.in_err-semicolon.field-0.0 ≡ Memory)
     → spec.parts_to_end (spec.arm c.args.levels (spec.statement c.args.levels)) c.args.cursor.now.rest.now
     ≡ Err (c.in_err-semicolon.field-0.0, c.behind_arm.new.cursor.rest.now) =
-    λ other. arms_stop_behind c.args.levels c.args.cursor.now.rest.now c.loop-arms.constants.items c.loop-arms.arms.items c.loop-arms.cursor.rest.now c.loop-arms.invariant
+    λ other. arms_stop_behind c.args.levels c.args.cursor.now.rest.now c.loop-arms.constants.items c.loop-arms.arms.items c.loop-arms.cursor.rest.now
+    c.loop-arms.invariant
     r.made s.made c.put.new.list.items c.put-in-loop-arms.new.list.items r.behind s.behind c.statement.new.cursor.rest.now is
     c.in_err-semicolon.field-0.0 c.behind_arm.new.cursor.rest.now (c.in_err-semicolon.ensures other) in
     search rules
