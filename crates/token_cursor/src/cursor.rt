@@ -5,11 +5,11 @@ ghost use Rattle.reading.specs.Reading as spec;
 ghost use Rattle.reading.specs.Reading.{direction_in, is_forward, next_kind, next_place, same_kind, sign_in};
 ghost use Rattle.token_cursor.specs.Level.{level_number};
 
-use crate::operator::{Level, level_of, operator_of};
+use crate::operator::{Level, level_of, operator_of, relational_at};
 use lexer::token::{Kind, Symbol, Token, Word};
 use place::Place;
 use reading::refusal::Refusal;
-use syntax_tree::{Direction, Name, Operator, Sign};
+use syntax_tree::{Direction, Name, Operator, RelationalOperator, Sign};
 
 /// The tokens that are left to read. What is made of them, and what is left then, is told by a reading: where nothing is
 /// taken, all are left.
@@ -204,6 +204,21 @@ impl<'t, 'a> Cursor<'t, 'a> {
         ensures { Makes (λ direction. direction) (spec.expect_direction self.old.rest.now) result self.new }
     {
         self.take_direction().ok_or(Refusal::NoProgram)
+    }
+
+    /// Takes a relational operator, if one is next.
+    #[tactic(auto, unfolding(reading::specs::Reading::relational_taken))]
+    pub fn take_relational(&mut self) -> Option<(RelationalOperator, Place)>
+        ensures { Takes spec.relational_taken self.old result self.new }
+    {
+        match self.rest {
+            [token, rest @ ..] => {
+                let operator = relational_at(token.kind, token.place)?;
+                self.rest = rest;
+                Some(operator)
+            }
+            _ => None,
+        }
     }
 
     /// Takes an operator of this level, if one is next.
