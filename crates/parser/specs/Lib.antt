@@ -1,2 +1,5 @@
-pub mod Fields
-pub mod Syntax
+pub mod Denoters
+pub mod Headings
+pub mod Kept
+pub mod Lists
+pub mod Rows

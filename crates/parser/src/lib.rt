@@ -1,15 +1,13 @@
 //! The syntax of a Pascal program (ISO 7185:1990, 6.2 to 6.10), from its tokens.
 #![tactic(auto)]
 
-mod block;
 mod constants;
 mod denoter;
 mod formals;
 mod headings;
+mod lists;
+mod memory;
 mod names;
-mod program;
 mod types;
 mod unstructured;
 mod variables;
-
-pub use program::parse;
