@@ -1,7 +1,8 @@
 -- What a loop of a parser made so far, and what is left to its rule: the turns of a rule, and parts with a symbol
 -- between each two.
-use Rattle.std.proofs.Common.{◌≡◌, ℕ, ◌<◌, ◌≤◌, Bool, true, false, List, [], ◌∷◌, ◌++◌, length, Option, Some, None, Ok, Err, refl, sym, ap, ◌∙◌, arith}
-use Rattle.std.proofs.Common.{append_assoc}
+use Rattle.std.proofs.Common.{◌≡◌, ℕ, ◌<◌, ◌≤◌, Bool, true, false, List, [], ◌∷◌, ◌++◌, length, Option, Some, None, Ok, Err, refl, sym, ap, subst, ◌∙◌, arith}
+use Rattle.std.proofs.Common.{append_assoc, map}
+use Rattle.std.proofs.lemmas.List.{map-append}
 use Rattle.lexer.specs.declared.token.Kind.{Kind}
 use Rattle.lexer.specs.declared.token.Kind.TheVariants as kind
 use Rattle.lexer.specs.declared.token.Symbol.{Symbol}
@@ -12,6 +13,11 @@ use Rattle.reading.specs.Reading.{Outcome, Reading, and_then, pure, ◌>>=◌, c
 use Rattle.reading.proofs.Loops.{Uses, loop_goes, loop_ends, loop_stops}
 use Rattle.reading.proofs.Uses.{NeverMore, led_uses, reads_fewer}
 use Rattle.reading.proofs.Makes.{taken_makes}
+
+-- how a list looks behind which one more was put
+pub grown : {A T : Type 0} (look : T → A) (made : List T) (one : T) (after : List T) → after ≡ made ++ one ∷ []
+    → map look after ≡ map look made ++ look one ∷ []
+grown look made one after e = ap (map look) e ∙ map-append look made (one ∷ [])
 
 -- ---- the turns of a rule
 
@@ -164,3 +170,16 @@ module _ {A : Type 0} (s : Symbol) (part : Reading A) where
   parts_fewer fewer tokens mid next a place e h =
       let m = ((fewer tokens).makes (a, mid) e).most in
       let k = reads_fewer (of_kind_at (kind.Symbol s) place) [] mid next ((taken_makes (kind.Symbol s) mid).makes (Some place, next) h) in omega arith
+
+-- the same by the list of what was made
+module _ {A T : Type 0} (look : T → A) (s : Symbol) (part : Reading A) {whole : Outcome (List A)} (made : List T) {tokens : List Token}
+    (so_far : Parts whole (map look made) (separated s part tokens)) (one : T) (after : List T) (put : after ≡ made ++ one ∷ []) (mid : List Token)
+    (is : part tokens ≡ Ok (look one, mid)) where
+  pub list_goes : NeverMore part → (place : _) (next : List Token) → symbol_taken s mid ≡ Ok (Some place, next)
+      → Parts whole (map look after) (separated s part next)
+  list_goes fewer place next e =
+      subst (λ front. Parts whole front (separated s part next)) (sym (grown look made one after put)) (parts_go s part so_far fewer (look one) mid place next
+      is e)
+
+  pub list_ends : (others : List Token) → symbol_taken s mid ≡ Ok (None, others) → whole ≡ Ok (map look after, others)
+  list_ends others e = parts_end s part so_far (look one) mid others is e ∙ ap (λ xs. Ok (xs, others)) (sym (grown look made one after put))

@@ -20,7 +20,7 @@ pub struct Cursor<'t, 'a> {
 
 impl<'t, 'a> Cursor<'t, 'a> {
     ghost use Rattle.reading.specs.Declarations.{period_at_end};
-    ghost use Rattle.token_cursor.specs.Cursor.{Makes, Takes};
+    ghost use Rattle.token_cursor.specs.Cursor.{IsFollowed, Makes, Takes};
 
     pub fn new(tokens: &'t [Token<'a>]) -> Self
         ensures { result.rest.now ≡ tokens.now }
@@ -85,6 +85,19 @@ impl<'t, 'a> Cursor<'t, 'a> {
         ensures { Makes (λ place. place) (spec.expect_symbol symbol self.old.rest.now) result self.new }
     {
         self.take_symbol(symbol).ok_or(Refusal::NoProgram)
+    }
+
+    /// What a rule read, if a token of this kind stands behind it, which is taken.
+    pub fn followed_by<T: Drop>(
+        &mut self,
+        found: Result<T, Refusal>,
+        kind: Kind,
+    ) -> Result<T, Refusal>
+        ensures { IsFollowed found kind self.old result self.new }
+    {
+        let made = found?;
+        self.take(kind).ok_or(Refusal::NoProgram)?;
+        Ok(made)
     }
 
     /// Takes an identifier, if one is next.
