@@ -8,7 +8,7 @@ use Rattle.reading.specs.Outline.{Outline}
 use Rattle.reading.specs.Reading.{Reading}
 use Rattle.reading.specs.Declarations as read
 use Rattle.reading.specs.Trees.{name_outline, denoter_outline}
-use Rattle.parser.specs.Rows.{fields_look}
+use Rattle.parser.specs.Fields.{fields_look}
 use Rattle.parser.proofs.Pairs.{pair, Pushes}
 
 -- how the names before a denoter look

@@ -16,8 +16,8 @@ use Rattle.token_cursor.specs.declared.cursor.Cursor.{Cursor}
 use Rattle.token_cursor.specs.Cursor.{Makes}
 use Rattle.token_cursor.proofs.Turns.{Parts, before, parts_begin}
 use Rattle.parser.specs.Lists.{LeavesFewer}
-use Rattle.parser.specs.Kept.{Puts}
-use Rattle.parser.proofs.Keeping.{WasPut, was_put, not_put}
+use Rattle.token_cursor.specs.Kept.{Puts}
+use Rattle.token_cursor.proofs.Keeping.{WasPut, was_put, not_put}
 use Rattle.parser.proofs.Listed.{looks_so}
 
 pub takes_one : {A : Type 0} {rule : Reading A} → LeavesFewer rule → TakesOne rule

@@ -12,8 +12,8 @@ use Rattle.token_cursor.specs.declared.cursor.Cursor.{Cursor}
 use Rattle.token_cursor.specs.Cursor.{Makes}
 use Rattle.token_cursor.proofs.Turns.{Parts, parts_begin, parts_go, parts_end, parts_stop, parts_fewer}
 use Rattle.parser.specs.Lists.{LeavesNoMore}
-use Rattle.parser.specs.Kept.{Puts}
-use Rattle.parser.proofs.Keeping.{WasPut, was_put, not_put}
+use Rattle.token_cursor.specs.Kept.{Puts}
+use Rattle.token_cursor.proofs.Keeping.{WasPut, was_put, not_put}
 
 pub never_more : {A : Type 0} {rule : Reading A} → LeavesNoMore rule → NeverMore rule
 never_more h tokens = record { makes = λ made e. record { most = h.no_more tokens made.1 made.0 e } }

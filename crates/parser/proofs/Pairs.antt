@@ -11,16 +11,22 @@ use Rattle.reading.proofs.Uses.{NeverMore, arm_uses}
 use Rattle.token_cursor.specs.declared.cursor.Cursor.{Cursor}
 use Rattle.token_cursor.specs.Cursor.{Makes}
 use Rattle.token_cursor.proofs.Turns.{Turns, turns_begin}
-use Rattle.parser.specs.Kept.{Puts}
-use Rattle.parser.proofs.Keeping.{WasPut, was_put, not_put}
-use Rattle.parser.proofs.Ended.{ended_goes, ended_ends, ended_stops, ended_stops_behind, turn_is}
+use Rattle.token_cursor.specs.Kept.{Puts}
+use Rattle.token_cursor.proofs.Keeping.{WasPut, was_put, not_put}
+use Rattle.token_cursor.proofs.Ended.{ended_goes, ended_ends, ended_stops, ended_stops_behind}
+
+arm_at : (part : Reading Outline) (mid rest : List Token) (end : Option Bool) → behind_arm mid ≡ Ok (end, rest)
+    → arm_turn part tt mid ≡ choose end (λ semicolon. pure (ends semicolon)) (part >>= (λ a. pure (more tt a))) rest
+unfolding arm_turn
+arm_at part mid rest end e =
+    ap (λ o. and_then o (λ end. choose end (λ semicolon. pure (ends semicolon)) (part >>= (λ a. pure (more tt a))))) e
 
 -- where no `end` comes behind a part, a semicolon was taken
 pub behind_fewer : (mid rest : List Token) → behind_arm mid ≡ Ok (None, rest) → length rest < length mid
 behind_fewer mid rest e =
     arm_uses (pure nothing) (λ tokens. record { makes = λ made h. record { most = let same : (nothing, tokens) ≡ made = cc in let n = ap (λ (m : Outline ×
         List Token). length m.1) same in omega arith } })
-    tt tt nothing mid rest (turn_is (pure nothing) mid rest None e)
+    tt tt nothing mid rest (arm_at (pure nothing) mid rest None e)
 
 -- rows of which one is a head for each of the other
 pub record Paired {X Y : Type 0} (rows : List X → List Y → List Outline) (whole : Outcome (List Outline × Bool)) (xs : List X) (ys : List Y)

@@ -1,5 +1,4 @@
 pub mod Denoters
 pub mod Headings
-pub mod Kept
 pub mod Lists
-pub mod Rows
+pub mod Fields

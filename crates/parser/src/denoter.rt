@@ -5,10 +5,11 @@ ghost use Rattle.reading.specs.Statements.{parts_to_end};
 ghost use Rattle.reading.specs.Trees.{denoter_outline};
 ghost use Rattle.token_cursor.specs.Cursor.{Makes};
 ghost use Rattle.parser.specs.Denoters.{array_type, record_type};
-ghost use Rattle.parser.specs.Rows.{fields_look, MakesRows};
+ghost use Rattle.token_cursor.specs.Rows.{MakesRows};
+ghost use Rattle.parser.specs.Fields.{fields_look};
 
 use crate::lists::behind_arm;
-use crate::memory::{boxed, put};
+use token_cursor::memory::{boxed, put};
 use crate::names::field_names;
 use crate::unstructured::{enumerated, name_or_subrange};
 use lexer::token::{Kind, Symbol, Word};

@@ -6,7 +6,6 @@ mod denoter;
 mod formals;
 mod headings;
 mod lists;
-mod memory;
 mod names;
 mod types;
 mod unstructured;

@@ -7,7 +7,7 @@ ghost use Rattle.parser.specs.Lists.{LeavesNoMore, LeavesFewer, enclosed, in_par
 ghost use Rattle.reading.specs.Statements as statements;
 ghost use Rattle.token_cursor.specs.Cursor.{Makes};
 
-use crate::memory::put;
+use token_cursor::memory::put;
 use lexer::token::{Kind, Symbol, Word};
 use reading::refusal::Refusal;
 use std::alloc::Global;

@@ -10,7 +10,7 @@ use Rattle.reading.specs.Statements.{parts_to_end}
 use Rattle.reading.specs.Trees.{denoter_outline}
 use Rattle.reading.proofs.Uses.{denoter_no_more, fields_no_more}
 use Rattle.token_cursor.specs.Cursor.{Makes}
-use Rattle.parser.specs.Rows.{fields_look}
+use Rattle.parser.specs.Fields.{fields_look}
 use Rattle.parser.proofs.Denoters.{denoter_at, denoter_else}
 use Rattle.parser.proofs.Fields.{names_look, fields_push}
 use Rattle.parser.proofs.Listed.{listed_begins, listed_goes, listed_fewer, listed_ends, listed_stops}

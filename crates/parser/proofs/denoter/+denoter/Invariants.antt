@@ -5,7 +5,7 @@ use Rattle.reading.specs.Reading.{separated}
 use Rattle.reading.specs.Statements.{parts_to_end}
 use Rattle.reading.specs.Trees.{denoter_outline}
 use Rattle.token_cursor.proofs.Turns.{Parts}
-use Rattle.parser.specs.Rows.{fields_look}
+use Rattle.parser.specs.Fields.{fields_look}
 use Rattle.parser.proofs.Pairs.{Paired}
 use Rattle.parser.proofs.denoter.+denoter.Given as goal
 
