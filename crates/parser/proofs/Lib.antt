@@ -1,4 +1,6 @@
+pub mod Blocks
 pub mod Denoters
+pub mod Faults
 pub mod Fields
 pub mod Items
 pub mod Listed

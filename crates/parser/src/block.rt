@@ -1,0 +1,126 @@
+ghost use Rattle.std.specs.Prelude.{◌≡◌, if◌then◌else◌, map, None, Some};
+ghost use Rattle.std.specs.Option.{option_map};
+ghost use Rattle.reading.specs.Declarations as spec;
+ghost use Rattle.reading.specs.Reading.{next_kind};
+ghost use Rattle.reading.specs.Trees.{block_outline, body_outline, routine_outline};
+ghost use Rattle.token_cursor.specs.Cursor.{Makes, Takes};
+ghost use Rattle.parser.specs.Blocks.{block_below, compound_outlines, may_take_forward};
+
+use crate::headings::{heading, takes_directive};
+use crate::lists::{block_part, is_next};
+use crate::stub::compound;
+use lexer::token::{Kind, Symbol, Word};
+use place::Place;
+use reading::refusal::Refusal;
+use std::alloc::Global;
+use syntax_tree::{Block, Routine, Stmt};
+use token_cursor::cursor::Cursor;
+use token_cursor::memory::put;
+use token_cursor::nesting::inside;
+
+/// A block (6.2.1), below which `levels` levels are left.
+#[cycle(block)]
+#[tactic(auto, using(crate::proofs::Blocks::block_at, crate::proofs::Blocks::built_block, crate::proofs::Parts::definition_leaves,
+    crate::proofs::Parts::type_leaves, crate::proofs::Parts::group_leaves), unfolding(reading::specs::Declarations::block_of))]
+pub(crate) fn block<'a>(
+    alloc: Global,
+    cursor: &mut Cursor<'_, 'a>,
+    levels: u32,
+) -> Result<Block<'a>, Refusal>
+    ensures { Makes block_outline (spec.block levels cursor.old.rest.now) result cursor.new }
+{
+    let constants = block_part(alloc, cursor, levels, Word::Const)?;
+    let types = block_part(alloc, cursor, levels, Word::Type)?;
+    let variables = block_part(alloc, cursor, levels, Word::Var)?;
+    let routines = routines(alloc, cursor, levels)?;
+    let (statements, end) = statement_part(alloc, cursor, levels)?;
+    Ok(Block {
+        constants,
+        types,
+        variables,
+        routines,
+        statements,
+        end,
+    })
+}
+
+/// The compound statement of a block below which `levels` levels are left: its statements, and its `end`.
+#[tactic(auto, using(crate::proofs::Blocks::statement_part_at))]
+fn statement_part<'a>(
+    alloc: Global,
+    cursor: &mut Cursor<'_, 'a>,
+    levels: u32,
+) -> Result<(Vec<Stmt<'a>>, Place), Refusal>
+    ensures { Makes compound_outlines (spec.statement_part levels cursor.old.rest.now) result cursor.new }
+{
+    let levels = inside(levels, cursor.place())?;
+    compound(alloc, cursor, levels)
+}
+
+/// The declarations of procedures and functions (6.6), in a block below which `levels` levels are left.
+#[cycle(block)]
+fn routines<'a>(
+    alloc: Global,
+    cursor: &mut Cursor<'_, 'a>,
+    levels: u32,
+) -> Result<Vec<Routine<'a>>, Refusal>
+    ensures { Makes (λ found. map routine_outline found.items) (spec.routines (block_below levels) cursor.old.rest.now)
+        result cursor.new }
+{
+    let mut routines = Vec::new(alloc);
+    while begins_routine(cursor) {
+        put(&mut routines, routine(alloc, cursor, levels))?;
+    }
+    Ok(routines)
+}
+
+/// Whether a procedure or function comes next.
+fn begins_routine(cursor: &Cursor<'_, '_>) -> bool
+    ensures { result ≡ spec.begins_routine (next_kind cursor.now.rest.now) }
+{
+    is_next(cursor, Kind::Word(Word::Procedure)) || is_next(cursor, Kind::Word(Word::Function))
+}
+
+/// The declaration of a procedure (6.6.1) or function (6.6.2).
+#[cycle(block)]
+#[tactic(auto, using(crate::proofs::Blocks::built_routine), unfolding(reading::specs::Declarations::routine))]
+fn routine<'a>(
+    alloc: Global,
+    cursor: &mut Cursor<'_, 'a>,
+    levels: u32,
+) -> Result<Routine<'a>, Refusal>
+    ensures { Makes routine_outline (spec.routine (block_below levels) cursor.old.rest.now) result cursor.new }
+{
+    let heading = heading(alloc, cursor)?;
+    let directive = takes_directive(&heading);
+    let block = body(alloc, cursor, levels, directive)?;
+    cursor.expect_symbol(Symbol::Semicolon)?;
+    Ok(Routine { heading, block })
+}
+
+/// The block of a procedure or function, or none where `forward` stands in its place, which it may
+/// where `directive` says so.
+#[cycle(block)]
+#[tactic(auto, using(crate::proofs::Blocks::below_at), unfolding(reading::specs::Declarations::body))]
+fn body<'a>(
+    alloc: Global,
+    cursor: &mut Cursor<'_, 'a>,
+    levels: u32,
+    directive: bool,
+) -> Result<Option<Block<'a>>, Refusal>
+    ensures { Makes (λ block. body_outline directive (option_map block_outline block))
+        (spec.body (block_below levels) directive cursor.old.rest.now) result cursor.new }
+{
+    if stands_forward(cursor, directive) {
+        return Ok(None);
+    }
+    let levels = inside(levels, cursor.place())?;
+    Ok(Some(block(alloc, cursor, levels)?))
+}
+
+/// Whether `forward` comes next where it may stand, which is taken.
+fn stands_forward(cursor: &mut Cursor<'_, '_>, directive: bool) -> bool
+    ensures { Takes (may_take_forward directive) cursor.old (if result then Some tt else None) cursor.new }
+{
+    directive && cursor.take_forward()
+}
