@@ -24,8 +24,12 @@ arm_at part mid rest end e =
 -- where no `end` comes behind a part, a semicolon was taken
 pub behind_fewer : (mid rest : List Token) → behind_arm mid ≡ Ok (None, rest) → length rest < length mid
 behind_fewer mid rest e =
-    arm_uses (pure nothing) (λ tokens. record { makes = λ made h. record { most = let same : (nothing, tokens) ≡ made = cc in let n = ap (λ (m : Outline ×
-        List Token). length m.1) same in omega arith } })
+    arm_uses (pure nothing) (λ tokens. record {
+      makes = λ made h. record {
+        most = let same : (nothing, tokens) ≡ made = cc in let n = ap (λ (m : Outline ×
+            List Token). length m.1) same in omega arith;
+      };
+    })
     tt tt nothing mid rest (arm_at (pure nothing) mid rest None e)
 
 -- rows of which one is a head for each of the other
@@ -113,9 +117,11 @@ module _ {X Y : Type 0} (head : X → List Outline) (look : Y → Outline) (join
         -- the `end` comes
         pub pairs_end : Pushes → (rest : List Token) (semicolon : Bool) → behind_arm last.rest.now ≡ Ok (Some semicolon, rest)
             → (length xs' ≡ length ys') × (whole ≡ Ok ((rows xs' ys', semicolon), rest))
-        pairs_end pushes rest semicolon e =
-            (even_after, ended_ends pair tokens so_far.turns one last.rest.now rest semicolon was e
-            ∙ ap (λ l. Ok ((l, semicolon), rest)) (longer pushes))
+        pairs_end pushes rest semicolon e = (
+          even_after,
+          ended_ends pair tokens so_far.turns one last.rest.now rest semicolon was e
+              ∙ ap (λ l. Ok ((l, semicolon), rest)) (longer pushes),
+        )
 
         -- neither comes
         pub behind_stops : (why : Refusal) (rest : List Token) → behind_arm last.rest.now ≡ Err (why, rest) → whole ≡ Err (why, rest)

@@ -1,16 +1,12 @@
-ghost use Rattle.std.specs.Prelude.{map};
-ghost use Rattle.std.specs.Option.{option_map};
 ghost use Rattle.reading.specs.Declarations.{definition};
-ghost use Rattle.reading.specs.Reading.{sign_taken};
-ghost use Rattle.reading.specs.Statements.{constant, row};
-ghost use Rattle.reading.specs.Trees.{constant_outline, definition_outline};
-ghost use Rattle.token_cursor.specs.Cursor.{Makes, Takes};
+ghost use Rattle.reading.specs.Trees.{definition_outline};
 
-use crate::lists::{Item, Part, enclosed};
+use crate::lists::Item;
 use lexer::token::Symbol;
 use reading::refusal::Refusal;
+use statement_parser::constant::constant;
 use std::alloc::Global;
-use syntax_tree::{Constant, ConstantDefinition, ConstantValue, SignAt};
+use syntax_tree::ConstantDefinition;
 use token_cursor::cursor::Cursor;
 
 /// The definition of a constant (6.3).
@@ -20,70 +16,11 @@ impl<'a> Item<'a> for ConstantDefinition<'a> {
     ghost rule = { λ levels. definition };
 
     #[tactic(auto, unfolding(reading::specs::Declarations::definition))]
-    fn read(
-        _alloc: Global,
-        cursor: &mut Cursor<'_, 'a>,
-        _levels: u32,
-    ) -> Result<Self, Refusal> {
+    fn read(_alloc: Global, cursor: &mut Cursor<'_, 'a>, _levels: u32) -> Result<Self, Refusal> {
         let name = cursor.expect_name()?;
         cursor.expect_symbol(Symbol::Equal)?;
         let value = constant(cursor)?;
         cursor.expect_symbol(Symbol::Semicolon)?;
         Ok(ConstantDefinition { name, value })
     }
-}
-
-impl<'a> Part<'a> for Constant<'a> {
-    ghost look = { constant_outline };
-
-    ghost rule = { constant };
-
-    fn read(_alloc: Global, cursor: &mut Cursor<'_, 'a>) -> Result<Self, Refusal> {
-        constant(cursor)
-    }
-}
-
-/// The constants before an arm of a case (6.8.3.5), and their colon.
-#[tactic(auto, using(crate::proofs::Parts::constant_leaves), unfolding(reading::specs::Statements::row))]
-pub(crate) fn row<'a>(
-    alloc: Global,
-    cursor: &mut Cursor<'_, 'a>,
-) -> Result<Vec<Constant<'a>>, Refusal>
-    ensures { Makes (λ found. map constant_outline found.items) (row cursor.old.rest.now) result cursor.new }
-{
-    enclosed(alloc, cursor, Symbol::Comma, Symbol::Colon)
-}
-
-/// A constant (6.3): a string, or a number or a name with a sign or none.
-#[tactic(auto, unfolding(reading::specs::Statements::constant, reading::specs::Statements::sign,
-    reading::specs::Statements::value))]
-pub(crate) fn constant<'a>(cursor: &mut Cursor<'_, 'a>) -> Result<Constant<'a>, Refusal>
-    ensures { Makes constant_outline (constant cursor.old.rest.now) result cursor.new }
-{
-    if let Some((text, place)) = cursor.take_string() {
-        return Ok(Constant {
-            sign: None,
-            value: ConstantValue::String { text, place },
-        });
-    }
-    let sign = sign(cursor);
-    if let Some((value, place)) = cursor.take_number() {
-        return Ok(Constant {
-            sign,
-            value: ConstantValue::Number { value, place },
-        });
-    }
-    let name = cursor.expect_name()?;
-    Ok(Constant {
-        sign,
-        value: ConstantValue::Name(name),
-    })
-}
-
-/// The sign that comes next, if one does.
-fn sign(cursor: &mut Cursor<'_, '_>) -> Option<SignAt>
-    ensures { Takes sign_taken cursor.old (option_map (λ s. (s.sign, s.place)) result) cursor.new }
-{
-    let (sign, place) = cursor.take_sign()?;
-    Some(SignAt { sign, place })
 }

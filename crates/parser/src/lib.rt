@@ -9,7 +9,6 @@ mod headings;
 mod lists;
 mod names;
 mod program;
-mod stub;
 mod types;
 mod unstructured;
 mod variables;

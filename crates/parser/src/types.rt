@@ -16,11 +16,7 @@ impl<'a> Item<'a> for TypeDefinition<'a> {
     ghost rule = { type_definition };
 
     #[tactic(auto, unfolding(reading::specs::Declarations::type_definition))]
-    fn read(
-        alloc: Global,
-        cursor: &mut Cursor<'_, 'a>,
-        levels: u32,
-    ) -> Result<Self, Refusal> {
+    fn read(alloc: Global, cursor: &mut Cursor<'_, 'a>, levels: u32) -> Result<Self, Refusal> {
         let name = cursor.expect_name()?;
         cursor.expect_symbol(Symbol::Equal)?;
         let denoter = denoter(alloc, cursor, levels)?;

@@ -17,11 +17,7 @@ impl<'a> Item<'a> for VariableGroup<'a> {
     ghost rule = { group };
 
     #[tactic(auto, unfolding(reading::specs::Declarations::group))]
-    fn read(
-        alloc: Global,
-        cursor: &mut Cursor<'_, 'a>,
-        levels: u32,
-    ) -> Result<Self, Refusal> {
+    fn read(alloc: Global, cursor: &mut Cursor<'_, 'a>, levels: u32) -> Result<Self, Refusal> {
         let names = field_names(alloc, cursor)?;
         let denoter = denoter(alloc, cursor, levels)?;
         cursor.expect_symbol(Symbol::Semicolon)?;

@@ -1,3 +1,4 @@
 pub mod Arms
-pub mod ExactStatements
-pub mod Statements
+pub mod Built
+pub mod Next
+pub mod Simple

@@ -1,37 +1,32 @@
-ghost use Rattle.std.specs.Prelude.{◌≡◌, ◌+◌, MatchResult, Some};
-ghost use Rattle.expression_parser.specs.Refusing.{IsPlain, Refused};
-ghost use Rattle.grammar.specs.Following.{next_kind, EndsEach, EndsStmt, EndsStatements, Anything};
-ghost use Rattle.expression_parser.specs.Reading.{ReadsEach, ReadsDeep};
-ghost use Rattle.expression_parser.specs.Rules.{Read};
-ghost use Rattle.statement_parser.specs.Arms.{ReadArms};
-ghost use Rattle.grammar.specs.Begins.{BeginsGuard, BeginsStmt, BeginsAlternative, BeginsStatements, BeginsControl};
-ghost use Rattle.grammar.specs.Begins.{BeginsInitial, BeginsArms, BeginsCompound};
+ghost use Rattle.reading.specs.Reading.{separated};
+ghost use Rattle.reading.specs.Statements as spec;
+ghost use Rattle.reading.specs.Trees.{expr_outline, stmt_outline};
+ghost use Rattle.token_cursor.specs.Cursor.{Makes};
+ghost use Rattle.token_cursor.specs.Rows.{MakesRows};
+ghost use Rattle.statement_parser.specs.Built.{alternative_outline, body_outline, case_outlines, compound_outlines};
+ghost use Rattle.statement_parser.specs.Built.{control_lexeme, initial_outline, statements_outlines};
 
 use crate::arm::{behind_arm, row};
 use expression_parser::expression::{actuals, expression, selectors};
-use expression_parser::memory::{boxed, put};
 use lexer::token::{Kind, Symbol, Word};
 use place::Place;
+use reading::refusal::Refusal;
 use std::alloc::Global;
 use syntax_tree::{Constant, Direction, Expr, Name, Stmt};
 use token_cursor::cursor::Cursor;
+use token_cursor::memory::{boxed, put};
 use token_cursor::nesting::inside;
-use token_cursor::operator::Level;
-use token_cursor::refusal::Refusal;
 
-// compound = "begin" statements "end"
 /// The statements of a compound statement (6.8.3.2), and its `end`. Below it `levels` levels are
 /// left.
 #[cycle(statement)]
+#[tactic(auto, unfolding(reading::specs::Statements::compound))]
 pub fn compound<'a>(
     alloc: Global,
     cursor: &mut Cursor<'_, 'a>,
     levels: u32,
 ) -> Result<(Vec<Stmt<'a>>, Place), Refusal>
-    ensures given { MatchResult result
-        (λ found. Read (BeginsCompound levels) cursor.old cursor.new (found.0.items, found.1))
-        (Refused (levels + 1) cursor.old) }
-    ensures exact { ReadsDeep levels BeginsCompound Anything cursor.old cursor.new result }
+    ensures { Makes compound_outlines (spec.compound (spec.statement levels) cursor.old.rest.now) result cursor.new }
 {
     cursor.expect_word(Word::Begin)?;
     let statements = statements(alloc, cursor, levels)?;
@@ -39,16 +34,14 @@ pub fn compound<'a>(
     Ok((statements, end))
 }
 
-// statements = statement {";" statement}
 #[cycle(statement)]
 fn statements<'a>(
     alloc: Global,
     cursor: &mut Cursor<'_, 'a>,
     levels: u32,
 ) -> Result<Vec<Stmt<'a>>, Refusal>
-    ensures given { MatchResult result
-        (λ found. Read (BeginsStatements levels) cursor.old cursor.new found.items) (Refused levels cursor.old) }
-    ensures exact { ReadsDeep levels BeginsStatements EndsStatements cursor.old cursor.new result }
+    ensures { Makes statements_outlines (separated Symbol.Semicolon (spec.statement levels) cursor.old.rest.now) result
+        cursor.new }
 {
     let mut statements = Vec::new(alloc);
     loop {
@@ -59,16 +52,15 @@ fn statements<'a>(
     }
 }
 
-// statement = [simple | compound | conditional | while_loop | repeat_loop | for_loop | case_of]
 /// A statement in something below which `levels` levels are left (6.8).
 #[cycle(statement)]
+#[tactic(auto, using(crate::proofs::Built::built_statements))]
 fn statement<'a>(
     alloc: Global,
     cursor: &mut Cursor<'_, 'a>,
     levels: u32,
 ) -> Result<Stmt<'a>, Refusal>
-    ensures given { MatchResult result (Read (BeginsStmt levels) cursor.old cursor.new) (Refused levels cursor.old) }
-    ensures exact { ReadsDeep levels BeginsStmt EndsStmt cursor.old cursor.new result }
+    ensures { Makes stmt_outline (spec.statement levels cursor.old.rest.now) result cursor.new }
 {
     let levels = inside(levels, cursor.place())?;
     match cursor.peek() {
@@ -86,19 +78,16 @@ fn statement<'a>(
     }
 }
 
-// simple = name selectors ":=" expression | name actuals
 /// An assignment (6.8.2.2) or the call of a procedure (6.8.2.3), below which `levels` levels are
 /// left.
+#[tactic(auto, using(crate::proofs::Built::built_statements), unfolding(reading::specs::Statements::simple))]
 fn simple<'a>(alloc: Global, cursor: &mut Cursor<'_, 'a>, levels: u32) -> Result<Stmt<'a>, Refusal>
-    ensures given { MatchResult result (Read (BeginsStmt (levels + 1)) cursor.old cursor.new)
-        (Refused (levels + 1) cursor.old) }
-    ensures exact { next_kind cursor.old.rest.now ≡ Some Kind.Identifier →
-        ReadsDeep (levels + 1) BeginsStmt EndsStmt cursor.old cursor.new result }
+    ensures { Makes stmt_outline (spec.simple levels cursor.old.rest.now) result cursor.new }
 {
     let name = cursor.expect_name()?;
     let (selectors, indexes) = selectors(alloc, cursor, levels)?;
     if let Some(becomes) = cursor.take_symbol(Symbol::Becomes) {
-        let value = expression(alloc, cursor, levels, Level::Relation)?;
+        let value = expression(alloc, cursor, levels)?;
         return Ok(Stmt::Assign {
             name,
             selectors,
@@ -114,18 +103,15 @@ fn simple<'a>(alloc: Global, cursor: &mut Cursor<'_, 'a>, levels: u32) -> Result
     Ok(Stmt::Call { name, actuals })
 }
 
-// conditional = "if" expression "then" statement alternative
 /// An if statement (6.8.3.4), below which `levels` levels are left.
 #[cycle(statement)]
+#[tactic(auto, using(crate::proofs::Built::built_statements), unfolding(reading::specs::Statements::conditional))]
 fn conditional<'a>(
     alloc: Global,
     cursor: &mut Cursor<'_, 'a>,
     levels: u32,
 ) -> Result<Stmt<'a>, Refusal>
-    ensures given { MatchResult result (Read (BeginsStmt (levels + 1)) cursor.old cursor.new)
-        (Refused (levels + 1) cursor.old) }
-    ensures exact { next_kind cursor.old.rest.now ≡ Some (Kind.Word Word.If) →
-        ReadsDeep (levels + 1) BeginsStmt EndsStmt cursor.old cursor.new result }
+    ensures { Makes stmt_outline (spec.conditional levels (spec.statement levels) cursor.old.rest.now) result cursor.new }
 {
     let place = cursor.expect_word(Word::If)?;
     let condition = guard(alloc, cursor, levels, Word::Then)?;
@@ -139,36 +125,33 @@ fn conditional<'a>(
     })
 }
 
-// alternative = ["else" statement]
 /// The `else` that comes next and its statement: it belongs to the nearest `if`.
 #[cycle(statement)]
+#[tactic(auto, unfolding(reading::specs::Statements::alternative))]
 fn alternative<'a>(
     alloc: Global,
     cursor: &mut Cursor<'_, 'a>,
     levels: u32,
 ) -> Result<Option<Box<Stmt<'a>>>, Refusal>
-    ensures given { MatchResult result (Read (BeginsAlternative levels) cursor.old cursor.new)
-        (Refused levels cursor.old) }
-    ensures exact { ReadsDeep levels BeginsAlternative EndsStmt cursor.old cursor.new result }
+    ensures { Makes alternative_outline (spec.alternative levels (spec.statement levels) cursor.old.rest.now) result
+        cursor.new }
 {
     let Some(_) = cursor.take_word(Word::Else) else {
         return Ok(None);
     };
-    Ok(Some(body(alloc, cursor, levels)?))
+    let statement = body(alloc, cursor, levels)?;
+    Ok(Some(statement))
 }
 
-// while_loop = "while" expression "do" statement
 /// A while statement (6.8.3.8), below which `levels` levels are left.
 #[cycle(statement)]
+#[tactic(auto, using(crate::proofs::Built::built_statements), unfolding(reading::specs::Statements::while_loop))]
 fn while_loop<'a>(
     alloc: Global,
     cursor: &mut Cursor<'_, 'a>,
     levels: u32,
 ) -> Result<Stmt<'a>, Refusal>
-    ensures given { MatchResult result (Read (BeginsStmt (levels + 1)) cursor.old cursor.new)
-        (Refused (levels + 1) cursor.old) }
-    ensures exact { next_kind cursor.old.rest.now ≡ Some (Kind.Word Word.While) →
-        ReadsDeep (levels + 1) BeginsStmt EndsStmt cursor.old cursor.new result }
+    ensures { Makes stmt_outline (spec.while_loop levels (spec.statement levels) cursor.old.rest.now) result cursor.new }
 {
     let place = cursor.expect_word(Word::While)?;
     let condition = guard(alloc, cursor, levels, Word::Do)?;
@@ -180,23 +163,20 @@ fn while_loop<'a>(
     })
 }
 
-// repeat_loop = "repeat" statements "until" expression
 /// A repeat statement (6.8.3.7), below which `levels` levels are left.
 #[cycle(statement)]
+#[tactic(auto, using(crate::proofs::Built::built_statements), unfolding(reading::specs::Statements::repeat_loop))]
 fn repeat_loop<'a>(
     alloc: Global,
     cursor: &mut Cursor<'_, 'a>,
     levels: u32,
 ) -> Result<Stmt<'a>, Refusal>
-    ensures given { MatchResult result (Read (BeginsStmt (levels + 1)) cursor.old cursor.new)
-        (Refused (levels + 1) cursor.old) }
-    ensures exact { next_kind cursor.old.rest.now ≡ Some (Kind.Word Word.Repeat) →
-        ReadsDeep (levels + 1) BeginsStmt EndsStmt cursor.old cursor.new result }
+    ensures { Makes stmt_outline (spec.repeat_loop levels (spec.statement levels) cursor.old.rest.now) result cursor.new }
 {
     let place = cursor.expect_word(Word::Repeat)?;
     let statements = statements(alloc, cursor, levels)?;
     cursor.expect_word(Word::Until)?;
-    let condition = expression(alloc, cursor, levels, Level::Relation)?;
+    let condition = expression(alloc, cursor, levels)?;
     Ok(Stmt::Repeat {
         place,
         statements,
@@ -204,18 +184,15 @@ fn repeat_loop<'a>(
     })
 }
 
-// for_loop = control initial expression "do" statement
 /// A for statement (6.8.3.9), below which `levels` levels are left.
 #[cycle(statement)]
+#[tactic(auto, using(crate::proofs::Built::built_statements), unfolding(reading::specs::Statements::for_loop))]
 fn for_loop<'a>(
     alloc: Global,
     cursor: &mut Cursor<'_, 'a>,
     levels: u32,
 ) -> Result<Stmt<'a>, Refusal>
-    ensures given { MatchResult result (Read (BeginsStmt (levels + 1)) cursor.old cursor.new)
-        (Refused (levels + 1) cursor.old) }
-    ensures exact { next_kind cursor.old.rest.now ≡ Some (Kind.Word Word.For) →
-        ReadsDeep (levels + 1) BeginsStmt EndsStmt cursor.old cursor.new result }
+    ensures { Makes stmt_outline (spec.for_loop levels (spec.statement levels) cursor.old.rest.now) result cursor.new }
 {
     let (place, variable) = control(cursor)?;
     let (first, direction) = initial(alloc, cursor, levels)?;
@@ -231,11 +208,10 @@ fn for_loop<'a>(
     })
 }
 
-// control = "for" name ":="
 /// The place of a for statement, and its control variable.
+#[tactic(auto, unfolding(reading::specs::Statements::control))]
 fn control<'a>(cursor: &mut Cursor<'_, 'a>) -> Result<(Place, Name<'a>), Refusal>
-    ensures given { MatchResult result (Read BeginsControl cursor.old cursor.new) IsPlain }
-    ensures exact { ReadsEach BeginsControl Anything cursor.old cursor.new result }
+    ensures { Makes control_lexeme (spec.control cursor.old.rest.now) result cursor.new }
 {
     let place = cursor.expect_word(Word::For)?;
     let variable = cursor.expect_name()?;
@@ -243,30 +219,25 @@ fn control<'a>(cursor: &mut Cursor<'_, 'a>) -> Result<(Place, Name<'a>), Refusal
     Ok((place, variable))
 }
 
-// initial = expression ("to" | "downto")
 /// The first bound of a for statement, and its direction.
+#[tactic(auto, unfolding(reading::specs::Statements::initial))]
 fn initial<'a>(
     alloc: Global,
     cursor: &mut Cursor<'_, 'a>,
     levels: u32,
 ) -> Result<(Expr<'a>, Direction), Refusal>
-    ensures given { MatchResult result (Read (BeginsInitial levels) cursor.old cursor.new)
-        (Refused (levels + 1) cursor.old) }
-    ensures exact { ReadsDeep levels BeginsInitial Anything cursor.old cursor.new result }
+    ensures { Makes initial_outline (spec.initial levels cursor.old.rest.now) result cursor.new }
 {
-    let first = expression(alloc, cursor, levels, Level::Relation)?;
+    let first = expression(alloc, cursor, levels)?;
     let direction = cursor.expect_direction()?;
     Ok((first, direction))
 }
 
-// case_of = "case" expression "of" arms
 /// A case statement (6.8.3.5), below which `levels` levels are left.
 #[cycle(statement)]
+#[tactic(auto, using(crate::proofs::Built::built_statements), unfolding(reading::specs::Statements::case_of))]
 fn case_of<'a>(alloc: Global, cursor: &mut Cursor<'_, 'a>, levels: u32) -> Result<Stmt<'a>, Refusal>
-    ensures given { MatchResult result (Read (BeginsStmt (levels + 1)) cursor.old cursor.new)
-        (Refused (levels + 1) cursor.old) }
-    ensures exact { next_kind cursor.old.rest.now ≡ Some (Kind.Word Word.Case) →
-        ReadsDeep (levels + 1) BeginsStmt EndsStmt cursor.old cursor.new result }
+    ensures { Makes stmt_outline (spec.case_of levels (spec.statement levels) cursor.old.rest.now) result cursor.new }
 {
     let place = cursor.expect_word(Word::Case)?;
     let index = guard(alloc, cursor, levels, Word::Of)?;
@@ -280,7 +251,6 @@ fn case_of<'a>(alloc: Global, cursor: &mut Cursor<'_, 'a>, levels: u32) -> Resul
     })
 }
 
-// arms = row statement {";" row statement} [";"] "end"
 /// The rows of constants of a case, the arm behind each, and whether a semicolon stands before the
 /// `end`.
 #[cycle(statement)]
@@ -289,10 +259,8 @@ fn arms<'a>(
     cursor: &mut Cursor<'_, 'a>,
     levels: u32,
 ) -> Result<(Vec<Vec<Constant<'a>>>, Vec<Stmt<'a>>, bool), Refusal>
-    ensures given { MatchResult result
-        (λ found. ReadArms levels cursor.old cursor.new found.0.items found.1.items found.2)
-        (Refused levels cursor.old) }
-    ensures exact { ReadsDeep levels BeginsArms Anything cursor.old cursor.new result }
+    ensures { MakesRows case_outlines (spec.parts_to_end (spec.arm levels (spec.statement levels)) cursor.old.rest.now)
+        result cursor.new }
 {
     let mut constants = Vec::new(alloc);
     let mut arms = Vec::new(alloc);
@@ -312,26 +280,21 @@ fn body<'a>(
     cursor: &mut Cursor<'_, 'a>,
     levels: u32,
 ) -> Result<Box<Stmt<'a>>, Refusal>
-    ensures given { MatchResult result
-        (λ found. Read (BeginsStmt levels) cursor.old cursor.new found.value) (Refused levels cursor.old) }
-    ensures exact { ReadsDeep levels BeginsStmt EndsStmt cursor.old cursor.new result }
+    ensures { Makes body_outline (spec.statement levels cursor.old.rest.now) result cursor.new }
 {
     boxed(alloc, statement(alloc, cursor, levels))
 }
 
-// guard = expression word
 /// An expression and the word symbol behind it.
+#[tactic(auto, unfolding(reading::specs::Statements::guard))]
 fn guard<'a>(
     alloc: Global,
     cursor: &mut Cursor<'_, 'a>,
     levels: u32,
     word: Word,
 ) -> Result<Expr<'a>, Refusal>
-    ensures given { MatchResult result (Read (BeginsGuard word levels) cursor.old cursor.new)
-        (Refused (levels + 1) cursor.old) }
-    ensures exact { EndsEach word → ReadsDeep levels (BeginsGuard word) Anything cursor.old cursor.new result }
+    ensures { Makes expr_outline (spec.guard levels word cursor.old.rest.now) result cursor.new }
 {
-    let expression = expression(alloc, cursor, levels, Level::Relation)?;
-    cursor.expect_word(word)?;
-    Ok(expression)
+    let expression = expression(alloc, cursor, levels);
+    cursor.followed_by(expression, Kind::Word(word))
 }

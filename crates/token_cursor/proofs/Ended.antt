@@ -1,15 +1,36 @@
 -- Parts up to an `end`, as they are read: the arms of a case and the fields of a record.
-use Rattle.std.proofs.Common.{◌≡◌, ℕ, Bool, List, [], ◌∷◌, ◌++◌, Option, Some, None, Ok, Err, refl, sym, ap, ◌∙◌, append_assoc}
+use Rattle.std.proofs.Common.{◌≡◌, ◌<◌, Bool, List, [], ◌∷◌, ◌++◌, length, Option, Some, None, Ok, Err, refl, sym, ap, ◌∙◌, append_assoc, arith}
+use Rattle.lexer.specs.declared.token.Kind.TheVariants as kind
+use Rattle.lexer.specs.declared.token.Symbol.TheVariants as symbol
+use Rattle.lexer.specs.declared.token.Word.TheVariants as word
 use Rattle.lexer.specs.declared.token.Token.{Token}
 use Rattle.reading.specs.declared.refusal.Refusal.{Refusal}
 use Rattle.reading.specs.Outline.{Outline}
 use Rattle.reading.specs.Reading.{Outcome, Reading, and_then, ◌>>=◌, pure, choose, more, ends, loop}
 use Rattle.reading.specs.Statements.{behind_arm, arm_turn, parts_to_end}
 use Rattle.reading.proofs.Loops.{loop_goes, loop_ends, loop_stops}
-use Rattle.reading.proofs.Uses.{NeverMore, arm_uses}
+use Rattle.reading.specs.Lexemes.{of_kind_at}
+use Rattle.reading.proofs.Good.{either_kind}
+use Rattle.reading.proofs.Makes.{Makes, expect_makes, gives, thence}
+use Rattle.reading.proofs.Uses.{NeverMore, arm_uses, reads_fewer}
 use Rattle.token_cursor.proofs.Turns.{Turns, ahead}
 
+-- a semicolon behind which no `end` comes takes a token
+behind_takes : (tokens : List Token) → Makes behind_arm tokens (λ found mid. found ≡ None → length mid < length tokens)
+unfolding behind_arm
+behind_takes tokens =
+    either_kind (kind.Symbol symbol.Semicolon) tokens
+    (λ place a r. either_kind (kind.Word word.End) a (λ end b s. gives (λ none. absurd cc))
+    (λ _. gives (λ _. reads_fewer (of_kind_at (kind.Symbol symbol.Semicolon) place) [] tokens a r)))
+    (λ _. thence (expect_makes (kind.Word word.End) tokens) λ end a s. gives (λ none. absurd cc))
+
 module _ (part : Reading Outline) where
+  -- a part and the semicolon behind it take a token
+  pub ended_fewer : NeverMore part → (tokens mid rest : List Token) (a : Outline) → part tokens ≡ Ok (a, mid) → behind_arm mid ≡ Ok (None, rest)
+      → length rest < length tokens
+  ended_fewer fewer tokens mid rest a e n =
+      let m = ((fewer tokens).makes (a, mid) e).most in let k = (behind_takes mid).makes (None, rest) n refl in omega arith
+
   abbrev first_of : Outline → List Outline × Bool → Reading (List Outline × Bool)
   first_of a r = pure (a ∷ r.0, r.1)
 

@@ -1,11 +1,15 @@
-use Rattle.token_cursor.specs.Cursor.{left}
-use Rattle.grammar.proofs.Arms.{ConstantNext}
-use Rattle.statement_parser.proofs.Arms.{ConstantsGrow}
+use Rattle.std.proofs.Common.{length, map}
+use Rattle.lexer.specs.declared.token.Symbol.TheVariants as symbol
+use Rattle.reading.specs.Reading.{separated}
+use Rattle.reading.specs.Statements.{constant}
+use Rattle.reading.specs.Trees.{constant_outline}
+use Rattle.token_cursor.proofs.Turns.{Parts}
 use Rattle.statement_parser.proofs.arm.constants.Given as goal
 
 abbrev pub invariant-loop-constants : goal.invariant-loop-constants
 invariant-loop-constants l =
-    ConstantsGrow l.fn.cursor l.cursor l.constants.items × ConstantNext l.fn.cursor.rest.now l.cursor.rest.now
+    Parts (separated symbol.Comma constant l.fn.cursor.rest.now) (map constant_outline l.constants.items)
+    (separated symbol.Comma constant l.cursor.rest.now)
 
 abbrev pub decreases-loop-constants : goal.decreases-loop-constants
-decreases-loop-constants l = left l.cursor
+decreases-loop-constants l = length l.cursor.rest.now

@@ -1,10 +1,10 @@
-use Rattle.std.proofs.Common.{◌+◌, ◌*◌}
-use Rattle.token_cursor.specs.Cursor.{left}
-use Rattle.grammar.proofs.Statements.{StatementNext}
-use Rattle.expression_parser.proofs.Deep.{Front}
-use Rattle.grammar.proofs.Arms.{ArmNext}
-use Rattle.statement_parser.proofs.Arms.{ArmsGrow}
-use Rattle.statement_parser.proofs.Statements.{StatementsGrow}
+use Rattle.std.proofs.Common.{◌+◌, ◌*◌, length, map}
+use Rattle.lexer.specs.declared.token.Symbol.TheVariants as symbol
+use Rattle.reading.specs.Reading.{separated}
+use Rattle.reading.specs.Statements.{statement}
+use Rattle.reading.specs.Trees.{stmt_outline}
+use Rattle.token_cursor.proofs.Turns.{Parts}
+use Rattle.statement_parser.proofs.Arms.{ArmsSoFar}
 use Rattle.statement_parser.proofs.statement.+statement.Given as goal
 
 abbrev pub decreases-compound : goal.decreases-compound
@@ -42,16 +42,14 @@ decreases-body l = 4 * l.levels + 1
 
 abbrev pub invariant-statements-loop-statements : goal.invariant-statements-loop-statements
 invariant-statements-loop-statements l =
-    StatementsGrow l.levels l.fn.cursor l.cursor l.statements.items × StatementNext l.fn.cursor.rest.now l.cursor.rest.now
-    × Front l.fn.cursor.rest.now l.cursor.rest.now
+    Parts (separated symbol.Semicolon (statement l.levels) l.fn.cursor.rest.now) (map stmt_outline l.statements.items)
+    (separated symbol.Semicolon (statement l.levels) l.cursor.rest.now)
 
 abbrev pub decreases-statements-loop-statements : goal.decreases-statements-loop-statements
-decreases-statements-loop-statements l = left l.cursor
+decreases-statements-loop-statements l = length l.cursor.rest.now
 
 abbrev pub invariant-arms-loop-arms : goal.invariant-arms-loop-arms
-invariant-arms-loop-arms l =
-    ArmsGrow l.levels l.fn.cursor l.cursor l.constants.items l.arms.items × ArmNext l.fn.cursor.rest.now l.cursor.rest.now
-    × Front l.fn.cursor.rest.now l.cursor.rest.now
+invariant-arms-loop-arms l = ArmsSoFar l.levels l.fn.cursor.rest.now l.constants.items l.arms.items l.cursor.rest.now
 
 abbrev pub decreases-arms-loop-arms : goal.decreases-arms-loop-arms
-decreases-arms-loop-arms l = left l.cursor
+decreases-arms-loop-arms l = length l.cursor.rest.now
