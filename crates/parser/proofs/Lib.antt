@@ -1,10 +1,8 @@
 pub mod Blocks
-pub mod Definitions
 pub mod Denoters
-pub mod ExactPrograms
 pub mod Faults
-pub mod FormalParameters
-pub mod Programs
-pub mod Routines
-pub mod Structured
-pub mod TypeDefinitions
+pub mod Fields
+pub mod Items
+pub mod Listed
+pub mod Pairs
+pub mod Parts

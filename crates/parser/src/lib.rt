@@ -6,6 +6,7 @@ mod constants;
 mod denoter;
 mod formals;
 mod headings;
+mod lists;
 mod names;
 mod program;
 mod types;
