@@ -2,7 +2,8 @@
 use Rattle.std.proofs.Common.{◌≡◌, ℕ, List, Ok}
 use Rattle.reading.specs.Reading.{Reading}
 use Rattle.reading.specs.Declarations as read
-use Rattle.reading.proofs.Uses.{NeverMore, TakesOne, name_no_more, formal_no_more, definition_takes, type_takes, group_takes}
+use Rattle.reading.specs.Statements.{constant}
+use Rattle.reading.proofs.Uses.{NeverMore, TakesOne, name_no_more, constant_no_more, formal_no_more, definition_takes, type_takes, group_takes}
 use Rattle.parser.specs.Lists.{LeavesNoMore, LeavesFewer}
 
 no_more : {A : Type 0} {rule : Reading A} → NeverMore rule → LeavesNoMore rule
@@ -13,6 +14,9 @@ fewer h = record { fewer = λ tokens others made e. ((h tokens).makes (made, oth
 
 pub name_leaves : LeavesNoMore read.name
 name_leaves = no_more name_no_more
+
+pub constant_leaves : LeavesNoMore constant
+constant_leaves = no_more constant_no_more
 
 pub formal_leaves : LeavesNoMore read.formal
 formal_leaves = no_more formal_no_more

@@ -4,15 +4,15 @@ ghost use Rattle.reading.specs.Declarations as spec;
 ghost use Rattle.reading.specs.Reading.{next_kind};
 ghost use Rattle.reading.specs.Trees.{block_outline, body_outline, routine_outline};
 ghost use Rattle.token_cursor.specs.Cursor.{Makes, Takes};
-ghost use Rattle.statement_parser.specs.Built.{compound_outlines};
 ghost use Rattle.parser.specs.Blocks.{block_below, may_take_forward};
+ghost use Rattle.parser.specs.Built.{compound_outlines};
 
 use crate::headings::{heading, takes_directive};
 use crate::lists::{block_part, is_next};
+use crate::statement::compound;
 use lexer::token::{Kind, Symbol, Word};
 use place::Place;
 use reading::refusal::Refusal;
-use statement_parser::statement::compound;
 use std::alloc::Global;
 use syntax_tree::{Block, Routine, Stmt};
 use token_cursor::cursor::Cursor;

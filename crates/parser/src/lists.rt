@@ -4,6 +4,7 @@ ghost use Rattle.reading.specs.Reading as spec;
 ghost use Rattle.reading.specs.Reading.{Reading, is_kind, next_kind};
 ghost use Rattle.reading.specs.Declarations as declarations;
 ghost use Rattle.parser.specs.Lists.{LeavesNoMore, LeavesFewer, enclosed, in_parentheses};
+ghost use Rattle.reading.specs.Statements as statements;
 ghost use Rattle.token_cursor.specs.Cursor.{Makes};
 
 use lexer::token::{Kind, Symbol, Word};
@@ -115,5 +116,21 @@ pub(crate) fn is_next(cursor: &Cursor<'_, '_>, kind: Kind) -> bool
     match cursor.peek() {
         Some(next) => next == kind,
         None => false,
+    }
+}
+
+/// Behind an arm of a case, or behind fields of a record: whether a semicolon stands before the
+/// `end`, or none where more arms or fields follow.
+#[tactic(auto, unfolding(reading::specs::Statements::behind_arm))]
+pub(crate) fn behind_arm(cursor: &mut Cursor<'_, '_>) -> Result<Option<bool>, Refusal>
+    ensures { Makes (λ found. found) (statements.behind_arm cursor.old.rest.now) result cursor.new }
+{
+    let Some(_) = cursor.take_symbol(Symbol::Semicolon) else {
+        cursor.expect_word(Word::End)?;
+        return Ok(Some(false));
+    };
+    match cursor.take_word(Word::End) {
+        Some(_) => Ok(Some(true)),
+        None => Ok(None),
     }
 }

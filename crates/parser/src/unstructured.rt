@@ -5,10 +5,10 @@ ghost use Rattle.reading.specs.Lexemes.{identifier};
 ghost use Rattle.reading.specs.Trees.{constant_outline, denoter_outline};
 ghost use Rattle.token_cursor.specs.Cursor.{Makes};
 
+use crate::constants::constant;
 use crate::lists::enclosed;
 use lexer::token::Symbol;
 use reading::refusal::Refusal;
-use statement_parser::constant::constant;
 use std::alloc::Global;
 use syntax_tree::{Constant, ConstantValue, Name, TypeDenoter};
 use token_cursor::cursor::Cursor;

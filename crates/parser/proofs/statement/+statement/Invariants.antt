@@ -4,8 +4,8 @@ use Rattle.reading.specs.Reading.{separated}
 use Rattle.reading.specs.Statements.{statement}
 use Rattle.reading.specs.Trees.{stmt_outline}
 use Rattle.token_cursor.proofs.Turns.{Parts}
-use Rattle.statement_parser.proofs.Arms.{ArmsSoFar}
-use Rattle.statement_parser.proofs.statement.+statement.Given as goal
+use Rattle.parser.proofs.Arms.{ArmsSoFar}
+use Rattle.parser.proofs.statement.+statement.Given as goal
 
 abbrev pub decreases-compound : goal.decreases-compound
 decreases-compound l = 4 * l.levels + 2

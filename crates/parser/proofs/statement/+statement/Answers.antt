@@ -10,10 +10,10 @@ use Rattle.reading.proofs.Uses.{statement_no_more}
 use Rattle.token_cursor.specs.Cursor.{Makes}
 use Rattle.token_cursor.proofs.Keeping.{not_put, was_put}
 use Rattle.token_cursor.proofs.Turns.{list_ends, list_goes, parts_fewer, parts_stop}
-use Rattle.statement_parser.specs.Built.{constants_outlines}
-use Rattle.statement_parser.proofs.Arms.{arm_is, arms_end, arms_fewer, arms_go, arms_stop, arms_stop_behind, each_kept, row_stops, statement_stops}
-use Rattle.statement_parser.proofs.Next.{statement_is}
-use Rattle.statement_parser.proofs.statement.+statement.Goals as goal
+use Rattle.parser.specs.Built.{constants_outlines}
+use Rattle.parser.proofs.Arms.{arm_is, arms_end, arms_fewer, arms_go, arms_stop, arms_stop_behind, each_kept, row_stops, statement_stops}
+use Rattle.parser.proofs.Next.{statement_is}
+use Rattle.parser.proofs.statement.+statement.Goals as goal
 
 -- ---- a statement by what comes next
 

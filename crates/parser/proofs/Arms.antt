@@ -16,7 +16,7 @@ use Rattle.reading.specs.Trees.{arm_outline, constant_outline, stmt_outline}
 use Rattle.reading.proofs.Uses.{arm_no_more}
 use Rattle.token_cursor.proofs.Turns.{Turns, turns_begin}
 use Rattle.token_cursor.proofs.Ended.{ended_ends, ended_fewer, ended_goes, ended_stops, ended_stops_behind}
-use Rattle.statement_parser.specs.Built.{arms_outlines}
+use Rattle.parser.specs.Built.{arms_outlines}
 
 -- ---- an arm more
 
