@@ -21,7 +21,7 @@ use token_cursor::nesting::inside;
 
 /// A block (6.2.1), below which `levels` levels are left.
 #[cycle(block)]
-#[tactic(auto, using(crate::proofs::Blocks::block_at, crate::proofs::Blocks::built_block, crate::proofs::Parts::definition_leaves, crate::proofs::Parts::type_leaves, crate::proofs::Parts::group_leaves), unfolding(reading::specs::Declarations::block_of))]
+#[tactic(auto, using(crate::proofs::Blocks::parts_of_blocks), unfolding(reading::specs::Declarations::block_of))]
 pub(crate) fn block<'a>(
     alloc: Global,
     cursor: &mut Cursor<'_, 'a>,

@@ -86,7 +86,8 @@ fn element<'a>(
     cursor: &mut Cursor<'_, 'a>,
     levels: u32,
 ) -> Result<Box<TypeDenoter<'a>>, Refusal>
-    ensures { Makes (λ element. denoter_outline element.value) (spec.denoter levels cursor.old.rest.now) result cursor.new }
+    ensures { Makes (λ element. denoter_outline element.value) (spec.denoter levels cursor.old.rest.now)
+        result cursor.new }
 {
     boxed(alloc, denoter(alloc, cursor, levels))
 }

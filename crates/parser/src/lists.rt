@@ -44,7 +44,8 @@ fn separated<'a, P: Part<'a>>(
     symbol: Symbol,
 ) -> Result<Vec<P>, Refusal>
     requires { LeavesNoMore P.rule }
-    ensures { Makes (λ found. map P.look found.items) (spec.separated symbol P.rule cursor.old.rest.now) result cursor.new }
+    ensures { Makes (λ found. map P.look found.items) (spec.separated symbol P.rule cursor.old.rest.now)
+        result cursor.new }
 {
     // Most lists have one part.
     let mut found = Vec::with_capacity(alloc, 1)?;
@@ -64,7 +65,8 @@ pub(crate) fn enclosed<'a, P: Part<'a>>(
     end: Symbol,
 ) -> Result<Vec<P>, Refusal>
     requires { LeavesNoMore P.rule }
-    ensures { Makes (λ found. map P.look found.items) (enclosed symbol end P.rule cursor.old.rest.now) result cursor.new }
+    ensures { Makes (λ found. map P.look found.items) (enclosed symbol end P.rule cursor.old.rest.now)
+        result cursor.new }
 {
     let found = separated(alloc, cursor, symbol)?;
     cursor.expect_symbol(end)?;
@@ -78,7 +80,8 @@ pub(crate) fn in_parentheses<'a, P: Part<'a>>(
     symbol: Symbol,
 ) -> Result<Vec<P>, Refusal>
     requires { LeavesNoMore P.rule }
-    ensures { Makes (λ found. map P.look found.items) (in_parentheses symbol P.rule cursor.old.rest.now) result cursor.new }
+    ensures { Makes (λ found. map P.look found.items) (in_parentheses symbol P.rule cursor.old.rest.now)
+        result cursor.new }
 {
     match cursor.take_symbol(Symbol::OpenParenthesis) {
         Some(_) => enclosed(alloc, cursor, symbol, Symbol::CloseParenthesis),
@@ -95,7 +98,8 @@ pub(crate) fn block_part<'a, I: Item<'a>>(
     word: Word,
 ) -> Result<Vec<I>, Refusal>
     requires { LeavesFewer (I.rule levels) }
-    ensures { Makes (λ found. map I.look found.items) (declarations.part word (I.rule levels) cursor.old.rest.now) result cursor.new }
+    ensures { Makes (λ found. map I.look found.items)
+        (declarations.part word (I.rule levels) cursor.old.rest.now) result cursor.new }
 {
     let mut found = Vec::new(alloc);
     let Some(_) = cursor.take_word(word) else {

@@ -3,15 +3,16 @@ use Rattle.lexer.specs.declared.token.Kind.TheVariants as kind
 use Rattle.lexer.specs.declared.token.Symbol.TheVariants as symbol
 use Rattle.lexer.specs.declared.token.Word.TheVariants as word
 use Rattle.reading.specs.declared.refusal.Refusal.TheVariants.{Memory}
+use Rattle.reading.specs.Outline as form
 use Rattle.reading.specs.Reading.{separated}
 use Rattle.reading.specs.Statements as spec
 use Rattle.reading.specs.Trees.{stmt_outline}
-use Rattle.reading.proofs.Uses.{statement_no_more}
+use Rattle.reading.proofs.Uses.{arm_no_more, statement_no_more}
 use Rattle.token_cursor.specs.Cursor.{Makes}
-use Rattle.token_cursor.proofs.Keeping.{not_put, was_put}
-use Rattle.token_cursor.proofs.Turns.{list_ends, list_goes, parts_fewer, parts_stop}
-use Rattle.parser.specs.Built.{constants_outlines}
-use Rattle.parser.proofs.Arms.{arm_is, arms_end, arms_fewer, arms_go, arms_stop, arms_stop_behind, each_kept, row_stops, statement_stops}
+use Rattle.parser.specs.Built.{constants_outlines, arms_outlines}
+use Rattle.parser.proofs.Arms.{arms_push}
+use Rattle.parser.proofs.Listed.{listed_goes, listed_fewer, listed_ends, listed_stops}
+use Rattle.parser.proofs.Pairs.{pairs_go, pairs_fewer, pairs_end, head_stops, inner_stops, behind_stops}
 use Rattle.parser.proofs.Next.{statement_is}
 use Rattle.parser.proofs.statement.+statement.Goals as goal
 
@@ -57,123 +58,93 @@ statement-returns-in-Some-Word-Case t c =
 
 pub statements-returns-in_err-put : goal.statements-returns-in_err-put
 statements-returns-in_err-put t c =
-    let stops : ¬ (c.in_err-put.field-0.0 ≡ Memory)
-    → separated symbol.Semicolon (spec.statement c.args.levels) c.args.cursor.now.rest.now
-    ≡ Err (c.in_err-put.field-0.0, c.statement.new.cursor.rest.now) =
-    λ other. parts_stop symbol.Semicolon (spec.statement c.args.levels) c.loop-statements.invariant _
-    (not_put stmt_outline (spec.statement c.args.levels c.loop-statements.cursor.rest.now) c.statement.result c.statement.new.cursor
-    c.loop-statements.statements.items c.put.new.list.items c.in_err-put.field-0.0 c.statement.ensures c.in_err-put.ensures other) in
+    let why = c.in_err-put.field-0.0 in
+    let left = c.statement.new.cursor in
+    let stops : (¬ (why ≡ Memory)) → separated symbol.Semicolon (spec.statement c.args.levels) c.args.cursor.now.rest.now ≡ Err (why, left.rest.now) =
+    listed_stops stmt_outline symbol.Semicolon (spec.statement c.args.levels) c.loop-statements.cursor.rest.now c.statement.result c.statement.new.cursor
+    c.loop-statements.statements.items c.put.new.list.items c.statement.ensures c.loop-statements.invariant why c.in_err-put.ensures in
     search rules
 
 pub statements-loop-statements-smaller : goal.statements-loop-statements-smaller
 statements-loop-statements-smaller t c =
-    let w = was_put stmt_outline (spec.statement c.args.levels c.loop-statements.cursor.rest.now) c.statement.result c.statement.new.cursor
-    c.loop-statements.statements.items c.put.new.list.items c.statement.ensures c.in_ok-put.ensures in
-    parts_fewer symbol.Semicolon (spec.statement c.args.levels) (statement_no_more c.args.levels) c.loop-statements.cursor.rest.now
-    c.statement.new.cursor.rest.now c.take_symbol.new.self.rest.now (stmt_outline w.made) c.in-Some.field-0 w.read c.in-Some.ensures
+    listed_fewer stmt_outline symbol.Semicolon (spec.statement c.args.levels) c.loop-statements.cursor.rest.now c.statement.result c.statement.new.cursor
+    c.loop-statements.statements.items c.put.new.list.items c.statement.ensures (statement_no_more c.args.levels) c.in_ok-put.ensures c.in-Some.field-0 c.take_symbol.new.self.rest.now c.in-Some.ensures
 
 pub statements-loop-statements-preserved : goal.statements-loop-statements-preserved
 statements-loop-statements-preserved t c =
-    let w = was_put stmt_outline (spec.statement c.args.levels c.loop-statements.cursor.rest.now) c.statement.result c.statement.new.cursor
-    c.loop-statements.statements.items c.put.new.list.items c.statement.ensures c.in_ok-put.ensures in
-    list_goes stmt_outline symbol.Semicolon (spec.statement c.args.levels) c.loop-statements.statements.items c.loop-statements.invariant w.made
-    c.put.new.list.items w.behind c.statement.new.cursor.rest.now w.read (statement_no_more c.args.levels) c.in-Some.field-0
+    listed_goes stmt_outline symbol.Semicolon (spec.statement c.args.levels) c.loop-statements.cursor.rest.now c.statement.result c.statement.new.cursor
+    c.loop-statements.statements.items c.put.new.list.items c.statement.ensures (statement_no_more c.args.levels) c.loop-statements.invariant c.in_ok-put.ensures c.in-Some.field-0
     c.take_symbol.new.self.rest.now c.in-Some.ensures
 
 pub statements-returns-in_default : goal.statements-returns-in_default
 statements-returns-in_default t c =
-    let w = was_put stmt_outline (spec.statement c.args.levels c.loop-statements.cursor.rest.now) c.statement.result c.statement.new.cursor
-    c.loop-statements.statements.items c.put.new.list.items c.statement.ensures c.in_ok-put.ensures in
-    list_ends stmt_outline symbol.Semicolon (spec.statement c.args.levels) c.loop-statements.statements.items c.loop-statements.invariant w.made
-    c.put.new.list.items w.behind c.statement.new.cursor.rest.now w.read c.take_symbol.new.self.rest.now c.in_default.ensures
+    listed_ends stmt_outline symbol.Semicolon (spec.statement c.args.levels) c.loop-statements.cursor.rest.now c.statement.result c.statement.new.cursor
+    c.loop-statements.statements.items c.put.new.list.items c.statement.ensures c.loop-statements.invariant c.in_ok-put.ensures c.take_symbol.new.self.rest.now c.in_default.ensures
 
 -- ---- the arms of a case
 
 pub arms-returns-in_err-put : goal.arms-returns-in_err-put
+unfolding spec.arm
 arms-returns-in_err-put t c =
-    let stops : ¬ (c.in_err-put.field-0.0 ≡ Memory)
-    → spec.parts_to_end (spec.arm c.args.levels (spec.statement c.args.levels)) c.args.cursor.now.rest.now
-    ≡ Err (c.in_err-put.field-0.0, c.row.new.cursor.rest.now) =
-    λ other. arms_stop c.args.levels c.args.cursor.now.rest.now c.loop-arms.constants.items c.loop-arms.arms.items c.loop-arms.cursor.rest.now c.loop-arms.invariant
-    c.in_err-put.field-0.0 c.row.new.cursor.rest.now
-    (row_stops c.args.levels c.loop-arms.cursor.rest.now c.row.new.cursor.rest.now c.in_err-put.field-0.0
-    (not_put constants_outlines (spec.row c.loop-arms.cursor.rest.now) c.row.result c.row.new.cursor c.loop-arms.constants.items c.put.new.list.items
-    c.in_err-put.field-0.0 c.row.ensures c.in_err-put.ensures other)) in
+    let why = c.in_err-put.field-0.0 in
+    let left = c.row.new.cursor in
+    let stops : (¬ (why ≡ Memory)) → spec.parts_to_end (spec.arm c.args.levels (spec.statement c.args.levels)) c.args.cursor.now.rest.now ≡ Err (why, left.rest.now) =
+    head_stops constants_outlines stmt_outline form.arm spec.row (spec.statement c.args.levels) arms_outlines c.loop-arms.cursor.rest.now
+    c.loop-arms.constants.items c.loop-arms.arms.items c.loop-arms.invariant c.row.result left
+    c.put.new.list.items c.row.ensures why c.in_err-put.ensures in
     search rules
 
 pub arms-returns-in_err-put-2 : goal.arms-returns-in_err-put-2
+unfolding spec.arm
 arms-returns-in_err-put-2 t c =
-    let r = was_put constants_outlines (spec.row c.loop-arms.cursor.rest.now) c.row.result c.row.new.cursor c.loop-arms.constants.items c.put.new.list.items
-    c.row.ensures c.in_ok-put.ensures in
-    let stops : ¬ (c.in_err-put-2.field-0.0 ≡ Memory)
-    → spec.parts_to_end (spec.arm c.args.levels (spec.statement c.args.levels)) c.args.cursor.now.rest.now
-    ≡ Err (c.in_err-put-2.field-0.0, c.statement.new.cursor.rest.now) =
-    λ other. arms_stop c.args.levels c.args.cursor.now.rest.now c.loop-arms.constants.items c.loop-arms.arms.items c.loop-arms.cursor.rest.now c.loop-arms.invariant
-    c.in_err-put-2.field-0.0 c.statement.new.cursor.rest.now
-    (statement_stops c.args.levels c.loop-arms.cursor.rest.now c.row.new.cursor.rest.now (constants_outlines r.made) c.in_err-put-2.field-0.0
-    c.statement.new.cursor.rest.now r.read
-    (not_put stmt_outline (spec.statement c.args.levels c.row.new.cursor.rest.now) c.statement.result c.statement.new.cursor c.loop-arms.arms.items
-    c.put-in-loop-arms.new.list.items c.in_err-put-2.field-0.0 c.statement.ensures c.in_err-put-2.ensures other)) in
+    let why = c.in_err-put-2.field-0.0 in
+    let left = c.statement.new.cursor in
+    let stops : (¬ (why ≡ Memory)) → spec.parts_to_end (spec.arm c.args.levels (spec.statement c.args.levels)) c.args.cursor.now.rest.now ≡ Err (why, left.rest.now) =
+    inner_stops constants_outlines stmt_outline form.arm spec.row (spec.statement c.args.levels) arms_outlines c.loop-arms.cursor.rest.now
+    c.loop-arms.constants.items c.loop-arms.arms.items c.loop-arms.invariant c.row.result
+    c.row.new.cursor c.put.new.list.items c.row.ensures c.in_ok-put.ensures
+    c.statement.result left c.put-in-loop-arms.new.list.items c.statement.ensures why c.in_err-put-2.ensures in
     search rules
 
 pub arms-returns-in_err-semicolon : goal.arms-returns-in_err-semicolon
+unfolding spec.arm
 arms-returns-in_err-semicolon t c =
-    let r = was_put constants_outlines (spec.row c.loop-arms.cursor.rest.now) c.row.result c.row.new.cursor c.loop-arms.constants.items c.put.new.list.items
-    c.row.ensures c.in_ok-put.ensures in
-    let s = was_put stmt_outline (spec.statement c.args.levels c.row.new.cursor.rest.now) c.statement.result c.statement.new.cursor c.loop-arms.arms.items
-    c.put-in-loop-arms.new.list.items c.statement.ensures c.in_ok-put-2.ensures in
-    let is : spec.arm c.args.levels (spec.statement c.args.levels) c.loop-arms.cursor.rest.now ≡ Ok (_, c.statement.new.cursor.rest.now) =
-    arm_is c.args.levels c.loop-arms.cursor.rest.now c.row.new.cursor.rest.now (constants_outlines r.made) (stmt_outline s.made)
-    c.statement.new.cursor.rest.now r.read s.read in
-    let stops : ¬ (c.in_err-semicolon.field-0.0 ≡ Memory)
-    → spec.parts_to_end (spec.arm c.args.levels (spec.statement c.args.levels)) c.args.cursor.now.rest.now
-    ≡ Err (c.in_err-semicolon.field-0.0, c.behind_arm.new.cursor.rest.now) =
-    λ other. arms_stop_behind c.args.levels c.args.cursor.now.rest.now c.loop-arms.constants.items c.loop-arms.arms.items c.loop-arms.cursor.rest.now c.loop-arms.invariant
-    r.made s.made c.put.new.list.items c.put-in-loop-arms.new.list.items r.behind s.behind c.statement.new.cursor.rest.now is
-    c.in_err-semicolon.field-0.0 c.behind_arm.new.cursor.rest.now (c.in_err-semicolon.ensures other) in
+    let why = c.in_err-semicolon.field-0.0 in
+    let left = c.behind_arm.new.cursor in
+    let stops : (¬ (why ≡ Memory)) → spec.parts_to_end (spec.arm c.args.levels (spec.statement c.args.levels)) c.args.cursor.now.rest.now ≡ Err (why, left.rest.now) =
+    λ m. behind_stops constants_outlines stmt_outline form.arm spec.row (spec.statement c.args.levels) arms_outlines c.loop-arms.cursor.rest.now
+    c.loop-arms.constants.items c.loop-arms.arms.items c.loop-arms.invariant c.row.result
+    c.row.new.cursor c.put.new.list.items c.row.ensures c.in_ok-put.ensures
+    c.statement.result c.statement.new.cursor c.put-in-loop-arms.new.list.items c.statement.ensures c.in_ok-put-2.ensures
+    why left.rest.now (c.in_err-semicolon.ensures m) in
     search rules
 
 pub arms-returns-in-Some : goal.arms-returns-in-Some
+unfolding spec.arm
 arms-returns-in-Some t c =
-    let r = was_put constants_outlines (spec.row c.loop-arms.cursor.rest.now) c.row.result c.row.new.cursor c.loop-arms.constants.items c.put.new.list.items
-    c.row.ensures c.in_ok-put.ensures in
-    let s = was_put stmt_outline (spec.statement c.args.levels c.row.new.cursor.rest.now) c.statement.result c.statement.new.cursor c.loop-arms.arms.items
-    c.put-in-loop-arms.new.list.items c.statement.ensures c.in_ok-put-2.ensures in
-    let is : spec.arm c.args.levels (spec.statement c.args.levels) c.loop-arms.cursor.rest.now ≡ Ok (_, c.statement.new.cursor.rest.now) =
-    arm_is c.args.levels c.loop-arms.cursor.rest.now c.row.new.cursor.rest.now (constants_outlines r.made) (stmt_outline s.made)
-    c.statement.new.cursor.rest.now r.read s.read in (
-      each_kept c.args.levels c.args.cursor.now.rest.now c.loop-arms.constants.items c.loop-arms.arms.items c.loop-arms.cursor.rest.now c.loop-arms.invariant
-          r.made s.made c.put.new.list.items c.put-in-loop-arms.new.list.items r.behind s.behind c.statement.new.cursor.rest.now is,
-      arms_end c.args.levels c.args.cursor.now.rest.now c.loop-arms.constants.items c.loop-arms.arms.items c.loop-arms.cursor.rest.now c.loop-arms.invariant
-          r.made s.made c.put.new.list.items c.put-in-loop-arms.new.list.items r.behind s.behind c.statement.new.cursor.rest.now is
-          c.in-Some.semicolon c.behind_arm.new.cursor.rest.now
-          (c.in_ok-semicolon.ensures ∙ ap (λ (f : Option Bool). Ok (f, c.behind_arm.new.cursor.rest.now)) c.in-Some.is),
-    )
+    pairs_end constants_outlines stmt_outline form.arm spec.row (spec.statement c.args.levels) arms_outlines c.loop-arms.cursor.rest.now
+    c.loop-arms.constants.items c.loop-arms.arms.items c.loop-arms.invariant c.row.result
+    c.row.new.cursor c.put.new.list.items c.row.ensures c.in_ok-put.ensures
+    c.statement.result c.statement.new.cursor c.put-in-loop-arms.new.list.items c.statement.ensures c.in_ok-put-2.ensures
+    (arms_push (spec.statement c.args.levels)) c.behind_arm.new.cursor.rest.now c.in-Some.semicolon
+    (c.in_ok-semicolon.ensures ∙ ap (λ (f : Option Bool). Ok (f, c.behind_arm.new.cursor.rest.now)) c.in-Some.is)
 
 pub arms-loop-arms-smaller : goal.arms-loop-arms-smaller
+unfolding spec.arm
 arms-loop-arms-smaller t c =
-    let r = was_put constants_outlines (spec.row c.loop-arms.cursor.rest.now) c.row.result c.row.new.cursor c.loop-arms.constants.items c.put.new.list.items
-    c.row.ensures c.in_ok-put.ensures in
-    let s = was_put stmt_outline (spec.statement c.args.levels c.row.new.cursor.rest.now) c.statement.result c.statement.new.cursor c.loop-arms.arms.items
-    c.put-in-loop-arms.new.list.items c.statement.ensures c.in_ok-put-2.ensures in
-    let is : spec.arm c.args.levels (spec.statement c.args.levels) c.loop-arms.cursor.rest.now ≡ Ok (_, c.statement.new.cursor.rest.now) =
-    arm_is c.args.levels c.loop-arms.cursor.rest.now c.row.new.cursor.rest.now (constants_outlines r.made) (stmt_outline s.made)
-    c.statement.new.cursor.rest.now r.read s.read in
-    arms_fewer c.args.levels c.args.cursor.now.rest.now c.loop-arms.constants.items c.loop-arms.arms.items c.loop-arms.cursor.rest.now c.loop-arms.invariant
-    r.made s.made c.put.new.list.items c.put-in-loop-arms.new.list.items r.behind s.behind c.statement.new.cursor.rest.now is
-    c.behind_arm.new.cursor.rest.now
+    pairs_fewer constants_outlines stmt_outline form.arm spec.row (spec.statement c.args.levels) arms_outlines c.loop-arms.cursor.rest.now
+    c.loop-arms.constants.items c.loop-arms.arms.items c.loop-arms.invariant c.row.result
+    c.row.new.cursor c.put.new.list.items c.row.ensures c.in_ok-put.ensures
+    c.statement.result c.statement.new.cursor c.put-in-loop-arms.new.list.items c.statement.ensures c.in_ok-put-2.ensures
+    (arm_no_more c.args.levels) c.behind_arm.new.cursor.rest.now
     (c.in_ok-semicolon.ensures ∙ ap (λ (f : Option Bool). Ok (f, c.behind_arm.new.cursor.rest.now)) c.in_default.is)
 
 pub arms-loop-arms-preserved : goal.arms-loop-arms-preserved
+unfolding spec.arm
 arms-loop-arms-preserved t c =
-    let r = was_put constants_outlines (spec.row c.loop-arms.cursor.rest.now) c.row.result c.row.new.cursor c.loop-arms.constants.items c.put.new.list.items
-    c.row.ensures c.in_ok-put.ensures in
-    let s = was_put stmt_outline (spec.statement c.args.levels c.row.new.cursor.rest.now) c.statement.result c.statement.new.cursor c.loop-arms.arms.items
-    c.put-in-loop-arms.new.list.items c.statement.ensures c.in_ok-put-2.ensures in
-    let is : spec.arm c.args.levels (spec.statement c.args.levels) c.loop-arms.cursor.rest.now ≡ Ok (_, c.statement.new.cursor.rest.now) =
-    arm_is c.args.levels c.loop-arms.cursor.rest.now c.row.new.cursor.rest.now (constants_outlines r.made) (stmt_outline s.made)
-    c.statement.new.cursor.rest.now r.read s.read in
-    arms_go c.args.levels c.args.cursor.now.rest.now c.loop-arms.constants.items c.loop-arms.arms.items c.loop-arms.cursor.rest.now c.loop-arms.invariant
-    r.made s.made c.put.new.list.items c.put-in-loop-arms.new.list.items r.behind s.behind c.statement.new.cursor.rest.now is
-    c.behind_arm.new.cursor.rest.now
+    pairs_go constants_outlines stmt_outline form.arm spec.row (spec.statement c.args.levels) arms_outlines c.loop-arms.cursor.rest.now
+    c.loop-arms.constants.items c.loop-arms.arms.items c.loop-arms.invariant c.row.result
+    c.row.new.cursor c.put.new.list.items c.row.ensures c.in_ok-put.ensures
+    c.statement.result c.statement.new.cursor c.put-in-loop-arms.new.list.items c.statement.ensures c.in_ok-put-2.ensures
+    (arm_no_more c.args.levels) (arms_push (spec.statement c.args.levels)) c.behind_arm.new.cursor.rest.now
     (c.in_ok-semicolon.ensures ∙ ap (λ (f : Option Bool). Ok (f, c.behind_arm.new.cursor.rest.now)) c.in_default.is)
