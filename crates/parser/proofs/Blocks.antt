@@ -24,6 +24,7 @@ use Rattle.reading.proofs.Uses.{TakesOne, routine_takes, block_nests}
 use Rattle.reading.proofs.MadePrograms.{BlockIn}
 use Rattle.reading.proofs.Makes.{deep_makes}
 use Rattle.parser.specs.Blocks.{block_below}
+use Rattle.parser.proofs.Parts.{definition_leaves, type_leaves, group_leaves}
 
 pub block_at : (levels : ℕ) (tokens : List Token) → read.block levels tokens ≡ read.block_of levels (block_below levels) tokens
 block_at zero tokens = refl
@@ -79,3 +80,5 @@ pub built_routine : (r : Routine) → routine_outline r
     ≡ form.routine (heading_outline (out-Routine r).heading)
     (body_outline (takes_directive (out-Routine r).heading) (option_map block_outline (out-Routine r).block))
 built_routine r = routine_is r
+
+pub ruleset parts_of_blocks = (block_at, definition_leaves, type_leaves, group_leaves)

@@ -20,6 +20,7 @@ use Rattle.reading.specs.Outline as form
 use Rattle.reading.specs.Outline.{Outline, only_if}
 use Rattle.reading.specs.Trees.{name_outline, constant_outline, denoter_outline, fields_outline}
 use Rattle.reading.proofs.Outlines.{denoter_is}
+use Rattle.parser.proofs.Parts.{lists_of_names}
 
 pub built_name : (name : Name) → denoter_outline (denoter.Name name) ≡ form.named_type (identifier name)
 built_name name = ap denoter_outline (sym (denoter.rolls-Name name)) ∙ denoter_is (layer.Name name)
@@ -47,6 +48,10 @@ built_record packed place names denoters semicolon =
     ap denoter_outline (sym (denoter.rolls-Record packed place names denoters semicolon)) ∙ denoter_is (layer.Record packed place names denoters semicolon)
 
 pub ruleset built_denoters = (built_name, built_enumerated, built_subrange, built_array, built_record)
+
+pub ruleset subranges = (built_name, built_subrange)
+
+pub ruleset enumerations = (built_enumerated, lists_of_names)
 
 -- ---- a denoter by what comes next
 

@@ -1,8 +1,12 @@
+pub mod Arms
 pub mod Blocks
+pub mod Built
 pub mod Denoters
 pub mod Faults
 pub mod Fields
 pub mod Items
 pub mod Listed
+pub mod Next
 pub mod Pairs
 pub mod Parts
+pub mod Simple

@@ -4,33 +4,16 @@ use Rattle.std.proofs.Common.{arith, length-append}
 use Rattle.lexer.specs.declared.token.Token.{Token}
 use Rattle.reading.specs.declared.refusal.Refusal.{Refusal}
 use Rattle.reading.specs.declared.refusal.Refusal.TheVariants.{Memory}
-use Rattle.reading.specs.Outline.{Outline, nothing}
-use Rattle.reading.specs.Reading.{Outcome, Reading, and_then, ◌>>=◌, pure, choose, more, ends}
-use Rattle.reading.specs.Statements.{behind_arm, arm_turn, parts_to_end}
-use Rattle.reading.proofs.Uses.{NeverMore, arm_uses}
+use Rattle.reading.specs.Outline.{Outline}
+use Rattle.reading.specs.Reading.{Outcome, Reading, and_then, ◌>>=◌, pure}
+use Rattle.reading.specs.Statements.{behind_arm, parts_to_end}
+use Rattle.reading.proofs.Uses.{NeverMore}
 use Rattle.token_cursor.specs.declared.cursor.Cursor.{Cursor}
 use Rattle.token_cursor.specs.Cursor.{Makes}
 use Rattle.token_cursor.proofs.Turns.{Turns, turns_begin}
 use Rattle.token_cursor.specs.Kept.{Puts}
 use Rattle.token_cursor.proofs.Keeping.{WasPut, was_put, not_put}
-use Rattle.token_cursor.proofs.Ended.{ended_goes, ended_ends, ended_stops, ended_stops_behind}
-
-arm_at : (part : Reading Outline) (mid rest : List Token) (end : Option Bool) → behind_arm mid ≡ Ok (end, rest)
-    → arm_turn part tt mid ≡ choose end (λ semicolon. pure (ends semicolon)) (part >>= (λ a. pure (more tt a))) rest
-unfolding arm_turn
-arm_at part mid rest end e =
-    ap (λ o. and_then o (λ end. choose end (λ semicolon. pure (ends semicolon)) (part >>= (λ a. pure (more tt a))))) e
-
--- where no `end` comes behind a part, a semicolon was taken
-pub behind_fewer : (mid rest : List Token) → behind_arm mid ≡ Ok (None, rest) → length rest < length mid
-behind_fewer mid rest e =
-    arm_uses (pure nothing) (λ tokens. record {
-      makes = λ made h. record {
-        most = let same : (nothing, tokens) ≡ made = cc in let n = ap (λ (m : Outline ×
-            List Token). length m.1) same in omega arith;
-      };
-    })
-    tt tt nothing mid rest (arm_at (pure nothing) mid rest None e)
+use Rattle.token_cursor.proofs.Ended.{ended_goes, ended_ends, ended_fewer, ended_stops, ended_stops_behind}
 
 -- rows of which one is a head for each of the other
 pub record Paired {X Y : Type 0} (rows : List X → List Y → List Outline) (whole : Outcome (List Outline × Bool)) (xs : List X) (ys : List Y)
@@ -111,8 +94,7 @@ module _ {X Y : Type 0} (head : X → List Outline) (look : Y → Outline) (join
         }
 
         pub pairs_fewer : NeverMore pair → (rest : List Token) → behind_arm last.rest.now ≡ Ok (None, rest) → length rest < length tokens
-        pairs_fewer fewer rest e =
-            let m = ((fewer tokens).makes (one, last.rest.now) was).most in let k = behind_fewer last.rest.now rest e in omega arith
+        pairs_fewer fewer rest e = ended_fewer pair fewer tokens last.rest.now rest one was e
 
         -- the `end` comes
         pub pairs_end : Pushes → (rest : List Token) (semicolon : Bool) → behind_arm last.rest.now ≡ Ok (Some semicolon, rest)

@@ -1,4 +1,6 @@
 pub mod Blocks
+pub mod Built
+pub mod Constants
 pub mod Denoters
 pub mod Fields
 pub mod Headings

@@ -1,6 +1,7 @@
 -- Which tree a list of tokens has, and why it has none (ISO 7185:1990, 6.2 to 6.10).
 -- This doesn't say what a rule makes of tokens: see Declarations in reading.
-use Rattle.std.specs.Prelude.{◌≡◌, ℕ, ◌-◌, ◌≤◌, List, [], length, IsTrue, Option, Some, None, Result, Ok, Err, MatchResult}
+use Rattle.std.specs.Prelude.{◌≡◌, ℕ, ◌-◌, ◌≤◌, List, [], length, IsTrue, Option, Some, None, Result, Ok, Err}
+use Rattle.std.specs.Prelude.{MatchResult}
 use Rattle.place.specs.declared.Place.{Place}
 use Rattle.lexer.specs.declared.token.Token.{Token}
 use Rattle.token_cursor.specs.declared.fault.ParseFault.{ParseFault}
@@ -61,7 +62,8 @@ IsDeep least tokens fault = (place : Place) → fault ≡ TooDeep place → Open
 abbrev pub Answers : Result Program ParseFault → List Token → Type 0
 Answers answer tokens = MatchResult answer (λ tree. IsTreeOf tree tokens) (λ fault. IsFaultOf fault tokens)
 
--- a rule stops for this reason, where the next token is that of a number; no rule does before
+-- What is read: the tree, as it looks, with nothing left; or why the rule of a program stops. P1 is told at the first
+-- of the tokens that it leaves, with which no rule goes on, and P2 where the nesting passes the limit.
 abbrev pub IsReadAs : Result Program ParseFault → List Token → Type 0
 IsReadAs (Ok tree) tokens = program most tokens ≡ Ok (program_outline tree, [])
 IsReadAs (Err Memory) tokens = Unit {0}

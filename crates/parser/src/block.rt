@@ -4,15 +4,15 @@ ghost use Rattle.reading.specs.Declarations as spec;
 ghost use Rattle.reading.specs.Reading.{next_kind};
 ghost use Rattle.reading.specs.Trees.{block_outline, body_outline, routine_outline};
 ghost use Rattle.token_cursor.specs.Cursor.{Makes, Takes};
-ghost use Rattle.statement_parser.specs.Built.{compound_outlines};
 ghost use Rattle.parser.specs.Blocks.{block_below, may_take_forward};
+ghost use Rattle.parser.specs.Built.{compound_outlines};
 
 use crate::headings::{heading, takes_directive};
 use crate::lists::{block_part, is_next};
+use crate::statement::compound;
 use lexer::token::{Kind, Symbol, Word};
 use place::Place;
 use reading::refusal::Refusal;
-use statement_parser::statement::compound;
 use std::alloc::Global;
 use syntax_tree::{Block, Routine, Stmt};
 use token_cursor::cursor::Cursor;
@@ -21,7 +21,7 @@ use token_cursor::nesting::inside;
 
 /// A block (6.2.1), below which `levels` levels are left.
 #[cycle(block)]
-#[tactic(auto, using(crate::proofs::Blocks::block_at, crate::proofs::Blocks::built_block, crate::proofs::Parts::definition_leaves, crate::proofs::Parts::type_leaves, crate::proofs::Parts::group_leaves), unfolding(reading::specs::Declarations::block_of))]
+#[tactic(auto, using(crate::proofs::Blocks::parts_of_blocks), unfolding(reading::specs::Declarations::block_of))]
 pub(crate) fn block<'a>(
     alloc: Global,
     cursor: &mut Cursor<'_, 'a>,

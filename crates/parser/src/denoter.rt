@@ -8,11 +8,11 @@ ghost use Rattle.parser.specs.Denoters.{array_type, record_type};
 ghost use Rattle.token_cursor.specs.Rows.{MakesRows};
 ghost use Rattle.parser.specs.Fields.{fields_look};
 
+use crate::lists::behind_arm;
 use crate::names::field_names;
 use crate::unstructured::{enumerated, name_or_subrange};
 use lexer::token::{Kind, Symbol, Word};
 use reading::refusal::Refusal;
-use statement_parser::arm::behind_arm;
 use std::alloc::Global;
 use syntax_tree::{Name, TypeDenoter};
 use token_cursor::cursor::Cursor;
@@ -86,7 +86,8 @@ fn element<'a>(
     cursor: &mut Cursor<'_, 'a>,
     levels: u32,
 ) -> Result<Box<TypeDenoter<'a>>, Refusal>
-    ensures { Makes (λ element. denoter_outline element.value) (spec.denoter levels cursor.old.rest.now) result cursor.new }
+    ensures { Makes (λ element. denoter_outline element.value) (spec.denoter levels cursor.old.rest.now)
+        result cursor.new }
 {
     boxed(alloc, denoter(alloc, cursor, levels))
 }

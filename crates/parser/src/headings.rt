@@ -60,8 +60,8 @@ fn signature<'a>(
     alloc: Global,
     cursor: &mut Cursor<'_, 'a>,
 ) -> Result<(Vec<FormalGroup<'a>>, Name<'a>), Refusal>
-    ensures { Makes (λ found. (map formal_outline found.0.items, identifier found.1)) (spec.signature cursor.old.rest.now)
-        result cursor.new }
+    ensures { Makes (λ found. (map formal_outline found.0.items, identifier found.1))
+        (spec.signature cursor.old.rest.now) result cursor.new }
 {
     let formals = formals(alloc, cursor)?;
     cursor.expect_symbol(Symbol::Colon)?;

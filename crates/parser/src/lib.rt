@@ -9,6 +9,7 @@ mod headings;
 mod lists;
 mod names;
 mod program;
+mod statement;
 mod types;
 mod unstructured;
 mod variables;

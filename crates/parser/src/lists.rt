@@ -4,6 +4,7 @@ ghost use Rattle.reading.specs.Reading as spec;
 ghost use Rattle.reading.specs.Reading.{Reading, is_kind, next_kind};
 ghost use Rattle.reading.specs.Declarations as declarations;
 ghost use Rattle.parser.specs.Lists.{LeavesNoMore, LeavesFewer, enclosed, in_parentheses};
+ghost use Rattle.reading.specs.Statements as statements;
 ghost use Rattle.token_cursor.specs.Cursor.{Makes};
 
 use lexer::token::{Kind, Symbol, Word};
@@ -43,7 +44,8 @@ fn separated<'a, P: Part<'a>>(
     symbol: Symbol,
 ) -> Result<Vec<P>, Refusal>
     requires { LeavesNoMore P.rule }
-    ensures { Makes (λ found. map P.look found.items) (spec.separated symbol P.rule cursor.old.rest.now) result cursor.new }
+    ensures { Makes (λ found. map P.look found.items) (spec.separated symbol P.rule cursor.old.rest.now)
+        result cursor.new }
 {
     // Most lists have one part.
     let mut found = Vec::with_capacity(alloc, 1)?;
@@ -63,7 +65,8 @@ pub(crate) fn enclosed<'a, P: Part<'a>>(
     end: Symbol,
 ) -> Result<Vec<P>, Refusal>
     requires { LeavesNoMore P.rule }
-    ensures { Makes (λ found. map P.look found.items) (enclosed symbol end P.rule cursor.old.rest.now) result cursor.new }
+    ensures { Makes (λ found. map P.look found.items) (enclosed symbol end P.rule cursor.old.rest.now)
+        result cursor.new }
 {
     let found = separated(alloc, cursor, symbol)?;
     cursor.expect_symbol(end)?;
@@ -77,7 +80,8 @@ pub(crate) fn in_parentheses<'a, P: Part<'a>>(
     symbol: Symbol,
 ) -> Result<Vec<P>, Refusal>
     requires { LeavesNoMore P.rule }
-    ensures { Makes (λ found. map P.look found.items) (in_parentheses symbol P.rule cursor.old.rest.now) result cursor.new }
+    ensures { Makes (λ found. map P.look found.items) (in_parentheses symbol P.rule cursor.old.rest.now)
+        result cursor.new }
 {
     match cursor.take_symbol(Symbol::OpenParenthesis) {
         Some(_) => enclosed(alloc, cursor, symbol, Symbol::CloseParenthesis),
@@ -94,7 +98,8 @@ pub(crate) fn block_part<'a, I: Item<'a>>(
     word: Word,
 ) -> Result<Vec<I>, Refusal>
     requires { LeavesFewer (I.rule levels) }
-    ensures { Makes (λ found. map I.look found.items) (declarations.part word (I.rule levels) cursor.old.rest.now) result cursor.new }
+    ensures { Makes (λ found. map I.look found.items)
+        (declarations.part word (I.rule levels) cursor.old.rest.now) result cursor.new }
 {
     let mut found = Vec::new(alloc);
     let Some(_) = cursor.take_word(word) else {
@@ -115,5 +120,21 @@ pub(crate) fn is_next(cursor: &Cursor<'_, '_>, kind: Kind) -> bool
     match cursor.peek() {
         Some(next) => next == kind,
         None => false,
+    }
+}
+
+/// Behind an arm of a case, or behind fields of a record: whether a semicolon stands before the
+/// `end`, or none where more arms or fields follow.
+#[tactic(auto, unfolding(reading::specs::Statements::behind_arm))]
+pub(crate) fn behind_arm(cursor: &mut Cursor<'_, '_>) -> Result<Option<bool>, Refusal>
+    ensures { Makes (λ found. found) (statements.behind_arm cursor.old.rest.now) result cursor.new }
+{
+    let Some(_) = cursor.take_symbol(Symbol::Semicolon) else {
+        cursor.expect_word(Word::End)?;
+        return Ok(Some(false));
+    };
+    match cursor.take_word(Word::End) {
+        Some(_) => Ok(Some(true)),
+        None => Ok(None),
     }
 }

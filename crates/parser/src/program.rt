@@ -62,7 +62,7 @@ fn program<'a>(alloc: Global, cursor: &mut Cursor<'_, 'a>) -> Result<Program<'a>
     })
 }
 
-#[tactic(auto, using(crate::proofs::Parts::name_leaves), unfolding(reading::specs::Declarations::parameters, reading::specs::Declarations::names))]
+#[tactic(auto, using(crate::proofs::Parts::lists_of_names), unfolding(reading::specs::Declarations::parameters))]
 fn parameters<'a>(alloc: Global, cursor: &mut Cursor<'_, 'a>) -> Result<Vec<Name<'a>>, Refusal>
     ensures { Makes (λ found. map name_outline found.items) (spec.parameters cursor.old.rest.now) result cursor.new }
 {

@@ -5,16 +5,16 @@ ghost use Rattle.reading.specs.Lexemes.{identifier};
 ghost use Rattle.reading.specs.Trees.{constant_outline, denoter_outline};
 ghost use Rattle.token_cursor.specs.Cursor.{Makes};
 
+use crate::constants::constant;
 use crate::lists::enclosed;
 use lexer::token::Symbol;
 use reading::refusal::Refusal;
-use statement_parser::constant::constant;
 use std::alloc::Global;
 use syntax_tree::{Constant, ConstantValue, Name, TypeDenoter};
 use token_cursor::cursor::Cursor;
 
 /// An enumerated type (6.4.2.3).
-#[tactic(auto, using(crate::proofs::Parts::name_leaves, crate::proofs::Denoters::built_denoters), unfolding(reading::specs::Declarations::enumerated, reading::specs::Declarations::names))]
+#[tactic(auto, using(crate::proofs::Denoters::enumerations), unfolding(reading::specs::Declarations::enumerated))]
 pub(crate) fn enumerated<'a>(
     alloc: Global,
     cursor: &mut Cursor<'_, 'a>,
@@ -27,7 +27,7 @@ pub(crate) fn enumerated<'a>(
 }
 
 /// A name, or a subrange type (6.4.2.4): a name is one alone, another constant only before `..`.
-#[tactic(auto, using(crate::proofs::Denoters::built_denoters), unfolding(reading::specs::Declarations::name_or_subrange))]
+#[tactic(auto, using(crate::proofs::Denoters::subranges), unfolding(reading::specs::Declarations::name_or_subrange))]
 pub(crate) fn name_or_subrange<'a>(cursor: &mut Cursor<'_, 'a>) -> Result<TypeDenoter<'a>, Refusal>
     ensures { Makes denoter_outline (name_or_subrange cursor.old.rest.now) result cursor.new }
 {

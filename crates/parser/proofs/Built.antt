@@ -19,7 +19,7 @@ use Rattle.reading.specs.Outline as form
 use Rattle.reading.specs.Outline.{only_if}
 use Rattle.reading.specs.Trees.{actual_outline, expr_outline, selector_rows, stmt_outline}
 use Rattle.reading.proofs.Outlines.{stmt_is, stmt_layer}
-use Rattle.statement_parser.specs.Built.{arms_outlines}
+use Rattle.parser.specs.Built.{arms_outlines}
 
 rolled : (s : Stmt) (d : layer.Stmt-F Stmt) → roll-Stmt d ≡ s → stmt_outline s ≡ stmt_layer d
 rolled s d is = ap stmt_outline (sym is) ∙ stmt_is d

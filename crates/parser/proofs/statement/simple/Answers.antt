@@ -7,9 +7,9 @@ use Rattle.reading.specs.Statements as spec
 use Rattle.reading.specs.Trees.{expr_outline}
 use Rattle.expression_parser.specs.Built.{actuals_outlines, selectors_outlines}
 use Rattle.expression_parser.proofs.Named.{empty_items, filled_items, has_rows, no_rows}
-use Rattle.statement_parser.proofs.Built.{built_call}
-use Rattle.statement_parser.proofs.Simple.{call_made, refused_behind}
-use Rattle.statement_parser.proofs.statement.simple.Goals as goal
+use Rattle.parser.proofs.Built.{built_call}
+use Rattle.parser.proofs.Simple.{call_made, refused_behind}
+use Rattle.parser.proofs.statement.simple.Goals as goal
 
 pub returns-then-not-is_empty : goal.returns-then-not-is_empty
 returns-then-not-is_empty c =

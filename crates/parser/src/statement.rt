@@ -3,10 +3,11 @@ ghost use Rattle.reading.specs.Statements as spec;
 ghost use Rattle.reading.specs.Trees.{expr_outline, stmt_outline};
 ghost use Rattle.token_cursor.specs.Cursor.{Makes};
 ghost use Rattle.token_cursor.specs.Rows.{MakesRows};
-ghost use Rattle.statement_parser.specs.Built.{alternative_outline, body_outline, case_outlines, compound_outlines};
-ghost use Rattle.statement_parser.specs.Built.{control_lexeme, initial_outline, statements_outlines};
+ghost use Rattle.parser.specs.Built.{alternative_outline, body_outline, case_outlines, compound_outlines};
+ghost use Rattle.parser.specs.Built.{control_lexeme, initial_outline, statements_outlines};
 
-use crate::arm::{behind_arm, row};
+use crate::constants::row;
+use crate::lists::behind_arm;
 use expression_parser::expression::{actuals, expression, selectors};
 use lexer::token::{Kind, Symbol, Word};
 use place::Place;
@@ -21,7 +22,7 @@ use token_cursor::nesting::inside;
 /// left.
 #[cycle(statement)]
 #[tactic(auto, unfolding(reading::specs::Statements::compound))]
-pub fn compound<'a>(
+pub(crate) fn compound<'a>(
     alloc: Global,
     cursor: &mut Cursor<'_, 'a>,
     levels: u32,

@@ -1,11 +1,12 @@
 use Rattle.std.proofs.Common.{◌+◌, ◌*◌, length, map}
 use Rattle.lexer.specs.declared.token.Symbol.TheVariants as symbol
 use Rattle.reading.specs.Reading.{separated}
-use Rattle.reading.specs.Statements.{statement}
+use Rattle.reading.specs.Statements.{arm, parts_to_end, statement}
 use Rattle.reading.specs.Trees.{stmt_outline}
 use Rattle.token_cursor.proofs.Turns.{Parts}
-use Rattle.statement_parser.proofs.Arms.{ArmsSoFar}
-use Rattle.statement_parser.proofs.statement.+statement.Given as goal
+use Rattle.parser.specs.Built.{arms_outlines}
+use Rattle.parser.proofs.Pairs.{Paired}
+use Rattle.parser.proofs.statement.+statement.Given as goal
 
 abbrev pub decreases-compound : goal.decreases-compound
 decreases-compound l = 4 * l.levels + 2
@@ -49,7 +50,9 @@ abbrev pub decreases-statements-loop-statements : goal.decreases-statements-loop
 decreases-statements-loop-statements l = length l.cursor.rest.now
 
 abbrev pub invariant-arms-loop-arms : goal.invariant-arms-loop-arms
-invariant-arms-loop-arms l = ArmsSoFar l.levels l.fn.cursor.rest.now l.constants.items l.arms.items l.cursor.rest.now
+invariant-arms-loop-arms l =
+    Paired arms_outlines (parts_to_end (arm l.levels (statement l.levels)) l.fn.cursor.rest.now) l.constants.items l.arms.items
+    (parts_to_end (arm l.levels (statement l.levels)) l.cursor.rest.now)
 
 abbrev pub decreases-arms-loop-arms : goal.decreases-arms-loop-arms
 decreases-arms-loop-arms l = length l.cursor.rest.now

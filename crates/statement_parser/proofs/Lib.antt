@@ -1,4 +1,0 @@
-pub mod Arms
-pub mod Built
-pub mod Next
-pub mod Simple
