@@ -26,8 +26,8 @@ index_outline within true place index = form.joined_index within place index
 index_outline within false place index = form.index within place index
 
 -- a selector is made, or the end of the selectors
-abbrev pub Selects : Bool → Outcome (Turn Bool Outline Outline) → Result (Option Selector) Refusal → Cursor → List Expr → List Expr
-    → Type 0
+abbrev pub Selects : Bool → Outcome (Turn Bool Outline Outline) → Result (Option Selector) Refusal → Cursor
+    → List Expr → List Expr → Type 0
 Selects within outcome (Ok None) new before after =
     (outcome ≡ Ok (ends (form.closing within), new.rest.now)) × (after ≡ before)
 Selects within outcome (Ok (Some (Field name))) new before after =
@@ -38,8 +38,8 @@ Selects within outcome (Ok (Some (Index place joined))) new before after =
 Selects within outcome (Err why) new before after = (¬ (why ≡ Memory)) → outcome ≡ Err (why, new.rest.now)
 
 -- an index is made behind the token that begins it
-abbrev pub SelectsIndex : Outcome Outline → Place → Bool → Result (Option Selector) Refusal → Cursor → List Expr → List Expr
-    → Type 0
+abbrev pub SelectsIndex : Outcome Outline → Place → Bool → Result (Option Selector) Refusal → Cursor
+    → List Expr → List Expr → Type 0
 SelectsIndex outcome place joined (Ok found) new before after =
     (found ≡ Some (Index place joined)) × (index : Expr) × (after ≡ before ++ index ∷ [])
     × (outcome ≡ Ok (expr_outline index, new.rest.now))

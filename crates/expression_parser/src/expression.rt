@@ -16,6 +16,7 @@ use reading::refusal::Refusal;
 use std::alloc::Global;
 use syntax_tree::{Actual, Expr, Link, Selector};
 use token_cursor::cursor::Cursor;
+use token_cursor::memory::put;
 use token_cursor::nesting::inside;
 use token_cursor::operator::Level;
 
@@ -148,7 +149,8 @@ fn negated<'a>(
     levels: u32,
     place: Place,
 ) -> Result<Expr<'a>, Refusal>
-    ensures { Makes expr_outline (spec.negated (expression_below levels) (factor_below levels) place cursor.old.rest.now) result cursor.new }
+    ensures { Makes expr_outline (spec.negated (expression_below levels) (factor_below levels) place
+        cursor.old.rest.now) result cursor.new }
 {
     let levels = inside(levels, cursor.place())?;
     let operand = factor(alloc, cursor, levels)?;
@@ -184,7 +186,8 @@ pub fn selectors<'a>(
     cursor: &mut Cursor<'_, 'a>,
     levels: u32,
 ) -> Result<(Vec<Selector<'a>>, Vec<Expr<'a>>), Refusal>
-    ensures { Makes selectors_outlines (spec.selectors (expression_below levels) cursor.old.rest.now) result cursor.new }
+    ensures { Makes selectors_outlines (spec.selectors (expression_below levels) cursor.old.rest.now)
+        result cursor.new }
 {
     let mut selectors = Vec::new(alloc);
     let mut indexes = Vec::new(alloc);
@@ -256,8 +259,7 @@ fn index_selector<'a>(
     ensures { SelectsIndex (spec.index (expression_below levels) cursor.old.rest.now) place joined result cursor.new
         indexes.old.items indexes.new.items }
 {
-    let index = index(alloc, cursor, levels)?;
-    indexes.push(index)?;
+    put(indexes, index(alloc, cursor, levels))?;
     Ok(Some(Selector::Index { place, joined }))
 }
 
@@ -295,8 +297,8 @@ fn parenthesized<'a>(
     ensures { Makes expr_outline (spec.parenthesized (expression_below levels) cursor.old.rest.now) result cursor.new }
 {
     let open = cursor.expect_symbol(Symbol::OpenParenthesis)?;
-    let inner = below(alloc, cursor, levels, Some(open))?;
-    cursor.expect_symbol(Symbol::CloseParenthesis)?;
+    let inner = below(alloc, cursor, levels, Some(open));
+    let inner = cursor.followed_by(inner, Kind::Symbol(Symbol::CloseParenthesis))?;
     build::parenthesized(alloc, open, inner)
 }
 
@@ -313,9 +315,8 @@ pub fn actuals<'a>(
     let Some(_) = cursor.take_symbol(Symbol::OpenParenthesis) else {
         return Ok(Vec::new(alloc));
     };
-    let actuals = actual_list(alloc, cursor, levels)?;
-    cursor.expect_symbol(Symbol::CloseParenthesis)?;
-    Ok(actuals)
+    let actuals = actual_list(alloc, cursor, levels);
+    cursor.followed_by(actuals, Kind::Symbol(Symbol::CloseParenthesis))
 }
 
 #[cycle(expression)]
@@ -324,13 +325,13 @@ fn actual_list<'a>(
     cursor: &mut Cursor<'_, 'a>,
     levels: u32,
 ) -> Result<Vec<Actual<'a>>, Refusal>
-    ensures { Makes actuals_outlines (separated Symbol.Comma (spec.actual (expression_below levels)) cursor.old.rest.now) result cursor.new }
+    ensures { Makes actuals_outlines (separated Symbol.Comma (spec.actual (expression_below levels))
+        cursor.old.rest.now) result cursor.new }
 {
     // Most lists have one parameter.
     let mut actuals = Vec::with_capacity(alloc, 1)?;
     loop {
-        let actual = actual(alloc, cursor, levels)?;
-        actuals.push(actual)?;
+        put(&mut actuals, actual(alloc, cursor, levels))?;
         let Some(_) = cursor.take_symbol(Symbol::Comma) else {
             return Ok(actuals);
         };

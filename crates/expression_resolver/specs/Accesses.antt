@@ -1,6 +1,6 @@
 -- How accesses are made: a variable as it is entered, the selectors behind it with their index expressions, and the
 -- value of what is selected. It says nothing of what typing answers.
-use Rattle.std.specs.Prelude.{◌≡◌, ℕ, suc, Bool, List, [], ◌∷◌, ◌++◌, flat_map, length, map, drop, Result}
+use Rattle.std.specs.Prelude.{◌≡◌, ◌⊎◌, ℕ, suc, Bool, List, [], ◌∷◌, ◌++◌, flat_map, length, map, drop, Result}
 use Rattle.std.specs.Prelude.{if◌then◌else◌, Ok, Err, Option}
 use Rattle.place.specs.declared.Place.{Place}
 use Rattle.syntax_tree.specs.declared.Name.{Name}
@@ -8,6 +8,7 @@ use Rattle.syntax_tree.specs.declared.Expr.{Expr as SyntaxExpr}
 use Rattle.syntax_tree.specs.declared.Selector.{Selector}
 use Rattle.syntax_tree.specs.declared.Selector.TheVariants as select
 use Rattle.types.specs.declared.form.TypeId.{TypeId}
+use Rattle.scopes.specs.declared.denotation.Denotation.{Denotation}
 use Rattle.typed_tree.specs.declared.fault.TypeFault.{TypeFault}
 use Rattle.typed_tree.specs.declared.site.SiteKind.{SiteKind}
 use Rattle.typed_tree.specs.declared.site.SiteKind.TheVariants as kind
@@ -17,13 +18,24 @@ use Rattle.typed_tree.specs.Accesses.{index_count}
 use Rattle.typed_tree.specs.Look.{Look, Access, look_expr}
 use Rattle.typing.specs.declared.typed.Typed.{Typed}
 use Rattle.typing.specs.Passing.{Passed, Passing, Checked, After, after, behind_marks, pure, ◌>>=◌, ◌>>◌}
-use Rattle.typing.specs.Steps.{site, enter_as}
-use Rattle.typing.specs.Expressions.{Written, behind, selected, tests_ordinal, ordinal_value, whole_value, expression}
+use Rattle.typing.specs.Steps.{find, site, enter_as}
+use Rattle.typing.specs.Expressions.{Written, as_variable, behind, selected, tests_ordinal, ordinal_value}
+use Rattle.typing.specs.Expressions.{whole_value, expression}
 use Rattle.typing.specs.Outcomes.{IsFault, Makes}
 use Rattle.expression_resolver.specs.declared.typed.Entered.{Entered}
 use Rattle.expression_resolver.specs.declared.typed.Selection.{Selection}
 
 -- ---- a variable
+
+-- the variable that a name denotes, by its root and its type; or nothing is found, or what is no variable
+abbrev pub FindsVariable : Name → Passed → Result (ℕ × TypeId) TypeFault → Passed → Type 0
+FindsVariable name old (Ok variable) new =
+    (denotation : Denotation) × (find name old ≡ Ok (after denotation [] new))
+    × (as_variable name.place denotation ≡ Ok variable)
+FindsVariable name old (Err why) new =
+    IsFault (find name old) why
+    ⊎ ((denotation : Denotation) × (middle : Passed) × (find name old ≡ Ok (after denotation [] middle))
+    × (as_variable name.place denotation ≡ Err why))
 
 -- a variable is entered in an expression, by the site of its test and the leading one
 unfoldable pub begun : Place → Option SiteKind → Passing (ℕ × Option ℕ)

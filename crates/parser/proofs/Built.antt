@@ -80,4 +80,5 @@ built_case place index constants arms semicolon each =
     ∙ ap (λ test. only_if test (form.case place (expr_outline index) (arms_outlines constants.items arms.items) semicolon))
     (eq-eqb (length constants.items) (length (map stmt_outline arms.items)) (each ∙ sym (length-map arms.items stmt_outline)))
 
-pub ruleset built_statements = (built_empty, built_assignment, built_call, built_compound, built_if, built_else, built_while, built_repeat, built_for, built_case)
+pub ruleset built_statements =
+    (built_empty, built_assignment, built_call, built_compound, built_if, built_else, built_while, built_repeat, built_for, built_case)

@@ -112,7 +112,8 @@ fn conditional<'a>(
     cursor: &mut Cursor<'_, 'a>,
     levels: u32,
 ) -> Result<Stmt<'a>, Refusal>
-    ensures { Makes stmt_outline (spec.conditional levels (spec.statement levels) cursor.old.rest.now) result cursor.new }
+    ensures { Makes stmt_outline (spec.conditional levels (spec.statement levels) cursor.old.rest.now)
+        result cursor.new }
 {
     let place = cursor.expect_word(Word::If)?;
     let condition = guard(alloc, cursor, levels, Word::Then)?;
@@ -152,7 +153,8 @@ fn while_loop<'a>(
     cursor: &mut Cursor<'_, 'a>,
     levels: u32,
 ) -> Result<Stmt<'a>, Refusal>
-    ensures { Makes stmt_outline (spec.while_loop levels (spec.statement levels) cursor.old.rest.now) result cursor.new }
+    ensures { Makes stmt_outline (spec.while_loop levels (spec.statement levels) cursor.old.rest.now)
+        result cursor.new }
 {
     let place = cursor.expect_word(Word::While)?;
     let condition = guard(alloc, cursor, levels, Word::Do)?;
@@ -172,7 +174,8 @@ fn repeat_loop<'a>(
     cursor: &mut Cursor<'_, 'a>,
     levels: u32,
 ) -> Result<Stmt<'a>, Refusal>
-    ensures { Makes stmt_outline (spec.repeat_loop levels (spec.statement levels) cursor.old.rest.now) result cursor.new }
+    ensures { Makes stmt_outline (spec.repeat_loop levels (spec.statement levels) cursor.old.rest.now)
+        result cursor.new }
 {
     let place = cursor.expect_word(Word::Repeat)?;
     let statements = statements(alloc, cursor, levels)?;

@@ -11,8 +11,8 @@ use place::Place;
 use reading::refusal::Refusal;
 use syntax_tree::{Direction, Name, Operator, RelationalOperator, Sign};
 
-/// The tokens that are left to read. What is made of them, and what is left then, is told by a reading: where nothing is
-/// taken, all are left.
+/// The tokens that are left to read. A rule of `reading` tells what each function makes of them, and what is left then;
+/// where nothing is taken, all are left.
 #[derive(Clone, Copy)]
 pub struct Cursor<'t, 'a> {
     pub rest: &'t [Token<'a>],

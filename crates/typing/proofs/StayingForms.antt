@@ -1,6 +1,6 @@
 -- Each constant, each expression and each statement leaves the regions round it as they were.
-use Rattle.std.proofs.Common.{ℕ, ◌+◌, ◌&&◌, ◌||◌, ℤ, pos, Bool, true, false, if◌then◌else◌, List, [], ◌∷◌, ◌++◌, map, Option, Some}
-use Rattle.std.proofs.Common.{None, Vec, Ok, length, nat_le, nat_eq, sym, subst}
+use Rattle.std.proofs.Common.{ℕ, ◌+◌, ◌&&◌, ℤ, pos, Bool, true, false, if◌then◌else◌, List, [], ◌∷◌, ◌++◌, map, Option, Some}
+use Rattle.std.proofs.Common.{None, Vec, Ok, length, nat_le, sym, subst}
 use Rattle.std.specs.Prelude.{is_none}
 use Rattle.std.specs.declared.alloc.Global.{Global}
 use Rattle.place.specs.declared.Place.{Place}
@@ -11,7 +11,7 @@ use Rattle.syntax_tree.specs.declared.ConstantValue.TheVariants as written_const
 use Rattle.syntax_tree.specs.declared.Direction.{Direction as SyntaxDirection}
 use Rattle.syntax_tree.specs.declared.Operator.{Operator}
 use Rattle.syntax_tree.specs.declared.Operator.TheVariants as op
-use Rattle.syntax_tree.specs.declared.Sign.{Sign}
+use Rattle.syntax_tree.specs.declared.RelationalOperator.{RelationalOperator}
 use Rattle.syntax_tree.specs.declared.Selector.{Selector}
 use Rattle.syntax_tree.specs.declared.Selector.TheVariants as select
 use Rattle.syntax_tree.specs.declared.Expr.{Expr}
@@ -42,8 +42,7 @@ use Rattle.typed_tree.specs.declared.site.SiteKind.TheVariants as kind
 use Rattle.typed_tree.specs.declared.tree.Dyadic.{Dyadic}
 use Rattle.typed_tree.specs.declared.tree.Dyadic.TheVariants as dyadic
 use Rattle.typed_tree.specs.declared.tree.Calculation.TheVariants as calculation
-use Rattle.typed_tree.specs.declared.tree.Monadic.TheVariants as monadic
-use Rattle.typed_tree.specs.declared.tree.Relation.TheVariants as relation
+use Rattle.typed_tree.specs.declared.tree.Monadic.{Monadic}
 use Rattle.typed_tree.specs.declared.tree.Selector.{Selector as TreeSelector}
 use Rattle.typed_tree.specs.declared.tree.Selector.TheVariants as tree
 use Rattle.typed_tree.specs.declared.tree.Variable.{Variable}
@@ -144,10 +143,10 @@ number_keeps : (value : ℕ) (place : Place) (lead : Option SiteKind) → Keeps 
 unfolding Expressions.number
 number_keeps value place lead =
     keeps_then (pass_keeps place) λ _.
+    keeps_then (given_keeps (value_of value place)) λ _.
     keeps_then (behind_keeps lead place) λ id.
-    keeps_then (given_keeps (fits (nat_le value 2147483647) place (Expressions.typed integer id))) λ t.
     keeps_then (enter_as_keeps _) λ _.
-    pure_keeps t
+    pure_keeps (Expressions.typed integer id)
 
 long_keeps : (place : Place) (id : Option ℕ) (cs : List ℕ)
     → Keeps (string_type place (length cs) >>= (λ type_id. enter_as (λ n. Look.Text n cs) >> pure (Expressions.typed_text type_id (length cs) id)))
@@ -324,25 +323,16 @@ parenthesized_keeps place w lead law =
     keeps_then (pass_keeps place) (λ _. keeps_then (behind_keeps lead place)
     (λ id. keeps_test {A = Typed} (λ types t. Ok (record t { site = id })) (law.typing None)))
 
-negation_keeps : (place : Place) (w : Written) (lead : Option SiteKind) → WrittenKeeps w → Keeps (Expressions.negation place w lead)
-unfolding Expressions.negation
-negation_keeps place w lead law =
+prefixed_keeps : (type_id : TypeId) (does : Monadic) (place : Place) (w : Written) (lead : Option SiteKind) → WrittenKeeps w
+    → Keeps (Expressions.prefixed type_id does place w lead)
+unfolding Expressions.prefixed
+prefixed_keeps type_id does place w lead law =
     keeps_then (pass_keeps place) λ _.
     keeps_then (behind_keeps lead place) λ id.
     keeps_then (enter_as_keeps _) λ _.
-    keeps_then (keeps_test (λ types t. fits (Expressions.is_of boolean t) place t) (law.typing None)) λ _.
-    keeps_then (mark_keeps (Look.Applied (monadic.Plain calculation.Complement))) λ _.
-    pure_keeps (Expressions.typed boolean id)
-
-signed_keeps : (s : Sign) (place : Place) (w : Written) (lead : Option SiteKind) → WrittenKeeps w → Keeps (Expressions.signed s place w lead)
-unfolding Expressions.signed
-signed_keeps s place w lead law =
-    keeps_then (pass_keeps place) λ _.
-    keeps_then (behind_keeps lead place) λ id.
-    keeps_then (enter_as_keeps _) λ _.
-    keeps_then (keeps_test (λ types t. fits (Expressions.is_of integer t) place t) (law.typing None)) λ _.
-    keeps_then (mark_keeps (Look.Applied (Expressions.sign_operation s))) λ _.
-    pure_keeps (Expressions.typed integer id)
+    keeps_then (keeps_test (λ types t. fits (Expressions.is_of type_id t) place t) (law.typing None)) λ _.
+    keeps_then (mark_keeps (Look.Applied does)) λ _.
+    pure_keeps (Expressions.typed type_id id)
 
 tested_keeps : (operation : ℕ → Dyadic) (kind : SiteKind) (place : Place) → Keeps (Expressions.tested operation kind place)
 unfolding Expressions.tested
@@ -357,28 +347,14 @@ operation_keeps op.Times place = tested_keeps dyadic.Times kind.Overflow place
 operation_keeps op.Div place = tested_keeps dyadic.Div kind.DivisionByZero place
 operation_keeps op.Mod place = tested_keeps dyadic.Mod kind.ModByZeroOrLess place
 operation_keeps op.And place = pure_keeps dyadic.And
-operation_keeps op.Equal place = pure_keeps (dyadic.Relation relation.Equal)
-operation_keeps op.NotEqual place = pure_keeps (dyadic.Relation relation.NotEqual)
-operation_keeps op.Less place = pure_keeps (dyadic.Relation relation.Less)
-operation_keeps op.Greater place = pure_keeps (dyadic.Relation relation.Greater)
-operation_keeps op.LessOrEqual place = pure_keeps (dyadic.Relation relation.LessOrEqual)
-operation_keeps op.GreaterOrEqual place = pure_keeps (dyadic.Relation relation.GreaterOrEqual)
-
-compares_keeps : (left right : Option ℕ) → Keeps (Expressions.compares left right)
-unfolding Expressions.compares
-compares_keeps (Some left) (Some right) = mark_keeps (Look.Compared left right)
-compares_keeps (Some left) None = pure_keeps tt
-compares_keeps None right = pure_keeps tt
 
 link_keeps : (operator : Operator) (place : Place) (w : Written) → WrittenKeeps w → LinkKeeps (Expressions.link operator place w)
 unfolding Expressions.link
 link_keeps operator place w law left =
     keeps_then (operation_keeps operator place) λ tests.
     keeps_then (enter_as_keeps _) λ _.
-    keeps_then (law.typing None) λ right.
-    keeps_then (by_types_keeps (λ types. or_mismatch place (Expressions.result_type types operator left right))) λ type_id.
-    keeps_then (compares_keeps left.length right.length) λ _.
-    pure_keeps (Expressions.typed type_id left.site)
+    keeps_then (keeps_test (λ types right. fits (Expressions.takes_operands operator left right) place right) (law.typing None)) λ _.
+    pure_keeps (Expressions.typed (Expressions.operand_type operator) left.site)
 
 links_keep : (left : Typed) (ls : List WrittenLink) → LinksKeep ls → Keeps (Expressions.links left ls)
 links_keep left [] laws = pure_keeps left
@@ -390,9 +366,27 @@ chain_keeps w ls lead law laws =
     keeps_then (mark_keeps Look.Begins) λ _.
     keeps_then (law.typing lead) λ f.
     keeps_then (links_keep f ls laws) λ t.
-    keeps_then (given_keeps (fits (is_none f.length || nat_eq (length ls) 1) w.first t)) λ _.
+    keeps_then (given_keeps (fits (is_none f.length) w.first t)) λ _.
     keeps_then (mark_keeps Look.Ends) λ _.
-    pure_keeps t
+    pure_keeps (Expressions.typed t.type_id f.site)
+
+compares_keeps : (left right : Option ℕ) → Keeps (Expressions.compares left right)
+unfolding Expressions.compares
+compares_keeps (Some left) (Some right) = mark_keeps (Look.Compared left right)
+compares_keeps (Some left) None = pure_keeps tt
+compares_keeps None right = pure_keeps tt
+
+relation_keeps : (left : Written) (operator : RelationalOperator) (place : Place) (right : Written) (lead : Option SiteKind) → WrittenKeeps left
+    → WrittenKeeps right → Keeps (Expressions.relation left operator place right lead)
+unfolding Expressions.relation
+relation_keeps left operator place right lead law behind =
+    keeps_then (mark_keeps Look.Begins) λ _.
+    keeps_then (law.typing lead) λ l.
+    keeps_then (enter_as_keeps (λ n. Look.Operator n (dyadic.Relation (Expressions.relation_of operator)))) λ _.
+    keeps_then (keeps_test (λ types t. fits (Expressions.may_compare types l t) place t) (behind.typing None)) λ r.
+    keeps_then (compares_keeps l.length r.length) λ _.
+    keeps_then (mark_keeps Look.Ends) λ _.
+    pure_keeps (Expressions.typed boolean l.site)
 
 calculation_keeps : (calculated : FunctionValue) (place : Place) → Keeps (Functions.calculation_of calculated place)
 unfolding Functions.calculation_of
@@ -512,11 +506,14 @@ expression_layer (layer.Call name actuals) =
 expression_layer (layer.Parenthesized place inner) =
     from_layer (bare (layer.Parenthesized place inner)) (written_keeps place _ (λ lead. parenthesized_keeps place _ lead inner.value.1))
 expression_layer (layer.Not place operand) =
-    from_layer (bare (layer.Not place operand)) (written_keeps place _ (λ lead. negation_keeps place _ lead operand.value.1))
+    from_layer (bare (layer.Not place operand)) (written_keeps place _ (λ lead. prefixed_keeps _ _ place _ lead operand.value.1))
 expression_layer (layer.Signed s place term) =
-    from_layer (bare (layer.Signed s place term)) (written_keeps place _ (λ lead. signed_keeps s place _ lead term.value.1))
+    from_layer (bare (layer.Signed s place term)) (written_keeps place _ (λ lead. prefixed_keeps _ _ place _ lead term.value.1))
 expression_layer (layer.Chain first rest) =
     from_layer (bare (layer.Chain first rest)) (written_keeps _ _ (λ lead. chain_keeps _ _ lead first.value.1 (all_links rest.items)))
+expression_layer (layer.Relation left operator place right) =
+    from_layer (bare (layer.Relation left operator place right))
+    (written_keeps _ _ (λ lead. relation_keeps _ operator place _ lead left.value.1 right.value.1))
 
 abbrev width_form : WithExpr → Option WithExpr → Option Written
 width_form value width =
@@ -625,6 +622,7 @@ names_file_keeps (layer.Parenthesized place inner) = pure_keeps false
 names_file_keeps (layer.Not place operand) = pure_keeps false
 names_file_keeps (layer.Signed sign place term) = pure_keeps false
 names_file_keeps (layer.Chain first rest) = pure_keeps false
+names_file_keeps (layer.Relation left operator place right) = pure_keeps false
 
 unless_wide_keeps : (value : Expr) (width : Option Expr) → Keeps (Statements.unless_wide value width)
 unless_wide_keeps value None = names_file_keeps (out-Expr value)

@@ -9,6 +9,7 @@ use Rattle.reading.specs.Outline.{Outline, has_items}
 use Rattle.reading.specs.Trees.{actual_outline, expr_outline, selector_rows}
 use Rattle.reading.proofs.Uses.{actual_no_more, below_no_more}
 use Rattle.token_cursor.specs.Cursor.{Makes}
+use Rattle.token_cursor.proofs.Keeping.{not_put, was_put}
 use Rattle.token_cursor.proofs.Turns.{list_ends, list_goes, parts_fewer, parts_stop}
 use Rattle.expression_parser.specs.Built.{actuals_outlines, links_turns, selectors_outlines}
 use Rattle.expression_parser.specs.Levels as level_spec
@@ -141,28 +142,35 @@ selectors-returns t c =
 
 -- ---- actual parameters
 
-pub actual_list-returns-in_err-actual : goal.actual_list-returns-in_err-actual
-actual_list-returns-in_err-actual t c =
-    let stops : ¬ (c.in_err-actual.field-0.0 ≡ Memory)
+pub actual_list-returns-in_err-put : goal.actual_list-returns-in_err-put
+actual_list-returns-in_err-put t c =
+    let stops : ¬ (c.in_err-put.field-0.0 ≡ Memory)
     → separated symbol.Comma (spec.actual (expression_below c.args.levels)) c.args.cursor.now.rest.now
-    ≡ Err (c.in_err-actual.field-0.0, c.actual.new.cursor.rest.now) =
-    λ no. parts_stop symbol.Comma (spec.actual (expression_below c.args.levels)) c.loop-actuals.invariant _ (c.in_err-actual.ensures no) in
+    ≡ Err (c.in_err-put.field-0.0, c.actual.new.cursor.rest.now) =
+    λ other. parts_stop symbol.Comma (spec.actual (expression_below c.args.levels)) c.loop-actuals.invariant _
+    (not_put actual_outline (spec.actual (expression_below c.args.levels) c.loop-actuals.cursor.rest.now) c.actual.result c.actual.new.cursor
+    c.loop-actuals.actuals.items c.put.new.list.items c.in_err-put.field-0.0 c.actual.ensures c.in_err-put.ensures other) in
     search rules
 
 pub actual_list-loop-actuals-smaller : goal.actual_list-loop-actuals-smaller
 actual_list-loop-actuals-smaller t c =
+    let w = was_put actual_outline (spec.actual (expression_below c.args.levels) c.loop-actuals.cursor.rest.now) c.actual.result c.actual.new.cursor
+    c.loop-actuals.actuals.items c.put.new.list.items c.actual.ensures c.in_ok-put.ensures in
     parts_fewer symbol.Comma (spec.actual (expression_below c.args.levels)) (actual_no_more (expression_below c.args.levels) (below_no_more c.args.levels))
-    c.loop-actuals.cursor.rest.now c.actual.new.cursor.rest.now c.take_symbol.new.self.rest.now (actual_outline c.in_ok-actual.actual) c.in-Some.field-0
-    c.in_ok-actual.ensures c.in-Some.ensures
+    c.loop-actuals.cursor.rest.now c.actual.new.cursor.rest.now c.take_symbol.new.self.rest.now (actual_outline w.made) c.in-Some.field-0
+    w.read c.in-Some.ensures
 
 pub actual_list-loop-actuals-preserved : goal.actual_list-loop-actuals-preserved
 actual_list-loop-actuals-preserved t c =
+    let w = was_put actual_outline (spec.actual (expression_below c.args.levels) c.loop-actuals.cursor.rest.now) c.actual.result c.actual.new.cursor
+    c.loop-actuals.actuals.items c.put.new.list.items c.actual.ensures c.in_ok-put.ensures in
     list_goes actual_outline symbol.Comma (spec.actual (expression_below c.args.levels)) c.loop-actuals.actuals.items c.loop-actuals.invariant
-    c.in_ok-actual.actual c.push.new.self.items c.in_ok-push.ensures.items c.actual.new.cursor.rest.now c.in_ok-actual.ensures
+    w.made c.put.new.list.items w.behind c.actual.new.cursor.rest.now w.read
     (actual_no_more (expression_below c.args.levels) (below_no_more c.args.levels)) c.in-Some.field-0 c.take_symbol.new.self.rest.now c.in-Some.ensures
 
 pub actual_list-returns-in_default : goal.actual_list-returns-in_default
 actual_list-returns-in_default t c =
+    let w = was_put actual_outline (spec.actual (expression_below c.args.levels) c.loop-actuals.cursor.rest.now) c.actual.result c.actual.new.cursor
+    c.loop-actuals.actuals.items c.put.new.list.items c.actual.ensures c.in_ok-put.ensures in
     list_ends actual_outline symbol.Comma (spec.actual (expression_below c.args.levels)) c.loop-actuals.actuals.items c.loop-actuals.invariant
-    c.in_ok-actual.actual c.push.new.self.items c.in_ok-push.ensures.items c.actual.new.cursor.rest.now c.in_ok-actual.ensures
-    c.take_symbol.new.self.rest.now c.in_default.ensures
+    w.made c.put.new.list.items w.behind c.actual.new.cursor.rest.now w.read c.take_symbol.new.self.rest.now c.in_default.ensures
