@@ -1,120 +1,73 @@
--- The operators of a chain that are read one by one: what was read of them, and what is left.
-use Rattle.std.proofs.Common.{◌≡◌, ℕ, List, [], ◌∷◌, ◌++◌, Result, Ok, Err, MatchResult, subst, sym, ap, ◌∙◌, refl, arith}
+-- The operators of a chain that were read so far, each with the operand behind it.
+use Rattle.std.proofs.Common.{◌≡◌, ℕ, ◌<◌, List, [], ◌∷◌, ◌++◌, length, map, Some, None, Ok, Err, sym, ap, subst, ◌∙◌, append-nil}
+use Rattle.std.proofs.lemmas.List.{map-append}
 use Rattle.place.specs.declared.Place.{Place}
 use Rattle.lexer.specs.declared.token.Token.{Token}
-use Rattle.token_cursor.specs.declared.refusal.Refusal.{Refusal}
-use Rattle.token_cursor.specs.declared.cursor.Cursor.{Cursor}
-use Rattle.token_cursor.specs.declared.operator.Level.{Level}
-use Rattle.syntax_tree.specs.declared.Operator.{Operator}
-use Rattle.syntax_tree.specs.declared.Expr.{Expr}
 use Rattle.syntax_tree.specs.declared.Link.{Link}
-use Rattle.syntax_tree.specs.declared.Expr.TheViews.{roll-Link}
+use Rattle.syntax_tree.specs.declared.Operator.{Operator}
+use Rattle.reading.specs.declared.refusal.Refusal.{Refusal}
+use Rattle.reading.specs.Outline as form
+use Rattle.reading.specs.Outline.{Outline}
+use Rattle.reading.specs.Reading.{and_then, choose, loop, more, ends, pure, ◌>>=◌, operator_taken}
+use Rattle.reading.specs.Expressions.{link_turn}
+use Rattle.reading.specs.Trees.{link_outline}
+use Rattle.reading.proofs.Uses.{NeverMore, factor_no_more, link_uses, term_no_more}
 use Rattle.token_cursor.specs.Level.{level_number}
-use Rattle.grammar.specs.WellFormed.{first_level, operand_level}
-use Rattle.grammar.specs.Following.{Ends, NoOperator}
-use Rattle.expression_parser.specs.Reading.{Stops, ReadsDeep}
-use Rattle.expression_parser.specs.Rules.{Read, ReadLinks, LinksEnd, missed, related, LinksGoOn}
-use Rattle.grammar.specs.Begins.{BeginsExpr, BeginsLinks}
-use Rattle.grammar.proofs.Chains.{Chain, chain_parts, goes_on, chain_ends, LinksLeft, links_begin}
-use Rattle.expression_parser.proofs.ExactChains.{level_is, first_answer, operand_answer, chain_behind, links_left}
-use Rattle.expression_parser.proofs.Rules.{links_go_on, gives-Alone}
+use Rattle.token_cursor.specs.declared.operator.Level.{Level}
+use Rattle.token_cursor.specs.declared.operator.Level.TheVariants.{Sum, Product}
+use Rattle.token_cursor.proofs.Turns.{Turns, turns_go, turns_end, turns_stop}
+use Rattle.expression_parser.specs.Levels.{links, operand, turn_of}
 
--- these operators were read, and each that may stand there go on so
-pub record LinksRead (level : Level) (levels : ℕ) (start now : Cursor) (links : List Link) : Type 0 where
-  pub so_far : Read (BeginsLinks (level_number level) levels) start now links
-  pub left : LinksLeft (level_number level) links start.rest.now now.rest.now
-  pub none : links ≡ [] → now ≡ start
+operand_no_more : (level : Level) (levels : ℕ) → NeverMore (operand level levels)
+operand_no_more Sum levels = term_no_more levels
+operand_no_more Product levels = factor_no_more levels
 
--- before the first
-pub links_first : (level : Level) (levels : ℕ) (a : Cursor) (links : List Link) → links ≡ [] → LinksRead level levels a a links
-links_first level levels a links none = record {
-  so_far = subst (λ xs. Read (BeginsLinks (level_number level) levels) a a xs) (sym none)
-      (record { spelled = refl; formed = refl; few = λ _. omega arith; nests = omega arith });
-  left = links_begin (level_number level) links a.rest.now none;
-  none = λ _. refl;
-}
+module _ (level : Level) (levels : ℕ) (tokens : List Token) where
+  -- a turn by the operator that was taken
+  turn_is : (o : Operator) (place : Place) (mid : List Token) → operator_taken (level_number level) tokens ≡ Ok (Some (o, place), mid)
+      → turn_of level levels tt tokens ≡ and_then (operand level levels mid) (λ x. pure (more tt (form.link o place x)))
+  unfolding link_turn
+  turn_is o place mid e =
+      ap (λ r. and_then r (λ found. choose found (λ o. operand level levels >>= (λ x. pure (more tt (form.link o.0 o.1 x)))) (pure (ends tt)))) e
 
-grown_some : (rest grown : List Link) (l : Link) → grown ≡ rest ++ l ∷ [] → grown ≡ [] → ⊥
-grown_some [] grown l e none = cc
-grown_some (x ∷ xs) grown l e none = cc
+  turn_ends : (others : List Token) → operator_taken (level_number level) tokens ≡ Ok (None, others) → turn_of level levels tt tokens ≡ Ok (ends tt, others)
+  unfolding link_turn
+  turn_ends others e =
+      ap (λ r. and_then r (λ found. choose found (λ o. operand level levels >>= (λ x. pure (more tt (form.link o.0 o.1 x)))) (pure (ends tt)))) e
 
--- one more operator with its operand
-pub links_more : (level : Level) (levels : ℕ) (a b c d : Cursor) (rest grown : List Link) (o : Operator) (p : Place) (operand : Expr)
-    → LinksRead level levels a b rest → LinksGoOn level rest b c o p → Read (BeginsExpr (operand_level (level_number level)) levels) c d operand
-    → ReadsDeep levels (BeginsExpr (operand_level (level_number level))) (Ends (operand_level (level_number level))) c d (Ok operand)
-    → grown ≡ rest ++ roll-Link (record { operator = o; place = p; operand = operand }) ∷ [] → LinksRead level levels a d grown
-links_more level levels a b c d rest grown o p operand read on given reads is = record {
-  so_far = links_go_on (level_number level) levels a b c d rest grown o p operand on.alike read.so_far on.few on.spelled given is;
-  left = links_left (level_number level) levels rest grown o p a.rest.now b c d operand (level_is level) on.alike on.spelled reads read.left;
-  none = λ e. absurd (grown_some rest grown (roll-Link (record { operator = o; place = p; operand = operand })) is e);
-}
+  module _ (o : Operator) (place : Place) (mid : List Token) (taken : operator_taken (level_number level) tokens ≡ Ok (Some (o, place), mid)) where
+    turn_more : (x : Outline) (others : List Token) → operand level levels mid ≡ Ok (x, others)
+        → turn_of level levels tt tokens ≡ Ok (more tt (form.link o place x), others)
+    turn_more x others e = turn_is o place mid taken ∙ ap (λ r. and_then r (λ x. pure (more tt (form.link o place x)))) e
 
--- the fault of an operand is theirs
-pub operand_stops : (level : Level) (levels : ℕ) (a b c d : Cursor) (rest : List Link) (o : Operator) (p : Place) (fault : Refusal)
-    → LinksRead level levels a b rest → LinksGoOn level rest b c o p
-    → ReadsDeep {A = Expr} {B = Expr} levels (BeginsExpr (operand_level (level_number level))) (Ends (operand_level (level_number level))) c d (Err fault)
-    → (depth : ℕ) (links : List Link) (others : List Token) → BeginsLinks (level_number level) depth a.rest.now others links → Ends (level_number level) others
-    → Stops levels depth fault
-operand_stops level levels a b c d rest o p fault read on reads depth links others h ends =
-    operand_answer (level_number level) levels depth c d others (Err fault) (level_is level)
-    (goes_on (level_number level) depth o p b.rest.now c.rest.now others on.alike on.spelled ends (read.left depth links others h ends).chain) ends reads
+    pub link_fewer : (x : Outline) (others : List Token) → operand level levels mid ≡ Ok (x, others) → length others < length tokens
+    link_fewer x others e =
+        link_uses (level_number level) (operand level levels) (operand_no_more level levels) tt tt (form.link o place x) tokens others
+        (turn_more x others e)
 
--- where none was taken they end
-pub links_end : (level : Level) (levels : ℕ) (a b c : Cursor) (rest : List Link) → LinksRead level levels a b rest → LinksEnd level rest b c
-    → (depth : ℕ) (links : List Link) (others : List Token) → BeginsLinks (level_number level) depth a.rest.now others links → Ends (level_number level) others
-    → c.rest.now ≡ others
-links_end level levels a b c rest read (missed same none) depth links others h ends =
-    ap (λ (k : Cursor). k.rest.now) same ∙ chain_ends (level_number level) depth b.rest.now others none (read.left depth links others h ends).chain
-links_end level levels a b c rest read (related same z some) depth links others h ends = ap (λ (k : Cursor). k.rest.now) same
-    ∙ (read.left depth links others h ends).last z some
+    module _ (old : List Token) (made : List Link) (so_far : Turns (links level levels old) (map link_outline made) (loop (turn_of level levels) tt tokens))
+      where
+        -- one link more
+        pub links_go : (x : Outline) (others : List Token) → operand level levels mid ≡ Ok (x, others) → (l : Link) (after : List Link)
+            → after ≡ made ++ l ∷ [] → link_outline l ≡ form.link o place x
+            → Turns (links level levels old) (map link_outline after) (loop (turn_of level levels) tt others)
+        links_go x others e l after grown is =
+            subst (λ front. Turns (links level levels old) front (loop (turn_of level levels) tt others))
+            (sym (ap (map link_outline) grown ∙ map-append link_outline made (l ∷ []) ∙ ap (λ y. map link_outline made ++ y ∷ []) is))
+            (turns_go (turn_of level levels) so_far (link_uses (level_number level) (operand level levels) (operand_no_more level levels)) tt
+            (form.link o place x) others (turn_more x others e))
 
--- and then they were read
-pub links_given : (level : Level) (levels : ℕ) (a b c : Cursor) (rest : List Link) → LinksRead level levels a b rest → LinksEnd level rest b c
-    → ReadLinks level levels a c rest
-links_given level levels a b c rest read (missed same none) = record {
-  begun = subst (λ k. Read (BeginsLinks (level_number level) levels) a k rest) (sym same) read.so_far;
-  none = λ e. subst (λ (k : Cursor). NoOperator (level_number level) k.rest.now) (read.none e) none;
-}
-links_given level levels a b c rest read (related same z some) = record {
-  begun = subst (λ k. Read (BeginsLinks (level_number level) levels) a k rest) (sym same) read.so_far;
-  none = λ e. absurd (some e);
-}
+        -- an operand that stops
+        pub links_stop : (why : Refusal) (others : List Token) → operand level levels mid ≡ Err (why, others)
+            → links level levels old ≡ Err (why, others)
+        links_stop why others e =
+            turns_stop (turn_of level levels) so_far (why, others)
+            (turn_is o place mid taken ∙ ap (λ r. and_then r (λ x. pure (more tt (form.link o place x)))) e)
 
--- the fault of the first operand is the chain's
-first_stops : (level : Level) (levels : ℕ) (a b : Cursor) (fault : Refusal)
-    → ReadsDeep {A = Expr} {B = Expr} levels (BeginsExpr (first_level (level_number level))) (Ends (first_level (level_number level))) a b (Err fault)
-    → (depth : ℕ) (e : Expr) (others : List Token) → BeginsExpr (level_number level) depth a.rest.now others e → Ends (level_number level) others
-    → Stops levels depth fault
-first_stops level levels a b fault reads depth e others h ends =
-    first_answer (level_number level) levels depth a b others (Err fault) (level_is level)
-    (chain_parts (level_number level) depth a.rest.now others e (level_is level) h) ends reads
-
--- where no operator comes behind it the chain ends
-first_alone : (level : Level) (levels : ℕ) (a b : Cursor) (first : Expr)
-    → ReadsDeep levels (BeginsExpr (first_level (level_number level))) (Ends (first_level (level_number level))) a b (Ok first)
-    → NoOperator (level_number level) b.rest.now
-    → (depth : ℕ) (e : Expr) (others : List Token) → BeginsExpr (level_number level) depth a.rest.now others e → Ends (level_number level) others
-    → b.rest.now ≡ others
-first_alone level levels a b first reads none depth e others h ends =
-    chain_ends (level_number level) depth b.rest.now others none (chain_behind (level_number level) levels depth a b first e others
-    (level_is level) reads h ends)
-
--- the answer of the first operand is the chain's
-pub alone_given : (P : Refusal → Type 0) (level levels : ℕ) (a b : Cursor) (found : Result Expr Refusal)
-    → MatchResult found (Read (BeginsExpr (first_level level) levels) a b) P → MatchResult found (Read (BeginsExpr level levels) a b) P
-alone_given P level levels a b (Ok first) h = gives-Alone level levels a b first h
-alone_given P level levels a b (Err fault) h = h
-
-pub alone_exact : (level : Level) (levels : ℕ) (a b : Cursor) (found : Result Expr Refusal)
-    → ReadsDeep levels (BeginsExpr (first_level (level_number level))) (Ends (first_level (level_number level))) a b found
-    → NoOperator (level_number level) b.rest.now → ReadsDeep levels (BeginsExpr (level_number level)) (Ends (level_number level)) a b found
-alone_exact level levels a b (Ok first) reads none = first_alone level levels a b first reads none
-alone_exact level levels a b (Err fault) reads none = first_stops level levels a b fault reads
-
--- where an operator comes behind it more of the chain comes
-pub chain_from : (level : Level) (levels depth : ℕ) (a b : Cursor) (found : Result Expr Refusal) (first e : Expr) (others : List Token) → found ≡ Ok first
-    → ReadsDeep levels (BeginsExpr (first_level (level_number level))) (Ends (first_level (level_number level))) a b found
-    → BeginsExpr (level_number level) depth a.rest.now others e → Ends (level_number level) others → Chain (level_number level) depth b.rest.now others
-chain_from level levels depth a b found first e others is reads h ends =
-    chain_behind (level_number level) levels depth a b first e others (level_is level)
-    (subst (λ r. ReadsDeep levels (BeginsExpr (first_level (level_number level))) (Ends (first_level (level_number level))) a b r) is reads) h ends
+  -- no link more
+  pub links_end : (old : List Token) (made : List Link) → Turns (links level levels old) (map link_outline made) (loop (turn_of level levels) tt tokens)
+      → (others : List Token) → operator_taken (level_number level) tokens ≡ Ok (None, others)
+      → links level levels old ≡ Ok ((map link_outline made, tt), others)
+  links_end old made so_far others e =
+      turns_end (turn_of level levels) so_far tt others (turn_ends others e)
+      ∙ ap (λ xs. Ok ((xs, tt), others)) (append-nil (map link_outline made))

@@ -1,12 +1,5 @@
-pub mod Actuals
+pub mod Built
 pub mod Chains
-pub mod Deep
-pub mod Exact
-pub mod ExactActuals
-pub mod ExactChains
-pub mod ExactExpressions
-pub mod Kept
-pub mod Lists
-pub mod Reading
-pub mod Rules
+pub mod Named
+pub mod Parentheses
 pub mod Selectors

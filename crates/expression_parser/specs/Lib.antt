@@ -1,6 +1,3 @@
-pub mod Deep
-pub mod Kept
-pub mod Reading
-pub mod Refusing
-pub mod Rules
+pub mod Built
+pub mod Levels
 pub mod Selecting

@@ -1,61 +1,46 @@
--- What the rules of selectors read from one state to the next, and what they answer where selectors come.
--- This doesn't say how selectors are spelled: see Spelling in grammar.
-use Rattle.std.specs.Prelude.{◌≡◌, ℕ, ◌+◌, Bool, true, false, List, [], ◌∷◌, ◌++◌, map, Option, Some, None, Result}
-use Rattle.std.specs.Prelude.{MatchResult}
-use Rattle.lexer.specs.declared.token.Token.{Token}
+-- What a turn of the rule of selectors makes: a selector, whose index expression, if it has one, is put behind those of
+-- the selectors before it.
+-- This doesn't say how selectors are read: see Expressions in reading.
+use Rattle.std.specs.Prelude.{◌≡◌, Bool, true, false, List, [], ◌∷◌, ◌++◌, Option, Some, None, Result, Ok, Err}
+use Rattle.place.specs.declared.Place.{Place}
 use Rattle.syntax_tree.specs.declared.Expr.{Expr}
 use Rattle.syntax_tree.specs.declared.Selector.{Selector}
 use Rattle.syntax_tree.specs.declared.Selector.TheVariants.{Index, Field}
-use Rattle.grammar.specs.Spelling.{expr_spelling, joined, selector_spelling}
-use Rattle.grammar.specs.Following.{NoSelector}
-use Rattle.grammar.specs.Begins.{MaySelect, BeginsSelectorsIn, SelectorsThen}
+use Rattle.reading.specs.declared.refusal.Refusal.{Refusal}
+use Rattle.reading.specs.declared.refusal.Refusal.TheVariants.{Memory}
+use Rattle.reading.specs.Lexemes.{identifier}
+use Rattle.reading.specs.Outline as form
+use Rattle.reading.specs.Outline.{Outline}
+use Rattle.reading.specs.Trees.{expr_outline}
+use Rattle.reading.specs.Reading.{Outcome, Turn, more, ends}
 use Rattle.token_cursor.specs.declared.cursor.Cursor.{Cursor}
-use Rattle.token_cursor.specs.declared.refusal.Refusal.{Refusal}
-use Rattle.token_cursor.specs.Cursor.{Took}
-use Rattle.expression_parser.specs.Reading.{Stops}
 
 -- whether a selector is an index, behind which its brackets are open
 abbrev pub is_index : Selector → Bool
 is_index (Index place joined) = true
 is_index (Field name) = false
 
--- no selectors that may stand here begin, nor their end, by whether brackets are open
-abbrev pub NoSelectors : Bool → Cursor → Type 0
-NoSelectors within old =
-    (levels : ℕ) (found : List Selector × List Expr) (others : List Token)
-    → BeginsSelectorsIn within levels old.rest.now others found → NoSelector others → ⊥
+-- an index behind a comma, or behind its opening bracket, by whether brackets are open before it
+abbrev pub index_outline : Bool → Bool → Place → Outline → Outline
+index_outline within true place index = form.joined_index within place index
+index_outline within false place index = form.index within place index
 
--- how many levels are opened where an index is one too deep: one of them before, where brackets are open
-abbrev pub least_opened : Bool → ℕ → ℕ
-least_opened true levels = levels
-least_opened false levels = levels + 1
+-- a selector is made, or the end of the selectors
+abbrev pub Selects : Bool → Outcome (Turn Bool Outline Outline) → Result (Option Selector) Refusal → Cursor
+    → List Expr → List Expr → Type 0
+Selects within outcome (Ok None) new before after =
+    (outcome ≡ Ok (ends (form.closing within), new.rest.now)) × (after ≡ before)
+Selects within outcome (Ok (Some (Field name))) new before after =
+    (outcome ≡ Ok (more false (form.field within (identifier name)), new.rest.now)) × (after ≡ before)
+Selects within outcome (Ok (Some (Index place joined))) new before after =
+    (index : Expr) × (after ≡ before ++ index ∷ [])
+    × (outcome ≡ Ok (more true (index_outline within joined place (expr_outline index)), new.rest.now))
+Selects within outcome (Err why) new before after = (¬ (why ≡ Memory)) → outcome ≡ Err (why, new.rest.now)
 
--- a selector was read, and its index expression stands behind the others: with the selectors behind it, it makes
--- selectors
-pub record ReadOne (levels : ℕ) (within : Bool) (old new : Cursor) (before after : List Expr)
-    (selector : Selector) : Type 0 where
-  pub added : List Expr
-  pub grown : after ≡ before ++ added
-  pub may : MaySelect within (Some selector)
-  pub spelled : Took old new (selector_spelling within selector ++ joined (map expr_spelling added))
-  pub goes_on : (selectors : List Selector) (indexes : List Expr) (others : List Token)
-      → BeginsSelectorsIn (is_index selector) levels new.rest.now others (selectors, indexes)
-      → BeginsSelectorsIn within levels old.rest.now others (selector ∷ selectors, added ++ indexes)
-
--- a selector was read, or the end of the selectors
-abbrev pub ReadSelector : ℕ → Bool → Cursor → Cursor → List Expr → List Expr → Option Selector → Type 0
-ReadSelector levels within old new before after None =
-    (after ≡ before) × BeginsSelectorsIn within levels old.rest.now new.rest.now ([], [])
-ReadSelector levels within old new before after (Some selector) = ReadOne levels within old new before after selector
-
--- behind a selector others are left, and behind the end none
-abbrev pub SelectorsGoOn : ℕ → Cursor → List Token → Option Selector → Type 0
-SelectorsGoOn depth new others None = new.rest.now ≡ others
-SelectorsGoOn depth new others (Some selector) = SelectorsThen (is_index selector) depth new.rest.now others
-
--- where selectors come, of whatever depth, their first is read, or their end, or the rule stops
-abbrev pub ReadsSelector : ℕ → Bool → Cursor → Cursor → Result (Option Selector) Refusal → Type 0
-ReadsSelector levels within old new answer =
-    (depth : ℕ) (found : List Selector × List Expr) (others : List Token)
-    → BeginsSelectorsIn within depth old.rest.now others found → NoSelector others
-    → MatchResult answer (SelectorsGoOn depth new others) (Stops levels depth)
+-- an index is made behind the token that begins it
+abbrev pub SelectsIndex : Outcome Outline → Place → Bool → Result (Option Selector) Refusal → Cursor
+    → List Expr → List Expr → Type 0
+SelectsIndex outcome place joined (Ok found) new before after =
+    (found ≡ Some (Index place joined)) × (index : Expr) × (after ≡ before ++ index ∷ [])
+    × (outcome ≡ Ok (expr_outline index, new.rest.now))
+SelectsIndex outcome place joined (Err why) new before after = (¬ (why ≡ Memory)) → outcome ≡ Err (why, new.rest.now)

@@ -1,75 +1,57 @@
-ghost use Rattle.std.specs.Prelude.{◌≡◌, ◌+◌, MatchResult, IfSome, IfNone, Some};
-ghost use Rattle.expression_parser.specs.Refusing.{Refused};
-ghost use Rattle.token_cursor.specs.Level.{level_number};
-ghost use Rattle.grammar.specs.Following.{next_kind, Ends, EndsActual, Closes, NoNext, NoSelector};
-ghost use Rattle.expression_parser.specs.Reading.{ReadsDeep};
-ghost use Rattle.expression_parser.specs.Rules.{Read, ReadLinks, LinksEnd, LinksGoOn};
-ghost use Rattle.grammar.specs.Begins.{BeginsExpr, BeginsActual, BeginsActualList, BeginsActuals, BeginsLinks};
-ghost use Rattle.grammar.specs.Begins.{BeginsIndex, BeginsSelectors};
-ghost use Rattle.expression_parser.specs.Selecting.{is_index, ReadSelector, ReadsSelector, least_opened};
-ghost use Rattle.grammar.specs.WellFormed.{first_level, operand_level, signed_level, factor_level, relation_level};
+ghost use Rattle.std.specs.Prelude.{◌≡◌};
+ghost use Rattle.reading.specs.Expressions as spec;
+ghost use Rattle.reading.specs.Expressions.{expression_below, factor_below};
+ghost use Rattle.reading.specs.Reading.{separated};
+ghost use Rattle.reading.specs.Trees.{actual_outline, expr_outline};
+ghost use Rattle.token_cursor.specs.Cursor.{Makes};
+ghost use Rattle.expression_parser.specs.Built.{actuals_outlines, links_turns, selectors_outlines};
+ghost use Rattle.expression_parser.specs.Levels.{chain_of};
+ghost use Rattle.expression_parser.specs.Levels as level_spec;
+ghost use Rattle.expression_parser.specs.Selecting.{is_index, Selects, SelectsIndex};
 
-use crate::memory::{boxed, put};
-use crate::selector::next_selector;
+use crate::build;
 use lexer::token::{Kind, Symbol, Word};
 use place::Place;
+use reading::refusal::Refusal;
 use std::alloc::Global;
-use syntax_tree::{Actual, Expr, Link, Operator, Selector};
+use syntax_tree::{Actual, Expr, Link, Selector};
 use token_cursor::cursor::Cursor;
+use token_cursor::memory::put;
 use token_cursor::nesting::inside;
 use token_cursor::operator::Level;
-use token_cursor::refusal::Refusal;
 
-// expression = simple [relation simple]
-// simple = signed {("+" | "-" | "or") term}
-// term = factor {("*" | "div" | "mod" | "and") factor}
-/// An expression, a simple expression or a term, by the level of its operators (6.7.1). Below it
-/// `levels` levels are left.
+/// An expression (6.7.1), below which `levels` levels are left.
 #[cycle(expression)]
+#[tactic(auto, unfolding(reading::specs::Expressions::relation_of))]
 pub fn expression<'a>(
+    alloc: Global,
+    cursor: &mut Cursor<'_, 'a>,
+    levels: u32,
+) -> Result<Expr<'a>, Refusal>
+    ensures { Makes expr_outline (spec.expression levels cursor.old.rest.now) result cursor.new }
+{
+    let left = chain(alloc, cursor, levels, Level::Sum)?;
+    let Some((operator, place)) = cursor.take_relational() else {
+        return Ok(left);
+    };
+    let right = chain(alloc, cursor, levels, Level::Sum);
+    build::relation(alloc, left, operator, place, right)
+}
+
+/// A simple expression or a term, by the level of its operators (6.7.1).
+#[cycle(expression)]
+#[tactic(auto, unfolding(reading::specs::Expressions::chain))]
+fn chain<'a>(
     alloc: Global,
     cursor: &mut Cursor<'_, 'a>,
     levels: u32,
     level: Level,
 ) -> Result<Expr<'a>, Refusal>
-    ensures given { MatchResult result
-        (Read (BeginsExpr (level_number level) levels) cursor.old cursor.new) (Refused (levels + 1) cursor.old) }
-    ensures exact { ReadsDeep levels (BeginsExpr (level_number level)) (Ends (level_number level))
-        cursor.old cursor.new result }
+    ensures { Makes expr_outline (chain_of level levels cursor.old.rest.now) result cursor.new }
 {
-    let found = first_operand(alloc, cursor, levels, level);
-    if !cursor.has_operator(level) {
-        return found;
-    }
-    let first = boxed(alloc, found)?;
+    let first = first_operand(alloc, cursor, levels, level)?;
     let rest = links(alloc, cursor, levels, level)?;
-    Ok(Expr::Chain { first, rest })
-}
-
-/// The operators of this level that come next, each with the operand behind it.
-#[cycle(expression)]
-fn links<'a>(
-    alloc: Global,
-    cursor: &mut Cursor<'_, 'a>,
-    levels: u32,
-    level: Level,
-) -> Result<Vec<Link<'a>>, Refusal>
-    ensures given { MatchResult result
-        (λ found. ReadLinks level levels cursor.old cursor.new found.items) (Refused (levels + 1) cursor.old) }
-    ensures exact { ReadsDeep levels (BeginsLinks (level_number level)) (Ends (level_number level))
-        cursor.old cursor.new result }
-{
-    // Most chains have one operator.
-    let mut links = Vec::with_capacity(alloc, 1)?;
-    while let Some((operator, place)) = next_operator(cursor, level, &links) {
-        let operand = operand(alloc, cursor, levels, level)?;
-        links.push(Link {
-            operator,
-            place,
-            operand,
-        })?;
-    }
-    Ok(links)
+    build::chain(alloc, first, rest)
 }
 
 /// The first operand of a chain of this level.
@@ -80,14 +62,9 @@ fn first_operand<'a>(
     levels: u32,
     level: Level,
 ) -> Result<Expr<'a>, Refusal>
-    ensures given { MatchResult result
-        (Read (BeginsExpr (first_level (level_number level)) levels) cursor.old cursor.new)
-        (Refused (levels + 1) cursor.old) }
-    ensures exact { ReadsDeep levels (BeginsExpr (first_level (level_number level)))
-        (Ends (first_level (level_number level))) cursor.old cursor.new result }
+    ensures { Makes expr_outline (level_spec.first_operand level levels cursor.old.rest.now) result cursor.new }
 {
     match level {
-        Level::Relation => expression(alloc, cursor, levels, Level::Sum),
         Level::Sum => signed(alloc, cursor, levels),
         Level::Product => factor(alloc, cursor, levels),
     }
@@ -101,44 +78,52 @@ fn operand<'a>(
     levels: u32,
     level: Level,
 ) -> Result<Expr<'a>, Refusal>
-    ensures given { MatchResult result
-        (Read (BeginsExpr (operand_level (level_number level)) levels) cursor.old cursor.new)
-        (Refused (levels + 1) cursor.old) }
-    ensures exact { ReadsDeep levels (BeginsExpr (operand_level (level_number level)))
-        (Ends (operand_level (level_number level))) cursor.old cursor.new result }
+    ensures { Makes expr_outline (level_spec.operand level levels cursor.old.rest.now) result cursor.new }
 {
     match level {
-        Level::Relation => expression(alloc, cursor, levels, Level::Sum),
-        Level::Sum => expression(alloc, cursor, levels, Level::Product),
+        Level::Sum => chain(alloc, cursor, levels, Level::Product),
         Level::Product => factor(alloc, cursor, levels),
     }
 }
 
-// signed = [sign] term
+/// The operators of this level that come next, each with the operand behind it.
 #[cycle(expression)]
-fn signed<'a>(alloc: Global, cursor: &mut Cursor<'_, 'a>, levels: u32) -> Result<Expr<'a>, Refusal>
-    ensures given { MatchResult result
-        (Read (BeginsExpr signed_level levels) cursor.old cursor.new) (Refused (levels + 1) cursor.old) }
-    ensures exact { ReadsDeep levels (BeginsExpr signed_level) (Ends signed_level)
-        cursor.old cursor.new result }
+fn links<'a>(
+    alloc: Global,
+    cursor: &mut Cursor<'_, 'a>,
+    levels: u32,
+    level: Level,
+) -> Result<Vec<Link<'a>>, Refusal>
+    ensures { Makes links_turns (level_spec.links level levels cursor.old.rest.now) result cursor.new }
 {
-    match cursor.take_sign() {
-        None => expression(alloc, cursor, levels, Level::Product),
-        Some((sign, place)) => Ok(Expr::Signed {
-            sign,
+    let mut links = Vec::new(alloc);
+    while let Some((operator, place)) = cursor.take_operator(level) {
+        let operand = operand(alloc, cursor, levels, level)?;
+        links.push(Link {
+            operator,
             place,
-            term: boxed(alloc, expression(alloc, cursor, levels, Level::Product))?,
-        }),
+            operand,
+        })?;
     }
+    Ok(links)
 }
 
-// factor = number | string | named | "not" factor | parenthesized
 #[cycle(expression)]
+#[tactic(auto, unfolding(reading::specs::Expressions::signed))]
+fn signed<'a>(alloc: Global, cursor: &mut Cursor<'_, 'a>, levels: u32) -> Result<Expr<'a>, Refusal>
+    ensures { Makes expr_outline (spec.signed (spec.term levels) cursor.old.rest.now) result cursor.new }
+{
+    let Some((sign, place)) = cursor.take_sign() else {
+        return chain(alloc, cursor, levels, Level::Product);
+    };
+    let term = chain(alloc, cursor, levels, Level::Product);
+    build::signed(alloc, sign, place, term)
+}
+
+#[cycle(expression)]
+#[tactic(auto, using(crate::proofs::Built::built_expressions), unfolding(reading::specs::Expressions::any_factor))]
 fn factor<'a>(alloc: Global, cursor: &mut Cursor<'_, 'a>, levels: u32) -> Result<Expr<'a>, Refusal>
-    ensures given { MatchResult result
-        (Read (BeginsExpr factor_level levels) cursor.old cursor.new) (Refused (levels + 1) cursor.old) }
-    ensures exact { ReadsDeep levels (BeginsExpr factor_level) (Ends factor_level)
-        cursor.old cursor.new result }
+    ensures { Makes expr_outline (spec.factor levels cursor.old.rest.now) result cursor.new }
 {
     if let Some((value, place)) = cursor.take_number() {
         return Ok(Expr::Number { value, place });
@@ -149,23 +134,34 @@ fn factor<'a>(alloc: Global, cursor: &mut Cursor<'_, 'a>, levels: u32) -> Result
     if let Some(Kind::Identifier) = cursor.peek() {
         return named(alloc, cursor, levels);
     }
-    let Some(place) = cursor.take_word(Word::Not) else {
-        return parenthesized(alloc, cursor, levels);
-    };
-    let levels = inside(levels, cursor.place())?;
-    let operand = boxed(alloc, factor(alloc, cursor, levels))?;
-    Ok(Expr::Not { place, operand })
+    match cursor.take_word(Word::Not) {
+        Some(place) => negated(alloc, cursor, levels, place),
+        None => parenthesized(alloc, cursor, levels),
+    }
 }
 
-// named = name (selectors | actuals)
+/// The operand of a `not` at a place, which is a level of its own.
+#[cycle(expression)]
+#[tactic(auto, unfolding(reading::specs::Expressions::negated))]
+fn negated<'a>(
+    alloc: Global,
+    cursor: &mut Cursor<'_, 'a>,
+    levels: u32,
+    place: Place,
+) -> Result<Expr<'a>, Refusal>
+    ensures { Makes expr_outline (spec.negated (expression_below levels) (factor_below levels) place
+        cursor.old.rest.now) result cursor.new }
+{
+    let levels = inside(levels, cursor.place())?;
+    let operand = factor(alloc, cursor, levels);
+    build::negated(alloc, place, operand)
+}
+
 /// A variable, a constant or the call of a function (6.5.1, 6.3, 6.7.3).
 #[cycle(expression)]
+#[tactic(auto, using(crate::proofs::Built::built_expressions), unfolding(reading::specs::Expressions::named))]
 fn named<'a>(alloc: Global, cursor: &mut Cursor<'_, 'a>, levels: u32) -> Result<Expr<'a>, Refusal>
-    ensures given { MatchResult result
-        (Read (BeginsExpr factor_level levels) cursor.old cursor.new) (Refused (levels + 1) cursor.old) }
-    ensures exact { next_kind cursor.old.rest.now ≡ Some Kind.Identifier →
-        ReadsDeep levels (BeginsExpr factor_level) (Ends factor_level)
-        cursor.old cursor.new result }
+    ensures { Makes expr_outline (spec.named (expression_below levels) cursor.old.rest.now) result cursor.new }
 {
     let name = cursor.expect_name()?;
     let (selectors, indexes) = selectors(alloc, cursor, levels)?;
@@ -183,19 +179,15 @@ fn named<'a>(alloc: Global, cursor: &mut Cursor<'_, 'a>, levels: u32) -> Result<
     Ok(Expr::Call { name, actuals })
 }
 
-// selectors = {"[" index {"," index} "]" | "." name}
-/// The selectors of a variable, and the index expressions of those that are an index; below the variable `levels`
-/// levels are left (6.5.3).
+/// The selectors of a variable (6.5.3), and the index expressions of those that are an index.
 #[cycle(expression)]
 pub fn selectors<'a>(
     alloc: Global,
     cursor: &mut Cursor<'_, 'a>,
     levels: u32,
 ) -> Result<(Vec<Selector<'a>>, Vec<Expr<'a>>), Refusal>
-    ensures given { MatchResult result
-        (λ found. Read (BeginsSelectors levels) cursor.old cursor.new (found.0.items, found.1.items))
-        (Refused (levels + 1) cursor.old) }
-    ensures exact { ReadsDeep levels BeginsSelectors NoSelector cursor.old cursor.new result }
+    ensures { Makes selectors_outlines (spec.selectors (expression_below levels) cursor.old.rest.now)
+        result cursor.new }
 {
     let mut selectors = Vec::new(alloc);
     let mut indexes = Vec::new(alloc);
@@ -217,82 +209,124 @@ fn selector<'a>(
     within: bool,
     indexes: &mut Vec<Expr<'a>>,
 ) -> Result<Option<Selector<'a>>, Refusal>
-    ensures given { MatchResult result
-        (ReadSelector levels within cursor.old cursor.new indexes.old.items indexes.new.items)
-        (Refused (least_opened within levels) cursor.old) }
-    ensures exact { ReadsSelector levels within cursor.old cursor.new result }
+    ensures { Selects within (spec.selector (expression_below levels) within cursor.old.rest.now) result cursor.new
+        indexes.old.items indexes.new.items }
 {
-    match next_selector(cursor, within)? {
-        Some(Selector::Index { place, joined }) => {
-            put(indexes, index(alloc, cursor, levels))?;
-            Ok(Some(Selector::Index { place, joined }))
-        }
-        Some(Selector::Field(name)) => Ok(Some(Selector::Field(name))),
-        None => Ok(None),
+    if !within {
+        return unjoined(alloc, cursor, levels, within, indexes);
     }
+    if let Some(place) = cursor.take_symbol(Symbol::Comma) {
+        return index_selector(alloc, cursor, levels, place, true, indexes);
+    }
+    cursor.expect_symbol(Symbol::CloseBracket)?;
+    unjoined(alloc, cursor, levels, within, indexes)
+}
+
+/// The selector that comes next, if one does, where no index goes on in open brackets.
+#[cycle(expression)]
+#[tactic(auto, unfolding(reading::specs::Expressions::unjoined))]
+fn unjoined<'a>(
+    alloc: Global,
+    cursor: &mut Cursor<'_, 'a>,
+    levels: u32,
+    within: bool,
+    indexes: &mut Vec<Expr<'a>>,
+) -> Result<Option<Selector<'a>>, Refusal>
+    ensures { Selects within (spec.unjoined (expression_below levels) within cursor.old.rest.now) result cursor.new
+        indexes.old.items indexes.new.items }
+{
+    if let Some(place) = cursor.take_symbol(Symbol::OpenBracket) {
+        return index_selector(alloc, cursor, levels, place, false, indexes);
+    }
+    let Some(_) = cursor.take_symbol(Symbol::Period) else {
+        return Ok(None);
+    };
+    let name = cursor.expect_name()?;
+    Ok(Some(Selector::Field(name)))
+}
+
+/// A selector that is an index: where it begins and whether it is joined to the index before it, and its index
+/// expression, which is put behind the others.
+#[cycle(expression)]
+fn index_selector<'a>(
+    alloc: Global,
+    cursor: &mut Cursor<'_, 'a>,
+    levels: u32,
+    place: Place,
+    joined: bool,
+    indexes: &mut Vec<Expr<'a>>,
+) -> Result<Option<Selector<'a>>, Refusal>
+    ensures { SelectsIndex (spec.index (expression_below levels) cursor.old.rest.now) place joined result cursor.new
+        indexes.old.items indexes.new.items }
+{
+    put(indexes, index(alloc, cursor, levels))?;
+    Ok(Some(Selector::Index { place, joined }))
 }
 
 /// An index expression, which is a level of its own.
 #[cycle(expression)]
+#[tactic(auto, unfolding(reading::specs::Expressions::index))]
 fn index<'a>(alloc: Global, cursor: &mut Cursor<'_, 'a>, levels: u32) -> Result<Expr<'a>, Refusal>
-    ensures given { MatchResult result (Read (BeginsIndex levels) cursor.old cursor.new) (Refused levels cursor.old) }
-    ensures exact { ReadsDeep levels BeginsIndex (Ends relation_level) cursor.old cursor.new result }
+    ensures { Makes expr_outline (spec.index (expression_below levels) cursor.old.rest.now) result cursor.new }
 {
-    let levels = inside(levels, cursor.place())?;
-    expression(alloc, cursor, levels, Level::Relation)
+    let place = cursor.place();
+    below(alloc, cursor, levels, place)
 }
 
-// parenthesized = "(" expression ")"
+/// An expression that is a level of its own, which begins at a place.
 #[cycle(expression)]
+fn below<'a>(
+    alloc: Global,
+    cursor: &mut Cursor<'_, 'a>,
+    levels: u32,
+    place: Option<Place>,
+) -> Result<Expr<'a>, Refusal>
+    ensures { Makes expr_outline (expression_below levels place cursor.old.rest.now) result cursor.new }
+{
+    let levels = inside(levels, place)?;
+    expression(alloc, cursor, levels)
+}
+
+#[cycle(expression)]
+#[tactic(auto, unfolding(reading::specs::Expressions::parenthesized))]
 fn parenthesized<'a>(
     alloc: Global,
     cursor: &mut Cursor<'_, 'a>,
     levels: u32,
 ) -> Result<Expr<'a>, Refusal>
-    ensures given { MatchResult result
-        (Read (BeginsExpr factor_level levels) cursor.old cursor.new) (Refused (levels + 1) cursor.old) }
-    ensures exact { next_kind cursor.old.rest.now ≡ Some (Kind.Symbol Symbol.OpenParenthesis) →
-        ReadsDeep levels (BeginsExpr factor_level) (Ends factor_level)
-        cursor.old cursor.new result }
+    ensures { Makes expr_outline (spec.parenthesized (expression_below levels) cursor.old.rest.now) result cursor.new }
 {
     let open = cursor.expect_symbol(Symbol::OpenParenthesis)?;
-    let levels = inside(levels, Some(open))?;
-    let inner = boxed(alloc, expression(alloc, cursor, levels, Level::Relation))?;
-    cursor.expect_symbol(Symbol::CloseParenthesis)?;
-    Ok(Expr::Parenthesized { open, inner })
+    let inner = below(alloc, cursor, levels, Some(open));
+    let inner = cursor.followed_by(inner, Kind::Symbol(Symbol::CloseParenthesis));
+    build::parenthesized(alloc, open, inner)
 }
 
-// actuals = ["(" actual_list ")"]
-/// The actual parameters of a call, below which `levels` levels are left (6.7.3).
+/// The actual parameters of a call (6.7.3).
 #[cycle(expression)]
+#[tactic(auto, unfolding(reading::specs::Expressions::actuals))]
 pub fn actuals<'a>(
     alloc: Global,
     cursor: &mut Cursor<'_, 'a>,
     levels: u32,
 ) -> Result<Vec<Actual<'a>>, Refusal>
-    ensures given { MatchResult result
-        (λ found. Read (BeginsActuals levels) cursor.old cursor.new found.items) (Refused (levels + 1) cursor.old) }
-    ensures exact { ReadsDeep levels BeginsActuals (NoNext (Kind.Symbol Symbol.OpenParenthesis))
-        cursor.old cursor.new result }
+    ensures { Makes actuals_outlines (spec.actuals (expression_below levels) cursor.old.rest.now) result cursor.new }
 {
     let Some(_) = cursor.take_symbol(Symbol::OpenParenthesis) else {
         return Ok(Vec::new(alloc));
     };
-    let actuals = actual_list(alloc, cursor, levels)?;
-    cursor.expect_symbol(Symbol::CloseParenthesis)?;
-    Ok(actuals)
+    let actuals = actual_list(alloc, cursor, levels);
+    cursor.followed_by(actuals, Kind::Symbol(Symbol::CloseParenthesis))
 }
 
-// actual_list = actual {"," actual}
 #[cycle(expression)]
 fn actual_list<'a>(
     alloc: Global,
     cursor: &mut Cursor<'_, 'a>,
     levels: u32,
 ) -> Result<Vec<Actual<'a>>, Refusal>
-    ensures given { MatchResult result
-        (λ found. Read (BeginsActualList levels) cursor.old cursor.new found.items) (Refused levels cursor.old) }
-    ensures exact { ReadsDeep levels BeginsActualList Closes cursor.old cursor.new result }
+    ensures { Makes actuals_outlines (separated Symbol.Comma (spec.actual (expression_below levels))
+        cursor.old.rest.now) result cursor.new }
 {
     // Most lists have one parameter.
     let mut actuals = Vec::with_capacity(alloc, 1)?;
@@ -304,22 +338,20 @@ fn actual_list<'a>(
     }
 }
 
-// actual = expression [":" expression]
 #[cycle(expression)]
+#[tactic(auto, unfolding(reading::specs::Expressions::actual))]
 fn actual<'a>(
     alloc: Global,
     cursor: &mut Cursor<'_, 'a>,
     levels: u32,
 ) -> Result<Actual<'a>, Refusal>
-    ensures given { MatchResult result (Read (BeginsActual levels) cursor.old cursor.new) (Refused levels cursor.old) }
-    ensures exact { ReadsDeep levels BeginsActual EndsActual cursor.old cursor.new result }
+    ensures { Makes actual_outline (spec.actual (expression_below levels) cursor.old.rest.now) result cursor.new }
 {
-    let levels = inside(levels, cursor.place())?;
-    let value = expression(alloc, cursor, levels, Level::Relation)?;
+    let value = index(alloc, cursor, levels)?;
     let Some(_) = cursor.take_symbol(Symbol::Colon) else {
         return Ok(Actual { value, width: None });
     };
-    let width = expression(alloc, cursor, levels, Level::Relation)?;
+    let width = index(alloc, cursor, levels)?;
     Ok(Actual {
         value,
         width: Some(width),
@@ -331,20 +363,4 @@ fn is_index(selector: &Selector<'_>) -> bool
     ensures { result ≡ is_index selector.now }
 {
     matches!(selector, Selector::Index { .. })
-}
-
-/// Takes an operator of this level behind these, if one is next. A relation has one alone.
-fn next_operator(
-    cursor: &mut Cursor<'_, '_>,
-    level: Level,
-    links: &[Link<'_>],
-) -> Option<(Operator, Place)>
-    ensures ended { IfNone result (LinksEnd level links.now cursor.old cursor.new) }
-    ensures goes_on { IfSome result
-        (λ found. LinksGoOn level links.now cursor.old cursor.new found.0 found.1) }
-{
-    if level == Level::Relation && !links.is_empty() {
-        return None;
-    }
-    cursor.take_operator(level)
 }

@@ -118,7 +118,9 @@ fn answers_any_list(rt: HostRuntime) -> Result<(), Fail> {
 }
 
 #[test]
-fn the_law_is_called(_rt: HostRuntime) -> Result<(), Fail> {
-    grammar::tokens_have_one_tree();
+fn the_laws_are_called(_rt: HostRuntime) -> Result<(), Fail> {
+    reading::laws::read_is_spelled();
+    reading::laws::spelled_is_read();
+    reading::laws::tokens_have_one_tree();
     Ok(())
 }

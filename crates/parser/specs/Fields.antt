@@ -1,24 +1,14 @@
--- What the rules of record types read from one state to the next.
--- This doesn't say when a rule refuses its tokens: see Reading.
-use Rattle.std.specs.Prelude.{◌≡◌, ℕ, List, length, Bool}
+-- The fields of a record, kept as two rows: the names, and the type denoter behind each.
+-- This doesn't say how they are read: see Declarations in reading.
+use Rattle.std.specs.Prelude.{List, map}
 use Rattle.std.specs.declared.alloc.Global.{Global}
 use Rattle.std.specs.declared.vec.Vec.{Vec}
-use Rattle.place.specs.declared.Place.{Place}
+use Rattle.syntax_tree.specs.Places.{fields_of}
 use Rattle.syntax_tree.specs.declared.Name.{Name}
 use Rattle.syntax_tree.specs.declared.TypeDenoter.{TypeDenoter}
-use Rattle.syntax_tree.specs.Places.{fields_of}
-use Rattle.token_cursor.specs.declared.cursor.Cursor.{Cursor}
-use Rattle.grammar.specs.Begins.{BeginsFields, BeginsRecord}
-use Rattle.expression_parser.specs.Rules.{Read}
+use Rattle.reading.specs.Outline.{Outline}
+use Rattle.reading.specs.Trees.{fields_outline, denoter_outline}
 
--- the fields of a record were read up to its `end`, each denoter with a row of names
-pub record ReadFields (levels : ℕ) (old new : Cursor) (rows : List (Vec Name Global)) (denoters : List TypeDenoter)
-    (last : Bool) : Type 0 where
-  pub each : length rows ≡ length denoters
-  pub begun : Read (BeginsFields levels) old new (fields_of rows denoters, last)
-
--- a record type behind `packed` was read so
-pub record ReadRecord (levels : ℕ) (old new : Cursor) (place : Place) (rows : List (Vec Name Global))
-    (denoters : List TypeDenoter) (last : Bool) : Type 0 where
-  pub each : length rows ≡ length denoters
-  pub begun : Read (BeginsRecord levels) old new (place, fields_of rows denoters, last)
+-- how the fields of a record look
+abbrev pub fields_look : List (Vec Name Global) → List TypeDenoter → List Outline
+fields_look names denoters = map fields_outline (fields_of names (map denoter_outline denoters))

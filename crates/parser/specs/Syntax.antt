@@ -1,20 +1,19 @@
 -- Which tree a list of tokens has, and why it has none (ISO 7185:1990, 6.2 to 6.10).
--- This doesn't say at which token a list goes wrong, nor whether P1 or P2 is told of a list that has no tree however
--- deep.
-use Rattle.std.specs.Prelude.{◌≡◌, ℕ, ◌≤◌, List, IsTrue, Option, Some, None, Result, MatchResult}
+-- This doesn't say what a rule makes of tokens: see Declarations in reading.
+use Rattle.std.specs.Prelude.{◌≡◌, ℕ, ◌-◌, ◌≤◌, List, [], length, IsTrue, Option, Some, None, Result, Ok, Err}
+use Rattle.std.specs.Prelude.{MatchResult}
 use Rattle.place.specs.declared.Place.{Place}
 use Rattle.lexer.specs.declared.token.Token.{Token}
 use Rattle.token_cursor.specs.declared.fault.ParseFault.{ParseFault}
 use Rattle.token_cursor.specs.declared.fault.ParseFault.TheVariants.{Memory, NoProgram, TooDeep, LeftOut}
-use Rattle.token_cursor.specs.declared.refusal.Refusal.{Refusal}
-use Rattle.token_cursor.specs.declared.refusal.Refusal.TheVariants as refusal
 use Rattle.syntax_tree.specs.declared.Program.{Program}
-use Rattle.grammar.specs.Spelling.{Spells, program_spelling}
-use Rattle.grammar.specs.WellFormed.{is_program}
-use Rattle.grammar.specs.Nesting.{nesting}
+use Rattle.reading.specs.declared.refusal.Refusal.TheVariants as refusal
+use Rattle.reading.specs.Declarations.{program}
+use Rattle.reading.specs.Deep.{OpensUpTo}
+use Rattle.reading.specs.Lexemes.{Spells}
+use Rattle.reading.specs.Trees.{program_outline, program_spelling, is_program, nesting}
 use Rattle.token_cursor.specs.LeftOut.{first_left_out}
-use Rattle.token_cursor.specs.Refusal.{place_at, place_or_end}
-use Rattle.expression_parser.specs.Deep.{OpensUpTo}
+use Rattle.token_cursor.specs.ParseFault.{place_at, place_or_end}
 
 -- how deep a program may nest
 abbrev pub most : ℕ
@@ -33,12 +32,6 @@ HasNoTree tokens = (tree : Program) → ¬ IsTreeOf tree tokens
 -- the tokens have no tree, however deep it nests
 abbrev pub HasNoTreeAtAll : List Token → Type 0
 HasNoTreeAtAll tokens = (tree : Program) → IsTrue (is_program tree) → ¬ Spells tokens (program_spelling tree)
-
--- memory ran out, or there is no tree, or each is too deep
-abbrev pub IsRefused : List Token → Refusal → Type 0
-IsRefused tokens refusal.Memory = Unit {0}
-IsRefused tokens refusal.NoProgram = HasNoTreeAtAll tokens
-IsRefused tokens (refusal.TooDeep place) = HasNoTree tokens
 
 -- one of the tokens stands at the place, or the last ends just before it
 abbrev pub StandsAt : List Token → Place → Type 0
@@ -68,3 +61,16 @@ IsDeep least tokens fault = (place : Place) → fault ≡ TooDeep place → Open
 -- an exact answer: a tree of the tokens, or a fault of theirs
 abbrev pub Answers : Result Program ParseFault → List Token → Type 0
 Answers answer tokens = MatchResult answer (λ tree. IsTreeOf tree tokens) (λ fault. IsFaultOf fault tokens)
+
+-- What is read: the tree, as it looks, with nothing left; or why the rule of a program stops. P1 is told at the first
+-- of the tokens that it leaves, with which no rule goes on, and P2 where the nesting passes the limit.
+abbrev pub IsReadAs : Result Program ParseFault → List Token → Type 0
+IsReadAs (Ok tree) tokens = program most tokens ≡ Ok (program_outline tree, [])
+IsReadAs (Err Memory) tokens = Unit {0}
+IsReadAs (Err (LeftOut place)) tokens = Unit {0}
+IsReadAs (Err (NoProgram place)) tokens =
+    (left : List Token) × (program most tokens ≡ Err (refusal.NoProgram, left))
+    × (place ≡ place_at tokens (length tokens - length left))
+IsReadAs (Err (TooDeep place)) tokens =
+    (at : Option Place) × (left : List Token) × (program most tokens ≡ Err (refusal.TooDeep at, left))
+    × (place ≡ place_or_end tokens at)

@@ -1,42 +1,39 @@
-ghost use Rattle.std.specs.Prelude.{◌≡◌, ◌-◌, [], ◌∷◌, true, false, MatchBool, MatchResult};
-ghost use Rattle.expression_parser.specs.Reading.{ReadsDeep};
-ghost use Rattle.expression_parser.specs.Refusing.{Refused};
-ghost use Rattle.expression_parser.specs.Rules.{Read};
-ghost use Rattle.grammar.specs.Begins.{BeginsBody, BeginsRoutine, BeginsRoutines, BeginsBlock};
-ghost use Rattle.grammar.specs.Following.{NoForward, BeginsRoutinePart, BeginsStatementPart, Anything};
-ghost use Rattle.grammar.specs.Spelling.{forward};
-ghost use Rattle.token_cursor.specs.Cursor.{Took};
+ghost use Rattle.std.specs.Prelude.{◌≡◌, if◌then◌else◌, map, None, Some};
+ghost use Rattle.std.specs.Option.{option_map};
+ghost use Rattle.reading.specs.Declarations as spec;
+ghost use Rattle.reading.specs.Reading.{next_kind};
+ghost use Rattle.reading.specs.Trees.{block_outline, body_outline, routine_outline};
+ghost use Rattle.token_cursor.specs.Cursor.{Makes, Takes};
+ghost use Rattle.parser.specs.Blocks.{block_below, may_take_forward};
+ghost use Rattle.parser.specs.Built.{compound_outlines};
 
-use crate::constants::constants;
 use crate::headings::{heading, takes_directive};
-use crate::types::types;
-use crate::variables::variables;
-use expression_parser::memory::put;
+use crate::lists::{block_part, is_next};
+use crate::statement::compound;
 use lexer::token::{Kind, Symbol, Word};
-use statement_parser::statement::compound;
+use place::Place;
+use reading::refusal::Refusal;
 use std::alloc::Global;
-use syntax_tree::{Block, Routine};
+use syntax_tree::{Block, Routine, Stmt};
 use token_cursor::cursor::Cursor;
+use token_cursor::memory::put;
 use token_cursor::nesting::inside;
-use token_cursor::refusal::Refusal;
 
-// block = constants types variables routines compound
 /// A block (6.2.1), below which `levels` levels are left.
 #[cycle(block)]
+#[tactic(auto, using(crate::proofs::Blocks::parts_of_blocks), unfolding(reading::specs::Declarations::block_of))]
 pub(crate) fn block<'a>(
     alloc: Global,
     cursor: &mut Cursor<'_, 'a>,
     levels: u32,
 ) -> Result<Block<'a>, Refusal>
-    ensures given { MatchResult result (Read (BeginsBlock levels) cursor.old cursor.new) (Refused levels cursor.old) }
-    ensures exact { ReadsDeep levels BeginsBlock Anything cursor.old cursor.new result }
+    ensures { Makes block_outline (spec.block levels cursor.old.rest.now) result cursor.new }
 {
-    let constants = constants(alloc, cursor)?;
-    let types = types(alloc, cursor, levels)?;
-    let variables = variables(alloc, cursor, levels)?;
+    let constants = block_part(alloc, cursor, levels, Word::Const)?;
+    let types = block_part(alloc, cursor, levels, Word::Type)?;
+    let variables = block_part(alloc, cursor, levels, Word::Var)?;
     let routines = routines(alloc, cursor, levels)?;
-    let levels = inside(levels, cursor.place())?;
-    let (statements, end) = compound(alloc, cursor, levels)?;
+    let (statements, end) = statement_part(alloc, cursor, levels)?;
     Ok(Block {
         constants,
         types,
@@ -47,7 +44,19 @@ pub(crate) fn block<'a>(
     })
 }
 
-// routines = {routine}
+/// The compound statement of a block below which `levels` levels are left: its statements, and its `end`.
+#[tactic(auto, using(crate::proofs::Blocks::statement_part_at))]
+fn statement_part<'a>(
+    alloc: Global,
+    cursor: &mut Cursor<'_, 'a>,
+    levels: u32,
+) -> Result<(Vec<Stmt<'a>>, Place), Refusal>
+    ensures { Makes compound_outlines (spec.statement_part levels cursor.old.rest.now) result cursor.new }
+{
+    let levels = inside(levels, cursor.place())?;
+    compound(alloc, cursor, levels)
+}
+
 /// The declarations of procedures and functions (6.6), in a block below which `levels` levels are left.
 #[cycle(block)]
 fn routines<'a>(
@@ -55,9 +64,8 @@ fn routines<'a>(
     cursor: &mut Cursor<'_, 'a>,
     levels: u32,
 ) -> Result<Vec<Routine<'a>>, Refusal>
-    ensures given { MatchResult result (λ found. Read (BeginsRoutines levels) cursor.old cursor.new found.items)
-        (Refused levels cursor.old) }
-    ensures exact { ReadsDeep levels BeginsRoutines BeginsStatementPart cursor.old cursor.new result }
+    ensures { Makes (λ found. map routine_outline found.items) (spec.routines (block_below levels) cursor.old.rest.now)
+        result cursor.new }
 {
     let mut routines = Vec::new(alloc);
     while begins_routine(cursor) {
@@ -68,45 +76,40 @@ fn routines<'a>(
 
 /// Whether a procedure or function comes next.
 fn begins_routine(cursor: &Cursor<'_, '_>) -> bool
-    ensures { MatchBool result (BeginsRoutinePart cursor.now.rest.now) (¬ BeginsRoutinePart cursor.now.rest.now) }
+    ensures { result ≡ spec.begins_routine (next_kind cursor.now.rest.now) }
 {
-    matches!(
-        cursor.peek(),
-        Some(Kind::Word(Word::Procedure | Word::Function))
-    )
+    is_next(cursor, Kind::Word(Word::Procedure)) || is_next(cursor, Kind::Word(Word::Function))
 }
 
-// routine = heading body ";"
 /// The declaration of a procedure (6.6.1) or function (6.6.2).
 #[cycle(block)]
+#[tactic(auto, using(crate::proofs::Blocks::built_routine), unfolding(reading::specs::Declarations::routine))]
 fn routine<'a>(
     alloc: Global,
     cursor: &mut Cursor<'_, 'a>,
     levels: u32,
 ) -> Result<Routine<'a>, Refusal>
-    ensures given { MatchResult result (Read (BeginsRoutine levels) cursor.old cursor.new)
-        (Refused levels cursor.old) }
-    ensures exact { ReadsDeep levels BeginsRoutine Anything cursor.old cursor.new result }
+    ensures { Makes routine_outline (spec.routine (block_below levels) cursor.old.rest.now) result cursor.new }
 {
     let heading = heading(alloc, cursor)?;
-    let block = body(alloc, cursor, levels, takes_directive(&heading))?;
+    let directive = takes_directive(&heading);
+    let block = body(alloc, cursor, levels, directive)?;
     cursor.expect_symbol(Symbol::Semicolon)?;
     Ok(Routine { heading, block })
 }
 
-// body = "forward" | block
 /// The block of a procedure or function, or none where `forward` stands in its place, which it may
 /// where `directive` says so.
 #[cycle(block)]
+#[tactic(auto, using(crate::proofs::Blocks::below_at), unfolding(reading::specs::Declarations::body))]
 fn body<'a>(
     alloc: Global,
     cursor: &mut Cursor<'_, 'a>,
     levels: u32,
     directive: bool,
 ) -> Result<Option<Block<'a>>, Refusal>
-    ensures given { MatchResult result (Read (BeginsBody directive levels) cursor.old cursor.new)
-        (Refused (levels - 1) cursor.old) }
-    ensures exact { ReadsDeep levels (BeginsBody directive) Anything cursor.old cursor.new result }
+    ensures { Makes (λ block. body_outline directive (option_map block_outline block))
+        (spec.body (block_below levels) directive cursor.old.rest.now) result cursor.new }
 {
     if stands_forward(cursor, directive) {
         return Ok(None);
@@ -117,9 +120,7 @@ fn body<'a>(
 
 /// Whether `forward` comes next where it may stand, which is taken.
 fn stands_forward(cursor: &mut Cursor<'_, '_>, directive: bool) -> bool
-    ensures given { MatchBool result ((directive ≡ true) × Took cursor.old cursor.new (forward ∷ []))
-        (cursor.new ≡ cursor.old) }
-    ensures missed { result ≡ false → directive ≡ true → NoForward cursor.old.rest.now }
+    ensures { Takes (may_take_forward directive) cursor.old (if result then Some tt else None) cursor.new }
 {
     directive && cursor.take_forward()
 }

@@ -1,59 +1,93 @@
-ghost use Rattle.std.specs.Prelude.{MatchResult};
-ghost use Rattle.expression_parser.specs.Reading.{ReadsEach};
-ghost use Rattle.expression_parser.specs.Refusing.{IsPlain};
-ghost use Rattle.expression_parser.specs.Rules.{Read};
-ghost use Rattle.grammar.specs.Begins.{BeginsDefinition, BeginsDefinitions, BeginsConstantPart};
-ghost use Rattle.grammar.specs.Following.{NoNext, EndsConstants, Anything};
+ghost use Rattle.std.specs.Prelude.{◌≡◌, map, Ok};
+ghost use Rattle.reading.specs.Declarations.{definition};
+ghost use Rattle.reading.specs.Statements as spec;
+ghost use Rattle.reading.specs.Trees.{constant_outline, definition_outline, sign_outline};
+ghost use Rattle.token_cursor.specs.Cursor.{Makes};
+ghost use Rattle.parser.specs.Built.{constants_outlines};
+ghost use Rattle.parser.specs.Constants.{signed};
 
-use expression_parser::memory::put;
-use lexer::token::{Kind, Symbol, Word};
-use statement_parser::constant::constant;
+use crate::lists::{Item, Part, enclosed};
+use lexer::token::Symbol;
+use reading::refusal::Refusal;
 use std::alloc::Global;
-use syntax_tree::ConstantDefinition;
+use syntax_tree::{Constant, ConstantDefinition, ConstantValue, SignAt};
 use token_cursor::cursor::Cursor;
-use token_cursor::refusal::Refusal;
 
-// constants = ["const" definitions]
-/// The constant definition part of a block (6.2.1), which may be left out.
-pub(crate) fn constants<'a>(
-    alloc: Global,
-    cursor: &mut Cursor<'_, 'a>,
-) -> Result<Vec<ConstantDefinition<'a>>, Refusal>
-    ensures given { MatchResult result (λ found. Read BeginsConstantPart cursor.old cursor.new found.items) IsPlain }
-    ensures exact { ReadsEach BeginsConstantPart EndsConstants cursor.old cursor.new result }
-{
-    let Some(_) = cursor.take_word(Word::Const) else {
-        return Ok(Vec::new(alloc));
-    };
-    definitions(alloc, cursor)
-}
+/// The definition of a constant (6.3).
+impl<'a> Item<'a> for ConstantDefinition<'a> {
+    ghost look = { definition_outline };
 
-// definitions = definition {definition}
-fn definitions<'a>(
-    alloc: Global,
-    cursor: &mut Cursor<'_, 'a>,
-) -> Result<Vec<ConstantDefinition<'a>>, Refusal>
-    ensures given { MatchResult result (λ found. Read BeginsDefinitions cursor.old cursor.new found.items) IsPlain }
-    ensures exact { ReadsEach BeginsDefinitions (NoNext Kind.Identifier) cursor.old cursor.new result }
-{
-    let mut definitions = Vec::new(alloc);
-    loop {
-        put(&mut definitions, definition(cursor))?;
-        let Some(Kind::Identifier) = cursor.peek() else {
-            return Ok(definitions);
-        };
+    ghost rule = { λ levels. definition };
+
+    #[tactic(auto, unfolding(reading::specs::Declarations::definition))]
+    fn read(_alloc: Global, cursor: &mut Cursor<'_, 'a>, _levels: u32) -> Result<Self, Refusal> {
+        let name = cursor.expect_name()?;
+        cursor.expect_symbol(Symbol::Equal)?;
+        let value = constant(cursor)?;
+        cursor.expect_symbol(Symbol::Semicolon)?;
+        Ok(ConstantDefinition { name, value })
     }
 }
 
-// definition = name "=" constant ";"
-/// The definition of a constant (6.3).
-fn definition<'a>(cursor: &mut Cursor<'_, 'a>) -> Result<ConstantDefinition<'a>, Refusal>
-    ensures given { MatchResult result (Read BeginsDefinition cursor.old cursor.new) IsPlain }
-    ensures exact { ReadsEach BeginsDefinition Anything cursor.old cursor.new result }
+impl<'a> Part<'a> for Constant<'a> {
+    ghost look = { constant_outline };
+
+    ghost rule = { spec.constant };
+
+    fn read(_alloc: Global, cursor: &mut Cursor<'_, 'a>) -> Result<Self, Refusal> {
+        constant(cursor)
+    }
+}
+
+/// The constants before an arm of a case (6.8.3.5), and their colon.
+#[tactic(auto, using(crate::proofs::Parts::constant_leaves), unfolding(reading::specs::Statements::row))]
+pub(crate) fn row<'a>(
+    alloc: Global,
+    cursor: &mut Cursor<'_, 'a>,
+) -> Result<Vec<Constant<'a>>, Refusal>
+    ensures { Makes constants_outlines (spec.row cursor.old.rest.now) result cursor.new }
 {
+    enclosed(alloc, cursor, Symbol::Comma, Symbol::Colon)
+}
+
+/// A constant (6.3): a string, or a number or a name with a sign or none.
+#[tactic(auto, unfolding(reading::specs::Statements::constant))]
+pub(crate) fn constant<'a>(cursor: &mut Cursor<'_, 'a>) -> Result<Constant<'a>, Refusal>
+    ensures { Makes constant_outline (spec.constant cursor.old.rest.now) result cursor.new }
+{
+    if let Some((text, place)) = cursor.take_string() {
+        return Ok(Constant {
+            sign: None,
+            value: ConstantValue::String { text, place },
+        });
+    }
+    let sign = sign(cursor);
+    signed(cursor, sign)
+}
+
+/// The sign that comes next, if one does.
+#[tactic(auto, unfolding(reading::specs::Statements::sign))]
+fn sign(cursor: &mut Cursor<'_, '_>) -> Option<SignAt>
+    ensures { spec.sign cursor.old.rest.now ≡ Ok (sign_outline result, cursor.new.rest.now) }
+{
+    let (sign, place) = cursor.take_sign()?;
+    Some(SignAt { sign, place })
+}
+
+/// A number or a name behind this sign.
+#[tactic(auto, unfolding(reading::specs::Statements::value))]
+fn signed<'a>(cursor: &mut Cursor<'_, 'a>, sign: Option<SignAt>) -> Result<Constant<'a>, Refusal>
+    ensures { Makes constant_outline (signed (sign_outline sign) cursor.old.rest.now) result cursor.new }
+{
+    if let Some((value, place)) = cursor.take_number() {
+        return Ok(Constant {
+            sign,
+            value: ConstantValue::Number { value, place },
+        });
+    }
     let name = cursor.expect_name()?;
-    cursor.expect_symbol(Symbol::Equal)?;
-    let value = constant(cursor)?;
-    cursor.expect_symbol(Symbol::Semicolon)?;
-    Ok(ConstantDefinition { name, value })
+    Ok(Constant {
+        sign,
+        value: ConstantValue::Name(name),
+    })
 }

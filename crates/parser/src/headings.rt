@@ -1,26 +1,24 @@
-ghost use Rattle.std.specs.Prelude.{◌≡◌, MatchResult};
-ghost use Rattle.expression_parser.specs.Reading.{ReadsEach};
-ghost use Rattle.expression_parser.specs.Refusing.{IsPlain};
-ghost use Rattle.expression_parser.specs.Rules.{Read};
-ghost use Rattle.grammar.specs.Begins.{BeginsHeading, BeginsSignature};
-ghost use Rattle.grammar.specs.Following.{Next, NoNext, Anything};
-ghost use Rattle.grammar.specs.WellFormed.{takes_directive};
+ghost use Rattle.std.specs.Prelude.{◌≡◌, map};
+ghost use Rattle.reading.specs.Declarations as spec;
+ghost use Rattle.reading.specs.Lexemes.{identifier};
+ghost use Rattle.reading.specs.Trees.{formal_outline, heading_outline, takes_directive};
+ghost use Rattle.token_cursor.specs.Cursor.{Makes};
+ghost use Rattle.parser.specs.Headings.{headed};
 
 use crate::formals::formals;
 use lexer::token::{Kind, Symbol, Word};
+use reading::refusal::Refusal;
 use std::alloc::Global;
 use syntax_tree::{FormalGroup, Heading, Name};
 use token_cursor::cursor::Cursor;
-use token_cursor::refusal::Refusal;
 
-// heading = procedure | function
 /// The heading of a procedure (6.6.1) or of a function (6.6.2), with its semicolon.
+#[tactic(auto, unfolding(reading::specs::Declarations::heading))]
 pub(crate) fn heading<'a>(
     alloc: Global,
     cursor: &mut Cursor<'_, 'a>,
 ) -> Result<Heading<'a>, Refusal>
-    ensures given { MatchResult result (Read BeginsHeading cursor.old cursor.new) IsPlain }
-    ensures exact { ReadsEach BeginsHeading Anything cursor.old cursor.new result }
+    ensures { Makes headed (spec.heading cursor.old.rest.now) result cursor.new }
 {
     match cursor.peek() {
         Some(Kind::Word(Word::Procedure)) => procedure(alloc, cursor),
@@ -28,11 +26,9 @@ pub(crate) fn heading<'a>(
     }
 }
 
-// procedure = "procedure" name formals ";"
+#[tactic(auto, unfolding(reading::specs::Declarations::procedure))]
 fn procedure<'a>(alloc: Global, cursor: &mut Cursor<'_, 'a>) -> Result<Heading<'a>, Refusal>
-    ensures given { MatchResult result (Read BeginsHeading cursor.old cursor.new) IsPlain }
-    ensures exact { Next (Kind.Word Word.Procedure) cursor.old.rest.now
-        → ReadsEach BeginsHeading Anything cursor.old cursor.new result }
+    ensures { Makes headed (spec.procedure cursor.old.rest.now) result cursor.new }
 {
     cursor.expect_word(Word::Procedure)?;
     let name = cursor.expect_name()?;
@@ -41,11 +37,9 @@ fn procedure<'a>(alloc: Global, cursor: &mut Cursor<'_, 'a>) -> Result<Heading<'
     Ok(Heading::Procedure { name, formals })
 }
 
-// function = "function" name (";" | signature)
+#[tactic(auto, unfolding(reading::specs::Declarations::function))]
 fn function<'a>(alloc: Global, cursor: &mut Cursor<'_, 'a>) -> Result<Heading<'a>, Refusal>
-    ensures given { MatchResult result (Read BeginsHeading cursor.old cursor.new) IsPlain }
-    ensures exact { NoNext (Kind.Word Word.Procedure) cursor.old.rest.now
-        → ReadsEach BeginsHeading Anything cursor.old cursor.new result }
+    ensures { Makes headed (spec.function cursor.old.rest.now) result cursor.new }
 {
     cursor.expect_word(Word::Function)?;
     let name = cursor.expect_name()?;
@@ -60,15 +54,14 @@ fn function<'a>(alloc: Global, cursor: &mut Cursor<'_, 'a>) -> Result<Heading<'a
     })
 }
 
-// signature = formals ":" name ";"
 /// The formal parameters of a function, and the name of its result's type.
+#[tactic(auto, unfolding(reading::specs::Declarations::signature))]
 fn signature<'a>(
     alloc: Global,
     cursor: &mut Cursor<'_, 'a>,
 ) -> Result<(Vec<FormalGroup<'a>>, Name<'a>), Refusal>
-    ensures given { MatchResult result
-        (λ found. Read BeginsSignature cursor.old cursor.new (found.0.items, found.1)) IsPlain }
-    ensures exact { ReadsEach BeginsSignature Anything cursor.old cursor.new result }
+    ensures { Makes (λ found. (map formal_outline found.0.items, identifier found.1))
+        (spec.signature cursor.old.rest.now) result cursor.new }
 {
     let formals = formals(alloc, cursor)?;
     cursor.expect_symbol(Symbol::Colon)?;

@@ -1,44 +1,35 @@
-ghost use Rattle.std.specs.Prelude.{MatchResult};
-ghost use Rattle.expression_parser.specs.Reading.{ReadsEach};
-ghost use Rattle.expression_parser.specs.Refusing.{IsPlain};
-ghost use Rattle.expression_parser.specs.Rules.{Read};
-ghost use Rattle.grammar.specs.Begins.{BeginsNames, BeginsFieldNames};
-ghost use Rattle.grammar.specs.Following.{NoNext, Anything};
+ghost use Rattle.std.specs.Prelude.{map};
+ghost use Rattle.reading.specs.Declarations as spec;
+ghost use Rattle.reading.specs.Declarations.{field_names};
+ghost use Rattle.reading.specs.Trees.{name_outline};
+ghost use Rattle.token_cursor.specs.Cursor.{Makes};
 
-use expression_parser::memory::put;
-use lexer::token::{Kind, Symbol};
+use crate::lists::{Part, enclosed};
+use lexer::token::Symbol;
+use reading::refusal::Refusal;
 use std::alloc::Global;
 use syntax_tree::Name;
 use token_cursor::cursor::Cursor;
-use token_cursor::refusal::Refusal;
 
-// names = name {"," name}
-pub(crate) fn names<'a>(
-    alloc: Global,
-    cursor: &mut Cursor<'_, 'a>,
-) -> Result<Vec<Name<'a>>, Refusal>
-    ensures given { MatchResult result (λ found. Read BeginsNames cursor.old cursor.new found.items) IsPlain }
-    ensures exact { ReadsEach BeginsNames (NoNext (Kind.Symbol Symbol.Comma)) cursor.old cursor.new result }
-{
-    let mut names = Vec::new(alloc);
-    loop {
-        put(&mut names, cursor.expect_name())?;
-        let Some(_) = cursor.take_symbol(Symbol::Comma) else {
-            return Ok(names);
-        };
+impl<'a> Part<'a> for Name<'a> {
+    ghost look = { name_outline };
+
+    ghost rule = { spec.name };
+
+    #[tactic(auto, unfolding(reading::specs::Declarations::name))]
+    fn read(_alloc: Global, cursor: &mut Cursor<'_, 'a>) -> Result<Self, Refusal> {
+        cursor.expect_name()
     }
 }
 
-// field_names = names ":"
-/// The names of fields that are declared together (6.4.3.3), and their colon.
+/// The names of fields, variables or formal parameters that are declared together (6.4.3.3, 6.5.1, 6.6.3.1), and their
+/// colon.
+#[tactic(auto, using(crate::proofs::Parts::lists_of_names), unfolding(reading::specs::Declarations::field_names))]
 pub(crate) fn field_names<'a>(
     alloc: Global,
     cursor: &mut Cursor<'_, 'a>,
 ) -> Result<Vec<Name<'a>>, Refusal>
-    ensures given { MatchResult result (λ found. Read BeginsFieldNames cursor.old cursor.new found.items) IsPlain }
-    ensures exact { ReadsEach BeginsFieldNames Anything cursor.old cursor.new result }
+    ensures { Makes (λ found. map name_outline found.items) (field_names cursor.old.rest.now) result cursor.new }
 {
-    let names = names(alloc, cursor)?;
-    cursor.expect_symbol(Symbol::Colon)?;
-    Ok(names)
+    enclosed(alloc, cursor, Symbol::Comma, Symbol::Colon)
 }

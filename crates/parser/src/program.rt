@@ -1,38 +1,34 @@
-ghost use Rattle.std.specs.Prelude.{◌≡◌, IfErr, IfOk, MatchOption, MatchResult, map};
+ghost use Rattle.std.specs.Prelude.{◌≡◌, IfErr, IfOk, MatchOption, map};
 ghost use Rattle.place.specs.Place.{ArePlacesInOrder};
 ghost use Rattle.syntax_tree.specs.Places.{program_places};
-ghost use Rattle.grammar.specs.Laws.{HasOneTree};
-ghost use Rattle.expression_parser.specs.Rules.{Read};
-ghost use Rattle.grammar.specs.Begins.{BeginsParameters};
-ghost use Rattle.expression_parser.specs.Reading.{ReadsEach};
-ghost use Rattle.grammar.specs.Following.{NoNext};
+ghost use Rattle.reading.specs.Declarations as spec;
+ghost use Rattle.reading.specs.Laws.{HasOneTree};
+ghost use Rattle.reading.specs.Trees.{name_outline, program_outline};
+ghost use Rattle.token_cursor.specs.Cursor.{Makes};
 ghost use Rattle.token_cursor.specs.LeftOut.{first_left_out};
-ghost use Rattle.expression_parser.specs.Refusing.{IsPlain, Refused};
-ghost use Rattle.parser.specs.Syntax.{most, Answers, IsDeep, IsOfRules, IsRefused, IsTreeOf};
+ghost use Rattle.parser.specs.Syntax.{most, Answers, IsDeep, IsOfRules, IsReadAs};
 
 use crate::block::block;
-use crate::names::names;
-use lexer::token::{Kind, Symbol, Token, Word};
+use crate::lists::in_parentheses;
+use lexer::token::{Symbol, Token, Word};
+use reading::refusal::Refusal;
 use std::alloc::Global;
 use syntax_tree::{Name, Program};
 use token_cursor::cursor::Cursor;
-use token_cursor::fault::ParseFault;
+use token_cursor::fault::{ParseFault, fault_of};
 use token_cursor::left_out::first_left_out;
 use token_cursor::nesting::MAX_NESTING;
-use token_cursor::refusal::{Refusal, fault_of};
 
-/// The syntax tree that the tokens spell (6.2 to 6.10), its parentheses kept. P3 where a token
-/// stands that only forms left out have: the first of these, before all else. Otherwise P1 at the
-/// first token with which no program goes on, or just past the last, or P2 where the nesting passes
-/// `MAX_NESTING`; nesting alone is never P1. The clauses say of the place of P1 that it is a token's or
-/// just past the last, and of that of P2 that the tokens up to it hold `MAX_NESTING` words or symbols
-/// that open a level, and they let P2 stand where P1 might. No list of tokens has two trees, and where
-/// its places ascend, those of the tree do.
-#[tactic(auto, using(grammar::proofs::OneTreePrograms::one_tree))]
+/// The syntax tree that the tokens spell (6.2 to 6.10), its parentheses kept. P3 where a token stands that only forms
+/// left out have: the first of these, before all else. Otherwise P1 at the first token with which no program goes on,
+/// or just past the last, or P2 where the nesting passes `MAX_NESTING`, whichever comes first as the tokens are read;
+/// nesting alone is never P1. Up to the place of P2 the tokens hold `MAX_NESTING` words or symbols that open a level.
+/// No list of tokens has two trees, and where its places ascend, those of the tree do.
 pub fn parse<'a>(alloc: Global, tokens: &[Token<'a>]) -> Result<Program<'a>, ParseFault>
     ensures left_out { MatchOption (first_left_out tokens.now) (IfErr result IsOfRules)
         (λ place. result ≡ Err (ParseFault.LeftOut place)) }
     ensures exact { Answers result tokens.now }
+    ensures read { IsReadAs result tokens.now }
     ensures one_tree { HasOneTree tokens.now }
     ensures in_order { ArePlacesInOrder (map (λ token. token.place) tokens.now)
         → IfOk result (λ tree. ArePlacesInOrder (program_places tree)) }
@@ -48,18 +44,17 @@ pub fn parse<'a>(alloc: Global, tokens: &[Token<'a>]) -> Result<Program<'a>, Par
     }
 }
 
-// program = "program" name parameters ";" block "."
 /// A program and nothing behind it.
+#[tactic(auto, unfolding(reading::specs::Declarations::program))]
 fn program<'a>(alloc: Global, cursor: &mut Cursor<'_, 'a>) -> Result<Program<'a>, Refusal>
-    ensures given { MatchResult result (λ tree. IsTreeOf tree cursor.old.rest.now) (Refused most cursor.old) }
-    ensures refused { IfErr result (IsRefused cursor.old.rest.now) }
+    ensures { Makes program_outline (spec.program most cursor.old.rest.now) result cursor.new }
 {
     cursor.expect_word(Word::Program)?;
     let name = cursor.expect_name()?;
     let parameters = parameters(alloc, cursor)?;
     cursor.expect_symbol(Symbol::Semicolon)?;
     let block = block(alloc, cursor, MAX_NESTING)?;
-    cursor.stop()?;
+    cursor.expect_period_at_end()?;
     Ok(Program {
         name,
         parameters,
@@ -67,16 +62,9 @@ fn program<'a>(alloc: Global, cursor: &mut Cursor<'_, 'a>) -> Result<Program<'a>
     })
 }
 
-// parameters = ["(" names ")"]
+#[tactic(auto, using(crate::proofs::Parts::lists_of_names), unfolding(reading::specs::Declarations::parameters))]
 fn parameters<'a>(alloc: Global, cursor: &mut Cursor<'_, 'a>) -> Result<Vec<Name<'a>>, Refusal>
-    ensures given { MatchResult result (λ found. Read BeginsParameters cursor.old cursor.new found.items) IsPlain }
-    ensures exact { ReadsEach BeginsParameters (NoNext (Kind.Symbol Symbol.OpenParenthesis))
-        cursor.old cursor.new result }
+    ensures { Makes (λ found. map name_outline found.items) (spec.parameters cursor.old.rest.now) result cursor.new }
 {
-    let Some(_) = cursor.take_symbol(Symbol::OpenParenthesis) else {
-        return Ok(Vec::new(alloc));
-    };
-    let names = names(alloc, cursor)?;
-    cursor.expect_symbol(Symbol::CloseParenthesis)?;
-    Ok(names)
+    in_parentheses(alloc, cursor, Symbol::Comma)
 }

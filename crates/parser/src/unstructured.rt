@@ -1,41 +1,35 @@
-ghost use Rattle.std.specs.Prelude.{◌≡◌, ℕ, MatchOption, MatchResult, None};
-ghost use Rattle.expression_parser.specs.Reading.{ReadsEach};
-ghost use Rattle.expression_parser.specs.Refusing.{IsPlain};
-ghost use Rattle.expression_parser.specs.Rules.{Read};
-ghost use Rattle.grammar.specs.Begins.{BeginsDenoter};
-ghost use Rattle.grammar.specs.Following.{Next, NoNext, NoWord, EndsDenoter};
+ghost use Rattle.std.specs.Prelude.{◌≡◌};
+ghost use Rattle.std.specs.Option.{option_map};
+ghost use Rattle.reading.specs.Declarations.{enumerated, name_or_subrange, name_of};
+ghost use Rattle.reading.specs.Lexemes.{identifier};
+ghost use Rattle.reading.specs.Trees.{constant_outline, denoter_outline};
+ghost use Rattle.token_cursor.specs.Cursor.{Makes};
 
-use crate::names::names;
-use lexer::token::{Kind, Symbol};
-use statement_parser::constant::constant;
+use crate::constants::constant;
+use crate::lists::enclosed;
+use lexer::token::Symbol;
+use reading::refusal::Refusal;
 use std::alloc::Global;
 use syntax_tree::{Constant, ConstantValue, Name, TypeDenoter};
 use token_cursor::cursor::Cursor;
-use token_cursor::refusal::Refusal;
 
-// enumerated = "(" names ")"
-/// An enumerated type (6.4.2.3), which is one level.
+/// An enumerated type (6.4.2.3).
+#[tactic(auto, using(crate::proofs::Denoters::enumerations), unfolding(reading::specs::Declarations::enumerated))]
 pub(crate) fn enumerated<'a>(
     alloc: Global,
     cursor: &mut Cursor<'_, 'a>,
 ) -> Result<TypeDenoter<'a>, Refusal>
-    ensures given { MatchResult result (Read (BeginsDenoter 1) cursor.old cursor.new) IsPlain }
-    ensures exact { Next (Kind.Symbol Symbol.OpenParenthesis) cursor.old.rest.now
-        → (depth : ℕ) → ReadsEach (BeginsDenoter depth) EndsDenoter cursor.old cursor.new result }
+    ensures { Makes denoter_outline (enumerated cursor.old.rest.now) result cursor.new }
 {
     cursor.expect_symbol(Symbol::OpenParenthesis)?;
-    let constants = names(alloc, cursor)?;
-    cursor.expect_symbol(Symbol::CloseParenthesis)?;
+    let constants = enclosed(alloc, cursor, Symbol::Comma, Symbol::CloseParenthesis)?;
     Ok(TypeDenoter::Enumerated { constants })
 }
 
-// name_or_subrange = name | constant ".." constant
-/// A name, or a subrange type (6.4.2.4), which is one level: a name is one alone, another constant
-/// only before `..`.
+/// A name, or a subrange type (6.4.2.4): a name is one alone, another constant only before `..`.
+#[tactic(auto, using(crate::proofs::Denoters::subranges), unfolding(reading::specs::Declarations::name_or_subrange))]
 pub(crate) fn name_or_subrange<'a>(cursor: &mut Cursor<'_, 'a>) -> Result<TypeDenoter<'a>, Refusal>
-    ensures given { MatchResult result (Read (BeginsDenoter 1) cursor.old cursor.new) IsPlain }
-    ensures exact { NoNext (Kind.Symbol Symbol.OpenParenthesis) cursor.old.rest.now → NoWord cursor.old.rest.now
-        → (depth : ℕ) → ReadsEach (BeginsDenoter depth) EndsDenoter cursor.old cursor.new result }
+    ensures { Makes denoter_outline (name_or_subrange cursor.old.rest.now) result cursor.new }
 {
     let first = constant(cursor)?;
     let Some(between) = cursor.take_symbol(Symbol::Range) else {
@@ -52,9 +46,7 @@ pub(crate) fn name_or_subrange<'a>(cursor: &mut Cursor<'_, 'a>) -> Result<TypeDe
 
 /// The name that a constant is, where it is one without a sign.
 fn name_of<'a>(constant: &Constant<'a>) -> Option<Name<'a>>
-    ensures { MatchOption result
-        ((name : Name) → constant.now.sign ≡ None → ¬ (constant.now.value ≡ ConstantValue.Name name))
-        (λ name. (constant.now.sign ≡ None) × (constant.now.value ≡ ConstantValue.Name name)) }
+    ensures { option_map identifier result ≡ name_of (constant_outline constant.now).spelling }
 {
     match constant {
         Constant {

@@ -188,6 +188,9 @@ expect_symbol s = expect (kind.Symbol s)
 abbrev pub expect_name : Reading Lexeme
 expect_name = text_taken kind.Identifier >>= or_refuse
 
+abbrev pub expect_direction : Reading Direction
+expect_direction = direction_taken >>= or_refuse
+
 abbrev pub choose : {A B : Type 0} → Option A → (A → Reading B) → Reading B → Reading B
 choose (Some a) goes_on otherwise = goes_on a
 choose None goes_on otherwise = otherwise

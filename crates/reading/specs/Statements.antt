@@ -13,7 +13,7 @@ use Rattle.reading.specs.Lexemes.{Lexeme, of_kind_at, sign_kind}
 use Rattle.reading.specs.Outline as form
 use Rattle.reading.specs.Outline.{Outline, has_items, nothing, kept}
 use Rattle.reading.specs.Reading.{Reading, ◌>>=◌, ◌>>◌, pure, too_deep, here, peek, on, word_taken, symbol_taken}
-use Rattle.reading.specs.Reading.{text_taken, number_taken, sign_taken, direction_taken, or_refuse, refuse, expect_word}
+use Rattle.reading.specs.Reading.{text_taken, number_taken, sign_taken, refuse, expect_word, expect_direction}
 use Rattle.reading.specs.Reading.{expect_symbol, expect_name, choose, Turn, more, ends, loop, separated}
 use Rattle.reading.specs.Expressions.{expression, expression_below, selectors, actuals}
 
@@ -75,7 +75,7 @@ control = do
 unfoldable pub initial : ℕ → Reading (Outline × Direction)
 initial levels = do
   first ← expression levels
-  direction ← (direction_taken >>= or_refuse)
+  direction ← expect_direction
   pure (first, direction)
 
 -- simple = name selectors ":=" expression | name actuals (6.8.2)

@@ -1,19 +1,23 @@
--- The tokens that a parser has left to read.
--- This doesn't say what a rule reads.
-use Rattle.std.specs.Prelude.{ℕ, List, [], ◌∷◌, length, Option, Some, None}
-use Rattle.place.specs.declared.Place.{Place}
-use Rattle.lexer.specs.declared.token.Token.{Token}
-use Rattle.grammar.specs.Spelling.{Spelling, Reads}
+-- What the functions of a parser make of the tokens that are left to it, each by a reading.
+-- This doesn't say what a reading makes of tokens: see Reading in reading.
+use Rattle.std.specs.Prelude.{◌≡◌, Option, Result, Ok, Err}
+use Rattle.lexer.specs.declared.token.Kind.{Kind}
+use Rattle.reading.specs.declared.refusal.Refusal.{Refusal}
+use Rattle.reading.specs.declared.refusal.Refusal.TheVariants.{Memory}
+use Rattle.reading.specs.Reading.{Outcome, Reading, ◌>>◌, expect, pure}
 use Rattle.token_cursor.specs.declared.cursor.Cursor.{Cursor}
 
--- how many tokens are left
-abbrev pub left : Cursor → ℕ
-left c = length c.rest.now
+-- what is taken from the tokens that are left, if something is, and what is left then
+abbrev pub Takes : {A : Type 0} → Reading (Option A) → Cursor → Option A → Cursor → Type 0
+Takes reading old found new = reading old.rest.now ≡ Ok (found, new.rest.now)
 
--- where the next token stands, if there is one
-abbrev pub place_of_next : Cursor → Option Place
-place_of_next c = elim c.rest.now as (λ _. Option Place) [ [] ↦ None | token ∷ others ↦ Some token.place ]
+-- a form that is made, by how it looks, and what is left then; or why there is none, and where: want of memory, or what
+-- the outcome is
+abbrev pub Makes : {A T : Type 0} → (T → A) → Outcome A → Result T Refusal → Cursor → Type 0
+Makes look outcome (Ok made) new = outcome ≡ Ok (look made, new.rest.now)
+Makes look outcome (Err why) new = (¬ (why ≡ Memory)) → outcome ≡ Err (why, new.rest.now)
 
--- from the old state to the new one the tokens of this spelling were read
-abbrev pub Took : Cursor → Cursor → Spelling → Type 0
-Took old new spelling = Reads old.rest.now spelling new.rest.now
+-- what was made is made still where a token of the kind stands behind it
+abbrev pub IsFollowed : {T : Type 0} → Result T Refusal → Kind → Cursor → Result T Refusal → Cursor → Type 0
+IsFollowed (Ok made) kind old result new = Makes (λ same. same) ((expect kind >> pure made) old.rest.now) result new
+IsFollowed (Err why) kind old result new = (result ≡ Err why) × (new ≡ old)

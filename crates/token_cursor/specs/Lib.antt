@@ -1,5 +1,6 @@
 pub mod Cursor
+pub mod Kept
 pub mod LeftOut
 pub mod Level
 pub mod ParseFault
-pub mod Refusal
+pub mod Rows

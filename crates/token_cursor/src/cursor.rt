@@ -1,27 +1,26 @@
-ghost use Rattle.std.specs.Prelude.{◌≡◌, false, [], ◌∷◌, IfSome, IfOk, ℕ, ◌↔◌, IsTrue, IfErr, IfNone, MatchBool};
-ghost use Rattle.std.specs.Prelude.{MatchResult};
-ghost use Rattle.grammar.specs.Spelling.{IsSpelledBy, forward};
+ghost use Rattle.std.specs.Prelude.{◌≡◌, if◌then◌else◌, Some, None};
+ghost use Rattle.std.specs.Option.{option_map};
+ghost use Rattle.reading.specs.Lexemes.{character_string, identifier};
+ghost use Rattle.reading.specs.Reading as spec;
+ghost use Rattle.reading.specs.Reading.{direction_in, is_forward, next_kind, next_place, same_kind, sign_in};
+ghost use Rattle.token_cursor.specs.Level.{level_number};
 
-use crate::operator::{Level, level_of, operator_of};
-use crate::refusal::Refusal;
+use crate::operator::{Level, level_of, operator_of, relational_at};
 use lexer::token::{Kind, Symbol, Token, Word};
 use place::Place;
-use syntax_tree::{Direction, Name, Operator, Sign};
+use reading::refusal::Refusal;
+use syntax_tree::{Direction, Name, Operator, RelationalOperator, Sign};
 
-/// The tokens that are left to read.
+/// The tokens that are left to read. A rule of `reading` tells what each function makes of them, and what is left then;
+/// where nothing is taken, all are left.
 #[derive(Clone, Copy)]
 pub struct Cursor<'t, 'a> {
     pub rest: &'t [Token<'a>],
 }
 
 impl<'t, 'a> Cursor<'t, 'a> {
-    ghost use Rattle.grammar.specs.Spelling.{of_kind_at, word_symbol, identifier, character_string, sign, operator};
-    ghost use Rattle.grammar.specs.Spelling.{direction_word, forward};
-    ghost use Rattle.grammar.specs.WellFormed.{operator_level};
-    ghost use Rattle.token_cursor.specs.Level.{level_number};
-    ghost use Rattle.token_cursor.specs.Cursor.{place_of_next, Took};
-    ghost use Rattle.grammar.specs.Begins.{Stop};
-    ghost use Rattle.grammar.specs.Following.{next_kind, NoSign, NoOperator, NoForward};
+    ghost use Rattle.reading.specs.Declarations.{period_at_end};
+    ghost use Rattle.token_cursor.specs.Cursor.{IsFollowed, Makes, Takes};
 
     pub fn new(tokens: &'t [Token<'a>]) -> Self
         ensures { result.rest.now ≡ tokens.now }
@@ -41,7 +40,7 @@ impl<'t, 'a> Cursor<'t, 'a> {
 
     /// Where the next token stands, if there is one.
     pub fn place(&self) -> Option<Place>
-        ensures { result ≡ place_of_next self.now }
+        ensures { result ≡ next_place self.now.rest.now }
     {
         match self.rest {
             [] => None,
@@ -50,11 +49,9 @@ impl<'t, 'a> Cursor<'t, 'a> {
     }
 
     /// Takes the next token if it is of this kind, and answers its place.
+    #[tactic(auto, unfolding(reading::specs::Reading::taken))]
     pub fn take(&mut self, kind: Kind) -> Option<Place>
-        ensures kept { IfNone result (self.new ≡ self.old) }
-        ensures missed { IfNone result (¬ (next_kind self.old.rest.now ≡ Some kind)) }
-        ensures spelled { IfSome result
-            (λ place. Took self.old self.new (of_kind_at kind place ∷ [])) }
+        ensures { Takes (spec.taken kind) self.old result self.new }
     {
         match self.rest {
             [token, rest @ ..] if is_of_kind(token, kind) => {
@@ -67,48 +64,46 @@ impl<'t, 'a> Cursor<'t, 'a> {
     }
 
     pub fn take_word(&mut self, word: Word) -> Option<Place>
-        ensures kept { IfNone result (self.new ≡ self.old) }
-        ensures missed { IfNone result (¬ (next_kind self.old.rest.now ≡ Some (Kind.Word word))) }
-        ensures spelled { IfSome result
-            (λ place. Took self.old self.new (of_kind_at (Kind.Word word) place ∷ [])) }
+        ensures { Takes (spec.word_taken word) self.old result self.new }
     {
         self.take(Kind::Word(word))
     }
 
     pub fn take_symbol(&mut self, symbol: Symbol) -> Option<Place>
-        ensures kept { IfNone result (self.new ≡ self.old) }
-        ensures missed { IfNone result (¬ (next_kind self.old.rest.now ≡ Some (Kind.Symbol symbol))) }
-        ensures spelled { IfSome result
-            (λ place. Took self.old self.new (of_kind_at (Kind.Symbol symbol) place ∷ [])) }
+        ensures { Takes (spec.symbol_taken symbol) self.old result self.new }
     {
         self.take(Kind::Symbol(symbol))
     }
 
     pub fn expect_word(&mut self, word: Word) -> Result<Place, Refusal>
-        ensures kept { IfErr result
-            (λ refusal. (self.new ≡ self.old) × (refusal ≡ Refusal.NoProgram)) }
-        ensures missed { IfErr result (λ _. ¬ (next_kind self.old.rest.now ≡ Some (Kind.Word word))) }
-        ensures spelled { IfOk result
-            (λ place. Took self.old self.new (of_kind_at (Kind.Word word) place ∷ [])) }
+        ensures { Makes (λ place. place) (spec.expect_word word self.old.rest.now) result self.new }
     {
         self.take_word(word).ok_or(Refusal::NoProgram)
     }
 
     pub fn expect_symbol(&mut self, symbol: Symbol) -> Result<Place, Refusal>
-        ensures kept { IfErr result
-            (λ refusal. (self.new ≡ self.old) × (refusal ≡ Refusal.NoProgram)) }
-        ensures missed { IfErr result (λ _. ¬ (next_kind self.old.rest.now ≡ Some (Kind.Symbol symbol))) }
-        ensures spelled { IfOk result
-            (λ place. Took self.old self.new (of_kind_at (Kind.Symbol symbol) place ∷ [])) }
+        ensures { Makes (λ place. place) (spec.expect_symbol symbol self.old.rest.now) result self.new }
     {
         self.take_symbol(symbol).ok_or(Refusal::NoProgram)
     }
 
+    /// What a rule read, if a token of this kind stands behind it, which is taken.
+    pub fn followed_by<T: Drop>(
+        &mut self,
+        found: Result<T, Refusal>,
+        kind: Kind,
+    ) -> Result<T, Refusal>
+        ensures { IsFollowed found kind self.old result self.new }
+    {
+        let made = found?;
+        self.take(kind).ok_or(Refusal::NoProgram)?;
+        Ok(made)
+    }
+
     /// Takes an identifier, if one is next.
+    #[tactic(auto, unfolding(reading::specs::Reading::text_taken))]
     pub fn take_name(&mut self) -> Option<Name<'a>>
-        ensures kept { IfNone result (self.new ≡ self.old) }
-        ensures missed { IfNone result (¬ (next_kind self.old.rest.now ≡ Some Kind.Identifier)) }
-        ensures spelled { IfSome result (λ name. Took self.old self.new (identifier name ∷ [])) }
+        ensures { Takes (spec.text_taken Kind.Identifier) self.old (option_map identifier result) self.new }
     {
         match self.rest {
             [
@@ -130,18 +125,15 @@ impl<'t, 'a> Cursor<'t, 'a> {
     }
 
     pub fn expect_name(&mut self) -> Result<Name<'a>, Refusal>
-        ensures kept { IfErr result
-            (λ refusal. (self.new ≡ self.old) × (refusal ≡ Refusal.NoProgram)) }
-        ensures missed { IfErr result (λ _. ¬ (next_kind self.old.rest.now ≡ Some Kind.Identifier)) }
-        ensures spelled { IfOk result (λ name. Took self.old self.new (identifier name ∷ [])) }
+        ensures { Makes identifier (spec.expect_name self.old.rest.now) result self.new }
     {
         self.take_name().ok_or(Refusal::NoProgram)
     }
 
     /// Whether the directive `forward` (6.1.4) is next, which is taken.
+    #[tactic(auto, unfolding(reading::specs::Reading::forward_taken))]
     pub fn take_forward(&mut self) -> bool
-        ensures given { MatchBool result (Took self.old self.new (forward ∷ [])) (self.new ≡ self.old) }
-        ensures missed { result ≡ false → NoForward self.old.rest.now }
+        ensures { Takes spec.forward_taken self.old (if result then Some tt else None) self.new }
     {
         match self.rest {
             [token, rest @ ..] if is_forward(token) => {
@@ -153,11 +145,9 @@ impl<'t, 'a> Cursor<'t, 'a> {
     }
 
     /// Takes a number, if one is next.
+    #[tactic(auto, unfolding(reading::specs::Reading::number_taken))]
     pub fn take_number(&mut self) -> Option<(u32, Place)>
-        ensures kept { IfNone result (self.new ≡ self.old) }
-        ensures missed { IfNone result ((v : ℕ) → ¬ (next_kind self.old.rest.now ≡ Some (Kind.Number v))) }
-        ensures spelled { IfSome result
-            (λ number. Took self.old self.new (of_kind_at (Kind.Number number.0) number.1 ∷ [])) }
+        ensures { Takes spec.number_taken self.old result self.new }
     {
         match self.rest {
             [token, rest @ ..] => match token.kind {
@@ -172,11 +162,10 @@ impl<'t, 'a> Cursor<'t, 'a> {
     }
 
     /// Takes a string, if one is next: its text with the apostrophes, and its place.
+    #[tactic(auto, unfolding(reading::specs::Reading::text_taken))]
     pub fn take_string(&mut self) -> Option<(&'a [u8], Place)>
-        ensures kept { IfNone result (self.new ≡ self.old) }
-        ensures missed { IfNone result (¬ (next_kind self.old.rest.now ≡ Some Kind.Text)) }
-        ensures spelled { IfSome result
-            (λ string. Took self.old self.new (character_string string.0.now string.1 ∷ [])) }
+        ensures { Takes (spec.text_taken Kind.Text) self.old
+            (option_map (λ string. character_string string.0.now string.1) result) self.new }
     {
         match self.rest {
             [
@@ -195,62 +184,60 @@ impl<'t, 'a> Cursor<'t, 'a> {
     }
 
     /// Takes a sign, if one is next.
+    #[tactic(auto, unfolding(reading::specs::Reading::sign_taken))]
     pub fn take_sign(&mut self) -> Option<(Sign, Place)>
-        ensures kept { IfNone result (self.new ≡ self.old) }
-        ensures missed { IfNone result (NoSign self.old.rest.now) }
-        ensures spelled { IfSome result
-            (λ found. Took self.old self.new (sign found.0 found.1 ∷ [])) }
+        ensures { Takes spec.sign_taken self.old result self.new }
     {
-        if let Some(place) = self.take_symbol(Symbol::Plus) {
-            return Some((Sign::Plus, place));
+        match self.rest {
+            [token, rest @ ..] => {
+                let sign = sign_at(token.kind, token.place)?;
+                self.rest = rest;
+                Some(sign)
+            }
+            _ => None,
         }
-        let place = self.take_symbol(Symbol::Minus)?;
-        Some((Sign::Minus, place))
     }
 
     /// Takes the word symbol of a direction, if one is next.
-    #[tactic(auto, using(grammar::proofs::Reading::without_place))]
+    #[tactic(auto, unfolding(reading::specs::Reading::direction_taken))]
     pub fn take_direction(&mut self) -> Option<Direction>
-        ensures kept { IfNone result (self.new ≡ self.old) }
-        ensures missed { IfNone result
-            ((direction : Direction) → ¬ (next_kind self.old.rest.now ≡ Some (Kind.Word (direction_word direction)))) }
-        ensures spelled { IfSome result
-            (λ direction. Took self.old self.new (word_symbol (direction_word direction) ∷ [])) }
+        ensures { Takes spec.direction_taken self.old result self.new }
     {
-        if let Some(_) = self.take_word(Word::To) {
-            return Some(Direction::To);
+        match self.rest {
+            [token, rest @ ..] => {
+                let direction = direction_of(token.kind)?;
+                self.rest = rest;
+                Some(direction)
+            }
+            _ => None,
         }
-        self.take_word(Word::Downto)?;
-        Some(Direction::DownTo)
     }
 
     pub fn expect_direction(&mut self) -> Result<Direction, Refusal>
-        ensures kept { IfErr result
-            (λ refusal. (self.new ≡ self.old) × (refusal ≡ Refusal.NoProgram)) }
-        ensures missed { IfErr result (λ _.
-            (direction : Direction) → ¬ (next_kind self.old.rest.now ≡ Some (Kind.Word (direction_word direction)))) }
-        ensures spelled { IfOk result
-            (λ direction. Took self.old self.new (word_symbol (direction_word direction) ∷ [])) }
+        ensures { Makes (λ direction. direction) (spec.expect_direction self.old.rest.now) result self.new }
     {
         self.take_direction().ok_or(Refusal::NoProgram)
     }
 
-    /// Whether an operator of this level is next.
-    pub fn has_operator(&self, level: Level) -> bool
-        ensures { MatchBool result (¬ NoOperator (level_number level) self.now.rest.now)
-            (NoOperator (level_number level) self.now.rest.now) }
+    /// Takes a relational operator, if one is next.
+    #[tactic(auto, unfolding(reading::specs::Reading::relational_taken))]
+    pub fn take_relational(&mut self) -> Option<(RelationalOperator, Place)>
+        ensures { Takes spec.relational_taken self.old result self.new }
     {
-        let mut ahead = *self;
-        ahead.take_operator(level).is_some()
+        match self.rest {
+            [token, rest @ ..] => {
+                let operator = relational_at(token.kind, token.place)?;
+                self.rest = rest;
+                Some(operator)
+            }
+            _ => None,
+        }
     }
 
     /// Takes an operator of this level, if one is next.
+    #[tactic(auto, unfolding(reading::specs::Reading::operator_taken))]
     pub fn take_operator(&mut self, level: Level) -> Option<(Operator, Place)>
-        ensures kept { IfNone result (self.new ≡ self.old) }
-        ensures missed { IfNone result (NoOperator (level_number level) self.old.rest.now) }
-        ensures level { IfSome result (λ found. operator_level found.0 ≡ level_number level) }
-        ensures spelled { IfSome result
-            (λ found. Took self.old self.new (operator found.0 found.1 ∷ [])) }
+        ensures { Takes (spec.operator_taken (level_number level)) self.old result self.new }
     {
         match self.rest {
             [token, rest @ ..] => match operator_of(token.kind) {
@@ -266,10 +253,8 @@ impl<'t, 'a> Cursor<'t, 'a> {
     }
 
     /// Takes the period of a program, behind which nothing may stand.
-    pub fn stop(&mut self) -> Result<(), Refusal>
-        ensures given { MatchResult result (λ _. Stop self.old.rest.now)
-            (λ refusal. refusal ≡ Refusal.NoProgram) }
-        ensures missed { IfErr result (λ _. ¬ Stop self.old.rest.now) }
+    pub fn expect_period_at_end(&mut self) -> Result<(), Refusal>
+        ensures { Makes (λ end. end) (period_at_end self.old.rest.now) result self.new }
     {
         self.expect_symbol(Symbol::Period)?;
         match self.peek() {
@@ -280,14 +265,36 @@ impl<'t, 'a> Cursor<'t, 'a> {
 }
 
 fn is_of_kind(token: &Token<'_>, kind: Kind) -> bool
-    ensures { IsTrue result ↔ (token.now.kind ≡ kind) }
+    ensures { result ≡ same_kind token.now.kind kind }
 {
     token.kind == kind
 }
 
 /// Whether a token is the directive `forward`, in small or capital letters.
 fn is_forward(token: &Token<'_>) -> bool
-    ensures { IsTrue result ↔ IsSpelledBy forward token.now }
+    ensures { result ≡ is_forward token.now }
 {
     token.kind == Kind::Identifier && token.text.eq_ignore_ascii_case(b"forward")
+}
+
+/// The sign that a token of this kind is, if it is one, with its place.
+fn sign_at(kind: Kind, place: Place) -> Option<(Sign, Place)>
+    ensures { result ≡ sign_in kind place }
+{
+    match kind {
+        Kind::Symbol(Symbol::Plus) => Some((Sign::Plus, place)),
+        Kind::Symbol(Symbol::Minus) => Some((Sign::Minus, place)),
+        _ => None,
+    }
+}
+
+/// The direction that a token of this kind is, if it is one.
+fn direction_of(kind: Kind) -> Option<Direction>
+    ensures { result ≡ direction_in kind }
+{
+    match kind {
+        Kind::Word(Word::To) => Some(Direction::To),
+        Kind::Word(Word::Downto) => Some(Direction::DownTo),
+        _ => None,
+    }
 }

@@ -1,6 +1,9 @@
 ghost use Rattle.std.specs.Prelude.{◌≡◌};
+ghost use Rattle.token_cursor.specs.ParseFault.{end_of, fault_of, place_at};
 
+use lexer::token::Token;
 use place::Place;
+use reading::refusal::Refusal;
 use thiserror::Error;
 
 /// Why a list of tokens has no syntax tree.
@@ -43,6 +46,45 @@ impl ParseFault {
             ParseFault::NoProgram(place)
             | ParseFault::TooDeep(place)
             | ParseFault::LeftOut(place) => Some(*place),
+        }
+    }
+}
+
+/// The fault that a refusal is of these tokens, of which so many are left.
+pub fn fault_of(tokens: &[Token<'_>], left: usize, refusal: Refusal) -> ParseFault
+    ensures { result ≡ fault_of tokens.now left refusal }
+{
+    match refusal {
+        Refusal::Memory => ParseFault::Memory,
+        Refusal::NoProgram => {
+            ParseFault::NoProgram(place_at(tokens, tokens.len().saturating_sub(left)))
+        }
+        Refusal::TooDeep(at) => ParseFault::TooDeep(at.unwrap_or(end_of(tokens))),
+    }
+}
+
+// Where the token of a number stands, or the end where there is none.
+fn place_at(tokens: &[Token<'_>], number: usize) -> Place
+    ensures { result ≡ place_at tokens.now number }
+{
+    match tokens.get(number) {
+        None => end_of(tokens),
+        Some(token) => token.place,
+    }
+}
+
+// Just past the last token, or where a text begins if there is none.
+fn end_of(tokens: &[Token<'_>]) -> Place
+    ensures { result ≡ end_of tokens.now }
+{
+    match tokens.last() {
+        None => Place::START,
+        Some(token) => {
+            let length = u32::try_from(token.text.len()).unwrap_or(u32::MAX);
+            Place {
+                line: token.place.line,
+                column: token.place.column.saturating_add(length),
+            }
         }
     }
 }

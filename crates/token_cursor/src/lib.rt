@@ -5,6 +5,6 @@
 pub mod cursor;
 pub mod fault;
 pub mod left_out;
+pub mod memory;
 pub mod nesting;
 pub mod operator;
-pub mod refusal;

@@ -1,7 +1,7 @@
 ghost use Rattle.std.specs.Prelude.{◌≡◌, ◌+◌, IfErr, IfOk};
 
-use crate::refusal::Refusal;
 use place::Place;
+use reading::refusal::Refusal;
 
 /// How deep a program may nest. Its own compound statement is the first level; each statement in
 /// another statement, each actual with its width, each index expression, each expression in

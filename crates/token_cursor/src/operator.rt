@@ -1,24 +1,22 @@
-ghost use Rattle.std.specs.Prelude.{◌≡◌, IfSome, IfNone};
-ghost use Rattle.syntax_tree.specs.declared.Operator.{Operator};
-ghost use Rattle.grammar.specs.Spelling.{operator_kind};
-ghost use Rattle.grammar.specs.WellFormed.{operator_level};
+ghost use Rattle.std.specs.Prelude.{◌≡◌};
+ghost use Rattle.reading.specs.Outline.{operator_level};
+ghost use Rattle.reading.specs.Reading.{operator_in, relational_in};
 ghost use Rattle.token_cursor.specs.Level.{level_number};
 
 use lexer::token::{Kind, Symbol, Word};
-use syntax_tree::Operator;
+use place::Place;
+use syntax_tree::{Operator, RelationalOperator};
 
-/// The operators of one precedence (6.7.2.1).
+/// The operators of one precedence in a chain (6.7.2.1).
 #[derive(Clone, Copy, PartialEq, Eq)]
 pub enum Level {
-    Relation,
     Sum,
     Product,
 }
 
-/// The operator that a token of this kind is, if it is one.
+/// The operator of a chain that a token of this kind is, if it is one.
 pub fn operator_of(kind: Kind) -> Option<Operator>
-    ensures given { IfSome result (λ operator. operator_kind operator ≡ kind) }
-    ensures missed { IfNone result ((operator : Operator) → ¬ (operator_kind operator ≡ kind)) }
+    ensures { result ≡ operator_in kind }
 {
     match kind {
         Kind::Symbol(Symbol::Plus) => Some(Operator::Plus),
@@ -28,12 +26,6 @@ pub fn operator_of(kind: Kind) -> Option<Operator>
         Kind::Word(Word::Div) => Some(Operator::Div),
         Kind::Word(Word::Mod) => Some(Operator::Mod),
         Kind::Word(Word::And) => Some(Operator::And),
-        Kind::Symbol(Symbol::Equal) => Some(Operator::Equal),
-        Kind::Symbol(Symbol::NotEqual) => Some(Operator::NotEqual),
-        Kind::Symbol(Symbol::Less) => Some(Operator::Less),
-        Kind::Symbol(Symbol::Greater) => Some(Operator::Greater),
-        Kind::Symbol(Symbol::LessOrEqual) => Some(Operator::LessOrEqual),
-        Kind::Symbol(Symbol::GreaterOrEqual) => Some(Operator::GreaterOrEqual),
         _ => None,
     }
 }
@@ -45,11 +37,21 @@ pub fn level_of(operator: Operator) -> Level
     match operator {
         Operator::Plus | Operator::Minus | Operator::Or => Level::Sum,
         Operator::Times | Operator::Div | Operator::Mod | Operator::And => Level::Product,
-        Operator::Equal
-        | Operator::NotEqual
-        | Operator::Less
-        | Operator::Greater
-        | Operator::LessOrEqual
-        | Operator::GreaterOrEqual => Level::Relation,
     }
+}
+
+/// The relational operator that a token of this kind at a place is, if it is one, with its place.
+pub fn relational_at(kind: Kind, place: Place) -> Option<(RelationalOperator, Place)>
+    ensures { result ≡ relational_in kind place }
+{
+    let operator = match kind {
+        Kind::Symbol(Symbol::Equal) => RelationalOperator::Equal,
+        Kind::Symbol(Symbol::NotEqual) => RelationalOperator::NotEqual,
+        Kind::Symbol(Symbol::Less) => RelationalOperator::Less,
+        Kind::Symbol(Symbol::Greater) => RelationalOperator::Greater,
+        Kind::Symbol(Symbol::LessOrEqual) => RelationalOperator::LessOrEqual,
+        Kind::Symbol(Symbol::GreaterOrEqual) => RelationalOperator::GreaterOrEqual,
+        _ => return None,
+    };
+    Some((operator, place))
 }

@@ -1,9 +1,9 @@
-use Rattle.std.proofs.Common.{◌+◌, ◌*◌}
-use Rattle.token_cursor.specs.Cursor.{left}
-use Rattle.grammar.specs.Begins.{BeginsRoutines}
-use Rattle.grammar.proofs.Routines.{EachRoutinesLeft}
-use Rattle.expression_parser.specs.Rules.{Read}
-use Rattle.expression_parser.proofs.Deep.{Front}
+use Rattle.std.proofs.Common.{◌+◌, ◌*◌, map, length}
+use Rattle.reading.specs.Declarations as spec
+use Rattle.reading.specs.Reading.{many}
+use Rattle.reading.specs.Trees.{routine_outline}
+use Rattle.token_cursor.proofs.Turns.{Parts}
+use Rattle.parser.specs.Blocks.{block_below}
 use Rattle.parser.proofs.block.+block.Given as goal
 
 abbrev pub decreases-block : goal.decreases-block
@@ -20,7 +20,8 @@ decreases-body l = 4 * l.levels
 
 abbrev pub invariant-routines-loop-alloc : goal.invariant-routines-loop-alloc
 invariant-routines-loop-alloc l =
-    Read (BeginsRoutines l.levels) l.fn.cursor l.cursor l.routines.items × EachRoutinesLeft l.fn.cursor.rest.now l.cursor.rest.now
+    Parts (spec.routines (block_below l.levels) l.fn.cursor.rest.now) (map routine_outline l.routines.items)
+    (spec.routines (block_below l.levels) l.cursor.rest.now)
 
 abbrev pub decreases-routines-loop-alloc : goal.decreases-routines-loop-alloc
-decreases-routines-loop-alloc l = left l.cursor
+decreases-routines-loop-alloc l = length l.cursor.rest.now

@@ -1,8 +1,12 @@
-use Rattle.std.proofs.Common.{◌+◌, ◌*◌}
-use Rattle.token_cursor.specs.Cursor.{left}
-use Rattle.grammar.proofs.Structured.{IndexNext, FieldNext}
-use Rattle.expression_parser.proofs.Deep.{Front}
-use Rattle.parser.proofs.Structured.{IndexesGrow, FieldsGrow}
+use Rattle.std.proofs.Common.{◌+◌, ◌*◌, map, length}
+use Rattle.lexer.specs.declared.token.Symbol.TheVariants as symbol
+use Rattle.reading.specs.Declarations as spec
+use Rattle.reading.specs.Reading.{separated}
+use Rattle.reading.specs.Statements.{parts_to_end}
+use Rattle.reading.specs.Trees.{denoter_outline}
+use Rattle.token_cursor.proofs.Turns.{Parts}
+use Rattle.parser.specs.Fields.{fields_look}
+use Rattle.parser.proofs.Pairs.{Paired}
 use Rattle.parser.proofs.denoter.+denoter.Given as goal
 
 abbrev pub decreases-denoter : goal.decreases-denoter
@@ -13,6 +17,9 @@ decreases-structured l = 4 * l.levels + 3
 
 abbrev pub decreases-array : goal.decreases-array
 decreases-array l = 4 * l.levels + 2
+
+abbrev pub decreases-element : goal.decreases-element
+decreases-element l = 4 * l.levels + 1
 
 abbrev pub decreases-indexes : goal.decreases-indexes
 decreases-indexes l = 4 * l.levels + 1
@@ -25,16 +32,16 @@ decreases-fields l = 4 * l.levels + 1
 
 abbrev pub invariant-indexes-loop-indexes : goal.invariant-indexes-loop-indexes
 invariant-indexes-loop-indexes l =
-    IndexesGrow l.levels l.fn.cursor l.cursor l.indexes.items × IndexNext l.fn.cursor.rest.now l.cursor.rest.now
-    × Front l.fn.cursor.rest.now l.cursor.rest.now
+    Parts (separated symbol.Comma (spec.denoter l.levels) l.fn.cursor.rest.now) (map denoter_outline l.indexes.items)
+    (separated symbol.Comma (spec.denoter l.levels) l.cursor.rest.now)
 
 abbrev pub decreases-indexes-loop-indexes : goal.decreases-indexes-loop-indexes
-decreases-indexes-loop-indexes l = left l.cursor
+decreases-indexes-loop-indexes l = length l.cursor.rest.now
 
 abbrev pub invariant-fields-loop-denoters : goal.invariant-fields-loop-denoters
 invariant-fields-loop-denoters l =
-    FieldsGrow l.levels l.fn.cursor l.cursor l.names.items l.denoters.items × FieldNext l.fn.cursor.rest.now l.cursor.rest.now
-    × Front l.fn.cursor.rest.now l.cursor.rest.now
+    Paired fields_look (parts_to_end (spec.fields (spec.denoter l.levels)) l.fn.cursor.rest.now) l.names.items l.denoters.items
+    (parts_to_end (spec.fields (spec.denoter l.levels)) l.cursor.rest.now)
 
 abbrev pub decreases-fields-loop-denoters : goal.decreases-fields-loop-denoters
-decreases-fields-loop-denoters l = left l.cursor
+decreases-fields-loop-denoters l = length l.cursor.rest.now

@@ -1,40 +1,57 @@
-use Rattle.std.proofs.Common.{rules, ◌≡◌, None, length, subst, sym}
-use Rattle.grammar.proofs.ProgramPlaces.{program_in_order}
+use Rattle.std.proofs.Common.{◌≡◌, rules, None, Err, subst, sym, ap, ◌∙◌}
+use Rattle.reading.specs.Declarations.{program}
+use Rattle.reading.proofs.Places.{program_in_order}
+use Rattle.reading.proofs.Three.{one_tree}
 use Rattle.token_cursor.specs.LeftOut.{first_left_out}
-use Rattle.token_cursor.specs.Refusal.{fault_of}
-use Rattle.expression_parser.specs.Refusing.{Refused}
-use Rattle.parser.specs.Syntax.{most, IsDeep, IsFaultOf, IsOfRules, IsRefused, IsTreeOf}
-use Rattle.parser.proofs.Faults.{deep_as_refused, fault_is, of_rules}
+use Rattle.parser.specs.Syntax.{most, IsDeep, IsFaultOf, IsReadAs}
+use Rattle.parser.proofs.Faults.{tree_is, tree_read, fault_is, fault_read, fault_deep}
 use Rattle.parser.proofs.program.parse.Goals as goal
 
--- a tree that is answered keeps its places in order where the tokens have theirs
+pub returns-in-Some-clause-one_tree : goal.returns-in-Some-clause-one_tree
+returns-in-Some-clause-one_tree c = one_tree c.args.tokens.now
+
+pub returns-in-Ok-clause-one_tree : goal.returns-in-Ok-clause-one_tree
+returns-in-Ok-clause-one_tree c = one_tree c.args.tokens.now
+
+pub returns-in-Err-clause-one_tree : goal.returns-in-Err-clause-one_tree
+returns-in-Err-clause-one_tree c = one_tree c.args.tokens.now
+
+-- ---- a tree
+
+pub returns-in-Ok-clause-exact : goal.returns-in-Ok-clause-exact
+returns-in-Ok-clause-exact c = tree_is c.args.tokens.now c.in-Ok.tree c.program.new.cursor.rest.now
+    (ap (program most) (sym c.new-cursor.ensures) ∙ c.in-Ok.ensures)
+
+pub returns-in-Ok-clause-read : goal.returns-in-Ok-clause-read
+returns-in-Ok-clause-read c = tree_read c.args.tokens.now c.in-Ok.tree c.program.new.cursor.rest.now
+    (ap (program most) (sym c.new-cursor.ensures) ∙ c.in-Ok.ensures)
+
+-- it keeps its places in order where the tokens have theirs
 pub returns-in-Ok-clause-in_order : goal.returns-in-Ok-clause-in_order
 returns-in-Ok-clause-in_order c =
-    let tree : IsTreeOf c.in-Ok.tree c.args.tokens.now = subst (IsTreeOf c.in-Ok.tree) c.new-cursor.ensures c.in-Ok.ensures.given in
-    program_in_order c.args.tokens.now c.in-Ok.tree tree.spelled
+    program_in_order c.args.tokens.now c.in-Ok.tree (tree_is c.args.tokens.now c.in-Ok.tree c.program.new.cursor.rest.now
+    (ap (program most) (sym c.new-cursor.ensures) ∙ c.in-Ok.ensures)).spelled
 
--- a refusal is told as a fault of the tokens
+-- ---- a refusal, told as a fault of the tokens
+
 pub returns-in-Err-clause-exact : goal.returns-in-Err-clause-exact
 returns-in-Err-clause-exact c =
     let tokens = c.args.tokens.now in
-    let why = c.in-Err.refusal in
+    let left = c.program.new.cursor.rest.now in
     let none : first_left_out tokens ≡ None = search rules in
-    let refused : IsRefused tokens why = subst (λ ts. IsRefused ts why) c.new-cursor.ensures c.in-Err.ensures.refused in
-    subst (λ f. IsFaultOf f tokens) (sym c.fault_of.ensures) (fault_is tokens (length c.program.new.cursor.rest.now) why none refused)
+    subst (λ f. IsFaultOf f tokens) (sym c.fault_of.ensures)
+    (fault_is tokens left c.in-Err.refusal none (λ m. ap (program most) (sym c.new-cursor.ensures) ∙ c.in-Err.ensures m))
 
-pub returns-in-Err-clause-left_out : goal.returns-in-Err-clause-left_out
-returns-in-Err-clause-left_out c =
+pub returns-in-Err-clause-read : goal.returns-in-Err-clause-read
+returns-in-Err-clause-read c =
     let tokens = c.args.tokens.now in
-    let none : first_left_out tokens ≡ None = search rules in
-    let left = length c.program.new.cursor.rest.now in
-    let own : IsOfRules c.fault_of.result = subst IsOfRules (sym c.fault_of.ensures) (of_rules tokens left c.in-Err.refusal) in
-    rw none own
+    let left = c.program.new.cursor.rest.now in
+    subst (λ f. IsReadAs (Err f) tokens) (sym c.fault_of.ensures)
+    (fault_read tokens left c.in-Err.refusal (λ m. ap (program most) (sym c.new-cursor.ensures) ∙ c.in-Err.ensures m))
 
 pub returns-in-Err-clause-deep : goal.returns-in-Err-clause-deep
 returns-in-Err-clause-deep c =
     let tokens = c.args.tokens.now in
-    let why = c.in-Err.refusal in
-    let refused : Refused most c.new-cursor.result why = c.in-Err.ensures.given in
-    let left = length c.program.new.cursor.rest.now in
-    let deep = subst (λ ts. IsDeep most ts (fault_of ts left why)) c.new-cursor.ensures (deep_as_refused most left c.new-cursor.result why refused) in
-    subst (IsDeep most tokens) (sym c.fault_of.ensures) deep
+    let left = c.program.new.cursor.rest.now in
+    subst (IsDeep most tokens) (sym c.fault_of.ensures)
+    (fault_deep tokens left c.in-Err.refusal (λ m. ap (program most) (sym c.new-cursor.ensures) ∙ c.in-Err.ensures m))

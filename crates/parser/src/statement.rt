@@ -1,0 +1,304 @@
+ghost use Rattle.reading.specs.Reading.{separated};
+ghost use Rattle.reading.specs.Statements as spec;
+ghost use Rattle.reading.specs.Trees.{expr_outline, stmt_outline};
+ghost use Rattle.token_cursor.specs.Cursor.{Makes};
+ghost use Rattle.token_cursor.specs.Rows.{MakesRows};
+ghost use Rattle.parser.specs.Built.{alternative_outline, body_outline, case_outlines, compound_outlines};
+ghost use Rattle.parser.specs.Built.{control_lexeme, initial_outline, statements_outlines};
+
+use crate::constants::row;
+use crate::lists::behind_arm;
+use expression_parser::expression::{actuals, expression, selectors};
+use lexer::token::{Kind, Symbol, Word};
+use place::Place;
+use reading::refusal::Refusal;
+use std::alloc::Global;
+use syntax_tree::{Constant, Direction, Expr, Name, Stmt};
+use token_cursor::cursor::Cursor;
+use token_cursor::memory::{boxed, put};
+use token_cursor::nesting::inside;
+
+/// The statements of a compound statement (6.8.3.2), and its `end`. Below it `levels` levels are
+/// left.
+#[cycle(statement)]
+#[tactic(auto, unfolding(reading::specs::Statements::compound))]
+pub(crate) fn compound<'a>(
+    alloc: Global,
+    cursor: &mut Cursor<'_, 'a>,
+    levels: u32,
+) -> Result<(Vec<Stmt<'a>>, Place), Refusal>
+    ensures { Makes compound_outlines (spec.compound (spec.statement levels) cursor.old.rest.now) result cursor.new }
+{
+    cursor.expect_word(Word::Begin)?;
+    let statements = statements(alloc, cursor, levels)?;
+    let end = cursor.expect_word(Word::End)?;
+    Ok((statements, end))
+}
+
+#[cycle(statement)]
+fn statements<'a>(
+    alloc: Global,
+    cursor: &mut Cursor<'_, 'a>,
+    levels: u32,
+) -> Result<Vec<Stmt<'a>>, Refusal>
+    ensures { Makes statements_outlines (separated Symbol.Semicolon (spec.statement levels) cursor.old.rest.now) result
+        cursor.new }
+{
+    let mut statements = Vec::new(alloc);
+    loop {
+        put(&mut statements, statement(alloc, cursor, levels))?;
+        let Some(_) = cursor.take_symbol(Symbol::Semicolon) else {
+            return Ok(statements);
+        };
+    }
+}
+
+/// A statement in something below which `levels` levels are left (6.8).
+#[cycle(statement)]
+#[tactic(auto, using(crate::proofs::Built::built_statements))]
+fn statement<'a>(
+    alloc: Global,
+    cursor: &mut Cursor<'_, 'a>,
+    levels: u32,
+) -> Result<Stmt<'a>, Refusal>
+    ensures { Makes stmt_outline (spec.statement levels cursor.old.rest.now) result cursor.new }
+{
+    let levels = inside(levels, cursor.place())?;
+    match cursor.peek() {
+        Some(Kind::Identifier) => simple(alloc, cursor, levels),
+        Some(Kind::Word(Word::Begin)) => {
+            let (statements, _) = compound(alloc, cursor, levels)?;
+            Ok(Stmt::Compound { statements })
+        }
+        Some(Kind::Word(Word::If)) => conditional(alloc, cursor, levels),
+        Some(Kind::Word(Word::While)) => while_loop(alloc, cursor, levels),
+        Some(Kind::Word(Word::Repeat)) => repeat_loop(alloc, cursor, levels),
+        Some(Kind::Word(Word::For)) => for_loop(alloc, cursor, levels),
+        Some(Kind::Word(Word::Case)) => case_of(alloc, cursor, levels),
+        _ => Ok(Stmt::Empty),
+    }
+}
+
+/// An assignment (6.8.2.2) or the call of a procedure (6.8.2.3), below which `levels` levels are
+/// left.
+#[tactic(auto, using(crate::proofs::Built::built_statements), unfolding(reading::specs::Statements::simple))]
+fn simple<'a>(alloc: Global, cursor: &mut Cursor<'_, 'a>, levels: u32) -> Result<Stmt<'a>, Refusal>
+    ensures { Makes stmt_outline (spec.simple levels cursor.old.rest.now) result cursor.new }
+{
+    let name = cursor.expect_name()?;
+    let (selectors, indexes) = selectors(alloc, cursor, levels)?;
+    if let Some(becomes) = cursor.take_symbol(Symbol::Becomes) {
+        let value = expression(alloc, cursor, levels)?;
+        return Ok(Stmt::Assign {
+            name,
+            selectors,
+            indexes,
+            becomes,
+            value,
+        });
+    }
+    if !selectors.is_empty() {
+        return Err(Refusal::NoProgram);
+    }
+    let actuals = actuals(alloc, cursor, levels)?;
+    Ok(Stmt::Call { name, actuals })
+}
+
+/// An if statement (6.8.3.4), below which `levels` levels are left.
+#[cycle(statement)]
+#[tactic(auto, using(crate::proofs::Built::built_statements), unfolding(reading::specs::Statements::conditional))]
+fn conditional<'a>(
+    alloc: Global,
+    cursor: &mut Cursor<'_, 'a>,
+    levels: u32,
+) -> Result<Stmt<'a>, Refusal>
+    ensures { Makes stmt_outline (spec.conditional levels (spec.statement levels) cursor.old.rest.now)
+        result cursor.new }
+{
+    let place = cursor.expect_word(Word::If)?;
+    let condition = guard(alloc, cursor, levels, Word::Then)?;
+    let consequence = body(alloc, cursor, levels)?;
+    let alternative = alternative(alloc, cursor, levels)?;
+    Ok(Stmt::If {
+        place,
+        condition,
+        consequence,
+        alternative,
+    })
+}
+
+/// The `else` that comes next and its statement: it belongs to the nearest `if`.
+#[cycle(statement)]
+#[tactic(auto, unfolding(reading::specs::Statements::alternative))]
+fn alternative<'a>(
+    alloc: Global,
+    cursor: &mut Cursor<'_, 'a>,
+    levels: u32,
+) -> Result<Option<Box<Stmt<'a>>>, Refusal>
+    ensures { Makes alternative_outline (spec.alternative levels (spec.statement levels) cursor.old.rest.now) result
+        cursor.new }
+{
+    let Some(_) = cursor.take_word(Word::Else) else {
+        return Ok(None);
+    };
+    let statement = body(alloc, cursor, levels)?;
+    Ok(Some(statement))
+}
+
+/// A while statement (6.8.3.8), below which `levels` levels are left.
+#[cycle(statement)]
+#[tactic(auto, using(crate::proofs::Built::built_statements), unfolding(reading::specs::Statements::while_loop))]
+fn while_loop<'a>(
+    alloc: Global,
+    cursor: &mut Cursor<'_, 'a>,
+    levels: u32,
+) -> Result<Stmt<'a>, Refusal>
+    ensures { Makes stmt_outline (spec.while_loop levels (spec.statement levels) cursor.old.rest.now)
+        result cursor.new }
+{
+    let place = cursor.expect_word(Word::While)?;
+    let condition = guard(alloc, cursor, levels, Word::Do)?;
+    let body = body(alloc, cursor, levels)?;
+    Ok(Stmt::While {
+        place,
+        condition,
+        body,
+    })
+}
+
+/// A repeat statement (6.8.3.7), below which `levels` levels are left.
+#[cycle(statement)]
+#[tactic(auto, using(crate::proofs::Built::built_statements), unfolding(reading::specs::Statements::repeat_loop))]
+fn repeat_loop<'a>(
+    alloc: Global,
+    cursor: &mut Cursor<'_, 'a>,
+    levels: u32,
+) -> Result<Stmt<'a>, Refusal>
+    ensures { Makes stmt_outline (spec.repeat_loop levels (spec.statement levels) cursor.old.rest.now)
+        result cursor.new }
+{
+    let place = cursor.expect_word(Word::Repeat)?;
+    let statements = statements(alloc, cursor, levels)?;
+    cursor.expect_word(Word::Until)?;
+    let condition = expression(alloc, cursor, levels)?;
+    Ok(Stmt::Repeat {
+        place,
+        statements,
+        condition,
+    })
+}
+
+/// A for statement (6.8.3.9), below which `levels` levels are left.
+#[cycle(statement)]
+#[tactic(auto, using(crate::proofs::Built::built_statements), unfolding(reading::specs::Statements::for_loop))]
+fn for_loop<'a>(
+    alloc: Global,
+    cursor: &mut Cursor<'_, 'a>,
+    levels: u32,
+) -> Result<Stmt<'a>, Refusal>
+    ensures { Makes stmt_outline (spec.for_loop levels (spec.statement levels) cursor.old.rest.now) result cursor.new }
+{
+    let (place, variable) = control(cursor)?;
+    let (first, direction) = initial(alloc, cursor, levels)?;
+    let last = guard(alloc, cursor, levels, Word::Do)?;
+    let body = body(alloc, cursor, levels)?;
+    Ok(Stmt::For {
+        place,
+        variable,
+        first,
+        direction,
+        last,
+        body,
+    })
+}
+
+/// The place of a for statement, and its control variable.
+#[tactic(auto, unfolding(reading::specs::Statements::control))]
+fn control<'a>(cursor: &mut Cursor<'_, 'a>) -> Result<(Place, Name<'a>), Refusal>
+    ensures { Makes control_lexeme (spec.control cursor.old.rest.now) result cursor.new }
+{
+    let place = cursor.expect_word(Word::For)?;
+    let variable = cursor.expect_name()?;
+    cursor.expect_symbol(Symbol::Becomes)?;
+    Ok((place, variable))
+}
+
+/// The first bound of a for statement, and its direction.
+#[tactic(auto, unfolding(reading::specs::Statements::initial))]
+fn initial<'a>(
+    alloc: Global,
+    cursor: &mut Cursor<'_, 'a>,
+    levels: u32,
+) -> Result<(Expr<'a>, Direction), Refusal>
+    ensures { Makes initial_outline (spec.initial levels cursor.old.rest.now) result cursor.new }
+{
+    let first = expression(alloc, cursor, levels)?;
+    let direction = cursor.expect_direction()?;
+    Ok((first, direction))
+}
+
+/// A case statement (6.8.3.5), below which `levels` levels are left.
+#[cycle(statement)]
+#[tactic(auto, using(crate::proofs::Built::built_statements), unfolding(reading::specs::Statements::case_of))]
+fn case_of<'a>(alloc: Global, cursor: &mut Cursor<'_, 'a>, levels: u32) -> Result<Stmt<'a>, Refusal>
+    ensures { Makes stmt_outline (spec.case_of levels (spec.statement levels) cursor.old.rest.now) result cursor.new }
+{
+    let place = cursor.expect_word(Word::Case)?;
+    let index = guard(alloc, cursor, levels, Word::Of)?;
+    let (constants, arms, semicolon) = arms(alloc, cursor, levels)?;
+    Ok(Stmt::Case {
+        place,
+        index,
+        constants,
+        arms,
+        semicolon,
+    })
+}
+
+/// The rows of constants of a case, the arm behind each, and whether a semicolon stands before the
+/// `end`.
+#[cycle(statement)]
+fn arms<'a>(
+    alloc: Global,
+    cursor: &mut Cursor<'_, 'a>,
+    levels: u32,
+) -> Result<(Vec<Vec<Constant<'a>>>, Vec<Stmt<'a>>, bool), Refusal>
+    ensures { MakesRows case_outlines (spec.parts_to_end (spec.arm levels (spec.statement levels)) cursor.old.rest.now)
+        result cursor.new }
+{
+    let mut constants = Vec::new(alloc);
+    let mut arms = Vec::new(alloc);
+    loop {
+        put(&mut constants, row(alloc, cursor))?;
+        put(&mut arms, statement(alloc, cursor, levels))?;
+        if let Some(semicolon) = behind_arm(cursor)? {
+            return Ok((constants, arms, semicolon));
+        }
+    }
+}
+
+/// A statement that is part of another one, below which `levels` levels are left.
+#[cycle(statement)]
+fn body<'a>(
+    alloc: Global,
+    cursor: &mut Cursor<'_, 'a>,
+    levels: u32,
+) -> Result<Box<Stmt<'a>>, Refusal>
+    ensures { Makes body_outline (spec.statement levels cursor.old.rest.now) result cursor.new }
+{
+    boxed(alloc, statement(alloc, cursor, levels))
+}
+
+/// An expression and the word symbol behind it.
+#[tactic(auto, unfolding(reading::specs::Statements::guard))]
+fn guard<'a>(
+    alloc: Global,
+    cursor: &mut Cursor<'_, 'a>,
+    levels: u32,
+    word: Word,
+) -> Result<Expr<'a>, Refusal>
+    ensures { Makes expr_outline (spec.guard levels word cursor.old.rest.now) result cursor.new }
+{
+    let expression = expression(alloc, cursor, levels);
+    cursor.followed_by(expression, Kind::Word(word))
+}

@@ -1,3 +1,0 @@
-pub mod Arms
-pub mod ExactStatements
-pub mod Statements
