@@ -1,5 +1,5 @@
 -- Programs: the typed tree of one that is made of its blocks, and what it has by the laws of typing.
-use Rattle.std.proofs.Common.{◌≡◌, ◌≤◌, List, [], ◌∷◌, ◌++◌, length, map, slice_get, Ok, refl, sym, ap, ap₂, subst, ◌∙◌}
+use Rattle.std.proofs.Common.{◌≡◌, ◌≤◌, List, [], ◌∷◌, ◌++◌, length, map, slice_get, Result, MatchResult, Ok, Err, inl, refl, sym, ap, ap₂, subst, ◌∙◌}
 use Rattle.std.specs.Prelude.{IsPermutation, flat_map}
 use Rattle.std.specs.List.{range_with_len}
 use Rattle.std.proofs.lemmas.Grind.{flat_map-append}
@@ -7,6 +7,8 @@ use Rattle.place.specs.Place.{ArePlacesInOrder}
 use Rattle.syntax_tree.specs.declared.Program.{Program}
 use Rattle.syntax_tree.specs.Places.{program_places}
 use Rattle.types.specs.Types.{BeginWithRequired}
+use Rattle.typed_tree.specs.declared.fault.TypeFault.{TypeFault}
+use Rattle.typed_tree.specs.declared.fault.TypeFault.TheVariants.{Memory}
 use Rattle.typed_tree.specs.declared.tree.Tree.{Tree}
 use Rattle.typed_tree.specs.Entries.{AreNumbered, of_block}
 use Rattle.typed_tree.specs.Ids.{AreInOrder, AreByPlace}
@@ -14,14 +16,16 @@ use Rattle.typed_tree.specs.Look.{blocks_of_look, heading_look, look_block, look
 use Rattle.typed_tree.specs.Loops.{loops_of}
 use Rattle.typed_tree.specs.WellFormed.{IsWellFormed}
 use Rattle.typed_tree.proofs.Quiet.{inner_stmt}
+use Rattle.typing.specs.Outcomes.{IsFault}
 use Rattle.typing.specs.Passing.{Passed, after}
 use Rattle.typing.specs.Sound.{IsLeft, IsTyped, rows_of_block, stands}
 use Rattle.typing.specs.Typing.{typing}
 use Rattle.typing_laws.specs.Lawful.{Lawful}
 use Rattle.typing_laws.proofs.Programs.{typing_is_lawful}
 use Rattle.typing_laws.proofs.Trees as Trees
-use Rattle.resolver.specs.Made.{AreArranged, IsResolved, look_made}
+use Rattle.resolver.specs.Made.{AreArranged, AreLaidBlocks, AreLaidOut, IsResolved, look_made}
 use Rattle.resolver.specs.Table.{IsTableOf}
+use Rattle.resolver.specs.declared.typed.LaidBlocks.{LaidBlocks}
 use Rattle.resolver.specs.declared.typed.MadeBlock.{MadeBlock}
 use Rattle.resolver.proofs.Arranged.{AreThere, are_there, as_many_blocks, in_text_is, number_of}
 
@@ -70,6 +74,13 @@ module _ (program : Program) (made : List MadeBlock) (last : Passed) (typed : ty
     count = as_many_blocks made tree.blocks.items arranged (length last.headings) all_numbers;
     bodies = as_numbers ∙ sym (ap blocks_of_look looks ∙ numbers_told made);
   }
+
+-- blocks as they are laid out
+pub laid_from : (program : Program) (last : Passed) (made : List MadeBlock) → typing program ≡ Ok (after tt (look_made made) last)
+    → (answer : Result LaidBlocks TypeFault) → MatchResult answer (AreLaidOut made) (λ why. why ≡ Memory)
+    → MatchResult answer (AreLaidBlocks program last) (IsFault (typing program))
+laid_from program last made typed (Ok laid) are = record { made = made; typed = typed; laid_out = are }
+laid_from program last made typed (Err why) is = inl is
 
 -- ---- what the tree of a program has
 
