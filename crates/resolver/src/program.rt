@@ -29,7 +29,6 @@ use typed_tree::tree::{Block, Heading, Tree};
 use typing::Typer;
 
 /// The typed tree of a program, or the first rule of names and types that it breaks, with its place.
-#[tactic(auto, using(crate::proofs::Programs::has_it_all))]
 pub fn resolve(alloc: Global, program: &Program) -> Result<Tree, TypeFault>
     // It is the typed tree of the program, which breaks no rule of names and types.
     ensures typed { IfOk result (IsTyped program.now) }
