@@ -1,5 +1,5 @@
 -- Blocks in the order of their numbers, which are all numbers from 0 on: each stands at its number.
-use Rattle.std.proofs.Common.{◌≡◌, ℕ, zero, suc, ◌+◌, ◌-◌, ◌<◌, ◌≤◌, List, [], ◌∷◌, ◌++◌, length, get_or, map, nat_eq, All, MatchResult, Result, Ok, Err}
+use Rattle.std.proofs.Common.{◌≡◌, ℕ, zero, suc, ◌+◌, ◌-◌, ◌<◌, ◌≤◌, List, [], ◌∷◌, ◌++◌, length, get_or, map, nat_eq, All, IfOk, Result, Ok, Err}
 use Rattle.std.proofs.Common.{Vec, Some, slice_get, refl, sym, ap, subst, ◌∙◌, arith}
 use Rattle.std.specs.Prelude.{IsPermutation, flat_map}
 use Rattle.std.specs.List.{Contains, IsDistinct, range_with_len}
@@ -12,8 +12,7 @@ use Rattle.std.proofs.lemmas.List.Sorted.{All-permutation, Contains-permutation,
 use Rattle.std.proofs.lemmas.Map.Keys.{IsDistinct-IsPermutation, IsDistinct-from_apart, IsStrictlyIncreasing-from_distinct}
 use Rattle.std.proofs.lemmas.Option.{slice_get-get_or}
 use Rattle.std.specs.declared.alloc.Global.{Global}
-use Rattle.typed_tree.specs.declared.fault.TypeFault.{TypeFault}
-use Rattle.typed_tree.specs.declared.fault.TypeFault.TheVariants.{Memory}
+use Rattle.std.specs.declared.alloc.AllocError.{AllocError}
 use Rattle.typed_tree.specs.declared.tree.Block.{Block}
 use Rattle.typed_tree.specs.Entries.{of_block}
 use Rattle.resolver.specs.Made.{AreArranged}
@@ -67,10 +66,10 @@ module _ (numbers : List ℕ) (rise : IsStrictlyIncreasing numbers) where
 
 -- sorted blocks without their numbers
 pub arranged_of : (made sorted : List MadeBlock) → IsPermutation made sorted → IsNonDecreasingBy (λ one. one.number) sorted
-    → (answer : Result (Vec Block Global) TypeFault) → MatchResult answer (λ blocks. blocks.items ≡ map (λ one. one.block) sorted) (λ why. why ≡ Memory)
-    → MatchResult answer (λ blocks. AreArranged made blocks.items) (λ why. why ≡ Memory)
+    → (answer : Result (Vec Block Global) AllocError) → IfOk answer (λ blocks. blocks.items ≡ map (λ one. one.block) sorted)
+    → IfOk answer (λ blocks. AreArranged made blocks.items)
 arranged_of made sorted shuffled rise (Ok blocks) are = record { sorted = sorted; shuffled = shuffled; rise = rise; are = are }
-arranged_of made sorted shuffled rise (Err why) memory = memory
+arranged_of made sorted shuffled rise (Err why) are = tt
 
 mapped_rise : (xs : List MadeBlock) → IsNonDecreasingBy (λ one. one.number) xs → IsNonDecreasing (map number_of xs)
 mapped_rise [] rise i j d less within = absurd (omega arith)

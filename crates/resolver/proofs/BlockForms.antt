@@ -1,6 +1,6 @@
 -- Blocks and routines, as they are made: how their typing goes on behind their parts.
 use Rattle.std.proofs.Common.{◌≡◌, ℕ, ◌+◌, ◌<◌, ◌≤◌, List, [], ◌∷◌, ◌++◌, length, drop, get_or, map, Option, Some, None, Result, Ok, Err, inl, inr, refl, sym}
-use Rattle.std.proofs.Common.{ap, ap₂, ◌∙◌, append-nil}
+use Rattle.std.proofs.Common.{ap, ap₂, subst, ◌∙◌, append-nil}
 use Rattle.std.proofs.Common.{append_assoc}
 use Rattle.std.specs.Prelude.{option_map}
 use Rattle.std.proofs.lemmas.Grind.{flat_map-append}
@@ -17,7 +17,9 @@ use Rattle.typed_tree.specs.declared.tree.FunctionResult.{FunctionResult}
 use Rattle.typed_tree.specs.declared.tree.Heading.{Heading}
 use Rattle.typed_tree.specs.declared.tree.Stmt.{Stmt}
 use Rattle.typed_tree.specs.Look.{Look, BlockEnds, look_block, look_stmt}
-use Rattle.typing.specs.Blocks.{block_begins, block_ends}
+use Rattle.typing.specs.Blocks.{IsBegun, block_begins, block_ends}
+use Rattle.typing.specs.View.{enclosing_of}
+use Rattle.typing.specs.declared.blocks.BegunBlock.{BegunBlock}
 use Rattle.typing.specs.Names.{all_folded}
 use Rattle.typing.specs.Outcomes.{IsFault}
 use Rattle.typing.specs.Passing.{Headed, Enclosing, Passed, Checked, After, Passing, after, and_then, behind_marks, each, mark, ◌>>◌}
@@ -30,7 +32,7 @@ use Rattle.typing.specs.Typing.{program_typing, typing}
 use Rattle.typing.proofs.Rows.{behind_nothing, behind_both, then_assoc}
 use Rattle.typing.proofs.Written.{typing_block, typing_routine}
 use Rattle.declarations.specs.Parts.{block_declarations, declared}
-use Rattle.resolver.specs.Made.{MakesBody, MakesStmt, look_made}
+use Rattle.resolver.specs.Made.{EndsRoutine, MakesBlocks, MakesBody, MakesStmt, look_made, statement_part}
 use Rattle.resolver.specs.declared.typed.MadeBlock.{MadeBlock}
 
 -- blocks and others behind them
@@ -86,33 +88,19 @@ module _ (b : SyntaxBlock) (old : Passed) where
 
     module _ (look : Look) (there : Passed)
         (routines : each (λ (r : TypedRoutine). r.typing) (map typed_routine (out-Block b).routines.items) now ≡ Ok (after tt look there)) where
-      abbrev behind_came : Checked (After (Unit {0})) → Checked (After (Unit {0}))
-      behind_came outcome =
-          behind_marks look (and_then outcome (λ a. behind_marks a.look (compound (map statement (out-Block b).statements.items) a.passed)))
+      statements_go : (typed_block b).typing old ≡ behind_marks look (statement_part (out-Block b).statements.items there)
+      statements_go = routines_go ∙ ap behind_routines routines
 
-      came_goes : (typed_block b).typing old ≡ behind_came (all_came there)
-      came_goes = routines_go ∙ ap behind_routines routines
+      -- its statements stop
+      pub statements_stop : (why : TypeFault) → IsFault (statement_part (out-Block b).statements.items there) why
+          → IsFault ((typed_block b).typing old) why
+      statements_stop why (inl memory) = inl memory
+      statements_stop why (inr stops) = inr (statements_go ∙ ap (behind_marks look) stops)
 
-      -- one of them didn't come
-      pub came_stops : (why : TypeFault) → all_came there ≡ Err why → IsFault ((typed_block b).typing old) why
-      came_stops why stops = inr (came_goes ∙ ap behind_came stops)
-
-      module _ (came : all_came there ≡ Ok (after tt [] there)) where
-        statements_go : (typed_block b).typing old ≡ behind_marks look (compound (map statement (out-Block b).statements.items) there)
-        statements_go =
-            came_goes ∙ ap behind_came came
-            ∙ ap (behind_marks look) (behind_nothing (compound (map statement (out-Block b).statements.items) there))
-
-        -- its statements stop
-        pub statements_stop : (why : TypeFault) → IsFault (compound (map statement (out-Block b).statements.items) there) why
-            → IsFault ((typed_block b).typing old) why
-        statements_stop why (inl memory) = inl memory
-        statements_stop why (inr stops) = inr (statements_go ∙ ap (behind_marks look) stops)
-
-        -- the block is typed
-        pub body_ends : (own : Look) (last : Passed) → compound (map statement (out-Block b).statements.items) there ≡ Ok (after tt own last)
-            → (typed_block b).typing old ≡ Ok (after tt (look ++ own) last)
-        body_ends own last ends = statements_go ∙ ap (behind_marks look) ends
+      -- the block is typed
+      pub body_ends : (own : Look) (last : Passed) → statement_part (out-Block b).statements.items there ≡ Ok (after tt own last)
+          → (typed_block b).typing old ≡ Ok (after tt (look ++ own) last)
+      body_ends own last ends = statements_go ∙ ap (behind_marks look) ends
 
 -- ---- routines, one after another
 
@@ -299,13 +287,12 @@ end_is b = ap (λ (t : TypedBlock). t.end) (typing_block b)
 pub body_answers : (b : SyntaxBlock) (old now there last : Passed) (before behind own : List MadeBlock) → behind ≡ before ++ own
     → block_declarations b old ≡ Ok (after tt [] now)
     → each (λ (r : TypedRoutine). r.typing) (map typed_routine (out-Block b).routines.items) now ≡ Ok (after tt (look_made own) there)
-    → all_came there ≡ Ok (after tt [] there) → (answer : Result Stmt TypeFault)
-    → MakesStmt (compound (map statement (out-Block b).statements.items) there) answer last
+    → (answer : Result Stmt TypeFault) → MakesStmt (statement_part (out-Block b).statements.items there) answer last
     → MakesBody before behind ((typed_block b).typing old) answer last
-body_answers b old now there last before behind own are declares routines came (Ok made) ends =
-    (own, are, body_ends b old now declares (look_made own) there routines came (look_stmt made) last ends)
-body_answers b old now there last before behind own are declares routines came (Err why) stops =
-    statements_stop b old now declares (look_made own) there routines came why stops
+body_answers b old now there last before behind own are declares routines (Ok made) ends =
+    (own, are, body_ends b old now declares (look_made own) there routines (look_stmt made) last ends)
+body_answers b old now there last before behind own are declares routines (Err why) stops =
+    statements_stop b old now declares (look_made own) there routines why stops
 
 -- a block never stops where it begins
 pub begun_stops : (number : ℕ) (name : Name) (b : TypedBlock) (old : Passed) (why : TypeFault)
@@ -331,6 +318,29 @@ block_ended number name b old now there later last round heading begins own body
     ∙ ap₂ (λ one two. look_made own ++ (look_stmt body ++ (BlockEnds number one two made.result (out-Block b).end ∷ []))) around parameters
     ∙ ap (λ l. look_made own ++ l) (sym (append-nil (look_block number (record { heading = made; body = body; end = (out-Block b).end }))))
     ∙ sym (look_both own (record { number = number; block = record { heading = made; body = body; end = (out-Block b).end } } ∷ [])))
+
+-- the block of a routine, as its end answers
+module _ (number : ℕ) (name : Name) (b : SyntaxBlock) (old now there last : Passed) (begun : BegunBlock) (heading : Headed)
+    (begins : block_begins number (all_folded (typed_block b).names) old ≡ Ok (after (enclosing_of begun.round, heading) [] now))
+    (is : IsBegun begun heading) (own : List MadeBlock) (body : Stmt)
+    (typed : (typed_block b).typing now ≡ Ok (after tt (look_made own ++ look_stmt body) there)) (before so_far behind : List MadeBlock)
+    (are : so_far ≡ before ++ own) where
+  pub routine_answers : (answer : Result (Unit {0}) TypeFault)
+      → EndsRoutine number begun body name.place (out-Block b).end so_far behind there answer last
+      → MakesBlocks before behind (routine_block number name (typed_block b) old) answer last
+  routine_answers (Ok _) ended =
+      let made : Heading = record { around = begun.around; parameters = begun.parameters; result = ended.result } in
+      let one : MadeBlock = record { number = number; block = record { heading = made; body = body; end = (out-Block b).end } } in (
+        own ++ one ∷ [],
+        ended.are ∙ ap (λ l. l ++ one ∷ []) are ∙ append_assoc before own (one ∷ []),
+        block_ended number name b old now there ended.later last (enclosing_of begun.round) heading begins own body typed made
+            (subst (λ root. result_at_end name.place (out-Block b).end root there ≡ Ok (after ended.result [] ended.later)) (sym is.result) ended.tests)
+            ended.ends is.around is.parameters,
+      )
+  routine_answers (Err why) stops =
+      result_stops number name (typed_block b) old now (enclosing_of begun.round) heading begins (look_made own ++ look_stmt body) there typed why
+      (subst (λ end. IsFault (result_at_end name.place end heading.result there) why) (sym (end_is b))
+      (subst (λ root. IsFault (result_at_end name.place (out-Block b).end root there) why) (sym is.result) stops))
 
 -- the program
 pub program_made : (program : Program) (now last : Passed) → declared program ≡ Ok (after tt [] now) → (own : List MadeBlock) (body : Stmt)

@@ -1,5 +1,6 @@
 -- Cases: how their typing goes on from that of their arms, and how they look.
-use Rattle.std.proofs.Common.{◌≡◌, ℕ, ℤ, zero, suc, ◌+◌, ◌<◌, ◌≤◌, List, [], ◌∷◌, ◌++◌, length, map, drop, get_or, Some, slice_get, Ok, Err, Vec, inl, inr}
+use Rattle.std.proofs.Common.{◌≡◌, ℕ, ℤ, zero, suc, ◌+◌, ◌<◌, ◌≤◌, List, [], ◌∷◌, ◌++◌, length, map, drop, get_or, Some, slice_get, Result}
+use Rattle.std.proofs.Common.{MatchResult, Ok, Err, Vec, inl, inr}
 use Rattle.std.proofs.Common.{refl, sym, ap, ap₂, subst, ◌∙◌, append-nil, append_assoc, length-append, arith}
 use Rattle.std.proofs.Math.Seq.{drop-nil}
 use Rattle.std.proofs.lemmas.List.{map-append, length-map, drop_more, at_drop_all}
@@ -16,8 +17,10 @@ use Rattle.typed_tree.specs.Look.{Look, Case, Arm, Ends, look_expr, look_stmt, a
 use Rattle.typed_tree.proofs.Looks.{look_case}
 use Rattle.typing.specs.Passing.{Passed, Passing, Checked, After, after, and_then, behind_marks, mark, ◌>>◌}
 use Rattle.typing.specs.Outcomes.{IsFault}
-use Rattle.typing.specs.Statements.{statement, case_constant, constant_row, case_arms, case_body}
+use Rattle.typing.specs.Statements.{statement, case_constant, constant_row, case_arms}
 use Rattle.typing.proofs.Rows.{behind_nothing, behind_both}
+use Rattle.resolver.specs.Made.{IsAdded, MakesConstants, MakesRow}
+use Rattle.resolver.specs.declared.typed.Arms.{Arms}
 
 -- a case, behind what it is as far as its `of`
 pub look_of_case : (number site : ℕ) (index : Expr) (constants : Vec (Vec ℤ Global) Global) (arms : Vec Stmt Global)
@@ -60,6 +63,18 @@ module _ (type_id : TypeId) (before : List ℤ) (written : List Constant) (old :
   row_ends i row now all left = left ∙ at_drop_all (λ cs. constant_row type_id before row cs now) written i all
 
 -- ---- rows and arms
+
+-- a row is kept, behind those before it
+pub row_kept : (old new : Arms) (outcome : Checked (After (List ℤ))) (passed : Passed) (made : Result (Vec ℤ Global) TypeFault)
+    (result : Result (Unit {0}) TypeFault) → MakesConstants old.seen.keys new.seen.keys outcome made passed
+    → MatchResult result (λ _. IsAdded old.rows.items new.rows.items made) (IsFault made) → new.statements ≡ old.statements
+    → MakesRow old new outcome result passed
+row_kept old new outcome passed made (Ok _) makes one same =
+    let is = subst (λ r. MakesConstants old.seen.keys new.seen.keys outcome r passed) one.is makes in
+    record { row = one.one; is = is.0; seen = is.1; rows = one.grown; same = same }
+row_kept old new outcome passed made (Err why) makes (inl memory) same = inl memory
+row_kept old new outcome passed made (Err why) makes (inr is) same =
+    subst (λ r. MakesConstants old.seen.keys new.seen.keys outcome r passed) is makes
 
 drop_later : {A : Type 0} (x : A) (xs : List A) (i : ℕ) → drop (suc i + 1) (x ∷ xs) ≡ drop (i + 1) xs
 drop_later x xs i = let later : suc i + 1 ≡ suc (i + 1) = omega arith in ap (λ n. drop n (x ∷ xs)) later
@@ -239,15 +254,3 @@ module _ (type_id : TypeId) (constants : List (Vec Constant Global)) (written : 
 
             as_many : length (rows ++ row ∷ []) ≡ length (arms ++ made ∷ [])
             as_many = length-append rows (row ∷ []) ∙ ap (λ n. n + 1) left.even ∙ sym (length-append arms (made ∷ []))
-
--- the whole case behind its `of`
-pub body_ends : (type_id : TypeId) (arms : List (List Constant × Passing (Unit {0}))) (old now : Passed) (look : Look)
-    → case_arms type_id [] arms old ≡ Ok (after tt look now) → case_body arms type_id old ≡ Ok (after tt (look ++ (Ends ∷ [])) now)
-unfolding case_body
-body_ends type_id arms old now look ends = ap (λ r. and_then r (λ a. behind_marks a.look (mark Ends a.passed))) ends
-
-pub body_stops : (type_id : TypeId) (arms : List (List Constant × Passing (Unit {0}))) (old : Passed) (why : TypeFault)
-    → IsFault (case_arms type_id [] arms old) why → IsFault (case_body arms type_id old) why
-unfolding case_body
-body_stops type_id arms old why (inl memory) = inl memory
-body_stops type_id arms old why (inr stops) = inr (ap (λ r. and_then r (λ a. behind_marks a.look (mark Ends a.passed))) stops)

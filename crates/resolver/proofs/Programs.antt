@@ -1,12 +1,15 @@
 -- Programs: the typed tree of one that is made of its blocks, and what it has by the laws of typing.
-use Rattle.std.proofs.Common.{◌≡◌, ◌≤◌, List, [], ◌∷◌, ◌++◌, length, map, slice_get, Ok, refl, sym, ap, ap₂, subst, ◌∙◌}
-use Rattle.std.specs.Prelude.{IsPermutation, flat_map}
+use Rattle.std.proofs.Common.{◌≡◌, ◌≤◌, List, [], ◌∷◌, ◌++◌, length, map, slice_get, Result, MatchResult, IfOk}
+use Rattle.std.proofs.Common.{IfErr, Ok, Err, inl, refl, sym, ap, ap₂, subst, ◌∙◌, arith}
+use Rattle.std.specs.Prelude.{IsPermutation, flat_map, vec_len}
 use Rattle.std.specs.List.{range_with_len}
 use Rattle.std.proofs.lemmas.Grind.{flat_map-append}
 use Rattle.place.specs.Place.{ArePlacesInOrder}
 use Rattle.syntax_tree.specs.declared.Program.{Program}
 use Rattle.syntax_tree.specs.Places.{program_places}
 use Rattle.types.specs.Types.{BeginWithRequired}
+use Rattle.typed_tree.specs.declared.fault.TypeFault.{TypeFault}
+use Rattle.typed_tree.specs.declared.fault.TypeFault.TheVariants.{Memory}
 use Rattle.typed_tree.specs.declared.tree.Tree.{Tree}
 use Rattle.typed_tree.specs.Entries.{AreNumbered, of_block}
 use Rattle.typed_tree.specs.Ids.{AreInOrder, AreByPlace}
@@ -14,14 +17,16 @@ use Rattle.typed_tree.specs.Look.{blocks_of_look, heading_look, look_block, look
 use Rattle.typed_tree.specs.Loops.{loops_of}
 use Rattle.typed_tree.specs.WellFormed.{IsWellFormed}
 use Rattle.typed_tree.proofs.Quiet.{inner_stmt}
+use Rattle.typing.specs.Outcomes.{IsFault}
 use Rattle.typing.specs.Passing.{Passed, after}
 use Rattle.typing.specs.Sound.{IsLeft, IsTyped, rows_of_block, stands}
 use Rattle.typing.specs.Typing.{typing}
 use Rattle.typing_laws.specs.Lawful.{Lawful}
 use Rattle.typing_laws.proofs.Programs.{typing_is_lawful}
 use Rattle.typing_laws.proofs.Trees as Trees
-use Rattle.resolver.specs.Made.{AreArranged, IsResolved, look_made}
+use Rattle.resolver.specs.Made.{AreArranged, AreLaidBlocks, AreLaidOut, IsResolved, look_made}
 use Rattle.resolver.specs.Table.{IsTableOf}
+use Rattle.resolver.specs.declared.typed.LaidBlocks.{LaidBlocks}
 use Rattle.resolver.specs.declared.typed.MadeBlock.{MadeBlock}
 use Rattle.resolver.proofs.Arranged.{AreThere, are_there, as_many_blocks, in_text_is, number_of}
 
@@ -71,6 +76,13 @@ module _ (program : Program) (made : List MadeBlock) (last : Passed) (typed : ty
     bodies = as_numbers ∙ sym (ap blocks_of_look looks ∙ numbers_told made);
   }
 
+-- blocks as they are laid out
+pub laid_from : (program : Program) (last : Passed) (made : List MadeBlock) → typing program ≡ Ok (after tt (look_made made) last)
+    → (answer : Result LaidBlocks TypeFault) → MatchResult answer (AreLaidOut made) (λ why. why ≡ Memory)
+    → MatchResult answer (AreLaidBlocks program last) (IsFault (typing program))
+laid_from program last made typed (Ok laid) are = record { made = made; typed = typed; laid_out = are }
+laid_from program last made typed (Err why) is = inl is
+
 -- ---- what the tree of a program has
 
 module _ (program : Program) (tree : Tree) (resolved : IsResolved program tree) where
@@ -90,12 +102,13 @@ module _ (program : Program) (tree : Tree) (resolved : IsResolved program tree) 
   has_types =
       Trees.has_types program (after tt (tree_look tree) resolved.is_typed.left) tree lawful refl resolved.is_typed.is_left resolved.count resolved.bodies
 
-  pub has_few_sites : length tree.sites.items ≤ 1000000
+  pub has_few_sites : vec_len tree.sites ≤ 1000000
   has_few_sites =
-      subst (λ n. n ≤ 1000000)
+      let few : length tree.sites.items ≤ 1000000 = subst (λ n. n ≤ 1000000)
       (sym (Trees.as_many_sites program (after tt (tree_look tree) resolved.is_typed.left) tree lawful refl resolved.is_typed.is_left resolved.count
       resolved.bodies))
-      lawful.few_sites
+      lawful.few_sites in
+      omega (arith, tree.sites.ok.0)
 
   pub is_numbered : AreNumbered tree
   is_numbered =
@@ -114,6 +127,14 @@ module _ (program : Program) (tree : Tree) (resolved : IsResolved program tree) 
       Trees.is_well_formed program (after tt (tree_look tree) resolved.is_typed.left) tree lawful refl resolved.is_typed.is_left resolved.count
       resolved.bodies resolved.is_typed.has_loops
 
--- all of these
-pub ruleset has_it_all =
-    (is_typed, ids_in_order, has_no_points, has_types, has_few_sites, is_numbered, loops_are_numbered, sites_by_place, is_well_formed)
+-- what an answer has where it is the tree of the program
+pub resolved_has : (program : Program) (Has : Tree → Type 0) → ((tree : Tree) → IsResolved program tree → Has tree) → (answer : Result Tree TypeFault)
+    → MatchResult answer (IsResolved program) (IsFault (typing program)) → IfOk answer Has
+resolved_has program Has has (Ok tree) resolved = has tree resolved
+resolved_has program Has has (Err why) stops = tt
+
+-- why there is none
+pub not_resolved : (program : Program) (answer : Result Tree TypeFault) → MatchResult answer (IsResolved program) (IsFault (typing program))
+    → IfErr answer (IsFault (typing program))
+not_resolved program (Ok tree) resolved = tt
+not_resolved program (Err why) stops = stops

@@ -1,14 +1,16 @@
 -- The table of loops: what is met behind statements, one after another, and behind loops.
-use Rattle.std.proofs.Common.{◌≡◌, ℕ, ◌+◌, ◌<◌, ◌≤◌, List, [], ◌∷◌, ◌++◌, length, map, drop, set, get_or, sym, ap, ap₂, ◌∙◌, append-nil, append_assoc}
+use Rattle.std.proofs.Common.{◌≡◌, ℕ, false, ◌+◌, ◌<◌, ◌≤◌, List, [], ◌∷◌, ◌++◌, length, map, drop, set, get_or, sym, ap, ap₂, ◌∙◌, append-nil, append_assoc}
 use Rattle.std.proofs.lemmas.List.{map-append, map-set, drop_more, at_drop_all}
 use Rattle.std.proofs.Math.Seq.{set-append_seam, drop-append_seam}
 use Rattle.typed_tree.specs.declared.tree.Loop.{Loop}
 use Rattle.typed_tree.specs.declared.tree.Stmt.{Stmt}
-use Rattle.typed_tree.specs.Loops.{Inside, no_loop, both_inside, all_inside, looped, controlled, inside_of}
+use Rattle.typed_tree.specs.Loops.{Inside, no_loop, both_inside, all_inside, looped, inside_of}
+use Rattle.typed_tree.specs.Loops.{controlled as controlled_inside}
 use Rattle.typed_tree.proofs.Insides.{inside_empty, inside_assign, inside_call, inside_copy, inside_write, inside_compound, inside_if, inside_if_else}
 use Rattle.typed_tree.proofs.Insides.{inside_while}
 use Rattle.typed_tree.proofs.Insides.{inside_repeat, inside_for, inside_case}
-use Rattle.resolver.specs.Table.{Seen, row_of, rows_of, meets, opened, closed}
+use Rattle.resolver.specs.Table.{Seen, Meets, seen, row_of, rows_of, meets, controlled, opened, closed}
+use Rattle.resolver.specs.declared.table.Met.{Met}
 
 pub meets_none : (s : Seen) → s ≡ meets no_loop s
 meets_none s = sym (ap₂ (λ r c. record { block = s.block; rows = r; controls = c }) (append-nil s.rows) (append-nil s.controls))
@@ -28,8 +30,7 @@ meets_looped loop_number inside s =
     (drop-append_seam s.controls inside.controls)
     ∙ set-append_seam s.rows (s.block, []) (rows_of s.block inside.loops) (s.block, inside.controls))
 
-pub meets_controlled : (control : ℕ) (inside : Inside) (s : Seen)
-    → meets inside (record { block = s.block; rows = s.rows; controls = s.controls ++ control ∷ [] }) ≡ meets (controlled control inside) s
+pub meets_controlled : (control : ℕ) (inside : Inside) (s : Seen) → meets inside (controlled control s) ≡ meets (controlled_inside control inside) s
 meets_controlled control inside s =
     ap (λ c. record { block = s.block; rows = s.rows ++ rows_of s.block inside.loops; controls = c }) (append_assoc s.controls (control ∷ []) inside.controls)
 
@@ -37,31 +38,56 @@ meets_controlled control inside s =
 pub row_told : (rows : List Loop) (row : ℕ) (told : Loop) → map row_of (set rows row told) ≡ set (map row_of rows) row (row_of told)
 row_told rows row told = map-set row_of rows row told
 
+-- one step, and then another
+pub then_meets : (first second both : Seen → Seen) → ((s : Seen) → second (first s) ≡ both s) → (old now new : Met) → Meets first old now
+    → Meets second now new → Meets both old new
+then_meets first second both are old now new begins ends not_short =
+    let last = ends not_short in
+    let before = begins last.0 in
+    (before.0, last.1 ∙ ap second before.1 ∙ are (seen old))
+
 -- a loop is met, from where it begins to where it ends
-pub loop_met : (loop_number : ℕ) (inside : Inside) (old now new : Seen) (row start : ℕ) → now ≡ opened old → row ≡ length old.rows
-    → start ≡ length old.controls → new ≡ meets inside now → closed row start new ≡ meets (looped loop_number inside) old
-loop_met loop_number inside old now new row start begins is from met =
-    ap₂ (λ r c. closed r c new) is from
-    ∙ ap (closed (length old.rows) (length old.controls)) (met ∙ ap (meets inside) begins)
-    ∙ meets_looped loop_number inside old
+pub loop_met : (loop_number : ℕ) (inside : Inside) (old now there new : Met) (row start : ℕ) → Meets opened old now → row ≡ length (seen old).rows
+    → start ≡ length old.controls.items → Meets (meets inside) now there → Meets (closed row start) there new
+    → Meets (meets (looped loop_number inside)) old new
+loop_met loop_number inside old now there new row start begins is from met ends not_short =
+    let last = ends not_short in
+    let middle = met last.0 in
+    let first = begins middle.0 in (
+      first.0,
+      last.1 ∙ ap₂ (λ r c. closed r c (seen there)) is from
+          ∙ ap (closed (length (seen old).rows) (length old.controls.items)) (middle.1 ∙ ap (meets inside) first.1)
+          ∙ meets_looped loop_number inside (seen old),
+    )
 
 -- statements that are met one after another
-module _ (statements : List Stmt) (old : Seen) where
+module _ (statements : List Stmt) (old : Met) where
   -- what is left, once some are met
-  abbrev pub IsLeftFrom : ℕ → Seen → Type 0
-  IsLeftFrom i now = meets (all_inside (map inside_of statements)) old ≡ meets (all_inside (map inside_of (drop i statements))) now
+  abbrev pub IsLeftFrom : ℕ → Met → Type 0
+  IsLeftFrom i now =
+      now.is_short ≡ false → (old.is_short ≡ false)
+      × (meets (all_inside (map inside_of statements)) (seen old) ≡ meets (all_inside (map inside_of (drop i statements))) (seen now))
 
-  pub next_met : (i : ℕ) (next : Stmt) (now new : Seen) → i < length statements → next ≡ get_or statements i next → IsLeftFrom i now
-      → new ≡ meets (inside_of next) now → IsLeftFrom (i + 1) new
-  next_met i next now new within is left met =
-      left
-      ∙ ap (λ l. meets (all_inside (map inside_of l)) now) (drop_more statements i next within)
-      ∙ ap (λ s. meets (all_inside (map inside_of (s ∷ drop (i + 1) statements))) now) (sym is)
-      ∙ sym (meets_both (inside_of next) (all_inside (map inside_of (drop (i + 1) statements))) now)
-      ∙ ap (meets (all_inside (map inside_of (drop (i + 1) statements)))) (sym met)
+  pub next_met : (i : ℕ) (next : Stmt) (now new : Met) → i < length statements → next ≡ get_or statements i next → IsLeftFrom i now
+      → Meets (meets (inside_of next)) now new → IsLeftFrom (i + 1) new
+  next_met i next now new within is left met not_short =
+      let last = met not_short in
+      let before = left last.0 in (
+        before.0,
+        before.1
+            ∙ ap (λ l. meets (all_inside (map inside_of l)) (seen now)) (drop_more statements i next within)
+            ∙ ap (λ s. meets (all_inside (map inside_of (s ∷ drop (i + 1) statements))) (seen now)) (sym is)
+            ∙ sym (meets_both (inside_of next) (all_inside (map inside_of (drop (i + 1) statements))) (seen now))
+            ∙ ap (meets (all_inside (map inside_of (drop (i + 1) statements)))) (sym last.1),
+      )
 
-  pub all_met : (i : ℕ) (now : Seen) → length statements ≤ i → IsLeftFrom i now → now ≡ meets (all_inside (map inside_of statements)) old
-  all_met i now all left = meets_none now ∙ sym (left ∙ at_drop_all (λ l. meets (all_inside (map inside_of l)) now) statements i all)
+  pub all_met : (i : ℕ) (now : Met) → length statements ≤ i → IsLeftFrom i now → Meets (meets (all_inside (map inside_of statements))) old now
+  all_met i now all left not_short =
+      let before = left not_short in (
+        before.0,
+        meets_none (seen now)
+            ∙ sym (before.1 ∙ at_drop_all (λ l. meets (all_inside (map inside_of l)) (seen now)) statements i all),
+      )
 
 -- what stands inside each form, and what is met behind it
 pub ruleset met_forms = (

@@ -1,6 +1,6 @@
 -- How the table of loops is gathered from a statement: what was met so far, and what is met inside a statement.
 -- It says nothing of what a loop does.
-use Rattle.std.specs.Prelude.{◌≡◌, ℕ, List, [], ◌∷◌, ◌++◌, map, drop, flat_map, set}
+use Rattle.std.specs.Prelude.{◌≡◌, ℕ, false, List, [], ◌∷◌, ◌++◌, map, drop, flat_map, set}
 use Rattle.typed_tree.specs.declared.tree.Loop.{Loop}
 use Rattle.typed_tree.specs.Loops.{Inside, loops_of_statement}
 use Rattle.resolver.specs.declared.table.Met.{Met}
@@ -27,6 +27,10 @@ abbrev pub meets : Inside → Seen → Seen
 meets inside s =
     record { block = s.block; rows = s.rows ++ rows_of s.block inside.loops; controls = s.controls ++ inside.controls }
 
+-- a control variable was met
+abbrev pub controlled : ℕ → Seen → Seen
+controlled root s = record { block = s.block; rows = s.rows; controls = s.controls ++ root ∷ [] }
+
 -- a loop has a row, which is not told yet
 abbrev pub opened : Seen → Seen
 opened s = record { block = s.block; rows = s.rows ++ (s.block, []) ∷ []; controls = s.controls }
@@ -35,6 +39,10 @@ opened s = record { block = s.block; rows = s.rows ++ (s.block, []) ∷ []; cont
 abbrev pub closed : ℕ → ℕ → Seen → Seen
 closed row start s =
     record { block = s.block; rows = set s.rows row (s.block, drop start s.controls); controls = s.controls }
+
+-- what was met behind a step, unless memory ran out
+abbrev pub Meets : (Seen → Seen) → Met → Met → Type 0
+Meets step old new = new.is_short ≡ false → (old.is_short ≡ false) × (seen new ≡ step (seen old))
 
 -- the rows of the loops of a block that was made
 abbrev pub rows_of_made : MadeBlock → List (ℕ × List ℕ)

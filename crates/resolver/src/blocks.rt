@@ -6,7 +6,7 @@ ghost use Rattle.typing.specs.Passing.{each};
 ghost use Rattle.typing.specs.Routines as spec;
 ghost use Rattle.typing.specs.Routines.{typed_block, typed_routine};
 ghost use Rattle.declarations.specs.Known.{AreKnown, AreKnownRoutines};
-ghost use Rattle.resolver.specs.Made.{MakesBlocks, MakesBody};
+ghost use Rattle.resolver.specs.Made.{EndsRoutine, MakesBlocks, MakesBody, MakesStmt, statement_part};
 
 use crate::statements::compound;
 use crate::typed::MadeBlock;
@@ -16,7 +16,7 @@ use syntax_tree as syntax;
 use syntax_tree::{Name, Routine};
 use typed_tree::fault::TypeFault;
 use typed_tree::tree::{Block, Heading, Stmt};
-use typing::{Typer, heading_name};
+use typing::{BegunBlock, Typer, heading_name};
 
 /// The statements of a block, behind its declarations (6.2.1). The blocks of its routines are made too.
 #[cycle(blocks)]
@@ -30,8 +30,15 @@ pub(crate) fn body(
 {
     declare(typer, written)?;
     routines(typer, made, &written.routines)?;
+    statement_part(typer, &written.statements)
+}
+
+// The statements of a block, once each routine came that was declared with the directive forward.
+fn statement_part(typer: &mut Typer, written: &[syntax::Stmt]) -> Result<Stmt, TypeFault>
+    ensures { MakesStmt (statement_part written.now typer.old) result typer.new }
+{
     typer.all_came()?;
-    compound(typer, &written.statements)
+    compound(typer, written)
 }
 
 // Procedures and functions, one after another.
@@ -93,18 +100,35 @@ fn routine_block(
 {
     let begun = begin_block(typer, number, written)?;
     let body = body(typer, made, written)?;
-    let result = typer.result_at_end(name.place, written.end, begun.root)?;
-    typer.end_block(begun.round);
+    end_routine(typer, made, number, begun, body, name.place, written.end)
+}
+
+// The block of a routine ends, behind its statements, and stands behind the blocks that were made before.
+fn end_routine(
+    typer: &mut Typer,
+    made: &mut Vec<MadeBlock>,
+    number: u32,
+    begun: BegunBlock,
+    body: Stmt,
+    name: Place,
+    end: Place,
+) -> Result<(), TypeFault>
+    ensures { EndsRoutine number begun body name end made.old.items made.new.items typer.old result typer.new }
+{
+    let result = typer.result_at_end(name, end, begun.root)?;
+    let BegunBlock {
+        round,
+        around,
+        parameters,
+        ..
+    } = begun;
+    typer.end_block(round);
     let heading = Heading {
-        around: begun.around,
-        parameters: begun.parameters,
+        around,
+        parameters,
         result,
     };
-    let block = Block {
-        heading,
-        body,
-        end: written.end,
-    };
+    let block = Block { heading, body, end };
     made.push(MadeBlock { number, block })?;
     Ok(())
 }

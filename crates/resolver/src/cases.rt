@@ -1,42 +1,67 @@
-ghost use Rattle.std.specs.Prelude.{◌≡◌, [], ◌∷◌, ◌++◌, IfOk};
+ghost use Rattle.std.specs.Prelude.{◌≡◌, [], ◌∷◌, ◌++◌, true, false, IfOk, MatchResult};
+ghost use Rattle.typed_tree.specs.declared.fault.TypeFault.TheVariants.{Mismatch};
+ghost use Rattle.typed_tree.specs.Look.{look_expr};
 ghost use Rattle.typing.specs.Expressions.{expression};
 ghost use Rattle.typing.specs.Outcomes.{Takes};
 ghost use Rattle.typing.specs.Statements as spec;
-ghost use Rattle.resolver.specs.Made.{MakesCaseHead, MakesConstants, MakesRow};
+ghost use Rattle.expression_resolver.specs.Made.{look_value, typed_of};
+ghost use Rattle.resolver.specs.Made.{MakesCase, MakesCaseHead, MakesConstants, MakesRow, is_index};
 
-use crate::typed::{CaseHead, Rows};
-use expression_resolver::{expression, first_place};
+use crate::memory::put;
+use crate::typed::{Arms, Case, CaseHead};
+use expression_resolver::{TypedExpr, expression, first_place};
 use indexmap::IndexSet;
 use place::Place;
 use syntax_tree as syntax;
 use syntax_tree::Constant;
 use typed_tree::fault::TypeFault;
 use typed_tree::site::SiteKind;
+use typed_tree::tree::Expr;
 use types::TypeId;
 use typing::{Typer, constant_place};
 
-/// A case as far as its `of` (6.8.3.5).
-#[tactic(auto, unfolding(typing::specs::Statements::case_head))]
-pub(crate) fn case_head(
+/// A case as far as its `of` (6.8.3.5), with room for so many arms.
+pub(crate) fn begun_case(
     typer: &mut Typer,
     place: Place,
     index: &syntax::Expr,
-) -> Result<CaseHead, TypeFault>
-    ensures { MakesCaseHead (spec.case_head place (expression index.now) typer.old) result typer.new }
+    count: usize,
+) -> Result<Case, TypeFault>
+    ensures { MakesCase (spec.case_head place (expression index.now) typer.old) result typer.new }
+{
+    let head = case_head(typer, place, index)?;
+    let arms = Arms::with_capacity(typer.alloc, count)?;
+    Ok(Case { head, arms })
+}
+
+// A case as far as its `of`.
+#[tactic(auto, unfolding(typing::specs::Statements::case_head))]
+fn case_head(typer: &mut Typer, place: Place, written: &syntax::Expr) -> Result<CaseHead, TypeFault>
+    ensures { MakesCaseHead (spec.case_head place (expression written.now) typer.old) result typer.new }
 {
     let site = typer.site(SiteKind::Case, place)?;
     let number = typer.enter()?;
-    let first = first_place(index);
-    let made = expression(typer, index, None)?;
-    if !typer.is_ordinal(made.typed()) {
-        return Err(TypeFault::Mismatch(first));
-    }
+    let made = expression(typer, written, None)?;
+    let type_id = made.type_id;
+    let index = index_of(typer, made, first_place(written))?;
     Ok(CaseHead {
         number,
         site,
-        type_id: made.type_id,
-        index: made.ordinal(first)?,
+        index,
+        type_id,
     })
+}
+
+// The index of a case, which is ordinal: K1 at its place where it isn't.
+fn index_of(typer: &Typer, made: TypedExpr, place: Place) -> Result<Expr, TypeFault>
+    ensures { MatchResult result (λ index. (is_index typer.now.types (typed_of made) ≡ true)
+        × (look_value made.value ≡ look_expr index))
+        (λ why. (is_index typer.now.types (typed_of made) ≡ false) × (why ≡ Mismatch place)) }
+{
+    if !typer.is_ordinal(made.typed()) {
+        return Err(TypeFault::Mismatch(place));
+    }
+    made.ordinal(place)
 }
 
 /// The constants before one arm more.
@@ -44,14 +69,13 @@ pub(crate) fn case_row(
     typer: &mut Typer,
     type_id: TypeId,
     written: &[Constant],
-    rows: &mut Rows,
+    arms: &mut Arms,
 ) -> Result<(), TypeFault>
-    ensures { MakesRow rows.old rows.new (spec.constant_row type_id rows.old.seen.keys [] written.now typer.old) result
+    ensures { MakesRow arms.old arms.new (spec.constant_row type_id arms.old.seen.keys [] written.now typer.old) result
         typer.new }
 {
-    let row = constant_row(typer, type_id, written, &mut rows.seen)?;
-    rows.rows.push(row)?;
-    Ok(())
+    let row = constant_row(typer, type_id, written, &mut arms.seen);
+    put(&mut arms.rows, row)
 }
 
 // The constants before an arm, one after another.

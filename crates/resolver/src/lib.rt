@@ -4,7 +4,10 @@
 
 mod assignments;
 mod blocks;
+mod calls;
 mod cases;
+mod heads;
+mod memory;
 mod program;
 mod statements;
 mod table;

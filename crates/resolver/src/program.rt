@@ -16,20 +16,19 @@ ghost use Rattle.typing.specs.declared.typer.TheConstants.{MOST_SITES};
 ghost use Rattle.types.specs.Types.{BeginWithRequired};
 ghost use Rattle.typing.specs.Passing.{after};
 ghost use Rattle.typed_tree.specs.declared.fault.TypeFault.TheVariants.{Memory};
-ghost use Rattle.resolver.specs.Made.{AreArranged, IsResolved, look_made};
+ghost use Rattle.resolver.specs.Made.{AreArranged, AreLaidBlocks, AreLaidOut, IsResolved, look_made};
 
 use crate::blocks::body;
 use crate::table::table_of;
-use crate::typed::MadeBlock;
+use crate::typed::{LaidBlocks, MadeBlock};
 use declarations::begin_program;
-use std::alloc::Global;
+use std::alloc::{AllocError, Global};
 use syntax_tree::Program;
 use typed_tree::fault::TypeFault;
 use typed_tree::tree::{Block, Heading, Tree};
 use typing::Typer;
 
 /// The typed tree of a program, or the first rule of names and types that it breaks, with its place.
-#[tactic(auto, using(crate::proofs::Programs::has_it_all))]
 pub fn resolve(alloc: Global, program: &Program) -> Result<Tree, TypeFault>
     // It is the typed tree of the program, which breaks no rule of names and types.
     ensures typed { IfOk result (IsTyped program.now) }
@@ -65,43 +64,19 @@ fn typed_program(alloc: Global, program: &Program) -> Result<Tree, TypeFault>
     ensures { MatchResult result (IsResolved program.now) (IsFault (typing program.now)) }
 {
     let mut typer = begin_program(alloc, program)?;
-    let mut made = Vec::new(alloc);
-    program_blocks(&mut typer, &mut made, program)?;
-    let loops = table_of(alloc, &made)?;
-    let bodies = numbers_of(alloc, &made)?;
-    let blocks = arranged(alloc, made)?;
-    Ok(typer.tree(blocks, bodies, loops))
+    let laid = laid_blocks(&mut typer, program)?;
+    Ok(typer.tree(laid.blocks, laid.bodies, laid.loops))
 }
 
-// The numbers of blocks.
-fn numbers_of(alloc: Global, made: &[MadeBlock]) -> Result<Vec<u32>, TypeFault>
-    ensures { MatchResult result (λ numbers. numbers.items ≡ map (λ one. one.number) made.now) (λ why. why ≡ Memory) }
+// Passes the block of a program, behind its parameters, and makes its blocks as its tree has them.
+fn laid_blocks(typer: &mut Typer, program: &Program) -> Result<LaidBlocks, TypeFault>
+    requires begun { declared program.now ≡ Ok (after tt [] typer.old) }
+    requires known { AreKnown (typed_block program.now.block).names typer.old.regions }
+    ensures { MatchResult result (AreLaidBlocks program.now typer.new) (IsFault (typing program.now)) }
 {
-    let mut numbers = Vec::with_capacity(alloc, made.len())?;
-    for one in made {
-        numbers.push(one.number)?;
-    }
-    Ok(numbers)
-}
-
-// Blocks by their numbers.
-fn arranged(alloc: Global, made: Vec<MadeBlock>) -> Result<Vec<Block>, TypeFault>
-    ensures { MatchResult result (λ blocks. AreArranged made.items blocks.items) (λ why. why ≡ Memory) }
-{
-    let mut sorted = made;
-    sorted.sort_by_key(|one| one.number)?;
-    blocks_of(alloc, sorted)
-}
-
-// Blocks without their numbers.
-fn blocks_of(alloc: Global, made: Vec<MadeBlock>) -> Result<Vec<Block>, TypeFault>
-    ensures { MatchResult result (λ blocks. blocks.items ≡ map (λ one. one.block) made.items) (λ why. why ≡ Memory) }
-{
-    let mut blocks = Vec::with_capacity(alloc, made.len())?;
-    for one in made {
-        blocks.push(one.block)?;
-    }
-    Ok(blocks)
+    let mut made = Vec::new(typer.alloc);
+    program_blocks(typer, &mut made, program)?;
+    laid_out(typer.alloc, made)
 }
 
 // Passes the block of a program, behind its parameters, and makes its blocks in the order of the text, its own last.
@@ -129,4 +104,34 @@ fn program_blocks(
     };
     made.push(MadeBlock { number: 0, block })?;
     Ok(())
+}
+
+// Blocks that were made in the order of the text, as a tree has them.
+fn laid_out(alloc: Global, made: Vec<MadeBlock>) -> Result<LaidBlocks, TypeFault>
+    ensures { MatchResult result (AreLaidOut made.items) (λ why. why ≡ Memory) }
+{
+    let loops = table_of(alloc, &made)?;
+    let bodies = made.iter().map(|one| one.number).collect(alloc)?;
+    let blocks = arranged(alloc, made)?;
+    Ok(LaidBlocks {
+        blocks,
+        bodies,
+        loops,
+    })
+}
+
+// Blocks by their numbers.
+fn arranged(alloc: Global, made: Vec<MadeBlock>) -> Result<Vec<Block>, AllocError>
+    ensures { IfOk result (λ blocks. AreArranged made.items blocks.items) }
+{
+    let mut sorted = made;
+    sorted.sort_by_key(|one| one.number)?;
+    blocks_of(alloc, sorted)
+}
+
+// Blocks without their numbers.
+fn blocks_of(alloc: Global, made: Vec<MadeBlock>) -> Result<Vec<Block>, AllocError>
+    ensures { IfOk result (λ blocks. blocks.items ≡ map (λ one. one.block) made.items) }
+{
+    made.into_iter().map(|one| one.block).collect(alloc)
 }

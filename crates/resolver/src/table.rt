@@ -1,7 +1,7 @@
-ghost use Rattle.std.specs.Prelude.{◌≡◌, ◌<◌, ◌++◌, IfOk, MatchResult, OnOk, drop, length, map};
+ghost use Rattle.std.specs.Prelude.{◌≡◌, ◌++◌, false, IfOk, MatchResult, drop, length, map};
 ghost use Rattle.typed_tree.specs.Loops.{all_inside, inside_of};
 ghost use Rattle.typed_tree.specs.declared.fault.TypeFault.TheVariants.{Memory};
-ghost use Rattle.resolver.specs.Table.{seen, opened, closed, meets, rows_of_made, IsTableOf};
+ghost use Rattle.resolver.specs.Table.{Meets, closed, controlled, meets, opened, rows_of_made, seen, IsTableOf};
 
 use crate::typed::MadeBlock;
 use std::alloc::{AllocError, Global};
@@ -17,20 +17,15 @@ pub(crate) fn table_of(alloc: Global, blocks: &[MadeBlock]) -> Result<Vec<Loop>,
         block: 0,
         loops: Vec::new(alloc),
         controls: Vec::new(alloc),
+        is_short: false,
     };
     for made in blocks {
-        meet_block(&mut met, made)?;
+        meet_block(&mut met, made);
+    }
+    if met.is_short {
+        return Err(TypeFault::Memory);
     }
     Ok(met.loops)
-}
-
-// Meets what stands inside a block.
-#[tactic(auto, using(crate::proofs::Tables::block_met))]
-fn meet_block(met: &mut Met, made: &MadeBlock) -> Result<(), AllocError>
-    ensures { OnOk result ((seen met.new).rows ≡ (seen met.old).rows ++ rows_of_made made.now) }
-{
-    met.block = made.number;
-    meet(met, &made.block.body)
 }
 
 // The rows of the loops, and the control variables, that were met so far.
@@ -41,20 +36,32 @@ struct Met {
     block: u32,
     loops: Vec<Loop>,
     controls: Vec<u32>,
+    // Memory ran out, so that rows are missing.
+    is_short: bool,
+}
+
+// Meets what stands inside a block.
+#[tactic(auto, using(crate::proofs::Tables::block_met))]
+fn meet_block(met: &mut Met, made: &MadeBlock)
+    ensures { met.new.is_short ≡ false → (met.old.is_short ≡ false)
+        × ((seen met.new).rows ≡ (seen met.old).rows ++ rows_of_made made.now) }
+{
+    met.block = made.number;
+    meet(met, &made.block.body);
 }
 
 // Meets what stands inside a statement.
 #[cycle(meet)]
 #[tactic(auto, using(crate::proofs::Tables::met_forms))]
-fn meet(met: &mut Met, statement: &Stmt) -> Result<(), AllocError>
-    ensures { OnOk result (seen met.new ≡ meets (inside_of statement.now) (seen met.old)) }
+fn meet(met: &mut Met, statement: &Stmt)
+    ensures { Meets (meets (inside_of statement.now)) met.old met.new }
 {
     match statement {
         Stmt::Empty { .. }
         | Stmt::Assign { .. }
         | Stmt::Copy { .. }
         | Stmt::Write { .. }
-        | Stmt::Call { .. } => Ok(()),
+        | Stmt::Call { .. } => {}
         Stmt::Compound { statements, .. } => meet_all(met, statements),
         Stmt::If {
             consequence,
@@ -66,63 +73,78 @@ fn meet(met: &mut Met, statement: &Stmt) -> Result<(), AllocError>
             alternative: Some(alternative),
             ..
         } => {
-            meet(met, consequence)?;
-            meet(met, alternative)
+            meet(met, consequence);
+            meet(met, alternative);
         }
         Stmt::While { body, .. } => {
-            let (row, start) = open(met)?;
-            meet(met, body)?;
-            close(met, row, start)
+            let (row, start) = open(met);
+            meet(met, body);
+            close(met, row, start);
         }
         Stmt::Repeat { statements, .. } => {
-            let (row, start) = open(met)?;
-            meet_all(met, statements)?;
-            close(met, row, start)
+            let (row, start) = open(met);
+            meet_all(met, statements);
+            close(met, row, start);
         }
         Stmt::Case { arms, .. } => meet_all(met, arms),
         Stmt::For { control, body, .. } => {
-            met.controls.push(*control)?;
-            let (row, start) = open(met)?;
-            meet(met, body)?;
-            close(met, row, start)
+            meet_control(met, *control);
+            let (row, start) = open(met);
+            meet(met, body);
+            close(met, row, start);
         }
     }
 }
 
 // The same of statements, one after another.
 #[cycle(meet)]
-fn meet_all(met: &mut Met, statements: &[Stmt]) -> Result<(), AllocError>
-    ensures { OnOk result (seen met.new ≡ meets (all_inside (map inside_of statements.now)) (seen met.old)) }
+fn meet_all(met: &mut Met, statements: &[Stmt])
+    ensures { Meets (meets (all_inside (map inside_of statements.now))) met.old met.new }
 {
     for statement in statements {
-        meet(met, statement)?;
+        meet(met, statement);
     }
-    Ok(())
+}
+
+// A control variable.
+fn meet_control(met: &mut Met, root: u32)
+    ensures { Meets (controlled root) met.old met.new }
+{
+    if met.controls.push(root).is_err() {
+        met.is_short = true;
+    }
 }
 
 // A loop begins: its row, and how many control variables were met before it.
-fn open(met: &mut Met) -> Result<(usize, usize), AllocError>
-    ensures { IfOk result (λ at. (seen met.new ≡ opened (seen met.old))
-        × ((at.0 ≡ length (seen met.old).rows) × (at.1 ≡ length met.old.controls.items))) }
+fn open(met: &mut Met) -> (usize, usize)
+    ensures begun { Meets opened met.old met.new }
+    ensures row { result.0 ≡ length (seen met.old).rows }
+    ensures start { result.1 ≡ length met.old.controls.items }
 {
-    let row = met.loops.len();
-    met.loops.push(Loop {
+    let at = (met.loops.len(), met.controls.len());
+    let begun = Loop {
         block: met.block,
         controls: Vec::new(met.alloc),
-    })?;
-    Ok((row, met.controls.len()))
+    };
+    if met.loops.push(begun).is_err() {
+        met.is_short = true;
+    }
+    at
 }
 
 // It ends: the control variables that were met since stand in its row.
 #[tactic(auto, using(crate::proofs::Tables::row_told))]
-fn close(met: &mut Met, row: usize, start: usize) -> Result<(), AllocError>
-    requires { row < length met.old.loops.items }
-    ensures { OnOk result (seen met.new ≡ closed row start (seen met.old)) }
+fn close(met: &mut Met, row: usize, start: usize)
+    ensures { Meets (closed row start) met.old met.new }
 {
-    let controls = behind(met.alloc, &met.controls, start)?;
+    let Ok(controls) = behind(met.alloc, &met.controls, start) else {
+        met.is_short = true;
+        return;
+    };
     let block = met.block;
-    met.loops[row] = Loop { block, controls };
-    Ok(())
+    if let Some(told) = met.loops.get_mut(row) {
+        *told = Loop { block, controls };
+    }
 }
 
 // The numbers behind so many.

@@ -9,9 +9,9 @@ use Rattle.resolver.proofs.statements.+statements.Given as goal
 -- the statements so far are made, and those behind them are left
 abbrev pub invariant-statements-loop-next : goal.invariant-statements-loop-next
 invariant-statements-loop-next l =
-    IsLeftFrom (λ s. s) (map statement l.written) l.initial.typer l.next-index (flat_map look_stmt l.statements.items) l.typer
+    IsLeftFrom (λ s. s) (map statement l.written) l.initial.typer l.next-index (flat_map look_stmt l.made.items) l.typer
 
 -- the arms so far are made, and those behind them are left
-abbrev pub invariant-case_body-loop-index : goal.invariant-case_body-loop-index
-invariant-case_body-loop-index l =
-    AreLeftFrom l.head.type_id l.constants l.written l.initial.typer l.index l.rows.rows.items l.rows.seen.keys l.arms.items l.typer
+abbrev pub invariant-case_arms-loop-index : goal.invariant-case_arms-loop-index
+invariant-case_arms-loop-index l =
+    AreLeftFrom l.type_id l.constants l.written l.initial.typer l.index l.arms.rows.items l.arms.seen.keys l.arms.statements.items l.typer

@@ -2,7 +2,7 @@ use Rattle.std.proofs.Common.{[], subst}
 use Rattle.typing.specs.Expressions.{expression}
 use Rattle.typing.specs.Statements as spec
 use Rattle.resolver.specs.Made.{MakesFitted}
-use Rattle.resolver.proofs.statements.bound.Goals as goal
+use Rattle.resolver.proofs.heads.bound.Goals as goal
 
 -- it is what is assigned to the control variable, tested at its first token
 pub returns : goal.returns

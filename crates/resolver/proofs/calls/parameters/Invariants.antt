@@ -4,7 +4,7 @@ use Rattle.typed_tree.specs.Look.{look_parameter}
 use Rattle.typing.specs.Expressions.{written_actual}
 use Rattle.typing.specs.Statements.{parameter}
 use Rattle.typing.proofs.Rows.{IsLeftFrom}
-use Rattle.resolver.proofs.statements.parameters.Given as goal
+use Rattle.resolver.proofs.calls.parameters.Given as goal
 
 -- the values so far are made, and those behind them are left
 abbrev pub invariant-loop-value : goal.invariant-loop-value

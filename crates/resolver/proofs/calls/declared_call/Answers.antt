@@ -1,7 +1,7 @@
 use Rattle.std.proofs.Common.{rules}
 use Rattle.typed_tree.proofs.Looks.{look_procedure_call}
 use Rattle.typing.specs.Statements.{declared_call}
-use Rattle.resolver.proofs.statements.declared_call.Goals as goal
+use Rattle.resolver.proofs.calls.declared_call.Goals as goal
 
 pub returns-then-is_function : goal.returns-then-is_function
 unfolding declared_call

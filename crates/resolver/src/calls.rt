@@ -1,0 +1,225 @@
+ghost use Rattle.std.specs.Prelude.{◌≡◌, Ok, Err, Some, None, MatchResult, map, option_map};
+ghost use Rattle.typed_tree.specs.Look.{look_expr};
+ghost use Rattle.typed_tree.specs.declared.fault.TypeFault.TheVariants.{Mismatch};
+ghost use Rattle.typing.specs.Passing.{each};
+ghost use Rattle.typing.specs.Expressions.{expression, written_actual};
+ghost use Rattle.typing.specs.Statements as spec;
+ghost use Rattle.typing.specs.Outcomes.{Takes};
+ghost use Rattle.expression_resolver.specs.Made.{typed_of, look_value};
+ghost use Rattle.resolver.specs.Made.{MakesStmt, MakesParameter, MakesParameters, MakesWidth, MakesOwnWidth};
+ghost use Rattle.resolver.specs.Made.{MakesValues, IsWrittenAs};
+
+use crate::memory::put;
+use expression_resolver::{TypedExpr, Value, expression, first_place, routine_call};
+use place::Place;
+use scopes::{Denotation, RequiredProcedure};
+use syntax_tree as syntax;
+use typed_tree::fault::TypeFault;
+use typed_tree::site::SiteKind;
+use typed_tree::tree::{Stmt, Width, WriteParameter, Written};
+use types::TypeTable;
+use typing::Typer;
+use typing::rules::{as_procedure, as_routine, ends_line, is_output};
+
+/// The call of a procedure.
+#[tactic(auto, unfolding(typing::specs::Statements::procedure_call))]
+pub(crate) fn procedure_call(
+    typer: &mut Typer,
+    name: &syntax::Name,
+    actuals: &[syntax::Actual],
+) -> Result<Stmt, TypeFault>
+    ensures { MakesStmt (spec.procedure_call name.now actuals.now typer.old) result typer.new }
+{
+    let denotation = typer.find(name)?;
+    match as_routine(denotation) {
+        None => required_call(typer, denotation, name, actuals),
+        Some((callee, is_function)) => declared_call(typer, callee, is_function, name, actuals),
+    }
+}
+
+// The call of a required procedure.
+#[tactic(auto, unfolding(typing::specs::Statements::required_call))]
+fn required_call(
+    typer: &mut Typer,
+    denotation: Denotation,
+    name: &syntax::Name,
+    actuals: &[syntax::Actual],
+) -> Result<Stmt, TypeFault>
+    ensures { MakesStmt (spec.required_call denotation name.now actuals.now typer.old) result typer.new }
+{
+    let procedure = as_procedure(name.place, denotation)?;
+    write(typer, name, actuals, procedure)
+}
+
+// The call of a procedure that a program declares (6.8.2.3): K3 at the name of a function.
+fn declared_call(
+    typer: &mut Typer,
+    callee: u32,
+    is_function: bool,
+    name: &syntax::Name,
+    actuals: &[syntax::Actual],
+) -> Result<Stmt, TypeFault>
+    ensures { MakesStmt (spec.declared_call callee is_function name.now (map written_actual actuals.now) typer.old)
+        result typer.new }
+{
+    if is_function {
+        return Err(TypeFault::WrongParameters(name.place));
+    }
+    let made = routine_call(typer, false, callee, name.place, actuals)?;
+    Ok(Stmt::Call {
+        call: made.call,
+        actuals: made.actuals,
+    })
+}
+
+// A write or writeln.
+#[tactic(auto, using(typed_tree::proofs::Looks::look_write), unfolding(typing::specs::Statements::write))]
+fn write(
+    typer: &mut Typer,
+    name: &syntax::Name,
+    actuals: &[syntax::Actual],
+    procedure: RequiredProcedure,
+) -> Result<Stmt, TypeFault>
+    ensures { MakesStmt (spec.write name.now actuals.now procedure typer.old) result typer.new }
+{
+    typer.wants_output(name.place)?;
+    let number = typer.enter()?;
+    let values = written_values(typer, actuals)?;
+    has_values(name.place, procedure, values)?;
+    Ok(Stmt::Write {
+        number,
+        name: name.place,
+        parameters: parameters(typer, values)?,
+        ends_line: ends_line(procedure),
+    })
+}
+
+// A write has a value; a writeln needs none.
+fn has_values(
+    place: Place,
+    procedure: RequiredProcedure,
+    values: &[syntax::Actual],
+) -> Result<(), TypeFault>
+    ensures { result ≡ spec.has_values place procedure values.now }
+{
+    if values.is_empty() && !ends_line(procedure) {
+        return Err(TypeFault::WrongParameters(place));
+    }
+    Ok(())
+}
+
+// The values that are written: the actuals without the file.
+#[tactic(auto, unfolding(typing::specs::Statements::written_values))]
+fn written_values<'e, 'a>(
+    typer: &mut Typer,
+    actuals: &'e [syntax::Actual<'a>],
+) -> Result<&'e [syntax::Actual<'a>], TypeFault>
+    ensures { MakesValues (spec.written_values actuals.now typer.old) result typer.new }
+{
+    let Some((first, rest)) = actuals.split_first() else {
+        return Ok(actuals);
+    };
+    if is_file(typer, first)? {
+        return Ok(rest);
+    }
+    Ok(actuals)
+}
+
+// Whether the first parameter of a write is the file; a width makes it a value.
+#[tactic(auto, using(crate::proofs::Files::no_name), unfolding(typing::specs::Statements::is_file))]
+fn is_file(typer: &mut Typer, actual: &syntax::Actual) -> Result<bool, TypeFault>
+    ensures { Takes (spec.is_file actual.now typer.old) result typer.new }
+{
+    if actual.width.is_some() {
+        return Ok(false);
+    }
+    match &actual.value {
+        syntax::Expr::Name(name) => Ok(is_output(typer.find(name)?)),
+        _ => Ok(false),
+    }
+}
+
+// Values that are written, one after another.
+fn parameters(
+    typer: &mut Typer,
+    values: &[syntax::Actual],
+) -> Result<Vec<WriteParameter>, TypeFault>
+    ensures { MakesParameters (each spec.parameter (map written_actual values.now) typer.old) result typer.new }
+{
+    let mut parameters = Vec::with_capacity(typer.alloc, values.len())?;
+    for value in values {
+        put(&mut parameters, parameter(typer, value))?;
+    }
+    Ok(parameters)
+}
+
+// A value that is written, and then its width.
+#[tactic(auto, using(typing::proofs::Written::typing_actual), unfolding(typing::specs::Statements::parameter))]
+fn parameter(typer: &mut Typer, written: &syntax::Actual) -> Result<WriteParameter, TypeFault>
+    ensures { MakesParameter (spec.parameter (written_actual written.now) typer.old) result typer.new }
+{
+    let made = expression(typer, &written.value, None)?;
+    let value = written_value(typer, made, first_place(&written.value))?;
+    let width = width(typer, &written.width)?;
+    Ok(WriteParameter { value, width })
+}
+
+// What is written: an ordinal, as its type wants it, or a string.
+fn written_value(typer: &Typer, made: TypedExpr, place: Place) -> Result<Written, TypeFault>
+    ensures { MatchResult result
+        (IsWrittenAs (spec.written_as typer.now.types (typed_of made)) (look_value made.value))
+        (λ why. (spec.written_as typer.now.types (typed_of made) ≡ None) × (why ≡ Mismatch place)) }
+{
+    let TypedExpr { value, type_id, .. } = made;
+    match value {
+        Value::Ordinal(value) => {
+            let representation = typer
+                .representation(type_id)
+                .ok_or(TypeFault::Mismatch(place))?;
+            Ok(Written::Ordinal {
+                value,
+                representation,
+            })
+        }
+        Value::Whole { value, indexes } => {
+            if !typer.is_string(type_id) {
+                return Err(TypeFault::Mismatch(place));
+            }
+            Ok(Written::String { value, indexes })
+        }
+    }
+}
+
+// The width of a value, if there is one.
+#[tactic(auto, unfolding(typing::specs::Statements::width))]
+fn width(typer: &mut Typer, written: &Option<syntax::Expr>) -> Result<Option<Width>, TypeFault>
+    ensures { MakesWidth (spec.width (option_map expression written.now) typer.old) result typer.new }
+{
+    match written {
+        None => Ok(None),
+        Some(written) => Ok(Some(total_width(typer, written)?)),
+    }
+}
+
+// A width, which is an integer. Its site is the leading one.
+#[tactic(auto, unfolding(typing::specs::Statements::width))]
+fn total_width(typer: &mut Typer, written: &syntax::Expr) -> Result<Width, TypeFault>
+    ensures { MakesOwnWidth (spec.width (Some (expression written.now)) typer.old) result typer.new }
+{
+    let made = expression(typer, written, Some(SiteKind::Width))?;
+    measured(made, first_place(written))
+}
+
+// An expression as a width: K1 at its place where it is no integer.
+fn measured(made: TypedExpr, place: Place) -> Result<Width, TypeFault>
+    ensures { MatchResult result
+        (λ width. (spec.measured place (typed_of made) ≡ Ok width.site)
+        × (look_value made.value ≡ look_expr width.value))
+        (λ why. spec.measured place (typed_of made) ≡ Err why) }
+{
+    let Some(site) = made.site else {
+        return Err(TypeFault::Mismatch(place));
+    };
+    let value = made.of(TypeTable::INTEGER, place)?;
+    Ok(Width { value, site })
+}

@@ -1,0 +1,92 @@
+ghost use Rattle.std.specs.Prelude.{ℕ, []};
+ghost use Rattle.typed_tree.specs.Look.{Empty};
+ghost use Rattle.typing.specs.Expressions.{expression};
+ghost use Rattle.typing.specs.Statements as spec;
+ghost use Rattle.typing.specs.Steps.{enter_as};
+ghost use Rattle.resolver.specs.Made.{MakesStmt, MakesCondition, MakesIfHead, MakesFitted, MakesForHead};
+
+use crate::assignments::assigned;
+use crate::typed::{Fitted, ForHead, IfHead};
+use expression_resolver::{expression, first_place};
+use place::Place;
+use syntax_tree as syntax;
+use typed_tree::fault::TypeFault;
+use typed_tree::tree::{Expr, Stmt};
+use types::{TypeId, TypeTable};
+use typing::Typer;
+use typing::rules::{as_variable, way};
+
+/// An empty statement (6.8.2.1).
+#[tactic(auto, using(typed_tree::proofs::Looks::look_empty))]
+pub(crate) fn empty(typer: &mut Typer) -> Result<Stmt, TypeFault>
+    ensures { MakesStmt (enter_as Empty typer.old) result typer.new }
+{
+    let number = typer.enter()?;
+    Ok(Stmt::Empty { number })
+}
+
+/// An if as far as its `then` (6.8.3.4).
+#[tactic(auto, unfolding(typing::specs::Statements::tested))]
+pub(crate) fn if_head(
+    typer: &mut Typer,
+    place: Place,
+    tested: &syntax::Expr,
+) -> Result<IfHead, TypeFault>
+    ensures { MakesIfHead (spec.tested place (expression tested.now) typer.old) result typer.new }
+{
+    typer.pass(place);
+    let number = typer.enter()?;
+    let condition = condition(typer, tested)?;
+    Ok(IfHead { number, condition })
+}
+
+/// A condition, which is Boolean.
+#[tactic(auto, unfolding(typing::specs::Statements::condition))]
+pub(crate) fn condition(typer: &mut Typer, written: &syntax::Expr) -> Result<Expr, TypeFault>
+    ensures { MakesCondition (spec.condition (expression written.now) typer.old) result typer.new }
+{
+    expression(typer, written, None)?.of(TypeTable::BOOLEAN, first_place(written))
+}
+
+/// A for as far as its `do` (6.8.3.9).
+#[tactic(auto, unfolding(typing::specs::Statements::for_head))]
+pub(crate) fn for_head(
+    typer: &mut Typer,
+    place: Place,
+    variable: &syntax::Name,
+    first: &syntax::Expr,
+    direction: syntax::Direction,
+    last: &syntax::Expr,
+) -> Result<ForHead, TypeFault>
+    ensures { MakesForHead (spec.for_head place variable.now (expression first.now) direction (expression last.now)
+        typer.old) result typer.new }
+{
+    typer.pass(place);
+    let denotation = typer.find(variable)?;
+    let (control, type_id) = as_variable(variable.place, denotation)?;
+    if !typer.tests_ordinal(type_id) {
+        return Err(TypeFault::Mismatch(variable.place));
+    }
+    typer.may_change(variable.place, control)?;
+    typer.may_control(variable.place, control)?;
+    let (number, loop_number) = typer.enter_loop()?;
+    let first = bound(typer, type_id, first)?;
+    let last = bound(typer, type_id, last)?;
+    Ok(ForHead {
+        number,
+        loop_number,
+        place,
+        control,
+        first,
+        direction: way(direction),
+        last,
+    })
+}
+
+// A bound of a for: the site of its test stands before those of its first token.
+fn bound(typer: &mut Typer, type_id: TypeId, written: &syntax::Expr) -> Result<Fitted, TypeFault>
+    ensures { (control : ℕ) → MakesFitted control [] (spec.bound control type_id (expression written.now) typer.old)
+        result typer.new }
+{
+    assigned(typer, type_id, first_place(written), written)
+}
