@@ -181,10 +181,6 @@ module _ (constants : List ConstantDefinition) (types : List TypeDefinition) (gr
           added = f.added;
           sites = f.sites;
           covered = tt;
-          numbered = f.numbered;
-          entered = f.entered;
-          looped = f.looped;
-          begun = f.begun;
           formed = f.formed;
           parts = f.parts;
           ends = f.ends;
@@ -215,12 +211,6 @@ module _ (constants : List ConstantDefinition) (types : List TypeDefinition) (gr
           added = grown.added;
           sites = grown.sites;
           covered = tt;
-          few_sites = grown.few_sites;
-          numbered = grown.numbered;
-          entered = grown.entered;
-          few_entries = grown.few_entries;
-          looped = grown.looped;
-          begun = grown.begun;
           inner = grown.inner;
           threats = grown.threats;
           assigns = grown.assigns;

@@ -28,7 +28,7 @@ use Rattle.typing.specs.Routines.{Begun, TypedBlock, block_end, forward, result_
 use Rattle.typing_laws.proofs.Built.{Built, EndsSo, HasSite, IsOpen, Standing, ends_append, ends_later, is_between, no_ends, open_later, IsChanged}
 use Rattle.typing_laws.proofs.Built.{IsControlled, IsOver, all_later}
 use Rattle.typing_laws.proofs.Covers.{Covers, covers_both, covers_none}
-use Rattle.typing_laws.proofs.Grown.{Fine, Grown, both_true, counted, fine_later, further, go_on, grown_then, IsFree, assigned_then, target_first}
+use Rattle.typing_laws.proofs.Grown.{Fine, Grown, both_true, fine_later, further, grown_then, IsFree, assigned_then, target_first}
 use Rattle.typing_laws.proofs.Headings.{parts_of, quiet_parts}
 use Rattle.typing_laws.proofs.Owned.{Fails, block_cells_longer, other_block}
 use Rattle.typing_laws.proofs.Ready.{Base, base_types, fit_of, heads_passed, among_split, around_less}
@@ -59,8 +59,6 @@ told_is number place s a is = cc
 -- behind a heading, once it is told whether its routine waits
 pub record Told (here : Here) (under : List Region) (number : ℕ) (told : Bool) (old new : Passed) : Type 0 where
   pub sites : new.sites ≡ old.sites
-  pub entries : new.entries ≡ old.entries
-  pub loops : new.loops ≡ old.loops
   pub threatened : new.threatened ≡ old.threatened
   pub controls_kept : new.controls ≡ old.controls
   pub assigned : new.assigned ≡ old.assigned
@@ -99,8 +97,6 @@ told_standing here under s number place st is_open = record {
     under_it = st.ready.under_it;
     base = st.ready.base;
     texts = st.ready.texts;
-    few_sites = st.ready.few_sites;
-    few_entries = st.ready.few_entries;
     cells = st.ready.cells;
   };
   block = st.block;
@@ -126,8 +122,6 @@ new_told : (here : Here) (under : List Region) (number : ℕ) (place : Option Pl
     → Began here under number old now → Told here under number (is_place place) old (with_told number place now)
 new_told here under number place old now st b = record {
   sites = b.sites;
-  entries = b.entries;
-  loops = b.loops;
   threatened = b.threatened;
   controls_kept = b.controls_kept;
   assigned = b.assigned;
@@ -186,8 +180,6 @@ resumed_told : (here : Here) (under : List Region) (number : ℕ) (s : Passed) �
     → Told here under number false s (with_told number None s)
 resumed_told here under number s st waits = record {
   sites = refl;
-  entries = refl;
-  loops = refl;
   threatened = refl;
   controls_kept = refl;
   assigned = refl;
@@ -243,10 +235,6 @@ built_told here under number old new t = record {
   added = [];
   sites = t.sites ∙ sym (append-nil old.sites);
   covered = refl;
-  numbered = refl;
-  entered = omega (arith, t.entries);
-  looped = refl;
-  begun = omega (arith, t.loops);
   formed = λ o h. refl;
   parts = λ o rest. refl;
   ends = tt;
@@ -290,7 +278,7 @@ unfolding is_assigned
 is_assigned_does {here} place root = record {
   does = λ s a is fine h.
       let x = split_if (list_any (nat_eq root) s.assigned) (fault.NeverAssigned place) (after tt [] s) a is in
-      subst (Leaves here Nothing s Anything) x.1 (grown_silent here s s refl refl refl refl refl refl refl refl refl (λ root is. is) refl refl fine, tt);
+      subst (Leaves here Nothing s Anything) x.1 (grown_silent here s s refl refl refl refl refl refl refl (λ root is. is) refl refl fine, tt);
 }
 
 -- the site of a result stands at the end
@@ -334,8 +322,6 @@ fine_standing here under s st = record {
   sound = st.ready.sound;
   lawful = st.ready.base.lawful;
   texts = st.ready.texts;
-  few_sites = st.ready.few_sites;
-  few_entries = st.ready.few_entries;
   block = st.block;
   around = st.around;
   stands = st.stands;
@@ -346,12 +332,6 @@ fine_standing here under s st = record {
 module _ (look : Look) (number : ℕ) (around parameters : List ℕ) (result : Option FunctionResult) (end : Place) where
   abbrev pub closing : Mark
   closing = BlockEnds number around parameters result end
-
-  pub closed_entries : entries_of_look (look ++ (closing ∷ [])) ≡ entries_of_look look
-  closed_entries = flat_map-append mark_entries look (closing ∷ []) ∙ append-nil (entries_of_look look)
-
-  pub closed_loops : loops_of_look (look ++ (closing ∷ [])) ≡ loops_of_look look
-  closed_loops = flat_map-append mark_loops look (closing ∷ []) ∙ append-nil (loops_of_look look)
 
   pub closed_blocks : blocks_of_look look ≡ [] → blocks_of_look (look ++ (closing ∷ [])) ≡ number ∷ []
   closed_blocks inner = flat_map-append mark_blocks look (closing ∷ []) ∙ ap (λ l. l ++ number ∷ []) inner
@@ -402,8 +382,6 @@ module _ (here : Here) (under : List Region) (number : ℕ) (headed : Headed) (n
           under_it = refl;
           base = st.ready.base;
           texts = st.ready.texts;
-          few_sites = st.ready.few_sites;
-          few_entries = st.ready.few_entries;
           cells = ap (λ (h : Headed). h.cells) (sym same) ∙ o.cells;
         };
         block = refl;
@@ -453,8 +431,6 @@ module _ (here : Here) (under : List Region) (number : ℕ) (headed : Headed) (n
           under_it = ap outer regions ∙ st.ready.under_it;
           base = base;
           texts = g.texts;
-          few_sites = g.few_sites;
-          few_entries = g.few_entries;
           cells =
               ap (λ (e : Enclosing). e.cells) round_is ∙ st.ready.cells
               ∙ sym (ap (cells_in last.types) (others here.block there own) ∙ block_cells_longer types here.block s.variables st.ready.base.have_types);
@@ -902,9 +878,6 @@ routine_block_builds here under number name b places lawful old s a t is =
     let look = i.second ++ c.look in
     let mark_end = BlockEnds number headed.around headed.parameters c.result b.end in
     let ended = look ++ (mark_end ∷ []) in
-    let counted_f = counted mark_entries i.first ended in
-    let entries = closed_entries look number headed.around headed.parameters c.result b.end in
-    let loops = closed_loops look number headed.around headed.parameters c.result b.end in
     let blocks = closed_blocks look number headed.around headed.parameters c.result b.end g.inner in
     let all_look : p.typed.look ++ p.end.look ≡ i.first ++ ended =
     ap₂ (λ x y. x ++ y) i.look c.look_is ∙ append_assoc i.first i.second (c.look ++ (mark_end ∷ []))
@@ -935,18 +908,6 @@ routine_block_builds here under number name b places lawful old s a t is =
       covered =
           subst (λ l. Covers 0 l ((f.added ++ i.grown.added) ++ c.grown.added)) (sym lawful.places_are)
           (covers_both 0 lawful.inside (b.end ∷ []) (f.added ++ i.grown.added) c.grown.added i.covered c.grown.covered);
-      numbered =
-          go_on mark_entries i.first ended old.entries i.middle.entries
-          (f.numbered ∙ ap (λ n. range_with_len n (length (entries_of_look i.first))) t.entries)
-          (f.entered ∙ ap (λ n. n + length (entries_of_look i.first)) t.entries)
-          (entries ∙ g.numbered ∙ ap (λ l. range_with_len i.middle.entries (length l)) (sym entries));
-      entered = omega (arith, t.entries, f.entered, g.entered, counted mark_entries i.first ended, ap length entries);
-      looped =
-          go_on mark_loops i.first ended old.loops i.middle.loops
-          (f.looped ∙ ap (λ n. range_with_len n (length (loops_of_look i.first))) t.loops)
-          (f.begun ∙ ap (λ n. n + length (loops_of_look i.first)) t.loops)
-          (loops ∙ g.looped ∙ ap (λ l. range_with_len i.middle.loops (length l)) (sym loops));
-      begun = omega (arith, t.loops, f.begun, g.begun, counted mark_loops i.first ended, ap length loops);
       formed = λ w h.
           f.parts w ended
           ∙ both_true _ _ (f.formed w (further_still more h))

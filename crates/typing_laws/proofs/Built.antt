@@ -15,7 +15,7 @@ use Rattle.typed_tree.specs.WellFormed.{Outline, variables_of}
 use Rattle.typed_tree.specs.Look.{Mark, Look, BlockEnds, mark_entries, entries_of_look, mark_loops, loops_of_look, mark_blocks, blocks_of_look, are_formed}
 use Rattle.typed_tree.specs.declared.tree.Variable.{Variable}
 use Rattle.typing.specs.Passing.{Headed, Passed, After, Passing, ◌>>◌}
-use Rattle.typing_laws.proofs.Grown.{both_true, counted, go_on, assigned_then}
+use Rattle.typing_laws.proofs.Grown.{both_true, assigned_then}
 use Rattle.typing_laws.proofs.Headings.{parts_of}
 use Rattle.typing_laws.proofs.Keeping.{Silent, Ready, Keeps}
 use Rattle.typing_laws.proofs.Owned.{Fails, cells_of_block, block_cells_longer}
@@ -129,10 +129,6 @@ pub record Built (here : Here) (Has : List Stands → Type 0) (look : Look) (old
   pub added : List Stands
   pub sites : new.sites ≡ old.sites ++ added
   pub covered : Has added
-  pub numbered : entries_of_look look ≡ range_with_len old.entries (length (entries_of_look look))
-  pub entered : new.entries ≡ old.entries + length (entries_of_look look)
-  pub looped : loops_of_look look ≡ range_with_len old.loops (length (loops_of_look look))
-  pub begun : new.loops ≡ old.loops + length (loops_of_look look)
   pub formed : (o : Outline) → IsFurther (reached new) (whole_of o) → are_formed o look ≡ true
   pub parts : (o : Outline) (rest : Look) → are_formed o (look ++ rest) ≡ (are_formed o look && are_formed o rest)
   pub ends : AreEnds (reached new) look
@@ -355,10 +351,6 @@ built_then {here} {First} {Second} {Both} {look} {more} {old} {now} {new} joined
   added = f.added ++ g.added;
   sites = g.sites ∙ ap (λ l. l ++ g.added) f.sites ∙ append_assoc old.sites f.added g.added;
   covered = joined f.added g.added f.covered g.covered;
-  numbered = go_on mark_entries look more old.entries now.entries f.numbered f.entered g.numbered;
-  entered = omega (arith, f.entered, g.entered, counted mark_entries look more);
-  looped = go_on mark_loops look more old.loops now.loops f.looped f.begun g.looped;
-  begun = omega (arith, f.begun, g.begun, counted mark_loops look more);
   formed = λ o h. f.parts o more ∙ both_true _ _ (f.formed o (further_still (built_further g) h)) (g.formed o h);
   parts = λ o rest.
       ap (are_formed o) (append_assoc look more rest) ∙ f.parts o (more ++ rest) ∙ ap (λ b. are_formed o look && b) (g.parts o rest)
@@ -402,10 +394,6 @@ built_with has b = record {
   added = b.added;
   sites = b.sites;
   covered = has b.added b.covered;
-  numbered = b.numbered;
-  entered = b.entered;
-  looped = b.looped;
-  begun = b.begun;
   formed = b.formed;
   parts = b.parts;
   ends = b.ends;
@@ -433,10 +421,6 @@ built_silent {here} {old} {new} q = record {
   added = [];
   sites = q.sites ∙ sym (append-nil old.sites);
   covered = refl;
-  numbered = refl;
-  entered = omega (arith, q.entries);
-  looped = refl;
-  begun = omega (arith, q.loops);
   formed = λ o h. refl;
   parts = λ o rest. refl;
   ends = tt;

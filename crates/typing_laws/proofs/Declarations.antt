@@ -241,8 +241,6 @@ module _ (here : Here) (under : List Region) (counted : ℕ) (heads : List Head)
           under_it = r.under_it;
           base = r.base;
           texts = texts_more s.texts text r.texts from.1;
-          few_sites = r.few_sites;
-          few_entries = r.few_entries;
           cells = r.cells;
         } in
         subst (Kept counted s Readied) same (refl, silent_texts (s.texts ++ text ∷ []), ready);
@@ -406,8 +404,6 @@ module _ (here : Here) (under : List Region) (counted : ℕ) (heads : List Head)
                 base_variable s.types s.variables s.headings (length heads) one r.base there next.1.0 next.1.1
                 (omega (arith, r.cells, at_most most_cells taken x.0)) next.1.2;
             texts = r.texts;
-            few_sites = r.few_sites;
-            few_entries = r.few_entries;
             cells = ap (λ n. n + cells_of s.types type_id) r.cells ∙ sym (cells_more s.types counted s.variables one own);
           } in
           let at_root = next.2 in

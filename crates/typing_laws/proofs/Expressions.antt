@@ -73,7 +73,7 @@ module _ (here : Here) where
           joins (leads_first 2 place (led lead) []) (behind_does lead place) λ id now _ known.
           quietly (given_does (fits (nat_le value 2147483647) place (typed integer id))) λ t _ one is.
           let fit = fit_is (nat_le value 2147483647) place (typed integer id) t is in
-          quietly (enter_does (λ n. Constant n (pos value)) (λ n. refl) (λ n. refl) (λ n. refl) (λ n. refl) (λ n. refl) (λ n o h. fit.0)) λ _ _ two _.
+          quietly (enter_does (λ n. Constant n (pos value)) (λ n. refl) (λ n. refl) (λ n. refl) (λ n o h. fit.0)) λ _ _ two _.
           pure_does t (λ n h. subst (λ (z : Typed). Types z n) fit.1 (ordinal_types integer id now n (further_still one (further_still two h)) known))
 
   -- two or more characters
@@ -82,7 +82,7 @@ module _ (here : Here) where
       (string_type place (length cs) >>= (λ type_id. enter_as (λ n. Text n cs) >> pure (typed_text type_id (length cs) id))) Types
   text_does place id {least} cs known more all =
       quietly (string_type_does place (length cs) more) λ type_id _ one made.
-      quietly (enter_does (λ n. Text n cs) (λ n. refl) (λ n. refl) (λ n. refl) (λ n. refl) (λ n. refl) (λ n o h. both_true _ _ made.0 all)) λ _ _ two _.
+      quietly (enter_does (λ n. Text n cs) (λ n. refl) (λ n. refl) (λ n. refl) (λ n o h. both_true _ _ made.0 all)) λ _ _ two _.
       pure_does (typed_text type_id (length cs) id) (λ n h. (
         known_later id least n (further_still one (further_still two h)) known,
         λ count long. is_string_longer (further_still two h).types type_id made.1,
@@ -93,7 +93,7 @@ module _ (here : Here) where
   unfolding spelled
   spelled_does place id [] known all = absurd (no_characters all)
   spelled_does place id {least} (c ∷ []) known all =
-      quietly (enter_does (λ n. Constant n (pos c)) (λ n. refl) (λ n. refl) (λ n. refl) (λ n. refl) (λ n. refl) (λ n o h. char_whole c all.1)) λ _ _ more _.
+      quietly (enter_does (λ n. Constant n (pos c)) (λ n. refl) (λ n. refl) (λ n. refl) (λ n o h. char_whole c all.1)) λ _ _ more _.
       pure_does (typed char id) (λ n h. ordinal_types char id least n (further_still more h) known)
   spelled_does place id (c ∷ d ∷ cs) known all = text_does place id (c ∷ d ∷ cs) known (omega arith) all.1
 
@@ -118,7 +118,7 @@ module _ (here : Here) where
       by : {least : Reached} → Does here least (Leads place (led lead) []) (denoted (denotes.Constant value type_id) place lead) Types
       by =
           joins (leads_first 2 place (led lead) []) (behind_does lead place) λ id now _ known.
-          quietly (enter_does (λ n. Constant n value) (λ n. refl) (λ n. refl) (λ n. refl) (λ n. refl) (λ n. refl) (λ n o h. sound.0)) λ _ _ more _.
+          quietly (enter_does (λ n. Constant n value) (λ n. refl) (λ n. refl) (λ n. refl) (λ n o h. sound.0)) λ _ _ more _.
           pure_does (typed type_id id) (λ n h. ordinal_types type_id id now n (further_still more h) known)
   denoted_does (denotes.Text number type_id) place {least} lead is sound = led_covers here 2 place [] (led lead) (led_alone lead is) by
     where
@@ -126,7 +126,7 @@ module _ (here : Here) where
       by =
           joins (leads_first 2 place (led lead) []) (behind_does lead place) λ id now seen known.
           quietly (text_at_does number) λ cs _ one are.
-          quietly (enter_does (λ n. Text n cs) (λ n. refl) (λ n. refl) (λ n. refl) (λ n. refl) (λ n. refl) (λ n o h. are)) λ _ _ two _.
+          quietly (enter_does (λ n. Text n cs) (λ n. refl) (λ n. refl) (λ n. refl) (λ n o h. are)) λ _ _ two _.
           pure_does (typed_text type_id (length cs) id) (λ n h.
           let later = further_still one (further_still two h) in (
             known_later id now n later known,
@@ -164,7 +164,7 @@ module _ (here : Here) where
       let start = leads_nowhere here variable.0 variable.1 now found sound.1 in
       let found_there = variable_later here now there variable.0 variable.1 two found in
       quietly (may_change_does name.place variable.0 variable.1 found_there) λ _ changed three may.
-      quietly (enter_does Access (λ n. refl) (λ n. refl) (λ n. refl) (λ n. refl) (λ n. refl) (λ n o h. refl)) λ _ entered four _.
+      quietly (enter_does Access (λ n. refl) (λ n. refl) (λ n. refl) (λ n o h. refl)) λ _ entered four _.
       let seen = further_still two (further_still three four) in
       last (selected_does here variable.0 [] variable.1 selectors rows ws laws (leads_later here variable.0 [] variable.1 now entered seen start))
       λ component met five l.
@@ -174,7 +174,7 @@ module _ (here : Here) where
       let formal_there = formal_later least next callee position formal (further_still one (further_still seen (further_still five six))) at in
       let may_there = change_later here changed next variable.0 (further_still four (further_still five six)) may in
       change_does (ForVariable formal.type_id variable.0 component.0 (index_count component.0) callee position) variable.0
-      refl refl refl refl refl refl may_there
+      refl refl refl refl may_there
       (λ o h. both_true _ _ (leads_formed here variable.0 component.0 component.1 next led (λ id. is_same id formal.type_id) o h same)
       (ap (of_one (takes_variable formal.type_id)) (formal_is next callee position formal o h formal_there)
       ∙ both_true _ _ is (eq-eqb formal.type_id.index formal.type_id.index refl))))
@@ -232,9 +232,9 @@ module _ (here : Here) where
       by least lead =
           quietly (pass_does place) λ _ _ _ _.
           joins (leads_first 2 place (led lead) places) (behind_does lead place) λ id now _ known.
-          quietly (enter_does Operation (λ n. refl) (λ n. refl) (λ n. refl) (λ n. refl) (λ n. refl) (λ n o h. refl)) λ _ next one _.
+          quietly (enter_does Operation (λ n. refl) (λ n. refl) (λ n. refl) (λ n o h. refl)) λ _ next one _.
           last (checks {L = Anything} (law.types next None tt) λ types t b n more is _. tt) λ _ _ two _.
-          quietly (mark_does (Applied (monadic.Plain calculation.Complement)) refl refl refl refl refl (λ o h. refl)) λ _ _ three _.
+          quietly (mark_does (Applied (monadic.Plain calculation.Complement)) refl refl refl (λ o h. refl)) λ _ _ three _.
           pure_does (typed boolean id) (λ n h. ordinal_types boolean id now n (further_still one (further_still two (further_still three h))) known)
 
   signs_formed : (s : Sign) (o : Outline) → monadic_is_well_formed o here.block (sign_operation s) ≡ true
@@ -252,7 +252,7 @@ module _ (here : Here) where
       by least lead =
           quietly (pass_does place) λ _ _ _ _.
           joins (leads_first 2 place (led lead) places) (behind_does lead place) λ id now _ known.
-          quietly (enter_does Operation (λ n. refl) (λ n. refl) (λ n. refl) (λ n. refl) (λ n. refl) (λ n o h. refl)) λ _ next one _.
+          quietly (enter_does Operation (λ n. refl) (λ n. refl) (λ n. refl) (λ n o h. refl)) λ _ next one _.
           last (checks {L = Anything} (law.types next None tt) λ types t b n more is _. tt) λ _ _ two _.
-          quietly (mark_does (Applied (sign_operation s)) refl refl refl refl refl (λ o h. signs_formed s o)) λ _ _ three _.
+          quietly (mark_does (Applied (sign_operation s)) refl refl refl (λ o h. signs_formed s o)) λ _ _ three _.
           pure_does (typed integer id) (λ n h. ordinal_types integer id now n (further_still one (further_still two (further_still three h))) known)

@@ -92,8 +92,6 @@ pub record Fine (here : Here) (s : Passed) : Type 0 where
   pub sound : AreSoundAt here s
   pub lawful : AreLawful s.types
   pub texts : AreTexts s.texts
-  pub few_sites : length s.sites ≤ most_sites
-  pub few_entries : s.entries ≤ most_entries
   pub block : s.enclosing.block ≡ here.block
   pub around : s.enclosing.around ≡ here.around
   pub stands : StandsIn here (reached s)
@@ -118,12 +116,6 @@ pub record Grown (here : Here) (Has : List Stands → Type 0) (look : Look) (old
   pub added : List Stands
   pub sites : new.sites ≡ old.sites ++ added
   pub covered : Has added
-  pub few_sites : length new.sites ≤ most_sites
-  pub numbered : entries_of_look look ≡ range_with_len old.entries (length (entries_of_look look))
-  pub entered : new.entries ≡ old.entries + length (entries_of_look look)
-  pub few_entries : new.entries ≤ most_entries
-  pub looped : loops_of_look look ≡ range_with_len old.loops (length (loops_of_look look))
-  pub begun : new.loops ≡ old.loops + length (loops_of_look look)
   pub inner : blocks_of_look look ≡ []
   pub threats : (root : ℕ) → list_any (nat_eq root) old.threatened ≡ true → list_any (nat_eq root) new.threatened ≡ true
   pub assigns : (root : ℕ) → list_any (nat_eq root) old.assigned ≡ true → list_any (nat_eq root) new.assigned ≡ true
@@ -135,16 +127,6 @@ pub record Grown (here : Here) (Has : List Stands → Type 0) (look : Look) (old
   pub formed : (o : Outline) → IsFurther (reached new) (whole_of o) → list_all (is_formed_mark o here.block) look ≡ true
   pub controls_kept : new.controls ≡ old.controls
   pub spared : (roots : List ℕ) → AreHeld roots old.controls → spared_behind roots look ≡ Some roots
-
-pub range_joins : (a m n : ℕ) → range_with_len a (m + n) ≡ range_with_len a m ++ range_with_len (a + m) n
-range_joins a zero n =
-    let left : 0 + n ≡ n = omega arith in
-    let right : a ≡ a + 0 = omega arith in
-    ap (range_with_len a) left ∙ ap (λ b. range_with_len b n) right
-range_joins a (suc m) n =
-    let left : suc m + n ≡ suc (m + n) = omega arith in
-    let right : (a + 1) + m ≡ a + suc m = omega arith in
-    ap (range_with_len a) left ∙ ap (λ l. a ∷ l) (range_joins (a + 1) m n ∙ ap (λ b. range_with_len (a + 1) m ++ range_with_len b n) right)
 
 pub both_true : (a b : Bool) → a ≡ true → b ≡ true → (a && b) ≡ true
 both_true a b x y = ap (λ c. c && b) x ∙ y
@@ -176,28 +158,11 @@ fine_later {here} {old = old} {new = new} g f =
           (regions_later inside_itself more.variables more.types (mapped_longer head_of more.headings) old.regions f.sound);
       lawful = g.lawful;
       texts = g.texts;
-      few_sites = g.few_sites;
-      few_entries = g.few_entries;
       block = ap (λ (e : Enclosing). e.block) g.enclosing_kept ∙ f.block;
       around = ap (λ (e : Enclosing). e.around) g.enclosing_kept ∙ f.around;
       stands = stands_later here (reached old) (reached new) more f.stands;
       fit = fit_later (reached old) (reached new) more same f.fit;
     }
-
--- numbers that marks have
-module _ (numbers : Mark → List ℕ) (look more : Look) where
-  pub counted : length (flat_map numbers (look ++ more)) ≡ length (flat_map numbers look) + length (flat_map numbers more)
-  counted = ap length (flat_map-append numbers look more) ∙ length-append (flat_map numbers look) (flat_map numbers more)
-
-  -- they go on
-  pub go_on : (from next : ℕ) → flat_map numbers look ≡ range_with_len from (length (flat_map numbers look)) → next ≡ from + length (flat_map numbers look)
-      → flat_map numbers more ≡ range_with_len next (length (flat_map numbers more))
-      → flat_map numbers (look ++ more) ≡ range_with_len from (length (flat_map numbers (look ++ more)))
-  go_on from next one is two =
-      flat_map-append numbers look more ∙ ap (λ l. l ++ flat_map numbers more) one
-      ∙ ap (λ l. range_with_len from (length (flat_map numbers look)) ++ l) (two ∙ ap (λ n. range_with_len n (length (flat_map numbers more))) is)
-      ∙ sym (range_joins from (length (flat_map numbers look)) (length (flat_map numbers more)))
-      ∙ ap (range_with_len from) (sym counted)
 
 -- a target is one among more
 any_first : (xs ys : List ℕ) (root : ℕ) → list_any (nat_eq root) xs ≡ true → list_any (nat_eq root) (xs ++ ys) ≡ true
@@ -254,12 +219,6 @@ grown_then {here} {First} {Second} {Both} {look} {more} {old} {now} {new} joined
   added = f.added ++ g.added;
   sites = g.sites ∙ ap (λ l. l ++ g.added) f.sites ∙ append_assoc old.sites f.added g.added;
   covered = joined f.added g.added f.covered g.covered;
-  few_sites = g.few_sites;
-  numbered = go_on mark_entries look more old.entries now.entries f.numbered f.entered g.numbered;
-  entered = omega (arith, f.entered, g.entered, counted mark_entries look more);
-  few_entries = g.few_entries;
-  looped = go_on mark_loops look more old.loops now.loops f.looped f.begun g.looped;
-  begun = omega (arith, f.begun, g.begun, counted mark_loops look more);
   inner = flat_map-append mark_blocks look more ∙ ap₂ (λ a b. a ++ b) f.inner g.inner;
   threats = λ root is. g.threats root (f.threats root is);
   assigns = λ root is. g.assigns root (f.assigns root is);

@@ -275,8 +275,6 @@ result_regions number place (Some id) s a is =
 -- what a heading leaves: one more of a block of this number, and the block round it as it was
 pub record HeadingAdded (here : Here) (under : List Region) (number : ℕ) (old new : Passed) : Type 0 where
   pub sites : new.sites ≡ old.sites
-  pub entries : new.entries ≡ old.entries
-  pub loops : new.loops ≡ old.loops
   pub threatened : new.threatened ≡ old.threatened
   pub controls_kept : new.controls ≡ old.controls
   pub assigned : new.assigned ≡ old.assigned
@@ -456,8 +454,6 @@ module _ (here : Here) (under : List Region) (number : ℕ) (name : Name) (group
         under_it = refl;
         base = ready.base;
         texts = ready.texts;
-        few_sites = ready.few_sites;
-        few_entries = ready.few_entries;
         cells = ready.cells;
       } in
       let x = quiet_parts (parameters number groups types) rest n a on (λ b goes. (law.keeps n b goes (((set, new), stand), has)).0) in
@@ -476,7 +472,7 @@ module _ (here : Here) (under : List Region) (number : ℕ) (name : Name) (group
     pub id : Option TypeId
     pub as_told : is_none id ≡ is_none of_result
     pub start : Passed
-    pub from : (start.sites ≡ s.sites) × (start.entries ≡ s.entries) × (start.loops ≡ s.loops) × (start.regions ≡ s.regions)
+    pub from : (start.sites ≡ s.sites) × (start.regions ≡ s.regions)
         × (start.headings ≡ s.headings) × IsLonger s.types start.types × IsLonger s.variables start.variables
     pub threatened : start.threatened ≡ s.threatened
     pub controls_kept : start.controls ≡ s.controls
@@ -527,8 +523,6 @@ module _ (here : Here) (under : List Region) (number : ℕ) (name : Name) (group
         under_it = e.ready.under_it;
         base = e.ready.base;
         texts = e.ready.texts;
-        few_sites = e.ready.few_sites;
-        few_entries = e.ready.few_entries;
         cells = sym (ap (λ l. cells_in s.types l) (no_own number s.variables e.owned));
       } in
       let none : HasRoots inner under number heads [] [] n3 =
@@ -543,7 +537,7 @@ module _ (here : Here) (under : List Region) (number : ℕ) (name : Name) (group
         id = y.0.answer;
         as_told = two.2;
         start = z.0.passed;
-        from = (k.1.sites, k.1.entries, k.1.loops, result_regions number name.place y.0.answer n3 z.0 z.1, k.1.headings, k.1.types, k.1.variables);
+        from = (k.1.sites, result_regions number name.place y.0.answer n3 z.0 z.1, k.1.headings, k.1.types, k.1.variables);
         threatened = k.1.threatened;
         controls_kept = k.1.controls_kept;
         assigned = k.1.assigned;
@@ -596,7 +590,7 @@ module _ (here : Here) (under : List Region) (number : ℕ) (name : Name) (group
   heading_adds s a e is =
       let heads = heads_passed s.headings ++ pending ∷ [] in
       let r = resulted s a e is in
-      let few : length r.start.headings ≤ number = omega (arith, ap length r.from.4, e.number_is) in
+      let few : length r.start.headings ≤ number = omega (arith, ap length r.from.2, e.number_is) in
       let counted : length heads ≡ number + 1 =
       length-append (heads_passed s.headings) (pending ∷ []) ∙ ap (λ n. n + 1) (heads_count s.headings ∙ sym e.number_is) in
       let there : number < length heads = omega (arith, counted) in
@@ -604,11 +598,11 @@ module _ (here : Here) (under : List Region) (number : ℕ) (name : Name) (group
       let last = p.last in
       let headed = made s.enclosing r.root p.roots last in
       let new = with_heading s.enclosing r.root p.roots last in
-      let same_headings : last.headings ≡ s.headings = p.silent.headings ∙ r.from.4 in
+      let same_headings : last.headings ≡ s.headings = p.silent.headings ∙ r.from.2 in
       let number_last : number ≡ length last.headings = e.number_is ∙ ap length (sym same_headings) in
-      let types : IsLonger s.types last.types = longer_still r.from.5 p.silent.types in
-      let variables : IsLonger s.variables last.variables = longer_still r.from.6 p.silent.variables in
-      let regions : new.regions ≡ s.regions = p.ready.under_it ∙ r.from.3 in
+      let types : IsLonger s.types last.types = longer_still r.from.3 p.silent.types in
+      let variables : IsLonger s.variables last.variables = longer_still r.from.4 p.silent.variables in
+      let regions : new.regions ≡ s.regions = p.ready.under_it ∙ r.from.1 in
       let around : headed.around ≡ here.around ++ here.block ∷ [] = ap₂ (λ l b. l ++ b ∷ []) e.around e.block in
       let others : (block : ℕ) → Fails (nat_eq number block) → variables_of block last.variables ≡ variables_of block s.variables =
       λ block other. p.silent.others block other ∙ r.others block other in
@@ -649,14 +643,10 @@ module _ (here : Here) (under : List Region) (number : ℕ) (name : Name) (group
         under_it = ap outer regions ∙ e.ready.under_it;
         base = subst (Base last.types last.variables new.headings) (ap length (sym same_heads)) base;
         texts = p.ready.texts;
-        few_sites = p.ready.few_sites;
-        few_entries = p.ready.few_entries;
         cells = e.ready.cells ∙ sym own_cells;
       } in
       let added : HeadingAdded here under number s new = record {
         sites = p.silent.sites ∙ r.from.0;
-        entries = p.silent.entries ∙ r.from.1;
-        loops = p.silent.loops ∙ r.from.2;
         threatened = p.silent.threatened ∙ r.threatened;
         controls_kept = p.silent.controls_kept ∙ r.controls_kept;
         assigned = p.silent.assigned ∙ r.assigned;

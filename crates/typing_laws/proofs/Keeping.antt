@@ -19,8 +19,6 @@ use Rattle.typing_laws.proofs.Tables.{AreLawful, AreTexts}
 -- a step that counts the cells of a block
 pub record Silent (counted : ℕ) (old new : Passed) : Type 0 where
   pub sites : new.sites ≡ old.sites
-  pub entries : new.entries ≡ old.entries
-  pub loops : new.loops ≡ old.loops
   pub threatened : new.threatened ≡ old.threatened
   pub controls_kept : new.controls ≡ old.controls
   pub assigned : new.assigned ≡ old.assigned
@@ -35,8 +33,6 @@ pub record Silent (counted : ℕ) (old new : Passed) : Type 0 where
 pub silent_as_is : {counted : ℕ} {s : Passed} → Silent counted s s
 silent_as_is = record {
   sites = refl;
-  entries = refl;
-  loops = refl;
   threatened = refl;
   controls_kept = refl;
   assigned = refl;
@@ -52,8 +48,6 @@ silent_as_is = record {
 pub silent_then : {counted : ℕ} {old now new : Passed} → Silent counted old now → Silent counted now new → Silent counted old new
 silent_then f g = record {
   sites = g.sites ∙ f.sites;
-  entries = g.entries ∙ f.entries;
-  loops = g.loops ∙ f.loops;
   threatened = g.threatened ∙ f.threatened;
   controls_kept = g.controls_kept ∙ f.controls_kept;
   assigned = g.assigned ∙ f.assigned;
@@ -70,8 +64,6 @@ silent_then f g = record {
 pub silent_types : {counted : ℕ} {s : Passed} (types : List Form) → IsLonger s.types types → Silent counted s (record s { types = types })
 silent_types types longer = record {
   sites = refl;
-  entries = refl;
-  loops = refl;
   threatened = refl;
   controls_kept = refl;
   assigned = refl;
@@ -87,8 +79,6 @@ silent_types types longer = record {
 pub silent_regions : {counted : ℕ} {s : Passed} (regions : List Region) → Silent counted s (record s { regions = regions })
 silent_regions regions = record {
   sites = refl;
-  entries = refl;
-  loops = refl;
   threatened = refl;
   controls_kept = refl;
   assigned = refl;
@@ -104,8 +94,6 @@ silent_regions regions = record {
 pub silent_latest : {counted : ℕ} {s : Passed} (place : Place) → Silent counted s (record s { latest = place })
 silent_latest place = record {
   sites = refl;
-  entries = refl;
-  loops = refl;
   threatened = refl;
   controls_kept = refl;
   assigned = refl;
@@ -121,8 +109,6 @@ silent_latest place = record {
 pub silent_texts : {counted : ℕ} {s : Passed} (texts : List (List ℕ)) → Silent counted s (record s { texts = texts })
 silent_texts texts = record {
   sites = refl;
-  entries = refl;
-  loops = refl;
   threatened = refl;
   controls_kept = refl;
   assigned = refl;
@@ -139,8 +125,6 @@ silent_texts texts = record {
 pub silent_output : {counted : ℕ} {s : Passed} → Silent counted s (record s { has_output = true })
 silent_output = record {
   sites = refl;
-  entries = refl;
-  loops = refl;
   threatened = refl;
   controls_kept = refl;
   assigned = refl;
@@ -158,8 +142,6 @@ pub silent_variable : {counted : ℕ} {s : Passed} (variable : Variable) (cells 
     → Silent counted s (record s { variables = s.variables ++ variable ∷ []; enclosing = record (s.enclosing) { cells = cells } })
 silent_variable {counted} {s} variable cells own = record {
   sites = refl;
-  entries = refl;
-  loops = refl;
   threatened = refl;
   controls_kept = refl;
   assigned = refl;
@@ -180,8 +162,6 @@ pub record Ready (here : Here) (under : List Region) (counted : ℕ) (heads : Li
   pub under_it : outer s.regions ≡ under
   pub base : Base s.types s.variables s.headings (length heads)
   pub texts : AreTexts s.texts
-  pub few_sites : length s.sites ≤ most_sites
-  pub few_entries : s.entries ≤ most_entries
   pub cells : s.enclosing.cells ≡ cells_of_block s.types counted s.variables
 
 module _ {here : Here} {under : List Region} {counted : ℕ} {heads : List Head} where
@@ -193,8 +173,6 @@ module _ {here : Here} {under : List Region} {counted : ℕ} {heads : List Head}
     under_it = below;
     base = r.base;
     texts = r.texts;
-    few_sites = r.few_sites;
-    few_entries = r.few_entries;
     cells = r.cells;
   }
 
@@ -206,8 +184,6 @@ module _ {here : Here} {under : List Region} {counted : ℕ} {heads : List Head}
     under_it = r.under_it;
     base = r.base;
     texts = r.texts;
-    few_sites = r.few_sites;
-    few_entries = r.few_entries;
     cells = r.cells;
   }
 
@@ -218,8 +194,6 @@ module _ {here : Here} {under : List Region} {counted : ℕ} {heads : List Head}
     under_it = r.under_it;
     base = r.base;
     texts = r.texts;
-    few_sites = r.few_sites;
-    few_entries = r.few_entries;
     cells = r.cells;
   }
 
@@ -231,8 +205,6 @@ module _ {here : Here} {under : List Region} {counted : ℕ} {heads : List Head}
     under_it = r.under_it;
     base = base_types s.types types s.variables s.headings (length heads) longer lawful r.base;
     texts = r.texts;
-    few_sites = r.few_sites;
-    few_entries = r.few_entries;
     cells = r.cells ∙ sym (block_cells_longer longer counted s.variables r.base.have_types);
   }
 

@@ -10,6 +10,8 @@ mod Spared
 pub mod Sparing
 pub mod Unthreatened
 pub mod Grown
+mod Numbers
+mod Went
 pub mod Steps
 pub mod Strings
 mod Copies

@@ -220,7 +220,7 @@ module _ (here : Here) where
   compares_does None None alike = pure_does tt (λ n h. tt)
   compares_does None (Some b) alike = pure_does tt (λ n h. tt)
   compares_does (Some a) None alike = pure_does tt (λ n h. tt)
-  compares_does (Some a) (Some b) alike = mark_does (Compared a b) refl refl refl refl refl (λ o h. alike)
+  compares_does (Some a) (Some b) alike = mark_does (Compared a b) refl refl refl (λ o h. alike)
 
   pub link_does : (o : Operator) (place : Place) (places : List Place) (operand : Written) → LawfulWritten here places operand
       → LawfulLink here (place ∷ places) (link o place operand)
@@ -233,7 +233,7 @@ module _ (here : Here) where
           → Does here least (Leads place (operator_kinds o) places) (link o place operand left) Types
       by least left known =
           joins (leads_first 2 place (operator_kinds o) places) (operation_does o place) λ tests now one formed.
-          quietly (enter_does (λ n. OperatorMark n tests) (λ n. refl) (λ n. refl) (λ n. refl) (λ n. refl) (λ n. refl) (λ n w h. formed w h)) λ _ next two _.
+          quietly (enter_does (λ n. OperatorMark n tests) (λ n. refl) (λ n. refl) (λ n. refl) (λ n w h. formed w h)) λ _ next two _.
           last (law.types next None tt) λ right met three _.
           quietly (by_types_does (λ types. or_mismatch place (result_type types o left right))) λ type_id now four is.
           let result = there place (result_type now.types o left right) type_id is.1 in
@@ -260,11 +260,11 @@ module _ (here : Here) where
   chain_does first ls places others law more =
       no_variable_lawful here (places ++ others) (law.begins.0 ++ others) first.first _ (ap (λ l. l ++ others) law.begins.1)
       (λ least lead is.
-      quietly (mark_does Begins refl refl refl refl refl (λ o h. refl)) λ _ now _ _.
+      quietly (mark_does Begins refl refl refl (λ o h. refl)) λ _ now _ _.
       joins (covers_both 2 places others) (law.types now lead is) λ f met _ known.
       last (more met f known) λ t there _ known.
       quietly (given_does (fits (is_none f.length || nat_eq (length ls) 1) first.first t)) λ _ _ one _.
-      quietly (mark_does Ends refl refl refl refl refl (λ o h. refl)) λ _ _ two _.
+      quietly (mark_does Ends refl refl refl (λ o h. refl)) λ _ _ two _.
       pure_does t (λ n h. types_later t there n (further_still one (further_still two h)) known))
 
   -- ---- calls
@@ -333,12 +333,12 @@ module _ (here : Here) where
       led_covers here 2 name.place places (kinds ++ led lead) (function_ascending f.does lead is)
       (joins (leads_more name.place kinds (led lead) places) (function_does f.does name.place) λ operation met _ formed.
       joins (leads_first 2 name.place (led lead) places) (behind_does lead name.place) λ id now seen known.
-      quietly (enter_does Operation (λ n. refl) (λ n. refl) (λ n. refl) (λ n. refl) (λ n. refl) (λ n o h. refl)) λ _ _ one _.
+      quietly (enter_does Operation (λ n. refl) (λ n. refl) (λ n. refl) (λ n o h. refl)) λ _ _ one _.
       quietly (given_does (only name.place actuals)) λ actual m two right.
       last (checks_types {L = λ does n. IsFormedBy monadic_is_well_formed does.0 n} ((laws actual right).types m None tt)
       λ types t does n later same lawful is _. applied_formed types lawful.whole f operation actual.first t does is met n
       (further_still seen (further_still one (further_still two later))) formed) λ does _ three formed.
-      quietly (mark_does (Applied does.0) refl refl refl refl refl (λ o h. formed o h)) λ _ _ four _.
+      quietly (mark_does (Applied does.0) refl refl refl (λ o h. formed o h)) λ _ _ four _.
       let later = further_still one (further_still two (further_still three four)) in
       pure_does (typed does.1 id) (λ n h. ordinal_types does.1 id now n (further_still later h) known))
 

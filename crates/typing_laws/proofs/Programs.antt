@@ -7,6 +7,7 @@ use Rattle.std.proofs.lemmas.Bool.Decides.{nat_tests}
 use Rattle.std.proofs.lemmas.Grind.{flat_map-append}
 use Rattle.std.proofs.lemmas.List.{length-map}
 use Rattle.std.proofs.lemmas.Option.{slice_get_within}
+use Rattle.std.proofs.lemmas.Result.{IfOk-at_ok}
 use Rattle.place.specs.declared.Place.{Place}
 use Rattle.syntax_tree.specs.declared.Name.{Name}
 use Rattle.syntax_tree.specs.declared.Program.{Program}
@@ -24,16 +25,19 @@ use Rattle.typing.specs.Passing.{Headed, Passed, Checked, After, Passing, after,
 use Rattle.typing.specs.Steps.{begins, open_block, open_required, program_heading}
 use Rattle.typing.specs.Routines.{TypedBlock, block_end, typed_block}
 use Rattle.typing.specs.Typing.{parameter_of_program, parameters_of_program, program_typing, typing}
+use Rattle.typing.proofs.WalkedBlocks.{typing_goes}
+use Rattle.typing.proofs.Ways.{Anyone, Way}
 use Rattle.typing_laws.specs.Lawful.{IsOutlineOf, Lawful}
 use Rattle.typing_laws.proofs.Blocks.{block_lawful}
-use Rattle.typing_laws.proofs.Bodies.{closed, closed_blocks, closed_entries, closed_formed, closed_loops, fine_standing, unthreatened_at_end, results_end}
+use Rattle.typing_laws.proofs.Bodies.{closed, closed_blocks, closed_formed, fine_standing, unthreatened_at_end, results_end}
 use Rattle.typing_laws.proofs.Bodies.{target_ended}
 use Rattle.typing_laws.proofs.Built.{AreEnds, Built, Builds, EndsSo, HasSite, Standing, built_then, ends_append, ends_later, is_between, keeps_builds, no_ends}
 use Rattle.typing_laws.proofs.Covers.{Covers, covers_behind, covers_both, covers_skip}
 use Rattle.typing_laws.proofs.Declarations.{parameter_keeps}
-use Rattle.typing_laws.proofs.Grown.{Grown, both_true, counted, fine_later, further, go_on, grown_then, assigned_then}
+use Rattle.typing_laws.proofs.Grown.{Grown, both_true, fine_later, further, grown_then, assigned_then}
 use Rattle.typing_laws.proofs.Headings.{heads_count, parts_of}
 use Rattle.typing_laws.proofs.Keeping.{before, behind, each_keeps}
+use Rattle.typing_laws.proofs.Numbers.{entries_go, few_entries, few_sites, loops_go}
 use Rattle.typing_laws.proofs.Ordered.{covers_by_place}
 use Rattle.typing_laws.proofs.Outlines.{Agrees, agrees_in, headed_at, heading_formed, same_parts}
 use Rattle.typing_laws.proofs.Owned.{cells_of_block}
@@ -99,8 +103,6 @@ begins_standing program block = record {
     under_it = refl;
     base = begins_base;
     texts = no_texts;
-    few_sites = omega arith;
-    few_entries = omega arith;
     cells = refl;
   };
   block = refl;
@@ -120,7 +122,7 @@ parameters_build names =
 -- the parts of a program, as they are built
 record Whole (program : Program) (a : After (Unit {0})) : Type 0 where
   pub start : Passed
-  pub starts : (start.sites ≡ []) × (start.entries ≡ 0) × (start.loops ≡ 0) × (length start.headings ≡ 1)
+  pub starts : (start.sites ≡ []) × (length start.headings ≡ 1)
       × ((number : ℕ) → waits_in start.enclosing.waiting number ≡ false) × (start.assigned ≡ [])
   pub first : Look
   pub middle : Passed
@@ -181,7 +183,7 @@ whole program a is =
     (i.grown.sites ∙ ap (λ l. l ++ i.grown.added) (i.built.sites ∙ ap (λ l. l ++ i.built.added) (p.0.sites ∙ p.0.covered))) in
     subst (Whole program) made (record {
       start = s1;
-      starts = (refl, refl, refl, refl, (λ number. refl), refl);
+      starts = (refl, refl, (λ number. refl), refl);
       first = x.first.look ++ i.first;
       middle = i.middle;
       built = f;
@@ -224,47 +226,6 @@ module _ (program : Program) (a : After (Unit {0})) (w : Whole program a) where
   at_end : {A : Type 0} (f : Look → A) → f a.look ≡ f (w.first ++ ended)
   at_end f = ap f w.look
 
-  entries_ended : entries_of_look ended ≡ entries_of_look w.second
-  entries_ended = closed_entries w.second 0 w.headed.around w.headed.parameters w.result w.end
-
-  loops_ended : loops_of_look ended ≡ loops_of_look w.second
-  loops_ended = closed_loops w.second 0 w.headed.around w.headed.parameters w.result w.end
-
-  is_numbered : entries_of_look a.look ≡ range_with_len 0 (length (entries_of_look a.look))
-  is_numbered =
-      let f = w.built in
-      let g = w.grown in
-      at_end entries_of_look
-      ∙ go_on mark_entries w.first ended 0 w.middle.entries
-      (f.numbered ∙ ap (λ n. range_with_len n (length (entries_of_look w.first))) w.starts.1)
-      (f.entered ∙ ap (λ n. n + length (entries_of_look w.first)) w.starts.1)
-      (entries_ended ∙ g.numbered ∙ ap (λ l. range_with_len w.middle.entries (length l)) (sym entries_ended))
-      ∙ ap (λ l. range_with_len 0 (length l)) (sym (at_end entries_of_look))
-
-  has_few_entries : length (entries_of_look a.look) ≤ most_entries
-  has_few_entries =
-      omega (
-        arith,
-        ap length (at_end entries_of_look),
-        counted mark_entries w.first ended,
-        ap length entries_ended,
-        w.built.entered,
-        w.grown.entered,
-        w.grown.few_entries,
-        w.starts.1,
-      )
-
-  loops_are : loops_of_look a.look ≡ range_with_len 0 (length (loops_of_look a.look))
-  loops_are =
-      let f = w.built in
-      let g = w.grown in
-      at_end loops_of_look
-      ∙ go_on mark_loops w.first ended 0 w.middle.loops
-      (f.looped ∙ ap (λ n. range_with_len n (length (loops_of_look w.first))) w.starts.2)
-      (f.begun ∙ ap (λ n. n + length (loops_of_look w.first)) w.starts.2)
-      (loops_ended ∙ g.looped ∙ ap (λ l. range_with_len w.middle.loops (length l)) (sym loops_ended))
-      ∙ ap (λ l. range_with_len 0 (length l)) (sym (at_end loops_of_look))
-
   blocks_ended : blocks_of_look ended ≡ 0 ∷ []
   blocks_ended = closed_blocks w.second 0 w.headed.around w.headed.parameters w.result w.end w.grown.inner
 
@@ -283,7 +244,7 @@ module _ (program : Program) (a : After (Unit {0})) (w : Whole program a) where
       ∙ count_append number (blocks_of_look w.first) (blocks_of_look ended) in
       let one = ap (count_of number) blocks_ended in
       let as_many = ap (λ (l : List Headed). one_if (is_between 1 (length l) number)) w.grown.headings_kept in
-      let from_one = ap (λ n. one_if (is_between n (length w.middle.headings) number)) w.starts.3 in
+      let from_one = ap (λ n. one_if (is_between n (length w.middle.headings) number)) w.starts.1 in
       let there = slice_get_within w.middle.headings 0 in
       omega (
         arith,
@@ -291,7 +252,7 @@ module _ (program : Program) (a : After (Unit {0})) (w : Whole program a) where
         one,
         w.built.accounted number,
         ap one_if (w.came number),
-        ap one_if (w.starts.4 number),
+        ap one_if (w.starts.2 number),
         from_one,
         as_many,
         first_too number (length a.passed.headings) at_least_one,
@@ -339,7 +300,7 @@ module _ (program : Program) (a : After (Unit {0})) (w : Whole program a) where
       ap are_assigned w.look ∙ targets (flat_map mark_results (w.first ++ ended)) all
     where
       empty : (root : ℕ) → list_any (nat_eq root) w.start.assigned ≡ true → ⊥
-      empty root is = no (sym (ap (list_any (nat_eq root)) w.starts.5) ∙ is)
+      empty root is = no (sym (ap (list_any (nat_eq root)) w.starts.3) ∙ is)
         where
           no : ◌≡◌ {A = Bool} false true → ⊥
           no h = absurd cc
@@ -425,11 +386,11 @@ module _ (program : Program) (a : After (Unit {0})) (w : Whole program a) where
         le_is : (m n : ℕ) → m ≤ n → nat_le m n ≡ true
         le_is m n h = grind (arith, nat_tests)
 
-  is_lawful : Lawful program a
-  is_lawful = record {
-    numbered = is_numbered;
-    few_entries = has_few_entries;
-    loops = loops_are;
+  is_lawful : Way true Anyone 0 2 a.look (begins program.name.place) a.passed → Lawful program a
+  is_lawful way = let entries = entries_go way in record {
+    numbered = entries.ascends;
+    few_entries = omega (arith, entries.next_is, few_entries way (omega arith));
+    loops = (loops_go way).ascends;
     blocks = blocks_permuted;
     a_block = at_least_one;
     formed = is_formed;
@@ -442,11 +403,11 @@ module _ (program : Program) (a : After (Unit {0})) (w : Whole program a) where
     unthreatened = has_controls;
     spared = are_spared;
     assigned = has_results;
-    few_sites = w.grown.few_sites;
+    few_sites = few_sites way (omega arith);
     types = w.grown.lawful.begin;
     by_place = λ order. subst AreByPlace (sym w.sites) (covers_by_place (program_places program) w.added order w.covered);
   }
 
 -- what each typed program has
 pub typing_is_lawful : (program : Program) (a : After (Unit {0})) → typing program ≡ Ok a → Lawful program a
-typing_is_lawful program a is = is_lawful program a (whole program a is)
+typing_is_lawful program a is = is_lawful program a (whole program a is) (IfOk-at_ok (λ b. Way true Anyone 0 2 b.look (begins program.name.place) b.passed) is (typing_goes program))

@@ -48,8 +48,6 @@ ready_heads here under heads head s room r = record {
       base_blocks s.types s.variables s.headings (length heads) (length (heads ++ head ∷ [])) (omega (arith, one_more)) (omega (arith, room, one_more))
       r.base;
   texts = r.texts;
-  few_sites = r.few_sites;
-  few_entries = r.few_entries;
   cells = r.cells;
 }
 
@@ -57,8 +55,6 @@ ready_heads here under heads head s room r = record {
 pub record Began (here : Here) (under : List Region) (number : ℕ) (old new : Passed) : Type 0 where
   pub number_is : number ≡ length old.headings
   pub sites : new.sites ≡ old.sites
-  pub entries : new.entries ≡ old.entries
-  pub loops : new.loops ≡ old.loops
   pub threatened : new.threatened ≡ old.threatened
   pub controls_kept : new.controls ≡ old.controls
   pub assigned : new.assigned ≡ old.assigned
@@ -179,8 +175,6 @@ module _ (here : Here) (under : List Region) where
           record {
             number_is = refl;
             sites = added.sites;
-            entries = added.entries;
-            loops = added.loops;
             threatened = added.threatened;
             controls_kept = added.controls_kept;
             assigned = added.assigned;

@@ -30,6 +30,7 @@ use Rattle.typing.specs.Steps.{with_threatened, assign_result, enclosing_now, he
 use Rattle.typing.specs.Expressions.{behind}
 use Rattle.typing.specs.Statements.{for_body}
 use Rattle.typing.specs.Names.{folded}
+use Rattle.typing.proofs.Ways.{numbers_of}
 use Rattle.typing_laws.proofs.Covers.{at_place}
 use Rattle.typing_laws.proofs.Grown.{heads_of, FitsHeading, Fine, Grown, further, fine_later, grown_then, both_true, IsFree}
 use Rattle.typing_laws.proofs.Reached.{IsLonger, as_long, get_longer, get_mapped, get_or_is, Signature, signature_passed, Reached, reached, whole_of, IsFurther}
@@ -156,12 +157,6 @@ sited {here} {Has = Has} {Had = Had} has d = record {
       added = g.added;
       sites = g.sites;
       covered = has g.added g.covered;
-      few_sites = g.few_sites;
-      numbered = g.numbered;
-      entered = g.entered;
-      few_entries = g.few_entries;
-      looped = g.looped;
-      begun = g.begun;
       inner = g.inner;
       threats = g.threats;
       assigns = g.assigns;
@@ -197,11 +192,10 @@ further_answered d other = record {
 -- what is known is the same, but for the latest token
 pub grown_silent : (here : Here) (s new : Passed) → new.regions ≡ s.regions → new.types ≡ s.types → new.texts ≡ s.texts
     → new.variables ≡ s.variables → new.headings ≡ s.headings → new.enclosing ≡ s.enclosing → new.sites ≡ s.sites
-    → new.entries ≡ s.entries → new.loops ≡ s.loops
     → ((root : ℕ) → list_any (nat_eq root) s.threatened ≡ true → list_any (nat_eq root) new.threatened ≡ true)
     → new.assigned ≡ s.assigned → new.controls ≡ s.controls → Fine here s
     → Grown here Nothing [] s new
-grown_silent here s new regions types texts declared headings enclosing sites entries loops threats assigned kept fine = record {
+grown_silent here s new regions types texts declared headings enclosing sites threats assigned kept fine = record {
   regions = regions;
   longer = subst (IsLonger s.types) (sym types) as_long;
   lawful = subst AreLawful (sym types) fine.lawful;
@@ -212,12 +206,6 @@ grown_silent here s new regions types texts declared headings enclosing sites en
   added = [];
   sites = sites ∙ sym (append-nil s.sites);
   covered = refl;
-  few_sites = omega (arith, ap length sites, fine.few_sites);
-  numbered = refl;
-  entered = omega (arith, entries);
-  few_entries = omega (arith, entries, fine.few_entries);
-  looped = refl;
-  begun = omega (arith, loops);
   inner = refl;
   threats = threats;
   assigns = λ root is. ap (list_any (nat_eq root)) assigned ∙ is;
@@ -235,7 +223,7 @@ pass_does {here} place = record {
   does = λ s a is fine h.
       let same : after tt [] (record s { latest = place }) ≡ a = cc in
       subst (Leaves here Nothing s Anything) same
-      (grown_silent here s (record s { latest = place }) refl refl refl refl refl refl refl refl refl (λ root is. is) refl refl fine, tt);
+      (grown_silent here s (record s { latest = place }) refl refl refl refl refl refl refl (λ root is. is) refl refl fine, tt);
 }
 
 pub pure_does : {here : Here} {least : Reached} {A : Type 0} {K : A → Reached → Type 0} (x : A)
@@ -244,7 +232,7 @@ pure_does {here} {least} {A} {K} x known = record {
   does = λ s a is fine h.
       let same : after x [] s ≡ a = cc in
       subst (Leaves here Nothing s K) same
-      (grown_silent here s s refl refl refl refl refl refl refl refl refl (λ root is. is) refl refl fine, known (reached s) h);
+      (grown_silent here s s refl refl refl refl refl refl refl (λ root is. is) refl refl fine, known (reached s) h);
 }
 
 pub given_does : {here : Here} {least : Reached} {A : Type 0} (checked : Checked A)
@@ -254,7 +242,7 @@ given_does {here} {least} {A} checked = record {
       let x = split checked (λ b. Ok (after b [] s)) a is in
       let same : after x.0 [] s ≡ a = cc in
       subst (Leaves here Nothing s (λ x now. checked ≡ Ok x)) same
-      (grown_silent here s s refl refl refl refl refl refl refl refl refl (λ root is. is) refl refl fine, x.1);
+      (grown_silent here s s refl refl refl refl refl refl refl (λ root is. is) refl refl fine, x.1);
 }
 
 pub by_types_does : {here : Here} {least : Reached} {A : Type 0} (test : List Form → Checked A)
@@ -264,7 +252,7 @@ by_types_does {here} {least} {A} test = record {
       let x = split (test s.types) (λ b. Ok (after b [] s)) a is in
       let same : after x.0 [] s ≡ a = cc in
       subst (Leaves here Nothing s (λ x now. AreLawful now.types × (test now.types ≡ Ok x))) same
-      (grown_silent here s s refl refl refl refl refl refl refl refl refl (λ root is. is) refl refl fine, (fine.lawful, x.1));
+      (grown_silent here s s refl refl refl refl refl refl refl (λ root is. is) refl refl fine, (fine.lawful, x.1));
 }
 
 pub fail_does : {here : Here} {least : Reached} {A : Type 0} {Has : List Stands → Type 0} {K : A → Reached → Type 0} (why : TypeFault)
@@ -289,7 +277,7 @@ find_does {here} name = record {
       let same : after x.0 [] (record s { latest = name.place }) ≡ a = cc in
       let there = found_holds (IsSound here s.variables s.types (heads_of (reached s))) s.regions text x.0 fine.sound (by (found s.regions text) x.0 x.1) in
       subst (Leaves here Nothing s (λ denotation now. IsFound here denotation now)) same (
-        grown_silent here s (record s { latest = name.place }) refl refl refl refl refl refl refl refl refl (λ root is. is) refl refl fine,
+        grown_silent here s (record s { latest = name.place }) refl refl refl refl refl refl refl (λ root is. is) refl refl fine,
         (there, fine.stands),
       );
 }
@@ -303,7 +291,7 @@ unfolding wants_output
 wants_output_does {here} place = record {
   does = λ s a is fine h.
       let x = split_if s.has_output (fault.NotProgramParameter place) (after tt [] s) a is in
-      subst (Leaves here Nothing s Anything) x.1 (grown_silent here s s refl refl refl refl refl refl refl refl refl (λ root is. is) refl refl fine, tt);
+      subst (Leaves here Nothing s Anything) x.1 (grown_silent here s s refl refl refl refl refl refl refl (λ root is. is) refl refl fine, tt);
 }
 
 -- ---- marks
@@ -317,15 +305,12 @@ all_apart here s roots (root ∷ changes) held may =
     (all_apart here s roots changes held may.1)
 
 -- no entry, but well formed
-marked_does : {here : Here} {least : Reached} (one : Mark) → mark_entries one ≡ [] → mark_loops one ≡ [] → mark_blocks one ≡ []
-    → is_bracket one ≡ false → ((now : Reached) → IsFurther least now → Each (MayChange here now) (mark_changes one ++ [])) → mark_controls one ≡ []
+marked_does : {here : Here} {least : Reached} (one : Mark) → numbers_of one ≡ ([], [], []) → is_bracket one ≡ false → ((now : Reached) → IsFurther least now → Each (MayChange here now) (mark_changes one ++ [])) → mark_controls one ≡ []
     → ((o : Outline) → IsFurther least (whole_of o) → is_formed_mark o here.block one ≡ true)
     → Does here least Nothing (mark one) Anything
-marked_does {here} {least} one none no_loop no_block plain changes no_control formed = record {
+marked_does {here} {least} one none plain changes no_control formed = record {
   does = λ s a is fine h.
       let same : after tt (one ∷ []) s ≡ a = cc in
-      let counted : length (mark_entries one ++ []) ≡ 0 = ap (λ (l : List ℕ). length (l ++ [])) none in
-      let loops_counted : length (mark_loops one ++ []) ≡ 0 = ap (λ (l : List ℕ). length (l ++ [])) no_loop in
       let g : Grown here Nothing (one ∷ []) s s = record {
         regions = refl;
         longer = as_long;
@@ -337,13 +322,7 @@ marked_does {here} {least} one none no_loop no_block plain changes no_control fo
         added = [];
         sites = sym (append-nil s.sites);
         covered = refl;
-        few_sites = fine.few_sites;
-        numbered = subst (λ (l : List ℕ). l ++ [] ≡ range_with_len s.entries (length (l ++ []))) (sym none) refl;
-        entered = omega (arith, counted);
-        few_entries = fine.few_entries;
-        looped = subst (λ (l : List ℕ). l ++ [] ≡ range_with_len s.loops (length (l ++ []))) (sym no_loop) refl;
-        begun = omega (arith, loops_counted);
-        inner = ap (λ l. l ++ []) no_block;
+        inner = ap (λ n. n.2 ++ []) none;
         threats = λ root is. is;
         assigns = λ root is. is;
         assigned = λ settled root is. inl is;
@@ -361,29 +340,26 @@ no_control : (one : Mark) → mark_changes one ≡ [] → mark_controls one ≡ 
 no_control (For number loop_number place control direction) none = absurd cc
 no_control other none = refl
 
-pub mark_does : {here : Here} {least : Reached} (one : Mark) → mark_entries one ≡ [] → mark_loops one ≡ [] → mark_blocks one ≡ []
-    → mark_changes one ≡ [] → is_bracket one ≡ false → ((o : Outline) → IsFurther least (whole_of o) → is_formed_mark o here.block one ≡ true)
+pub mark_does : {here : Here} {least : Reached} (one : Mark) → numbers_of one ≡ ([], [], []) → mark_changes one ≡ [] → is_bracket one ≡ false → ((o : Outline) → IsFurther least (whole_of o) → is_formed_mark o here.block one ≡ true)
     → Does here least Nothing (mark one) Anything
-mark_does {here} one none no_loop no_block no_change plain formed =
-    marked_does one none no_loop no_block plain (λ now more. subst (λ (l : List ℕ). Each (MayChange here now) (l ++ [])) (sym no_change) tt)
+mark_does {here} one none no_change plain formed =
+    marked_does one none plain (λ now more. subst (λ (l : List ℕ). Each (MayChange here now) (l ++ [])) (sym no_change) tt)
     (no_control one no_change) formed
 
 -- one that changes a variable
-pub change_does : {here : Here} {least : Reached} (one : Mark) (root : ℕ) → mark_entries one ≡ [] → mark_loops one ≡ [] → mark_blocks one ≡ []
-    → mark_changes one ≡ root ∷ [] → mark_controls one ≡ [] → is_bracket one ≡ false → MayChange here least root
+pub change_does : {here : Here} {least : Reached} (one : Mark) (root : ℕ) → numbers_of one ≡ ([], [], []) → mark_changes one ≡ root ∷ [] → mark_controls one ≡ [] → is_bracket one ≡ false → MayChange here least root
     → ((o : Outline) → IsFurther least (whole_of o) → is_formed_mark o here.block one ≡ true) → Does here least Nothing (mark one) Anything
-change_does {here} {least} one root none no_loop no_block change no_control plain may formed =
-    marked_does one none no_loop no_block plain
+change_does {here} {least} one root none change no_control plain may formed =
+    marked_does one none plain
     (λ now more. subst (λ (l : List ℕ). Each (MayChange here now) (l ++ [])) (sym change) (change_later here least now root more may, tt)) no_control formed
 
 -- an entry, with the next number
-pub enter_does : {here : Here} {least : Reached} (marked : ℕ → Mark) → ((k : ℕ) → mark_entries (marked k) ≡ k ∷ [])
-    → ((k : ℕ) → mark_loops (marked k) ≡ []) → ((k : ℕ) → mark_blocks (marked k) ≡ []) → ((k : ℕ) → mark_changes (marked k) ≡ [])
+pub enter_does : {here : Here} {least : Reached} (marked : ℕ → Mark) → ((k : ℕ) → numbers_of (marked k) ≡ (k ∷ [], [], [])) → ((k : ℕ) → mark_changes (marked k) ≡ [])
     → ((k : ℕ) → is_bracket (marked k) ≡ false)
     → ((k : ℕ) (o : Outline) → IsFurther least (whole_of o) → is_formed_mark o here.block (marked k) ≡ true)
     → Does here least Nothing (enter_as marked) Anything
 unfolding enter
-enter_does {here} {least} marked one no_loop no_block no_change plain formed = record {
+enter_does {here} {least} marked entry no_change plain formed = record {
   does = λ s a is fine h.
       let x = split (if nat_le most_entries s.entries then Err (fault.TooMany s.latest) else Ok (after s.entries [] (record s { entries = s.entries + 1 })))
       (λ b. behind_marks b.look (mark (marked b.answer) b.passed)) a is in
@@ -391,8 +367,6 @@ enter_does {here} {least} marked one no_loop no_block no_change plain formed = r
       let new : Passed = record s { entries = s.entries + 1 } in
       let number = s.entries in
       let same : after tt (marked s.entries ∷ []) new ≡ a = by x.0 a y.1 x.2 in
-      let counted : length (mark_entries (marked number) ++ []) ≡ 1 = ap (λ (l : List ℕ). length (l ++ [])) (one number) in
-      let loops_counted : length (mark_loops (marked number) ++ []) ≡ 0 = ap (λ (l : List ℕ). length (l ++ [])) (no_loop number) in
       let g : Grown here Nothing (marked number ∷ []) s new = record {
         regions = refl;
         longer = as_long;
@@ -404,13 +378,7 @@ enter_does {here} {least} marked one no_loop no_block no_change plain formed = r
         added = [];
         sites = sym (append-nil s.sites);
         covered = refl;
-        few_sites = fine.few_sites;
-        numbered = subst (λ (l : List ℕ). l ++ [] ≡ range_with_len s.entries (length (l ++ []))) (sym (one number)) refl;
-        entered = omega (arith, counted);
-        few_entries = omega (arith, below most_entries s.entries y.0);
-        looped = subst (λ (l : List ℕ). l ++ [] ≡ range_with_len s.loops (length (l ++ []))) (sym (no_loop number)) refl;
-        begun = omega (arith, loops_counted);
-        inner = ap (λ l. l ++ []) (no_block number);
+        inner = ap (λ n. n.2 ++ []) (entry number);
         threats = λ root is. is;
         assigns = λ root is. is;
         assigned = λ settled root is. inl is;
@@ -431,15 +399,14 @@ enter_does {here} {least} marked one no_loop no_block no_change plain formed = r
         cc
 
 -- a loop, with the next two numbers
-enter_loop_at : {here : Here} (marked : ℕ → ℕ → Mark) → ((k l : ℕ) → mark_entries (marked k l) ≡ k ∷ [])
-    → ((k l : ℕ) → mark_loops (marked k l) ≡ l ∷ []) → ((k l : ℕ) → mark_blocks (marked k l) ≡ [])
+enter_loop_at : {here : Here} (marked : ℕ → ℕ → Mark) → ((k l : ℕ) → numbers_of (marked k l) ≡ (k ∷ [], l ∷ [], []))
     → ((k l : ℕ) → is_bracket (marked k l) ≡ false) → (s : Passed) (a : After (Unit {0}))
     → ((k l : ℕ) → Each (MayChange here (reached s)) (mark_changes (marked k l) ++ []))
     → ((k l : ℕ) (new : Passed) → new.variables ≡ s.variables → Each (IsFree here s new) (mark_controls (marked k l) ++ []))
     → ((k l : ℕ) (o : Outline) → IsFurther (reached s) (whole_of o) → is_formed_mark o here.block (marked k l) ≡ true)
     → Fine here s → enter_loop marked s ≡ Ok a → Leaves here Nothing s Anything a
 unfolding begin_loop enter
-enter_loop_at {here} marked one loop no_block plain s a changes controls formed fine is = by (nat_le most_entries s.entries) refl is
+enter_loop_at {here} marked loop plain s a changes controls formed fine is = by (nat_le most_entries s.entries) refl is
   where
     by : (test : Bool) → nat_le most_entries s.entries ≡ test
         → and_then (and_then (if test then Err (fault.TooMany s.latest) else Ok (after s.entries [] (record s { entries = s.entries + 1 })))
@@ -451,8 +418,6 @@ enter_loop_at {here} marked one loop no_block plain s a changes controls formed 
         let new : Passed = record s { entries = s.entries + 1; loops = s.loops + 1 } in
         let made = marked s.entries s.loops in
         let same : after tt (made ∷ []) new ≡ a = cc in
-        let counted : length (mark_entries made ++ []) ≡ 1 = ap (λ (l : List ℕ). length (l ++ [])) (one s.entries s.loops) in
-        let loops_counted : length (mark_loops made ++ []) ≡ 1 = ap (λ (l : List ℕ). length (l ++ [])) (loop s.entries s.loops) in
         let g : Grown here Nothing (made ∷ []) s new = record {
           regions = refl;
           longer = as_long;
@@ -464,13 +429,7 @@ enter_loop_at {here} marked one loop no_block plain s a changes controls formed 
           added = [];
           sites = sym (append-nil s.sites);
           covered = refl;
-          few_sites = fine.few_sites;
-          numbered = subst (λ (l : List ℕ). l ++ [] ≡ range_with_len s.entries (length (l ++ []))) (sym (one s.entries s.loops)) refl;
-          entered = omega (arith, counted);
-          few_entries = omega (arith, below most_entries s.entries test);
-          looped = subst (λ (l : List ℕ). l ++ [] ≡ range_with_len s.loops (length (l ++ []))) (sym (loop s.entries s.loops)) refl;
-          begun = omega (arith, loops_counted);
-          inner = ap (λ l. l ++ []) (no_block s.entries s.loops);
+          inner = ap (λ n. n.2 ++ []) (loop s.entries s.loops);
           threats = λ root is. is;
           assigns = λ root is. is;
           assigned = λ settled root is. inl is;
@@ -483,14 +442,13 @@ enter_loop_at {here} marked one loop no_block plain s a changes controls formed 
         } in
         subst (Leaves here Nothing s Anything) same (g, tt)
 
-pub enter_loop_does : {here : Here} {least : Reached} (marked : ℕ → ℕ → Mark) → ((k l : ℕ) → mark_entries (marked k l) ≡ k ∷ [])
-    → ((k l : ℕ) → mark_loops (marked k l) ≡ l ∷ []) → ((k l : ℕ) → mark_blocks (marked k l) ≡ []) → ((k l : ℕ) → mark_changes (marked k l) ≡ [])
+pub enter_loop_does : {here : Here} {least : Reached} (marked : ℕ → ℕ → Mark) → ((k l : ℕ) → numbers_of (marked k l) ≡ (k ∷ [], l ∷ [], [])) → ((k l : ℕ) → mark_changes (marked k l) ≡ [])
     → ((k l : ℕ) → is_bracket (marked k l) ≡ false)
     → ((k l : ℕ) (o : Outline) → IsFurther least (whole_of o) → is_formed_mark o here.block (marked k l) ≡ true)
     → Does here least Nothing (enter_loop marked) Anything
-enter_loop_does {here} {least} marked one loop no_block no_change plain formed = record {
+enter_loop_does {here} {least} marked loop no_change plain formed = record {
   does = λ s a is fine h.
-      enter_loop_at marked one loop no_block plain s a
+      enter_loop_at marked loop plain s a
       (λ k l. subst (λ (m : List ℕ). Each (MayChange here (reached s)) (m ++ [])) (sym (no_change k l)) tt)
       (λ k l new same. subst (λ (m : List ℕ). Each (IsFree here s new) (m ++ [])) (sym (no_control (marked k l) (no_change k l))) tt)
       (λ k l o more. formed k l o (further_still h more)) fine is;
@@ -554,7 +512,7 @@ may_change_does {here} {least} place root type_id known = record {
         → Leaves here Nothing s (λ _ now. MayChange here now root)
         (after (tt {0}) [] (if test then s else record s { threatened = with_one s.threatened root }))
     by s true own fine there apart = (
-      grown_silent here s s refl refl refl refl refl refl refl refl refl (λ root is. is) refl refl fine,
+      grown_silent here s s refl refl refl refl refl refl refl (λ root is. is) refl refl fine,
       record {
         variable = known.variable;
         is_there = there;
@@ -564,7 +522,7 @@ may_change_does {here} {least} place root type_id known = record {
       },
     )
     by s false own fine there apart = (
-      grown_silent here s (record s { threatened = with_one s.threatened root }) refl refl refl refl refl refl refl refl refl
+      grown_silent here s (record s { threatened = with_one s.threatened root }) refl refl refl refl refl refl refl
           (kept_with s.threatened root) refl refl fine,
       record {
         variable = known.variable;
@@ -578,15 +536,15 @@ may_change_does {here} {least} place root type_id known = record {
 -- a control variable is one of the variable declaration part of the block that no other block threatened, and its for
 -- statement begins
 pub controlled_does : {here : Here} {least : Reached} {B : Type 0} {Has : List Stands → Type 0} {L : B → Reached → Type 0} (place : Place) (root : ℕ)
-    (marked : ℕ → ℕ → Mark) (rest : Passing B) → ((k l : ℕ) → mark_entries (marked k l) ≡ k ∷ []) → ((k l : ℕ) → mark_loops (marked k l) ≡ l ∷ [])
-    → ((k l : ℕ) → mark_blocks (marked k l) ≡ []) → ((k l : ℕ) → mark_changes (marked k l) ≡ root ∷ [])
+    (marked : ℕ → ℕ → Mark) (rest : Passing B) → ((k l : ℕ) → numbers_of (marked k l) ≡ (k ∷ [], l ∷ [], []))
+    → ((k l : ℕ) → mark_changes (marked k l) ≡ root ∷ [])
     → ((k l : ℕ) → mark_controls (marked k l) ≡ root ∷ []) → ((k l : ℕ) → is_bracket (marked k l) ≡ false) → MayChange here least root
     → ((now : Reached) → IsFurther least now → is_local here.block (slice_get now.variables root) ≡ true → (k l : ℕ) (o : Outline)
     → IsFurther now (whole_of o) → is_formed_mark o here.block (marked k l) ≡ true)
     → ((now : Reached) → IsFurther least now → Does here now Has rest L)
     → Does here least Has (may_control place root >>= (λ _. enter_loop marked >>= (λ _. rest))) L
 unfolding may_control
-controlled_does {here} {least} {B} {Has} {L} place root marked rest one loop no_block changes controls plain may formed law = record {
+controlled_does {here} {least} {B} {Has} {L} place root marked rest loop changes controls plain may formed law = record {
   does = λ s b is fine h.
       let own = is_local s.enclosing.block (slice_get s.variables root) in
       let free = not (list_any (nat_eq root) s.threatened) in
@@ -604,7 +562,7 @@ controlled_does {here} {least} {B} {Has} {L} place root marked rest one loop no_
       let none = second_of own (list_any (nat_eq root) s.threatened) test.0 in
       let changed = change_later here least (reached s) root h may in
       let first =
-      enter_loop_at marked one loop no_block plain s u.0
+      enter_loop_at marked loop plain s u.0
       (λ k l. subst (λ (m : List ℕ). Each (MayChange here (reached s)) (m ++ [])) (sym (changes k l)) (changed, tt))
       (λ k l new same. subst (λ (m : List ℕ). Each (IsFree here s new) (m ++ [])) (sym (controls k l))
       (is_free s new changed.variable changed.is_there same local none, tt))
@@ -691,8 +649,6 @@ module _ (root : ℕ) (look : Look) (s new : Passed) where
 
   grown_bracketed : {here : Here} {Has : List Stands → Type 0} → Grown here Has look inside new → Grown here Has bracketed s behind_it
   grown_bracketed {here} {Has} g =
-      let entries = ended_flat mark_entries look refl in
-      let loops = ended_flat mark_loops look refl in
       record {
         regions = g.regions;
         longer = g.longer;
@@ -704,12 +660,6 @@ module _ (root : ℕ) (look : Look) (s new : Passed) where
         added = g.added;
         sites = g.sites;
         covered = g.covered;
-        few_sites = g.few_sites;
-        numbered = entries ∙ g.numbered ∙ ap (λ (l : List ℕ). range_with_len s.entries (length l)) (sym entries);
-        entered = omega (arith, g.entered, ap length entries);
-        few_entries = g.few_entries;
-        looped = loops ∙ g.looped ∙ ap (λ (l : List ℕ). range_with_len s.loops (length l)) (sym loops);
-        begun = omega (arith, g.begun, ap length loops);
         inner = ended_flat mark_blocks look refl ∙ g.inner;
         threats = g.threats;
         assigns = g.assigns;
@@ -756,8 +706,6 @@ fine_inside s controls fine = record {
   sound = fine.sound;
   lawful = fine.lawful;
   texts = fine.texts;
-  few_sites = fine.few_sites;
-  few_entries = fine.few_entries;
   block = fine.block;
   around = fine.around;
   stands = fine.stands;
@@ -822,7 +770,7 @@ enclosing_now_does {here} = record {
   does = λ s a is fine h.
       let same : after s.enclosing [] s ≡ a = cc in
       subst (Leaves here Nothing s (λ enclosing now. (enclosing.block ≡ here.block) × (enclosing.around ≡ here.around))) same
-      (grown_silent here s s refl refl refl refl refl refl refl refl refl (λ root is. is) refl refl fine, (fine.block, fine.around));
+      (grown_silent here s s refl refl refl refl refl refl refl (λ root is. is) refl refl fine, (fine.block, fine.around));
 }
 
 -- the heading of a block that was passed tells what is so
@@ -836,7 +784,7 @@ heading_at_does {here} block signature there = record {
       let found : get_or s.headings block program_heading ≡ at.0 = get_or_is s.headings block program_heading at.0 at.1 in
       let same : after (get_or s.headings block program_heading) [] s ≡ a = cc in
       subst (Leaves here Nothing s (λ headed now. (signature_passed headed ≡ signature) × FitsHeading now block signature)) same (
-        grown_silent here s s refl refl refl refl refl refl refl refl refl (λ root is. is) refl refl fine,
+        grown_silent here s s refl refl refl refl refl refl refl (λ root is. is) refl refl fine,
         (ap signature_passed found ∙ at.2, fine.fit.fits block signature known),
       );
 }
@@ -848,7 +796,7 @@ variable_at_does {here} root = record {
   does = λ s a is fine h.
       let same : after (slice_get s.variables root) [] s ≡ a = cc in
       subst (Leaves here Nothing s (λ found now. slice_get now.variables root ≡ found)) same
-      (grown_silent here s s refl refl refl refl refl refl refl refl refl (λ root is. is) refl refl fine, refl);
+      (grown_silent here s s refl refl refl refl refl refl refl (λ root is. is) refl refl fine, refl);
 }
 
 -- the target of what is assigned comes behind
@@ -869,12 +817,6 @@ assign_result_does {here} root owing = record {
         added = [];
         sites = sym (append-nil s.sites);
         covered = refl;
-        few_sites = fine.few_sites;
-        numbered = refl;
-        entered = omega arith;
-        few_entries = fine.few_entries;
-        looped = refl;
-        begun = omega arith;
         inner = refl;
         threats = λ root is. is;
         assigns = λ other is. kept_with s.assigned root other is;
@@ -900,7 +842,7 @@ text_at_does {here} {least} number = record {
   does = λ s a is fine h.
       let same : after (get_or s.texts number []) [] s ≡ a = cc in
       subst (Leaves here Nothing s (λ text now. are_characters text ≡ true)) same
-      (grown_silent here s s refl refl refl refl refl refl refl refl refl (λ root is. is) refl refl fine, fine.texts number);
+      (grown_silent here s s refl refl refl refl refl refl refl (λ root is. is) refl refl fine, fine.texts number);
 }
 
 pub keep_text_does : {here : Here} {least : Reached} (text : List ℕ) → are_characters text ≡ true
@@ -921,12 +863,6 @@ keep_text_does {here} {least} text is_text = record {
         added = [];
         sites = sym (append-nil s.sites);
         covered = refl;
-        few_sites = fine.few_sites;
-        numbered = refl;
-        entered = omega arith;
-        few_entries = fine.few_entries;
-        looped = refl;
-        begun = omega arith;
         inner = refl;
         threats = λ root is. is;
         assigns = λ root is. is;
@@ -961,12 +897,6 @@ site_does {here} {least} kind place = record {
         added = (kind, place) ∷ [];
         sites = refl;
         covered = refl;
-        few_sites = omega (arith, counted, below most_sites (length s.sites) y.0);
-        numbered = refl;
-        entered = omega arith;
-        few_entries = fine.few_entries;
-        looped = refl;
-        begun = omega arith;
         inner = refl;
         threats = λ root is. is;
         assigns = λ root is. is;

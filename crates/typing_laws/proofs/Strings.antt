@@ -192,12 +192,6 @@ module _ {here : Here} {least : Reached} where
           added = [];
           sites = sym (append-nil s.sites);
           covered = refl;
-          few_sites = fine.few_sites;
-          numbered = refl;
-          entered = omega arith;
-          few_entries = fine.few_entries;
-          looped = refl;
-          begun = omega arith;
           inner = refl;
           threats = λ root is. is;
           assigns = λ root is. is;

@@ -47,10 +47,10 @@ module _ (here : Here) where
   target_formed : {least : Reached} (root : ℕ) (selectors : List TreeSelector) (id : TypeId) (ordinal : Bool) → LeadsTo here root selectors id least
       → is_ordinal least.types id ≡ ordinal → MayChange here least root → Does here least Nothing (mark (target_mark ordinal root selectors id)) Anything
   target_formed {least} root selectors id true l is may =
-      change_does (Target root selectors (index_count selectors)) root refl refl refl refl refl refl may
+      change_does (Target root selectors (index_count selectors)) root refl refl refl refl may
       (λ n h. ordinal_formed here root selectors id least n l is h)
   target_formed {least} root selectors id false l is may =
-      change_does (WholeTarget root selectors (index_count selectors) id) root refl refl refl refl refl refl may
+      change_does (WholeTarget root selectors (index_count selectors) id) root refl refl refl refl may
       (λ n h. whole_formed here root selectors id least n l is h)
 
   -- selectors lead to what is accessed
@@ -142,7 +142,7 @@ module _ (here : Here) where
       → Does here least (Covers 0 (selector_places selectors rows)) (access_typing name selectors ws variable) IsAccessed
   access_does {least} name selectors rows ws laws variable found =
       quietly (may_change_does name.place variable.0 variable.1 found.0) λ _ changed two may.
-      quietly (enter_does Access (λ n. refl) (λ n. refl) (λ n. refl) (λ n. refl) (λ n. refl) (λ n m h. refl)) λ _ entered three _.
+      quietly (enter_does Access (λ n. refl) (λ n. refl) (λ n. refl) (λ n m h. refl)) λ _ entered three _.
       let start = leads_nowhere here variable.0 variable.1 least found.0 found.1 in
       last (selected_does here variable.0 [] variable.1 selectors rows ws laws
       (leads_later here variable.0 [] variable.1 least entered (further_still two three) start))
@@ -293,8 +293,6 @@ fine_owing here s fine = record {
   sound = regions_later (record { keeps = λ block is. is }) as_long as_long as_long s.regions fine.sound;
   lawful = fine.lawful;
   texts = fine.texts;
-  few_sites = fine.few_sites;
-  few_entries = fine.few_entries;
   block = fine.block;
   around = fine.around;
   stands = fine.stands;
@@ -306,8 +304,6 @@ fine_settled here s fine = record {
   sound = regions_later (record { keeps = λ block is. is }) as_long as_long as_long s.regions fine.sound;
   lawful = fine.lawful;
   texts = fine.texts;
-  few_sites = fine.few_sites;
-  few_entries = fine.few_entries;
   block = fine.block;
   around = fine.around;
   stands = fine.stands;
@@ -330,12 +326,6 @@ module _ (here : Here) where
     added = g.added;
     sites = g.sites;
     covered = g.covered;
-    few_sites = g.few_sites;
-    numbered = g.numbered;
-    entered = g.entered;
-    few_entries = g.few_entries;
-    looped = g.looped;
-    begun = g.begun;
     inner = g.inner;
     threats = g.threats;
     assigns = g.assigns;

@@ -1,0 +1,227 @@
+-- What each way leaves as it is, and what it makes longer.
+use Rattle.std.proofs.Common.{◌≡◌, ℕ, ◌-◌, ◌||◌, if◌then◌else◌, Bool, true, false, nat_eq, List, [], ◌∷◌, ◌++◌, length, take, refl, sym, ap, ap₂, ◌∙◌, arith, length-append, append-nil}
+use Rattle.std.specs.List.{flat_map, list_any}
+use Rattle.std.proofs.lemmas.Grind.{flat_map-append}
+use Rattle.types.specs.Forms.{Form}
+use Rattle.typed_tree.specs.Look.{Look, ForEnds, blocks_of_look, mark_blocks}
+use Rattle.typed_tree.specs.declared.tree.Variable.{Variable}
+use Rattle.typed_tree.specs.Ids.{Stands}
+use Rattle.typed_tree.specs.WellFormed.{variables_of}
+use Rattle.typing.specs.Passing.{Enclosing, Headed, Passed}
+use Rattle.typing.specs.Steps.{with_one}
+use Rattle.typing.proofs.Ways.{Owner, Nobody, Of, Step, Entry, Loop, Marked, Site, Threat, Assign, Typed, Define, Declare, Heading, Token}
+use Rattle.typing.proofs.Ways.{Way, Stay, One, Then, Controlled}
+use Rattle.typing_laws.proofs.Owned.{Fails, others_kept}
+use Rattle.typing_laws.proofs.Reached.{IsLonger, as_long, longer_still, one_longer}
+
+-- ---- what grows
+
+-- what is there is there with one more
+pub kept_with : (roots : List ℕ) (root other : ℕ) → list_any (nat_eq other) roots ≡ true → list_any (nat_eq other) (with_one roots root) ≡ true
+kept_with roots root other is = one (list_any (nat_eq root) roots)
+  where
+    before : (all : List ℕ) → list_any (nat_eq other) all ≡ true → list_any (nat_eq other) (all ++ root ∷ []) ≡ true
+    before [] h = absurd cc
+    before (first ∷ all) h = here_or (nat_eq other first) (before all) h
+      where
+        here_or : (test : Bool) → (list_any (nat_eq other) all ≡ true → list_any (nat_eq other) (all ++ root ∷ []) ≡ true)
+            → (test || list_any (nat_eq other) all) ≡ true → (test || list_any (nat_eq other) (all ++ root ∷ [])) ≡ true
+        here_or true more g = refl
+        here_or false more g = more g
+
+    one : (test : Bool) → list_any (nat_eq other) (if test then roots else roots ++ root ∷ []) ≡ true
+    one true = is
+    one false = before roots is
+
+-- the types, the variables, the headings and the sites are those before and perhaps more; what is threatened or assigned stays so
+pub record Grows (old new : Passed) : Type 0 where
+  pub types : IsLonger old.types new.types
+  pub variables : IsLonger old.variables new.variables
+  pub headings : IsLonger old.headings new.headings
+  pub sites : IsLonger old.sites new.sites
+  pub threats : (root : ℕ) → list_any (nat_eq root) old.threatened ≡ true → list_any (nat_eq root) new.threatened ≡ true
+  pub assigns : (root : ℕ) → list_any (nat_eq root) old.assigned ≡ true → list_any (nat_eq root) new.assigned ≡ true
+
+types_grow : {acts : Bool} {owner : Owner} {from to : ℕ} {look : Look} {old new : Passed} → Step acts owner from to look old new → IsLonger old.types new.types
+types_grow {old = old} (Typed form) = one_longer old.types form
+types_grow other = as_long
+
+variables_grow : {acts : Bool} {owner : Owner} {from to : ℕ} {look : Look} {old new : Passed} → Step acts owner from to look old new
+    → IsLonger old.variables new.variables
+variables_grow {old = old} (Declare variable cells owns) = one_longer old.variables variable
+variables_grow other = as_long
+
+headings_grow : {acts : Bool} {owner : Owner} {from to : ℕ} {look : Look} {old new : Passed} → Step acts owner from to look old new
+    → IsLonger old.headings new.headings
+headings_grow {old = old} (Heading headed) = one_longer old.headings headed
+headings_grow other = as_long
+
+sites_grow : {acts : Bool} {owner : Owner} {from to : ℕ} {look : Look} {old new : Passed} → Step acts owner from to look old new → IsLonger old.sites new.sites
+sites_grow {old = old} (Site kind place few) = one_longer old.sites (kind, place)
+sites_grow other = as_long
+
+threats_grow : {acts : Bool} {owner : Owner} {from to : ℕ} {look : Look} {old new : Passed} → Step acts owner from to look old new → (root : ℕ)
+    → list_any (nat_eq root) old.threatened ≡ true → list_any (nat_eq root) new.threatened ≡ true
+threats_grow {old = old} (Threat one) root is = kept_with old.threatened one root is
+threats_grow other root is = is
+
+assigns_grow : {acts : Bool} {owner : Owner} {from to : ℕ} {look : Look} {old new : Passed} → Step acts owner from to look old new → (root : ℕ)
+    → list_any (nat_eq root) old.assigned ≡ true → list_any (nat_eq root) new.assigned ≡ true
+assigns_grow {old = old} (Assign one) root is = kept_with old.assigned one root is
+assigns_grow other root is = is
+
+pub grows : {acts : Bool} {owner : Owner} {from to : ℕ} {look : Look} {old new : Passed} → Way acts owner from to look old new → Grows old new
+grows Stay = record {
+  types = as_long;
+  variables = as_long;
+  headings = as_long;
+  sites = as_long;
+  threats = λ root is. is;
+  assigns = λ root is. is;
+}
+grows (One step) = record {
+  types = types_grow step;
+  variables = variables_grow step;
+  headings = headings_grow step;
+  sites = sites_grow step;
+  threats = threats_grow step;
+  assigns = assigns_grow step;
+}
+grows (Then first second) =
+    let f = grows first in
+    let g = grows second in
+    record {
+      types = longer_still f.types g.types;
+      variables = longer_still f.variables g.variables;
+      headings = longer_still f.headings g.headings;
+      sites = longer_still f.sites g.sites;
+      threats = λ root is. g.threats root (f.threats root is);
+      assigns = λ root is. g.assigns root (f.assigns root is);
+    }
+grows (Controlled root way) =
+    let f = grows way in
+    record { types = f.types; variables = f.variables; headings = f.headings; sites = f.sites; threats = f.threats; assigns = f.assigns }
+
+-- ---- control variables
+
+-- the last one ends
+take_front : (roots : List ℕ) (root : ℕ) → take (length roots) (roots ++ root ∷ []) ≡ roots
+take_front [] root = refl
+take_front (first ∷ roots) root = ap (λ (more : List ℕ). first ∷ more) (take_front roots root)
+
+pub ended_control : (roots : List ℕ) (root : ℕ) → take (length (roots ++ root ∷ []) - 1) (roots ++ root ∷ []) ≡ roots
+ended_control roots root =
+    let counted = length-append roots (root ∷ []) in
+    let one_less : length (roots ++ root ∷ []) - 1 ≡ length roots = omega (arith, counted) in
+    ap (λ (n : ℕ). take n (roots ++ root ∷ [])) one_less ∙ take_front roots root
+
+controls_step : {acts : Bool} {owner : Owner} {from to : ℕ} {look : Look} {old new : Passed} → Step acts owner from to look old new → new.controls ≡ old.controls
+controls_step (Token place) = refl
+controls_step other = refl
+
+-- those of the for statements round a place stay
+pub same_controls : {acts : Bool} {owner : Owner} {from to : ℕ} {look : Look} {old new : Passed} → Way acts owner from to look old new → new.controls ≡ old.controls
+same_controls Stay = refl
+same_controls (One step) = controls_step step
+same_controls (Then first second) = same_controls second ∙ same_controls first
+same_controls {old = old} (Controlled root way) = ap (λ (all : List ℕ). take (length all - 1) all) (same_controls way) ∙ ended_control old.controls root
+
+-- ---- forms that declare nothing
+
+-- they leave the regions, the variables, the headings and the block round the place, and no block ends in them
+pub record IsInner (look : Look) (old new : Passed) : Type 0 where
+  pub regions : new.regions ≡ old.regions
+  pub variables : new.variables ≡ old.variables
+  pub headings : new.headings ≡ old.headings
+  pub enclosing : new.enclosing ≡ old.enclosing
+  pub ends : blocks_of_look look ≡ []
+
+inner_step : {acts : Bool} {from to : ℕ} {look : Look} {old new : Passed} → Step acts Nobody from to look old new → IsInner look old new
+inner_step (Entry one few is) = record { regions = refl; variables = refl; headings = refl; enclosing = refl; ends = ap (λ n. n.2 ++ []) is }
+inner_step (Loop one few is) = record { regions = refl; variables = refl; headings = refl; enclosing = refl; ends = ap (λ n. n.2 ++ []) is }
+inner_step (Marked one none) = record { regions = refl; variables = refl; headings = refl; enclosing = refl; ends = ap (λ n. n.2 ++ []) none }
+inner_step (Define name denotation regions defines is) = absurd defines
+inner_step (Declare variable cells owns) = absurd owns
+inner_step other = record { regions = refl; variables = refl; headings = refl; enclosing = refl; ends = refl }
+
+pub inner : {acts : Bool} {from to : ℕ} {look : Look} {old new : Passed} → Way acts Nobody from to look old new → IsInner look old new
+inner Stay = record { regions = refl; variables = refl; headings = refl; enclosing = refl; ends = refl }
+inner (One step) = inner_step step
+inner (Then {look = look} {more = more} first second) =
+    let f = inner first in
+    let g = inner second in
+    record {
+      regions = g.regions ∙ f.regions;
+      variables = g.variables ∙ f.variables;
+      headings = g.headings ∙ f.headings;
+      enclosing = g.enclosing ∙ f.enclosing;
+      ends = flat_map-append mark_blocks look more ∙ ap₂ (λ a b. a ++ b) f.ends g.ends;
+    }
+inner (Controlled {look = look} root way) =
+    let f = inner way in
+    record {
+      regions = f.regions;
+      variables = f.variables;
+      headings = f.headings;
+      enclosing = f.enclosing;
+      ends = flat_map-append mark_blocks look (ForEnds ∷ []) ∙ ap (λ l. l ++ []) f.ends;
+    }
+
+-- ---- definitions
+
+-- they leave no mark, and what is known of other blocks and of statements
+pub record Silent (counted : ℕ) (look : Look) (old new : Passed) : Type 0 where
+  pub no_mark : look ≡ []
+  pub sites : new.sites ≡ old.sites
+  pub threatened : new.threatened ≡ old.threatened
+  pub assigned : new.assigned ≡ old.assigned
+  pub headings : new.headings ≡ old.headings
+  pub enclosing : record (new.enclosing) { cells = 0 } ≡ record (old.enclosing) { cells = 0 }
+  pub others : (block : ℕ) → Fails (nat_eq counted block) → variables_of block new.variables ≡ variables_of block old.variables
+
+silent_still : {counted : ℕ} {s : Passed} → Silent counted [] s s
+silent_still = record {
+  no_mark = refl;
+  sites = refl;
+  threatened = refl;
+  assigned = refl;
+  headings = refl;
+  enclosing = refl;
+  others = λ block other. refl;
+}
+
+silent_step : {counted from to : ℕ} {look : Look} {old new : Passed} → Step false (Of counted) from to look old new → Silent counted look old new
+silent_step {old = old} (Declare variable cells owns) = record {
+  no_mark = refl;
+  sites = refl;
+  threatened = refl;
+  assigned = refl;
+  headings = refl;
+  enclosing = refl;
+  others = λ block other. others_kept block old.variables variable (ap (λ n. nat_eq n block) owns ∙ other);
+}
+silent_step other = record {
+  no_mark = refl;
+  sites = refl;
+  threatened = refl;
+  assigned = refl;
+  headings = refl;
+  enclosing = refl;
+  others = λ block other. refl;
+}
+
+pub silent : {counted from to : ℕ} {look : Look} {old new : Passed} → Way false (Of counted) from to look old new → Silent counted look old new
+silent Stay = silent_still
+silent (One step) = silent_step step
+silent (Then first second) =
+    let f = silent first in
+    let g = silent second in
+    record {
+      no_mark = ap₂ (λ a b. a ++ b) f.no_mark g.no_mark;
+      sites = g.sites ∙ f.sites;
+      threatened = g.threatened ∙ f.threatened;
+      assigned = g.assigned ∙ f.assigned;
+      headings = g.headings ∙ f.headings;
+      enclosing = g.enclosing ∙ f.enclosing;
+      others = λ block other. g.others block other ∙ f.others block other;
+    }
