@@ -1,9 +1,9 @@
 -- How ways count: entries, loops and sites.
-use Rattle.std.proofs.Common.{◌≡◌, ℕ, Bool, zero, suc, ◌+◌, ◌<◌, ◌≤◌, List, [], ◌∷◌, ◌++◌, length, length-append, refl, sym, ap, subst, ◌∙◌, arith}
+use Rattle.std.proofs.Common.{◌≡◌, ℕ, Bool, zero, suc, ◌+◌, ◌≤◌, List, [], ◌∷◌, ◌++◌, length, length-append, refl, sym, ap, subst, ◌∙◌, arith}
 use Rattle.std.specs.List.{range_with_len, flat_map}
 use Rattle.std.proofs.lemmas.Grind.{flat_map-append}
 use Rattle.typed_tree.specs.WellFormed.{most_entries}
-use Rattle.typed_tree.specs.Look.{Mark, Look, Controls, ForEnds, mark_entries, mark_loops}
+use Rattle.typed_tree.specs.Look.{Mark, Look, ForEnds, mark_entries, mark_loops}
 use Rattle.typing.specs.Passing.{Passed}
 use Rattle.typing.specs.Steps.{most_sites}
 use Rattle.typing.proofs.Ways.{Owner, Step, Controlled, Way, Stay, One, Then, Entry, Loop, Marked, Ended, Site}

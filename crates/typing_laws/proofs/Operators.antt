@@ -85,8 +85,7 @@ but_last_whole values whole = by (int_lt values.first values.last) refl
     by false is = (refl, λ w block. refl)
     by true is =
         let ends = both_and (is_whole values.first) (is_whole values.last) whole in
-        let less = one_less values.first values.last is in
-        (
+        let less = one_less values.first values.last is in (
           both_true _ _ ends.0 (whole_between values.first (values.last -ℤ pos 1) values.last ends.0 ends.1 less.0 less.1),
           λ w block. ap is_whole (less_and_more values.last) ∙ ends.1,
         )
@@ -99,8 +98,7 @@ but_first_whole values whole = by (int_lt values.first values.last) refl
     by false is = (refl, λ w block. refl)
     by true is =
         let ends = both_and (is_whole values.first) (is_whole values.last) whole in
-        let more = one_more values.first values.last is in
-        (
+        let more = one_more values.first values.last is in (
           both_true _ _ (whole_between values.first (values.first +ℤ pos 1) values.last ends.0 ends.1 more.0 more.1) ends.1,
           λ w block. ap is_whole (more_and_less values.first) ∙ ends.0,
         )

@@ -18,7 +18,7 @@ use Rattle.typed_tree.specs.declared.tree.FunctionResult.{FunctionResult}
 use Rattle.typed_tree.specs.declared.tree.Heading.{Heading as TreeHeading}
 use Rattle.typed_tree.specs.declared.tree.Variable.{Variable}
 use Rattle.typed_tree.specs.Ids.{Stands, AreByPlace}
-use Rattle.typed_tree.specs.Look.{Look, Mark, BlockEnds, mark_entries, entries_of_look, mark_loops, loops_of_look, mark_blocks, blocks_of_look, are_formed}
+use Rattle.typed_tree.specs.Look.{Look, Mark, BlockEnds, mark_blocks, blocks_of_look, are_formed}
 use Rattle.typed_tree.specs.WellFormed.{Outline, are_few_cells, is_heading, most_entries}
 use Rattle.typing.specs.Names.{all_folded, required_region}
 use Rattle.typing.specs.Passing.{Headed, Passed, Checked, After, Passing, after, behind_marks, each, ◌>>◌}
@@ -34,7 +34,8 @@ use Rattle.typing_laws.proofs.Bodies.{target_ended}
 use Rattle.typing_laws.proofs.Built.{AreEnds, Built, Builds, EndsSo, HasSite, Standing, built_then, ends_append, ends_later, is_between, keeps_builds, no_ends}
 use Rattle.typing_laws.proofs.Covers.{Covers, covers_behind, covers_both, covers_skip}
 use Rattle.typing_laws.proofs.Declarations.{parameter_keeps}
-use Rattle.typing_laws.proofs.Grown.{Grown, both_true, fine_later, further, grown_then, assigned_then}
+use Rattle.typing_laws.proofs.Went.{grows, inner}
+use Rattle.typing_laws.proofs.Grown.{Grown, sited_then, both_true, fine_later, further, grown_then, assigned_then}
 use Rattle.typing_laws.proofs.Headings.{heads_count, parts_of}
 use Rattle.typing_laws.proofs.Keeping.{before, behind, each_keeps}
 use Rattle.typing_laws.proofs.Numbers.{entries_go, few_entries, few_sites, loops_go}
@@ -126,11 +127,11 @@ record Whole (program : Program) (a : After (Unit {0})) : Type 0 where
       × ((number : ℕ) → waits_in start.enclosing.waiting number ≡ false) × (start.assigned ≡ [])
   pub first : Look
   pub middle : Passed
-  pub built : Built program_here (λ added. Unit {0}) first start middle
+  pub built : Built program_here first start middle
   pub standing : Standing program_here round_it middle
   pub came : (number : ℕ) → waits_in middle.enclosing.waiting number ≡ false
   pub second : Look
-  pub grown : Grown program_here (λ added. Unit {0}) second middle a.passed
+  pub grown : Grown program_here second middle a.passed
   pub headed : Headed
   pub result : Option FunctionResult
   pub end : Place
@@ -160,11 +161,11 @@ whole program a is =
     let p = (parameters_build program.parameters.items).builds s1 x.first (parameters_go program block x.first x.goes) (begins_standing program block) in
     let y = parts_of block.typing (λ _. end) x.first.passed x.second x.goes_on in
     let law = block_lawful program.block in
-    let i = law.law program_here round_it x.first.passed y.first y.goes p.1 in
+    let i = law.law program_here round_it x.first.passed y.first y.goes p.2 in
     let fine = fine_later i.grown (fine_standing program_here round_it i.middle i.standing) in
     let c = closed program_here program.name.place block program_heading y.first.passed y.second fine y.goes_on in
-    let g : Grown program_here (λ added. Unit {0}) (i.second ++ c.look) i.middle y.second.passed = grown_then (λ l m one two. tt) i.grown c.grown in
-    let f : Built program_here (λ added. Unit {0}) (x.first.look ++ i.first) s1 i.middle = built_then (λ l m one two. tt) p.0 i.built in
+    let g = grown_then i.grown c.grown in
+    let f = built_then p.0 i.built in
     let mark_end = BlockEnds 0 program_heading.around program_heading.parameters c.result block.end in
     let all_look : x.first.look ++ (y.first.look ++ y.second.look) ≡ (x.first.look ++ i.first) ++ ((i.second ++ c.look) ++ (mark_end ∷ [])) =
     ap₂ (λ l m. x.first.look ++ (l ++ m)) i.look c.look_is
@@ -176,11 +177,9 @@ whole program a is =
     let at_start : slice_get s1.headings 0 ≡ Some program_heading = refl in
     let at_end : slice_get (map signature_passed y.second.passed.headings) 0 ≡ Some (signature_passed program_heading) =
     mapped_get signature_passed y.second.passed.headings 0 program_heading
-    (ap (λ l. slice_get l 0) g.headings_kept ∙ get_longer f.headings 0 program_heading at_start) in
-    let sites : y.second.passed.sites ≡ (i.built.added ++ i.grown.added) ++ c.grown.added =
-    c.grown.sites
-    ∙ ap (λ l. l ++ c.grown.added)
-    (i.grown.sites ∙ ap (λ l. l ++ i.grown.added) (i.built.sites ∙ ap (λ l. l ++ i.built.added) (p.0.sites ∙ p.0.covered))) in
+    (ap (λ l. slice_get l 0) (inner g.way).headings ∙ get_longer f.grows.headings 0 program_heading at_start) in
+    let sited = sited_then {Both = Covers 0 (law.inside ++ (block.end ∷ []))} (covers_both 0 law.inside (block.end ∷ [])) i.sited c.sited in
+    let sites : y.second.passed.sites ≡ sited.added = sited.sites ∙ ap (λ l. l ++ sited.added) (p.1.sites ∙ p.1.covered) in
     subst (Whole program) made (record {
       start = s1;
       starts = (refl, refl, (λ number. refl), refl);
@@ -194,7 +193,7 @@ whole program a is =
       headed = program_heading;
       result = c.result;
       end = block.end;
-      own = λ root told. c.grown.assigns root (c.assigned root (sym c.ends.0 ∙ told));
+      own = λ root told. (grows c.grown.way).assigns root (c.assigned root (sym c.ends.0 ∙ told));
       ends = record {
         signature = signature_passed program_heading;
         is_there = at_end;
@@ -204,14 +203,12 @@ whole program a is =
         site = c.ends.1;
       };
       look = all_look;
-      added = (i.built.added ++ i.grown.added) ++ c.grown.added;
+      added = sited.added;
       sites = sites;
       covered =
-          covers_skip 0 program.name.place (name_places program.parameters.items ++ block_places program.block)
-          ((i.built.added ++ i.grown.added) ++ c.grown.added)
-          (covers_behind 0 (name_places program.parameters.items) (block_places program.block) ((i.built.added ++ i.grown.added) ++ c.grown.added)
-          (subst (λ l. Covers 0 l ((i.built.added ++ i.grown.added) ++ c.grown.added)) (sym law.places_are)
-          (covers_both 0 law.inside (block.end ∷ []) (i.built.added ++ i.grown.added) c.grown.added i.covered c.grown.covered)));
+          covers_skip 0 program.name.place (name_places program.parameters.items ++ block_places program.block) sited.added
+          (covers_behind 0 (name_places program.parameters.items) (block_places program.block) sited.added
+          (subst (λ l. Covers 0 l sited.added) (sym law.places_are) sited.covered));
     })
 
 -- ---- what a program has
@@ -227,7 +224,7 @@ module _ (program : Program) (a : After (Unit {0})) (w : Whole program a) where
   at_end f = ap f w.look
 
   blocks_ended : blocks_of_look ended ≡ 0 ∷ []
-  blocks_ended = closed_blocks w.second 0 w.headed.around w.headed.parameters w.result w.end w.grown.inner
+  blocks_ended = closed_blocks w.second 0 w.headed.around w.headed.parameters w.result w.end (inner w.grown.way).ends
 
   at_least_one : 0 < length a.passed.headings
   at_least_one =
@@ -243,7 +240,7 @@ module _ (program : Program) (a : After (Unit {0})) (w : Whole program a) where
       let both = ap (count_of number) (at_end blocks_of_look ∙ flat_map-append mark_blocks w.first ended)
       ∙ count_append number (blocks_of_look w.first) (blocks_of_look ended) in
       let one = ap (count_of number) blocks_ended in
-      let as_many = ap (λ (l : List Headed). one_if (is_between 1 (length l) number)) w.grown.headings_kept in
+      let as_many = ap (λ (l : List Headed). one_if (is_between 1 (length l) number)) (inner w.grown.way).headings in
       let from_one = ap (λ n. one_if (is_between n (length w.middle.headings) number)) w.starts.1 in
       let there = slice_get_within w.middle.headings 0 in
       omega (
@@ -275,16 +272,16 @@ module _ (program : Program) (a : After (Unit {0})) (w : Whole program a) where
   all_end : AreEnds (reached a.passed) a.look
   all_end =
       subst (AreEnds (reached a.passed)) (sym w.look)
-      (ends_append (reached a.passed) w.first ended (ends_later (reached w.middle) (reached a.passed) w.first (further w.grown) w.built.ends)
-      (ends_append (reached a.passed) w.second (mark_end ∷ []) (no_ends (reached a.passed) w.second w.grown.inner) (w.ends, tt)))
+      (ends_append (reached a.passed) w.first ended (ends_later (reached w.middle) (reached a.passed) w.first (further w.grown.way) w.built.ends)
+      (ends_append (reached a.passed) w.second (mark_end ∷ []) (no_ends (reached a.passed) w.second (inner w.grown.way).ends) (w.ends, tt)))
 
   -- the variables of for statements are changed in their blocks alone
   has_controls : AreUnthreatened a.look
   has_controls =
       subst AreUnthreatened (sym w.look)
       (unthreatened_at_end program_here w.start w.middle a.passed w.built w.grown mark_end
-      (placed_inner mark_changes 0 w.headed.around w.headed.parameters w.result w.end w.second w.grown.inner refl)
-      (placed_inner mark_controls 0 w.headed.around w.headed.parameters w.result w.end w.second w.grown.inner refl))
+      (placed_inner mark_changes 0 w.headed.around w.headed.parameters w.result w.end w.second (inner w.grown.way).ends refl)
+      (placed_inner mark_controls 0 w.headed.around w.headed.parameters w.result w.end w.second (inner w.grown.way).ends refl))
 
   -- and nowhere in the statement of their for
   are_spared : spared_behind [] a.look ≡ Some []
@@ -296,7 +293,7 @@ module _ (program : Program) (a : After (Unit {0})) (w : Whole program a) where
   has_results : are_assigned a.look ≡ true
   has_results =
       let all =
-      results_end w.first w.second 0 w.headed.around w.headed.parameters w.result w.end w.middle a.passed w.built.results w.grown.assigns w.grown.inner w.own in
+      results_end w.first w.second 0 w.headed.around w.headed.parameters w.result w.end w.middle a.passed w.built.results (grows w.grown.way).assigns (inner w.grown.way).ends w.own in
       ap are_assigned w.look ∙ targets (flat_map mark_results (w.first ++ ended)) all
     where
       empty : (root : ℕ) → list_any (nat_eq root) w.start.assigned ≡ true → ⊥
@@ -326,9 +323,9 @@ module _ (program : Program) (a : After (Unit {0})) (w : Whole program a) where
   base =
       let m = w.middle in
       let many = length (heads_passed m.headings) in
-      subst (λ h. Base a.passed.types a.passed.variables h (length (heads_passed h))) (sym w.grown.headings_kept)
-      (subst (λ v. Base a.passed.types v m.headings many) (sym w.grown.variables_kept)
-      (base_types m.types a.passed.types m.variables m.headings many w.grown.longer w.grown.lawful w.standing.ready.base))
+      subst (λ h. Base a.passed.types a.passed.variables h (length (heads_passed h))) (sym (inner w.grown.way).headings)
+      (subst (λ v. Base a.passed.types v m.headings many) (sym (inner w.grown.way).variables)
+      (base_types m.types a.passed.types m.variables m.headings many (grows w.grown.way).types w.grown.lawful w.standing.ready.base))
 
   module _ (o : Outline) (is : IsOutlineOf a o) where
     agrees : (number : ℕ) → number < length a.passed.headings → Agrees (reached a.passed) o.headings number
@@ -359,8 +356,8 @@ module _ (program : Program) (a : After (Unit {0})) (w : Whole program a) where
     is_formed : are_formed o a.look ≡ true
     is_formed =
         at_end (are_formed o) ∙ w.built.parts o ended
-        ∙ both_true _ _ (w.built.formed o (further_still (further w.grown) as_far_as))
-        (closed_formed w.second 0 w.headed.around w.headed.parameters w.result w.end o w.grown.inner (w.grown.formed o as_far_as))
+        ∙ both_true _ _ (w.built.formed o (further_still (further w.grown.way) as_far_as))
+        (closed_formed w.second 0 w.headed.around w.headed.parameters w.result w.end o (inner w.grown.way).ends (w.grown.formed o as_far_as))
 
     heading_is : (number : ℕ) (heading : TreeHeading) → slice_get o.headings number ≡ Some heading → is_heading o number heading ≡ true
     heading_is number heading there =

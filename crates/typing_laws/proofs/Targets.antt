@@ -13,7 +13,6 @@ use Rattle.types.specs.Types.{is_ordinal}
 use Rattle.scopes.specs.declared.denotation.Denotation.{Denotation}
 use Rattle.scopes.specs.Scopes.{found}
 use Rattle.typed_tree.specs.declared.fault.TypeFault.TheVariants as fault
-use Rattle.typed_tree.specs.Ids.{Stands}
 use Rattle.typed_tree.specs.declared.tree.Selector.{Selector as TreeSelector}
 use Rattle.typed_tree.specs.declared.tree.Variable.{Variable}
 use Rattle.typed_tree.specs.Accesses.{index_count}
@@ -311,24 +310,14 @@ fine_settled here s fine = record {
 }
 
 module _ (here : Here) where
-  settled : {Has : List Stands → Type 0} {look : Look} {old new : Passed} → Grown (owing_here here) Has look old new
+  settled : {look : Look} {old new : Passed} → Grown (owing_here here) look old new
       → (here.owing ≡ false → (root : ℕ) → list_any (nat_eq root) new.assigned ≡ true
       → (list_any (nat_eq root) old.assigned ≡ true) ⊎ (is_target look root ≡ true))
-      → Grown here Has look old new
-  settled {Has} {look} {old} {new} g claims = record {
-    regions = g.regions;
-    longer = g.longer;
+      → Grown here look old new
+  settled {look} {old} {new} g claims = record {
+    way = g.way;
     lawful = g.lawful;
     texts = g.texts;
-    variables_kept = g.variables_kept;
-    headings_kept = g.headings_kept;
-    enclosing_kept = g.enclosing_kept;
-    added = g.added;
-    sites = g.sites;
-    covered = g.covered;
-    inner = g.inner;
-    threats = g.threats;
-    assigns = g.assigns;
     assigned = claims;
     changes =
         each_more (MayChange (owing_here here) (reached new)) (MayChange here (reached new)) (changes_of look) (λ root m. record {
@@ -346,7 +335,6 @@ module _ (here : Here) where
           free = c.free;
         }) g.controls;
     formed = g.formed;
-    controls_kept = g.controls_kept;
     spared = g.spared;
   }
 
@@ -370,18 +358,18 @@ module _ (here : Here) where
         let u = split (target_of (as_routine d) selectors name.place d x.0.passed)
         (λ b. behind_marks b.look (access_typing here name selectors ws b.answer b.passed)) y.0 y.1 in
         let v = split_behind u.0.look (access_typing here name selectors ws u.0.answer u.0.passed) y.0 u.2 in
-        let two = (target_of_does o {least = now} (as_routine d) selectors name.place d refl one.1 refl).does x.0.passed u.0 u.1 fine1 as_far in
+        let two = (target_of_does o {least = now} (as_routine d) selectors name.place d refl one.2 refl).does x.0.passed u.0 u.1 fine1 as_far in
         let fine2 = fine_settled here u.0.passed (fine_later two.0 fine1) in
         let three =
         (access_does here {least = reached u.0.passed} name selectors rows ws (laws here) u.0.answer (
           record {
-            variable = two.1.0.variable;
-            is_there = two.1.0.is_there;
-            is_visible = two.1.0.is_visible;
-            of_type = two.1.0.of_type;
-            stands = two.1.0.stands;
+            variable = two.2.0.variable;
+            is_there = two.2.0.is_there;
+            is_visible = two.2.0.is_visible;
+            of_type = two.2.0.of_type;
+            stands = two.2.0.stands;
           },
-          two.1.1,
+          two.2.1,
         )).does u.0.passed v.0 v.1 fine2 as_far in
         let told = access_told here name selectors ws u.0.answer u.0.passed v.0 v.1 in
         let from_name = find_assigned name s x.0 x.1 in
@@ -396,7 +384,8 @@ module _ (here : Here) where
               λ t. subst (λ l. is_target l root ≡ true) (sym look)
               (target_second x.0.look (u.0.look ++ v.0.look) root (target_second u.0.look v.0.look root t)) in
               by s root x.0.passed.assigned u.0.answer.0 a.look v.0.look from_name (from_target root) told in_look (three.0.assigned is root in_last)),
-          record { formed = k.1.formed; leads_there = k.1.leads_there; visible = k.1.visible; stands = k.1.stands },
+          k.1,
+          record { formed = k.2.formed; leads_there = k.2.leads_there; visible = k.2.visible; stands = k.2.stands },
         );
   }
     where

@@ -1,13 +1,13 @@
 -- What each way leaves as it is, and what it makes longer.
-use Rattle.std.proofs.Common.{◌≡◌, ℕ, ◌-◌, ◌||◌, if◌then◌else◌, Bool, true, false, nat_eq, List, [], ◌∷◌, ◌++◌, length, take, refl, sym, ap, ap₂, ◌∙◌, arith, length-append, append-nil}
-use Rattle.std.specs.List.{flat_map, list_any}
+use Rattle.std.proofs.Common.{◌≡◌, ℕ, ◌-◌, ◌||◌, if◌then◌else◌, Bool, true, false, nat_eq, List, [], ◌∷◌, ◌++◌, length, take, refl, ap, ap₂, ◌∙◌, arith, length-append}
+use Rattle.std.specs.List.{list_any}
 use Rattle.std.proofs.lemmas.Grind.{flat_map-append}
 use Rattle.types.specs.Forms.{Form}
 use Rattle.typed_tree.specs.Look.{Look, ForEnds, blocks_of_look, mark_blocks}
 use Rattle.typed_tree.specs.declared.tree.Variable.{Variable}
 use Rattle.typed_tree.specs.Ids.{Stands}
 use Rattle.typed_tree.specs.WellFormed.{variables_of}
-use Rattle.typing.specs.Passing.{Enclosing, Headed, Passed}
+use Rattle.typing.specs.Passing.{Headed, Passed}
 use Rattle.typing.specs.Steps.{with_one}
 use Rattle.typing.proofs.Ways.{Owner, Nobody, Of, Step, Entry, Loop, Marked, Site, Threat, Assign, Typed, Define, Declare, Heading, Token}
 use Rattle.typing.proofs.Ways.{Way, Stay, One, Then, Controlled}
@@ -33,14 +33,56 @@ kept_with roots root other is = one (list_any (nat_eq root) roots)
     one true = is
     one false = before roots is
 
+-- what a way makes longer
+pub record Heap : Type 0 where
+  pub types : List Form
+  pub variables : List Variable
+  pub headings : List Headed
+  pub sites : List Stands
+  pub threatened : List ℕ
+  pub assigned : List ℕ
+
+abbrev pub heap_of : Passed → Heap
+heap_of s = record {
+  types = s.types;
+  variables = s.variables;
+  headings = s.headings;
+  sites = s.sites;
+  threatened = s.threatened;
+  assigned = s.assigned;
+}
+
 -- the types, the variables, the headings and the sites are those before and perhaps more; what is threatened or assigned stays so
-pub record Grows (old new : Passed) : Type 0 where
+pub record IsHigher (old new : Heap) : Type 0 where
   pub types : IsLonger old.types new.types
   pub variables : IsLonger old.variables new.variables
   pub headings : IsLonger old.headings new.headings
   pub sites : IsLonger old.sites new.sites
   pub threats : (root : ℕ) → list_any (nat_eq root) old.threatened ≡ true → list_any (nat_eq root) new.threatened ≡ true
   pub assigns : (root : ℕ) → list_any (nat_eq root) old.assigned ≡ true → list_any (nat_eq root) new.assigned ≡ true
+
+abbrev pub Grows : Passed → Passed → Type 0
+Grows old new = IsHigher (heap_of old) (heap_of new)
+
+pub as_high : {one : Heap} → IsHigher one one
+as_high = record {
+  types = as_long;
+  variables = as_long;
+  headings = as_long;
+  sites = as_long;
+  threats = λ root is. is;
+  assigns = λ root is. is;
+}
+
+pub grow_then : {old now new : Heap} → IsHigher old now → IsHigher now new → IsHigher old new
+grow_then f g = record {
+  types = longer_still f.types g.types;
+  variables = longer_still f.variables g.variables;
+  headings = longer_still f.headings g.headings;
+  sites = longer_still f.sites g.sites;
+  threats = λ root is. g.threats root (f.threats root is);
+  assigns = λ root is. g.assigns root (f.assigns root is);
+}
 
 types_grow : {acts : Bool} {owner : Owner} {from to : ℕ} {look : Look} {old new : Passed} → Step acts owner from to look old new → IsLonger old.types new.types
 types_grow {old = old} (Typed form) = one_longer old.types form
@@ -71,14 +113,7 @@ assigns_grow {old = old} (Assign one) root is = kept_with old.assigned one root 
 assigns_grow other root is = is
 
 pub grows : {acts : Bool} {owner : Owner} {from to : ℕ} {look : Look} {old new : Passed} → Way acts owner from to look old new → Grows old new
-grows Stay = record {
-  types = as_long;
-  variables = as_long;
-  headings = as_long;
-  sites = as_long;
-  threats = λ root is. is;
-  assigns = λ root is. is;
-}
+grows Stay = as_high
 grows (One step) = record {
   types = types_grow step;
   variables = variables_grow step;
@@ -87,20 +122,8 @@ grows (One step) = record {
   threats = threats_grow step;
   assigns = assigns_grow step;
 }
-grows (Then first second) =
-    let f = grows first in
-    let g = grows second in
-    record {
-      types = longer_still f.types g.types;
-      variables = longer_still f.variables g.variables;
-      headings = longer_still f.headings g.headings;
-      sites = longer_still f.sites g.sites;
-      threats = λ root is. g.threats root (f.threats root is);
-      assigns = λ root is. g.assigns root (f.assigns root is);
-    }
-grows (Controlled root way) =
-    let f = grows way in
-    record { types = f.types; variables = f.variables; headings = f.headings; sites = f.sites; threats = f.threats; assigns = f.assigns }
+grows (Then first second) = grow_then (grows first) (grows second)
+grows (Controlled root way) = grows way
 
 -- ---- control variables
 
@@ -169,9 +192,17 @@ inner (Controlled {look = look} root way) =
 
 -- ---- definitions
 
--- they leave no mark, and what is known of other blocks and of statements
-pub record Silent (counted : ℕ) (look : Look) (old new : Passed) : Type 0 where
-  pub no_mark : look ≡ []
+pub no_mark : {owner : Owner} {from to : ℕ} {look : Look} {old new : Passed} → Way false owner from to look old new → look ≡ []
+no_mark Stay = refl
+no_mark (One step) = by step
+  where
+    by : {owner : Owner} {from to : ℕ} {look : Look} {old new : Passed} → Step false owner from to look old new → look ≡ []
+    by (Token place) = refl
+    by other = refl
+no_mark (Then first second) = ap₂ (λ a b. a ++ b) (no_mark first) (no_mark second)
+
+-- they leave what is known of statements and of other blocks
+pub record Silent (counted : ℕ) (old new : Passed) : Type 0 where
   pub sites : new.sites ≡ old.sites
   pub threatened : new.threatened ≡ old.threatened
   pub assigned : new.assigned ≡ old.assigned
@@ -179,20 +210,8 @@ pub record Silent (counted : ℕ) (look : Look) (old new : Passed) : Type 0 wher
   pub enclosing : record (new.enclosing) { cells = 0 } ≡ record (old.enclosing) { cells = 0 }
   pub others : (block : ℕ) → Fails (nat_eq counted block) → variables_of block new.variables ≡ variables_of block old.variables
 
-silent_still : {counted : ℕ} {s : Passed} → Silent counted [] s s
-silent_still = record {
-  no_mark = refl;
-  sites = refl;
-  threatened = refl;
-  assigned = refl;
-  headings = refl;
-  enclosing = refl;
-  others = λ block other. refl;
-}
-
-silent_step : {counted from to : ℕ} {look : Look} {old new : Passed} → Step false (Of counted) from to look old new → Silent counted look old new
+silent_step : {counted from to : ℕ} {look : Look} {old new : Passed} → Step false (Of counted) from to look old new → Silent counted old new
 silent_step {old = old} (Declare variable cells owns) = record {
-  no_mark = refl;
   sites = refl;
   threatened = refl;
   assigned = refl;
@@ -201,7 +220,6 @@ silent_step {old = old} (Declare variable cells owns) = record {
   others = λ block other. others_kept block old.variables variable (ap (λ n. nat_eq n block) owns ∙ other);
 }
 silent_step other = record {
-  no_mark = refl;
   sites = refl;
   threatened = refl;
   assigned = refl;
@@ -210,14 +228,20 @@ silent_step other = record {
   others = λ block other. refl;
 }
 
-pub silent : {counted from to : ℕ} {look : Look} {old new : Passed} → Way false (Of counted) from to look old new → Silent counted look old new
-silent Stay = silent_still
+pub silent : {counted from to : ℕ} {look : Look} {old new : Passed} → Way false (Of counted) from to look old new → Silent counted old new
+silent Stay = record {
+  sites = refl;
+  threatened = refl;
+  assigned = refl;
+  headings = refl;
+  enclosing = refl;
+  others = λ block other. refl;
+}
 silent (One step) = silent_step step
 silent (Then first second) =
     let f = silent first in
     let g = silent second in
     record {
-      no_mark = ap₂ (λ a b. a ++ b) f.no_mark g.no_mark;
       sites = g.sites ∙ f.sites;
       threatened = g.threatened ∙ f.threatened;
       assigned = g.assigned ∙ f.assigned;
