@@ -8,7 +8,7 @@ use Rattle.scopes.specs.declared.fault.ScopeFault.{ScopeFault}
 use Rattle.scopes.proofs.Known.{define_keeps}
 use Rattle.typed_tree.specs.Look.{Look}
 use Rattle.typing.specs.Passing.{Enclosing, Passed, Passing, after}
-use Rattle.typing.proofs.Ways.{Owner, Of, Step, Token, Define, Way, Stay, One, Then, Controlled, Walks}
+use Rattle.typing.proofs.Ways.{Owner, Of, Step, Token, Define, Way, Stay, One, Then, Controlled, Assigned, Walks}
 
 -- the regions that were open before so many were opened
 abbrev round_all : ℕ → List Region → List Region
@@ -51,6 +51,7 @@ way_keeps (Then first second) =
     let f = way_keeps first in
     let g = way_keeps second in
     record { known = λ name known. g.known name (f.known name known); round = g.round ∙ f.round }
+way_keeps (Assigned root way told) = let f = way_keeps way in record { known = f.known; round = f.round }
 way_keeps (Controlled root way) = let f = way_keeps way in record { known = f.known; round = f.round }
 
 pub record Stays (old new : Passed) : Type 0 where
@@ -79,6 +80,7 @@ way_in Stay = refl
 way_in (One step) = step_in step
 way_in (Then first second) = way_in second ∙ way_in first
 way_in (Controlled root way) = way_in way
+way_in (Assigned root way told) = way_in way
 
 pub same_block : {acts : Bool} {number : ℕ} {A : Type 0} (p : Passing A) → Walks (Way acts (Of number) 0 0) p → (answer : A) (look : Look) (old new : Passed)
     → p old ≡ Ok (after answer look new) → SameBlock old.enclosing new.enclosing

@@ -1,5 +1,5 @@
 -- Each definition, each declaration and each block goes a way, and so does a whole program.
-use Rattle.std.proofs.Common.{ℕ, suc, ◌+◌, Bool, true, false, if◌then◌else◌, List, [], ◌∷◌, Option, Some, None, Vec, Ok, Err, codes, nat_eq, map, sym, subst}
+use Rattle.std.proofs.Common.{◌≡◌, ◌++◌, ◌&&◌, ap, length, nat_le, refl, ℕ, suc, ◌+◌, Bool, true, false, if◌then◌else◌, List, [], ◌∷◌, Option, Some, None, Vec, Ok, Err, codes, nat_eq, map, sym, subst}
 use Rattle.std.specs.declared.alloc.Global.{Global}
 use Rattle.std.specs.Cmp.Lexicographic.{pointwise}
 use Rattle.place.specs.declared.Place.{Place}
@@ -29,18 +29,21 @@ use Rattle.scopes.specs.Scopes.{found}
 use Rattle.scopes.specs.declared.denotation.Denotation.TheVariants as denotes
 use Rattle.typed_tree.specs.declared.fault.TypeFault.TheVariants as fault
 use Rattle.typed_tree.specs.declared.tree.VariableKind.{VariableKind}
-use Rattle.typed_tree.specs.Look.{BlockEnds}
+use Rattle.std.specs.List.{list_any}
+use Rattle.typed_tree.specs.declared.tree.FunctionResult.{FunctionResult}
+use Rattle.typed_tree.specs.declared.site.SiteKind.TheVariants as kind
+use Rattle.typed_tree.specs.Look.{Mark, BlockEnds}
 use Rattle.typing.specs.Names.{folded}
-use Rattle.typing.specs.Passing.{Headed, Passed, Checked, Passing, after, and_then, each, fail, mark, ◌>>=◌, ◌>>◌}
-use Rattle.typing.specs.Steps.{begins, declare, give_output}
+use Rattle.typing.specs.Passing.{Headed, Passed, Checked, Passing, after, and_then, behind_marks, each, fail, pure, mark, ◌>>=◌, ◌>>◌}
+use Rattle.typing.specs.Steps.{is_assigned, most_sites, site, begins, declare, give_output}
 use Rattle.typing.specs.Denoters as Denoters
 use Rattle.typing.specs.Denoters.{WrittenDenoter, denoted_type, denoter_step}
 use Rattle.typing.specs.Routines as Routines
 use Rattle.typing.specs.Routines.{Begun, TypedBlock, TypedRoutine, block_step, routine_step, typed_block, typed_routine}
 use Rattle.typing.specs.Typing as Typing
-use Rattle.typing.proofs.Ways.{Owner, Anyone, Owns, Defines, Way, Stay, One, Token, Goes, Walks, then_walks, pure_walks, given_walks, by_types_walks, walk}
+use Rattle.typing.proofs.Ways.{Owner, Anyone, Owns, Defines, Way, Stay, One, Then, Token, Site, Ended, below, Goes, Walks, then_walks, pure_walks, given_walks, by_types_walks, walk}
 use Rattle.typing.proofs.Ways.{each_walks, declare_walks, latest_walks, add_type_walks, pass_walks, enclosing_now_walks, with_enclosing_walks, heading_at_walks}
-use Rattle.typing.proofs.Ways.{open_beside_walks, close_block_walks, open_block_walks, add_heading_walks, end_walks, open_required_walks}
+use Rattle.typing.proofs.Ways.{open_beside_walks, close_block_walks, open_block_walks, add_heading_walks, open_required_walks}
 use Rattle.typing.proofs.WalkedForms.{constant_walks, ordinal_constant_walks, body_walks}
 
 module _ (acts : Bool) (owner : Owner) (defines : Defines owner) (depth : ℕ) where
@@ -222,13 +225,33 @@ module _ (acts : Bool) (depth : ℕ) where
 
 -- the end of a block
 block_end_walks : (depth : ℕ) (number : ℕ) (name end : Place) (heading : Headed) → Walks (Way true Anyone depth depth) (Routines.block_end number name end heading)
-unfolding Routines.block_end Routines.result_at_end
+unfolding Routines.block_end Routines.result_at_end is_assigned site
 block_end_walks depth number name end heading = by heading.result
   where
-    by : (result : Option ℕ) → Walks (Way true Anyone depth depth)
-        (Routines.result_at_end name end result >>= (λ r. mark (BlockEnds number heading.around heading.parameters r end)))
-    by None = search (walk, end_walks)
-    by (Some root) = search (walk, end_walks)
+    ends : Option FunctionResult → Mark
+    ends result = BlockEnds number heading.around heading.parameters result end
+
+    by : (result : Option ℕ) → Walks (Way true Anyone depth depth) (Routines.result_at_end name end result >>= (λ r. mark (ends r)))
+    by None = record { walks = λ old. One (Ended (ends None) refl refl refl) }
+    by (Some root) = record { walks = λ old. assigned old (list_any (nat_eq root) old.assigned) refl }
+      where
+        assigned : (old : Passed) (test : Bool) → list_any (nat_eq root) old.assigned ≡ test → Goes (Way true Anyone depth depth) old
+            (and_then (and_then (if test then Ok (after (tt {0}) [] old) else Err (fault.NeverAssigned name))
+            (λ b. behind_marks {A = Option FunctionResult} b.look
+            ((site kind.UndefinedResult end >>= (λ defined. pure (Some (record { root = root; defined = defined })))) b.passed)))
+            (λ b. behind_marks b.look (mark (ends b.answer) b.passed)))
+        assigned old false is = tt
+        assigned old true is = few (nat_le most_sites (length old.sites)) refl
+          where
+            few : (many : Bool) → nat_le most_sites (length old.sites) ≡ many → Goes (Way true Anyone depth depth) old
+                (and_then (behind_marks {A = Option FunctionResult} [] (and_then (if many then Err (fault.TooMany end)
+                else Ok (after (length old.sites) [] (record old { sites = old.sites ++ (kind.UndefinedResult, end) ∷ []; latest = end })))
+                (λ b. behind_marks b.look (pure (Some (record { root = root; defined = b.answer })) b.passed))))
+                (λ b. behind_marks b.look (mark (ends b.answer) b.passed)))
+            few true h = tt
+            few false h =
+                Then (One (Site kind.UndefinedResult end (below most_sites (length old.sites) h)))
+                (One (Ended (ends (Some (record { root = root; defined = length old.sites }))) refl refl (ap (λ b. b && true) is)))
 
 -- ---- routines
 

@@ -1,6 +1,10 @@
 -- Each constant, each expression and each statement goes a way.
 use Rattle.std.proofs.Common.{◌≡◌, option_map, ℕ, ◌+◌, ℤ, Bool, true, false, if◌then◌else◌, List, [], ◌∷◌, ◌++◌, map, Option, Some}
-use Rattle.std.proofs.Common.{None, Vec, Ok, refl, sym, subst}
+use Rattle.std.proofs.Common.{None, Vec, Ok, Err, ◌||◌, nat_eq, get_or, slice_get, refl, sym, ap, subst}
+use Rattle.std.specs.List.{flat_map, list_any}
+use Rattle.std.proofs.lemmas.Bool.{eq-eqb}
+use Rattle.std.proofs.lemmas.Grind.{flat_map-append}
+use Rattle.typed_tree.specs.WellFormed.{is_one_of}
 use Rattle.std.specs.Prelude.{is_none}
 use Rattle.std.specs.declared.alloc.Global.{Global}
 use Rattle.place.specs.declared.Place.{Place}
@@ -44,8 +48,8 @@ use Rattle.typed_tree.specs.declared.tree.Representation.{Representation}
 use Rattle.typed_tree.specs.Look as Look
 use Rattle.typed_tree.specs.Look.{Mark}
 use Rattle.typing.specs.declared.typed.Typed.{Typed}
-use Rattle.typing.specs.Passing.{Passing, each, mark}
-use Rattle.typing.specs.Steps.{or_mismatch}
+use Rattle.typing.specs.Passing.{Passed, Checked, After, Passing, after, and_then, behind_marks, each, given, mark, pure, ◌>>=◌, ◌>>◌}
+use Rattle.typing.specs.Steps.{assign_result, enclosing_now, enter_as, heading_at, may_change, or_mismatch, program_heading, variable_at}
 use Rattle.typing.specs.Strings.{string_type, string_constant}
 use Rattle.typing.specs.Constants as Constants
 use Rattle.typing.specs.Functions as Functions
@@ -53,6 +57,7 @@ use Rattle.typing.specs.Expressions as Expressions
 use Rattle.typing.specs.Expressions.{Written, WrittenActual, WrittenLink, expression, written_actual, written_link}
 use Rattle.typing.specs.Statements as Statements
 use Rattle.typing.specs.Statements.{statement}
+use Rattle.typing.proofs.Ways.{Assigned, Goes, find_walks, targets_at, with_result}
 use Rattle.typing.proofs.Ways.{Owner, Way, Walks, numbers_of, then_walks, test_walks, mark_walks, pure_walks, given_walks, enter_walks, tells_then, given_tells, test_tells, walk}
 use Rattle.typing.proofs.Ways.{pass_walks, enter_loop_walks, for_body_walks}
 
@@ -82,6 +87,92 @@ module _ (acts : Bool) (owner : Owner) (depth : ℕ) where
   pub ordinal_constant_walks : (c : Constant) → Walks (Way acts owner depth depth) (Constants.ordinal_constant c)
   unfolding Constants.ordinal_constant
   ordinal_constant_walks c = search (walk, constant_walks)
+
+-- ---- targets
+
+-- what comes behind the variable left of `:=`
+abbrev pub access_typing : Name → List Selector → List Written → ℕ × TypeId → Passing Statements.Accessed
+access_typing name selectors ws variable = do
+  may_change name.place variable.0
+  enter_as Look.Access
+  component ← Expressions.selected [] variable.1 selectors ws
+  ordinal ← Expressions.tests_ordinal component.1
+  mark (Statements.target_mark ordinal variable.0 component.0 component.1)
+  pure (record { root = variable.0; selectors = component.0; type_id = component.1 })
+
+-- a variable is told as assigned
+abbrev pub IsTold : ℕ → Look.Look → Passed → Passed → Type 0
+IsTold root look old new = list_any (nat_eq root) (flat_map targets_at look) ≡ true
+
+any_second : (xs ys : List ℕ) (root : ℕ) → list_any (nat_eq root) ys ≡ true → list_any (nat_eq root) (xs ++ ys) ≡ true
+any_second [] ys root is = is
+any_second (x ∷ xs) ys root is = by (nat_eq root x) (any_second xs ys root is)
+  where
+    by : (test : Bool) → list_any (nat_eq root) (xs ++ ys) ≡ true → (test || list_any (nat_eq root) (xs ++ ys)) ≡ true
+    by true more = refl
+    by false more = more
+
+told_behind : {A B : Type 0} (root : ℕ) (p : Passing A) (f : A → Passing B) → ((a : A) → Walks (IsTold root) (f a)) → Walks (IsTold root) (p >>= f)
+told_behind {A} {B} root p f rest = record { walks = λ old. by old (p old) }
+  where
+    behind : (old between : Passed) (look : Look.Look) (outcome : Checked (After B)) → Goes (IsTold root) between outcome
+        → Goes (IsTold root) old (behind_marks look outcome)
+    behind old between look (Ok b) told =
+        subst (λ l. list_any (nat_eq root) l ≡ true) (sym (flat_map-append targets_at look b.look))
+        (any_second (flat_map targets_at look) (flat_map targets_at b.look) root told)
+    behind old between look (Err why) told = tt
+
+    by : (old : Passed) (outcome : Checked (After A))
+        → Goes (IsTold root) old (and_then outcome (λ a. behind_marks a.look (f a.answer a.passed)))
+    by old (Ok a) = behind old a.passed a.look (f a.answer a.passed) ((rest a.answer).walks a.passed)
+    by old (Err why) = tt
+
+pub access_told : (name : Name) (selectors : List Selector) (ws : List Written) (variable : ℕ × TypeId)
+    → Walks (IsTold variable.0) (access_typing name selectors ws variable)
+access_told name selectors ws variable =
+    told_behind variable.0 (may_change name.place variable.0) _ λ _.
+    told_behind variable.0 (enter_as Look.Access) _ λ _.
+    told_behind variable.0 (Expressions.selected [] variable.1 selectors ws) _ λ component.
+    told_behind variable.0 (Expressions.tests_ordinal component.1) _ λ ordinal.
+    last component ordinal
+  where
+    last : (component : List TreeSelector × TypeId) (ordinal : Bool)
+        → Walks (IsTold variable.0) (mark (Statements.target_mark ordinal variable.0 component.0 component.1)
+        >> pure {A = Statements.Accessed} (record { root = variable.0; selectors = component.0; type_id = component.1 }))
+    last component true = record { walks = λ old. ap (λ b. b || false) (eq-eqb variable.0 variable.0 refl) }
+    last component false = record { walks = λ old. ap (λ b. b || false) (eq-eqb variable.0 variable.0 refl) }
+
+-- the result of a function, inside its block, is assigned, and nothing else changes
+pub record AssignsResult (place : Place) (block : ℕ) (s : Passed) (a : After (ℕ × TypeId)) : Type 0 where
+  pub root : ℕ
+  pub type_id : TypeId
+  pub inside : is_one_of (s.enclosing.block ∷ s.enclosing.around) block ≡ true
+  pub result : (get_or s.headings block program_heading).result ≡ Some root
+  pub found : Statements.or_no_variable place (slice_get s.variables root) ≡ Ok type_id
+  pub is : after (root, type_id) [] (with_result root s) ≡ a
+
+pub function_target_is : (place : Place) (block : ℕ) (s : Passed) (a : After (ℕ × TypeId)) → Statements.function_target place block s ≡ Ok a
+    → AssignsResult place block s a
+unfolding Statements.function_target enclosing_now heading_at variable_at assign_result
+function_target_is place block s a is =
+    by (is_one_of (s.enclosing.block ∷ s.enclosing.around) block) refl (get_or s.headings block program_heading).result refl is
+  where
+    found : (root : ℕ) (checked : Checked TypeId) → Statements.or_no_variable place (slice_get s.variables root) ≡ checked
+        → is_one_of (s.enclosing.block ∷ s.enclosing.around) block ≡ true → (get_or s.headings block program_heading).result ≡ Some root
+        → behind_marks [] (behind_marks [] (behind_marks [] (behind_marks [] (and_then (and_then checked (λ id. Ok (after id [] (with_result root s))))
+        (λ b. behind_marks b.look (pure {A = ℕ × TypeId} (root, b.answer) b.passed)))))) ≡ Ok a
+        → AssignsResult place block s a
+    found root (Ok id) there inside result h = record { root = root; type_id = id; inside = inside; result = result; found = there; is = cc }
+    found root (Err why) there inside result h = absurd cc
+
+    by : (inside : Bool) → is_one_of (s.enclosing.block ∷ s.enclosing.around) block ≡ inside → (result : Option ℕ)
+        → (get_or s.headings block program_heading).result ≡ result
+        → behind_marks [] (behind_marks [] ((Statements.result_target place inside result >>= (λ root. variable_at root
+        >>= (λ found. given (Statements.or_no_variable place found) >>= (λ id. pure {A = ℕ × TypeId} (root, id))))) s)) ≡ Ok a
+        → AssignsResult place block s a
+    by true inside (Some root) result h = found root (Statements.or_no_variable place (slice_get s.variables root)) refl inside result h
+    by true inside None result h = absurd cc
+    by false inside result is_result h = absurd cc
 
 module _ (owner : Owner) (depth : ℕ) where
   abbrev pub Goes_by : {A : Type 0} → Passing A → Type 0
@@ -437,29 +528,44 @@ module _ (owner : Owner) (depth : ℕ) where
 
   -- ---- statements
 
-  result_target_walks : (place : Place) (inside : Bool) (result : Option ℕ) → Goes_by (Statements.result_target place inside result)
-  result_target_walks place true (Some root) = search walk
-  result_target_walks place true None = search walk
-  result_target_walks place false result = search walk
-
-  function_target_walks : (place : Place) (block : ℕ) → Goes_by (Statements.function_target place block)
-  unfolding Statements.function_target
-  function_target_walks place block = search (walk, result_target_walks) depth 12
-
-  target_of_walks : (routine : Option (ℕ × Bool)) (selectors : List Selector) (place : Place) (d : Denotation)
-      → Goes_by (Statements.target_of routine selectors place d)
-  target_of_walks None selectors place d = search walk
-  target_of_walks (Some routine) [] place d = function_target_walks place routine.0
-  target_of_walks (Some routine) (selector ∷ others) place d = search walk
-
   target_mark_walks : (ordinal : Bool) (root : ℕ) (selectors : List TreeSelector) (id : TypeId)
       → Goes_by (mark (Statements.target_mark ordinal root selectors id))
   target_mark_walks true root selectors id = search walk
   target_mark_walks false root selectors id = search walk
 
+  access_walks : (name : Name) (selectors : List Selector) (ws : List Written) → AllWalk ws → (variable : ℕ × TypeId)
+      → Goes_by (access_typing name selectors ws variable)
+  access_walks name selectors ws laws variable = search (walk, selected_walks, tests_ordinal_walks, target_mark_walks) depth 12
+
   target_walks : (name : Name) (selectors : List Selector) (ws : List Written) → AllWalk ws → Goes_by (Statements.target name selectors ws)
   unfolding Statements.target
-  target_walks name selectors ws laws = search (walk, target_of_walks, selected_walks, tests_ordinal_walks, target_mark_walks) depth 12
+  target_walks name selectors ws laws = then_walks (find_walks name) (λ d. by d (Expressions.as_routine d) selectors)
+    where
+      result_goes : (old : Passed) (variable : ℕ × TypeId) (outcome : Checked (After Statements.Accessed))
+          → Goes (Way true owner depth depth) (with_result variable.0 old) outcome → Goes (IsTold variable.0) (with_result variable.0 old) outcome
+          → Goes (Way true owner depth depth) old (behind_marks [] outcome)
+      result_goes old variable (Ok b) way told = Assigned variable.0 way told
+      result_goes old variable (Err why) way told = tt
+
+      result_walks : (block : ℕ) (old : Passed) (outcome : Checked (After (ℕ × TypeId))) → Statements.function_target name.place block old ≡ outcome
+          → Goes (Way true owner depth depth) old (and_then outcome (λ v. behind_marks v.look (access_typing name selectors ws v.answer v.passed)))
+      result_walks block old (Err why) is = tt
+      result_walks block old (Ok v) is =
+          let assigns = function_target_is name.place block old v is in
+          let variable : ℕ × TypeId = (assigns.root, assigns.type_id) in
+          let start = with_result assigns.root old in
+          subst (λ (u : After (ℕ × TypeId)). Goes (Way true owner depth depth) old (behind_marks u.look (access_typing name selectors ws u.answer u.passed)))
+          assigns.is
+          (result_goes old variable (access_typing name selectors ws variable start) ((access_walks name selectors ws laws variable).walks start)
+          ((access_told name selectors ws variable).walks start))
+
+      by : (d : Denotation) (routine : Option (ℕ × Bool)) (others : List Selector)
+          → Goes_by (Statements.target_of routine others name.place d >>= access_typing name selectors ws)
+      by d None others = then_walks (given_walks _) (access_walks name selectors ws laws)
+      by d (Some routine) (selector ∷ others) = then_walks (given_walks _) (access_walks name selectors ws laws)
+      by d (Some routine) [] = record {
+        walks = λ old. result_walks routine.0 old (Statements.function_target name.place routine.0 old) refl;
+      }
 
   becomes_walks : (ordinal : Bool) (to : Statements.Accessed) (place : Place) (w : Written) → WrittenWalks w
       → Goes_by (if ordinal then Statements.assigned to place w else Statements.copied to.type_id place w)

@@ -1,8 +1,9 @@
 -- The ways that typing goes, from what is known at one place of a program to what is known at another, step by step; and
 -- that a passing goes such a way whatever it answers. Each step says what it changes and which marks it leaves, and nothing of
 -- answers. So what holds of no step and of two ways one behind the other holds of each form, as soon as it holds of each step.
-use Rattle.std.proofs.Common.{◌≡◌, ℕ, suc, ◌+◌, ◌-◌, ◌<◌, Bool, true, false, if◌then◌else◌, nat_le, List, [], ◌∷◌, ◌++◌, length, take, Result, Ok, Err, IfOk}
+use Rattle.std.proofs.Common.{◌≡◌, ℕ, suc, ◌+◌, ◌-◌, ◌<◌, Bool, true, false, if◌then◌else◌, nat_eq, nat_le, List, [], ◌∷◌, ◌++◌, length, take, Some, Result, Ok, Err, IfOk}
 use Rattle.std.proofs.Common.{slice_get, refl, arith}
+use Rattle.std.specs.List.{flat_map, list_all, list_any}
 use Rattle.std.proofs.lemmas.Bool.Decides.{nat_tests}
 use Rattle.place.specs.declared.Place.{Place}
 use Rattle.syntax_tree.specs.declared.Name.{Name}
@@ -17,7 +18,7 @@ use Rattle.typed_tree.specs.declared.site.SiteKind.{SiteKind}
 use Rattle.typed_tree.specs.declared.tree.Variable.{Variable}
 use Rattle.typed_tree.specs.declared.tree.VariableKind.{VariableKind}
 use Rattle.typed_tree.specs.WellFormed.{most_entries}
-use Rattle.typed_tree.specs.Look.{Mark, Look, Controls, ForEnds, mark_blocks, mark_entries, mark_loops}
+use Rattle.typed_tree.specs.Look.{Mark, Look, BlockEnds, Controls, ForEnds, Target, WholeTarget, mark_blocks, mark_entries, mark_loops}
 use Rattle.typing.specs.Names.{folded}
 use Rattle.typing.specs.Passing.{Headed, Enclosing, Passed, Checked, After, Passing, after, and_then, behind_marks, given, by_types, pure, fail, mark}
 use Rattle.typing.specs.Passing.{each, ◌>>=◌, ◌>>?◌}
@@ -46,6 +47,16 @@ Defines other = Unit {0}
 abbrev pub numbers_of : Mark → List ℕ × List ℕ × List ℕ
 numbers_of one = (mark_entries one, mark_loops one, mark_blocks one)
 
+-- the roots of the variables that a mark tells as assigned, and of the result of the function whose block it ends
+abbrev pub targets_at : Mark → List ℕ
+targets_at (Target root selectors indexes) = root ∷ []
+targets_at (WholeTarget root selectors indexes type_id) = root ∷ []
+targets_at other = []
+
+abbrev pub results_at : Mark → List ℕ
+results_at (BlockEnds number around parameters (Some result) end) = result.root ∷ []
+results_at other = []
+
 -- a step of a way with marks, sites and changes, or of one without; from so many regions that were opened on the way to so many
 pub data Step : Bool → Owner → ℕ → ℕ → Look → Passed → Passed → Type 0 where
   -- a token is passed
@@ -65,8 +76,6 @@ pub data Step : Bool → Owner → ℕ → ℕ → Look → Passed → Passed �
       → Step true owner depth depth [] s (record s { sites = s.sites ++ (kind, place) ∷ []; latest = place })
   -- a variable may be changed from here on
   Threat : {owner : Owner} {depth : ℕ} {s : Passed} (root : ℕ) → Step true owner depth depth [] s (record s { threatened = Steps.with_one s.threatened root })
-  -- a result is assigned
-  Assign : {owner : Owner} {depth : ℕ} {s : Passed} (root : ℕ) → Step true owner depth depth [] s (record s { assigned = Steps.with_one s.assigned root })
   -- a type and the characters of a string, by their numbers
   Typed :
       {acts : Bool} {owner : Owner} {depth : ℕ} {s : Passed} (form : Form) → Step acts owner depth depth [] s (record s { types = s.types ++ form ∷ [] })
@@ -85,11 +94,17 @@ pub data Step : Bool → Owner → ℕ → ℕ → Look → Passed → Passed �
   -- a region is opened, or closed
   Open : {acts : Bool} {depth : ℕ} {s : Passed} (region : Region) → Step acts Anyone depth (suc depth) [] s (record s { regions = region ∷ s.regions })
   Close : {acts : Bool} {depth : ℕ} {s : Passed} → Step acts Anyone (suc depth) depth [] s (record s { regions = outer s.regions })
-  Ended : {depth : ℕ} {s : Passed} (one : Mark) → mark_entries one ≡ [] → mark_loops one ≡ [] → Step true Anyone depth depth (one ∷ []) s s
+  -- a block ends whose result, if it has one, is assigned
+  Ended :
+      {depth : ℕ} {s : Passed} (one : Mark) → mark_entries one ≡ [] → mark_loops one ≡ []
+      → list_all (λ root. list_any (nat_eq root) s.assigned) (results_at one) ≡ true → Step true Anyone depth depth (one ∷ []) s s
   -- another block is round the place, or other routines of it wait
   Block : {acts : Bool} {depth : ℕ} {s : Passed} (enclosing : Enclosing) → Step acts Anyone depth depth [] s (record s { enclosing = enclosing })
   Heading :
       {acts : Bool} {depth : ℕ} {s : Passed} (headed : Headed) → Step acts Anyone depth depth [] s (record s { headings = s.headings ++ headed ∷ [] })
+
+abbrev pub with_result : ℕ → Passed → Passed
+with_result root s = record s { assigned = Steps.with_one s.assigned root }
 
 abbrev pub with_control : ℕ → Passed → Passed
 with_control root s = record s { controls = s.controls ++ root ∷ [] }
@@ -107,6 +122,10 @@ pub data Way : Bool → Owner → ℕ → ℕ → Look → Passed → Passed →
   Controlled :
       {owner : Owner} {depth : ℕ} {look : Look} {old new : Passed} (root : ℕ) → Way true owner depth depth look (with_control root old) new
       → Way true owner depth depth (Controls root ∷ (look ++ (ForEnds ∷ []))) old (without_control new)
+  -- a result is assigned, and then its target is told
+  Assigned :
+      {owner : Owner} {depth : ℕ} {look : Look} {old new : Passed} (root : ℕ) → Way true owner depth depth look (with_result root old) new
+      → list_any (nat_eq root) (flat_map targets_at look) ≡ true → Way true owner depth depth look old new
 
 -- whatever is answered, what is known before and behind is related so, and it looks so
 abbrev pub Goes : {A : Type 0} → (Look → Passed → Passed → Type 0) → Passed → Checked (After A) → Type 0
@@ -222,7 +241,7 @@ module _ (R : Look → Passed → Passed → Type 0) {A : Type 0} (old : Passed)
   answered_goes (Ok b) f way = way b refl
   answered_goes (Err why) f way = tt
 
-below : (a b : ℕ) → nat_le a b ≡ false → b < a
+pub below : (a b : ℕ) → nat_le a b ≡ false → b < a
 below a b h = grind (arith, nat_tests)
 
 module _ {acts : Bool} {owner : Owner} {depth : ℕ} where
@@ -338,10 +357,6 @@ module _ {owner : Owner} {depth : ℕ} where
       by old true = Stay
       by old false = One (Threat root)
 
-  pub assign_result_walks : (root : ℕ) → Walks (Way true owner depth depth) (Steps.assign_result root)
-  unfolding Steps.assign_result
-  assign_result_walks root = record { walks = λ old. One (Assign root) }
-
   pub for_body_walks : (root : ℕ) (body : Passing (Unit {0})) → Walks (Way true owner depth depth) body → Walks (Way true owner depth depth) (for_body root body)
   unfolding for_body Steps.begin_control Steps.end_control
   for_body_walks root body law = record { walks = λ old. by old (body (with_control root old)) (law.walks (with_control root old)) }
@@ -396,9 +411,6 @@ module _ {acts : Bool} {depth : ℕ} where
   unfolding Steps.add_heading
   add_heading_walks headed = record { walks = λ old. One (Heading headed) }
 
-pub end_walks : {depth : ℕ} (one : Mark) → mark_entries one ≡ [] → mark_loops one ≡ [] → Walks (Way true Anyone depth depth) (mark one)
-end_walks one no_entry no_loop = record { walks = λ old. One (Ended one no_entry no_loop) }
-
 -- each of these, for a search
 pub ruleset walk = (
   enter_walks,
@@ -429,7 +441,6 @@ pub ruleset walk = (
   next_block_walks,
   heading_at_walks,
   variable_at_walks,
-  assign_result_walks,
   is_assigned_walks,
   declare_walks,
   reserve_walks,

@@ -1,13 +1,12 @@
 -- What stands behind the heading of a routine: `forward`, or its block, which ends as its heading tells.
 use Rattle.std.proofs.Common.{◌≡◌, ℕ, ◌+◌, ◌<◌, ◌≤◌, Bool, true, false, ◌&&◌, nat_eq, if◌then◌else◌, List, [], ◌∷◌, ◌++◌, length, map, Option, Some, None, Ok}
-use Rattle.std.proofs.Common.{Err, option_map, slice_get, get_or, refl, sym, ap, ap₂, subst, ◌∙◌, arith, inl, inr, ◌⊎◌, append-nil, append_assoc, length-append}
+use Rattle.std.proofs.Common.{Err, option_map, slice_get, get_or, refl, sym, ap, ap₂, subst, ◌∙◌, arith, inl, inr, ◌⊎◌, append-nil, append_assoc}
 use Rattle.std.proofs.Common.{◌||◌}
-use Rattle.std.specs.List.{list_any, list_all, flat_map}
+use Rattle.std.specs.List.{list_any, list_all}
 use Rattle.std.proofs.lemmas.Bool.{eqb-true, eq-eqb}
 use Rattle.std.proofs.lemmas.Bool.Decides.{nat_tests}
 use Rattle.std.proofs.lemmas.Grind.{flat_map-append}
 use Rattle.std.proofs.lemmas.Option.{slice_get_within}
-use Rattle.std.proofs.lemmas.List.Folds.{list_all-append}
 use Rattle.indexmap.specs.IndexMap.{insert_entry}
 use Rattle.place.specs.declared.Place.{Place}
 use Rattle.syntax_tree.specs.declared.Name.{Name}
@@ -22,17 +21,17 @@ use Rattle.typed_tree.specs.Look.{is_formed_mark}
 use Rattle.typed_tree.proofs.Blocks.{formed_as_far, formed_before}
 use Rattle.typed_tree.specs.declared.tree.Variable.{Variable}
 use Rattle.typing.specs.Names.{all_folded}
-use Rattle.typing.specs.Passing.{Enclosing, Headed, Passed, Checked, After, Passing, after, behind_marks, mark, ◌>>◌, and_then, pure, ◌>>=◌}
-use Rattle.typing.specs.Steps.{close_block, enclosing_now, heading_at, is_assigned, open_beside, program_heading, with_enclosing, site}
+use Rattle.typing.specs.Passing.{Enclosing, Headed, Passed, Checked, After, Passing, after, behind_marks, mark, ◌>>◌}
+use Rattle.typing.specs.Steps.{close_block, enclosing_now, heading_at, is_assigned, open_beside, program_heading, with_enclosing}
 use Rattle.typing.specs.Routines.{Begun, TypedBlock, block_end, forward, result_at_end, routine_block, told_waiting}
 use Rattle.typing_laws.proofs.Built.{Built, EndsSo, HasSite, IsOpen, LeavesBuilt, Standing, ends_append, ends_later, is_between, no_ends, open_later, IsChanged}
-use Rattle.typing_laws.proofs.Built.{IsControlled, IsOver, all_later}
+use Rattle.typing_laws.proofs.Built.{IsControlled, IsOver, and_grouped, between_both, contradicts, no_fewer}
 use Rattle.typing_laws.proofs.Covers.{Covers, covers_both, covers_none}
-use Rattle.typing_laws.proofs.Grown.{Fine, Grown, Sited, sited_then, both_true, fine_later, further, grown_further, grown_then, IsFree, assigned_then, target_first}
+use Rattle.typing_laws.proofs.Grown.{Fine, Grown, Sited, sited_then, both_true, fine_later, further, grown_further, grown_then, IsFree}
 use Rattle.typing_laws.proofs.Headings.{parts_of, quiet_parts}
 use Rattle.typing_laws.proofs.Owned.{Fails, block_cells_longer, other_block}
 use Rattle.typing_laws.proofs.Ready.{Base, base_types, fit_of, heads_passed, among_split, around_less}
-use Rattle.typing_laws.proofs.Reached.{IsLonger, as_long, mapped_longer, get_longer, get_mapped, get_or_is, mapped_get, head_of}
+use Rattle.typing_laws.proofs.Reached.{as_long, mapped_longer, get_longer, get_mapped, get_or_is, mapped_get, head_of}
 use Rattle.typing_laws.proofs.Reached.{signature_passed, Reached, reached, IsFurther, as_far, further_still, Here, stands_later, is_round_here}
 use Rattle.typing_laws.proofs.Routines.{Began, Begins}
 use Rattle.typing_laws.proofs.Sound.{AreSound, IsSoundRegion, beside_holds, inside_itself, inside_routine, regions_later, IsSound, among_more, or_right}
@@ -45,7 +44,6 @@ use Rattle.typing_laws.specs.Controls.{AreUnthreatened, Each, in_blocks, mark_ch
 use Rattle.typing_laws.proofs.Spared.{none_held, spared_then}
 use Rattle.typing_laws.proofs.Kept.{MayChange, changes_of, controls_of, each_append, each_more}
 use Rattle.typing_laws.proofs.Placed.{each_map, each_pair, each_square, placed_as_far, placed_inner}
-use Rattle.typing_laws.specs.Results.{is_target, mark_results}
 
 -- ---- what is told of a routine that waits
 
@@ -61,7 +59,6 @@ told_is number place s a is = cc
 pub record Told (here : Here) (under : List Region) (number : ℕ) (told : Bool) (old new : Passed) : Type 0 where
   pub sites : new.sites ≡ old.sites
   pub controls_kept : new.controls ≡ old.controls
-  pub assigned : new.assigned ≡ old.assigned
   pub grows : Grows old new
   pub standing : Standing here under new
   pub is_open : IsOpen here new number
@@ -99,7 +96,6 @@ told_standing here under s number place st is_open = record {
   };
   block = st.block;
   around = st.around;
-  settled = st.settled;
   stands = st.stands;
   waiting = λ block waits. opened (by block (nat_eq block number) refl waits);
 }
@@ -121,7 +117,6 @@ new_told : (here : Here) (under : List Region) (number : ℕ) (place : Option Pl
 new_told here under number place old now st b = record {
   sites = b.sites;
   controls_kept = b.controls_kept;
-  assigned = b.assigned;
   grows = b.grows;
   standing = told_standing here under now number place b.standing b.is_open;
   is_open = open_told here now number number place b.is_open;
@@ -176,7 +171,6 @@ resumed_told : (here : Here) (under : List Region) (number : ℕ) (s : Passed) �
 resumed_told here under number s st waits = record {
   sites = refl;
   controls_kept = refl;
-  assigned = refl;
   grows = as_high;
   standing = told_standing here under s number None st (st.waiting number waits);
   is_open = open_told here s number number None (st.waiting number waits);
@@ -226,8 +220,6 @@ built_told here under number old new t = record {
   ends = tt;
   accounted = λ block. omega (arith, t.accounted block);
   others = λ block less other none. (t.others block less other none).1;
-  assigned = λ root is. inl (ap (list_any (nat_eq root)) (sym t.assigned) ∙ is);
-  results = refl;
   placed = λ roots rest. refl;
   over = λ block there. absurd (omega (arith, there));
   changed = tt;
@@ -258,7 +250,7 @@ unfolding is_assigned
 is_assigned_does place root = record {
   does = λ s a is fine h.
       let x = split_if (list_any (nat_eq root) s.assigned) (fault.NeverAssigned place) (after tt [] s) a is in
-      silent_leaves Anything x.1 Stay refl refl refl refl fine tt;
+      silent_leaves Anything x.1 Stay refl refl refl fine tt;
 }
 
 -- the site of a result stands at the end
@@ -324,20 +316,10 @@ module _ (look : Look) (number : ℕ) (around parameters : List ℕ) (result : O
       → are_formed o ((look ++ (closing ∷ [])) ++ rest) ≡ (are_formed o (look ++ (closing ∷ [])) && are_formed o rest)
   closed_parts o rest = formed_as_far o look rest number around parameters result end
 
-and_grouped : (a b c : Bool) → (a && (b && c)) ≡ ((a && b) && c)
-and_grouped true b c = refl
-and_grouped false b c = refl
-
-between_both : (a b c number : ℕ) → a ≤ b → b ≤ c → one_if (is_between a b number) + one_if (is_between b c number) ≡ one_if (is_between a c number)
-between_both a b c number one two = grind (arith, nat_tests)
-
-no_fewer : {A : Type 0} (old new : List A) → IsLonger old new → length old ≤ length new
-no_fewer old new longer = omega (arith, ap length longer.goes_on, length-append old longer.more)
-
 -- what is known where the block of a routine begins
 module _ (here : Here) (under : List Region) (number : ℕ) (headed : Headed) (names : List (List ℕ)) where
   abbrev inner : Here
-  inner = record { block = number; around = here.around ++ here.block ∷ []; owing = false }
+  inner = record { block = number; around = here.around ++ here.block ∷ [] }
 
   abbrev entered : Passed → Passed
   entered s = record s {
@@ -352,7 +334,7 @@ module _ (here : Here) (under : List Region) (number : ℕ) (headed : Headed) (n
       let heads = heads_passed s.headings in
       let told = st.ready.base.headed number headed there in
       let region : IsSoundRegion inner s.variables s.types heads headed.region =
-      subst (λ l. IsSoundRegion (record { block = number; around = l; owing = false }) s.variables s.types heads headed.region) around told.region in
+      subst (λ l. IsSoundRegion (record { block = number; around = l }) s.variables s.types heads headed.region) around told.region in
       record {
         ready = record {
           sound = (
@@ -366,7 +348,6 @@ module _ (here : Here) (under : List Region) (number : ℕ) (headed : Headed) (n
         };
         block = refl;
         around = around;
-        settled = refl;
         stands = (signature_passed headed, mapped_get signature_passed s.headings number headed there, around);
         waiting = λ block waits. absurd cc;
       }
@@ -409,7 +390,6 @@ module _ (here : Here) (under : List Region) (number : ℕ) (headed : Headed) (n
         };
         block = ap (λ (e : Enclosing). e.block) round_is ∙ st.block;
         around = ap (λ (e : Enclosing). e.around) round_is ∙ st.around;
-        settled = st.settled;
         stands = stands_later here (reached s) (reached last) more st.stands;
         waiting = λ block waits.
             let before = ap (λ (e : Enclosing). waits_in e.waiting block) (sym round_is) ∙ waits in
@@ -431,62 +411,13 @@ module _ (here : Here) (under : List Region) (number : ℕ) (headed : Headed) (n
           no : {b : Bool} → b ≡ true → b ≡ false → ⊥
           no one two = let same : true ≡ false = sym one ∙ two in absurd cc
 
--- ---- results of a block that ends
-
--- a target is one before the end
-pub target_ended : {middle : Bool} (look : Look) (mark_end : Mark) (root : ℕ) → (middle ≡ true) ⊎ (is_target look root ≡ true)
-    → (middle ≡ true) ⊎ (is_target (look ++ (mark_end ∷ [])) root ≡ true)
-target_ended look mark_end root (inl there) = inl there
-target_ended look mark_end root (inr target) = inr (target_first look (mark_end ∷ []) root target)
-
-no_result : (one : Mark) → mark_blocks one ≡ [] → mark_results one ≡ []
-no_result (BlockEnds number around parameters result end) none = absurd cc
-no_result other none = refl
-
-first_none : (a b : List ℕ) → a ++ b ≡ [] → (a ≡ []) × (b ≡ [])
-first_none [] b is = (refl, is)
-first_none (x ∷ a) b is = absurd cc
-
-no_results : (look : Look) → blocks_of_look look ≡ [] → flat_map mark_results look ≡ []
-no_results [] none = refl
-no_results (one ∷ look) none =
-    let parts = first_none (mark_blocks one) (blocks_of_look look) none in
-    ap₂ (λ a b. a ++ b) (no_result one parts.0) (no_results look parts.1)
-
--- the results of blocks, and then that of the block which ends
-pub results_end : (first look : Look) (number : ℕ) (around parameters : List ℕ) (result : Option FunctionResult) (end : Place) (middle last : Passed)
-    → list_all (λ root. list_any (nat_eq root) middle.assigned) (flat_map mark_results first) ≡ true
-    → ((root : ℕ) → list_any (nat_eq root) middle.assigned ≡ true → list_any (nat_eq root) last.assigned ≡ true) → blocks_of_look look ≡ []
-    → ((root : ℕ) → option_map (λ (r : FunctionResult). r.root) result ≡ Some root → list_any (nat_eq root) last.assigned ≡ true)
-    → list_all (λ root. list_any (nat_eq root) last.assigned)
-    (flat_map mark_results (first ++ (look ++ (BlockEnds number around parameters result end ∷ []))))
-    ≡ true
-results_end first look number around parameters result end middle last all more inner own =
-    let mark_end = BlockEnds number around parameters result end in
-    let split =
-    flat_map-append mark_results first (look ++ (mark_end ∷ []))
-    ∙ ap (λ l. flat_map mark_results first ++ l)
-    (flat_map-append mark_results look (mark_end ∷ []) ∙ ap (λ l. l ++ flat_map mark_results (mark_end ∷ [])) (no_results look inner)) in
-    let Holds : ℕ → Bool = λ root. list_any (nat_eq root) last.assigned in
-    ap (list_all Holds) split ∙ list_all-append Holds (flat_map mark_results first) (flat_map mark_results (mark_end ∷ []))
-    ∙ both_true _ _ (all_later middle last more (flat_map mark_results first) all) (by result own)
-  where
-    by : (found : Option FunctionResult)
-        → ((root : ℕ) → option_map (λ (r : FunctionResult). r.root) found ≡ Some root → list_any (nat_eq root) last.assigned ≡ true)
-        → list_all (λ root. list_any (nat_eq root) last.assigned) (flat_map mark_results (BlockEnds number around parameters found end ∷ [])) ≡ true
-    by None told = refl
-    by (Some r) told = both_true _ true (told r.root refl) refl
-
 -- ---- control variables of a block that ends
-
-contradicts : {b : Bool} → b ≡ true → b ≡ false → ⊥
-contradicts one two = let same : true ≡ false = sym one ∙ two in absurd cc
 
 turned : (m n : ℕ) → Fails (nat_eq m n) → Fails (nat_eq n m)
 turned m n other = grind (arith, nat_tests)
 
 -- what stands round a routine's block is that, or stands round its declarer
-round_parts : (here : Here) (number block : ℕ) → is_round_here (record { block = number; around = here.around ++ here.block ∷ []; owing = false }) block ≡ true
+round_parts : (here : Here) (number block : ℕ) → is_round_here (record { block = number; around = here.around ++ here.block ∷ [] }) block ≡ true
     → (block ≡ number) ⊎ (is_round_here here block ≡ true)
 round_parts here number block is = by (nat_eq block number) refl is
   where
@@ -582,7 +513,7 @@ module _ (here : Here) (start middle last : Passed) {first : Look} {second : Loo
 -- from the declarations of a block to its end
 module _ (here : Here) (under : List Region) (number : ℕ) (headed : Headed) (names : List (List ℕ)) where
   abbrev inner_here : Here
-  inner_here = record { block = number; around = here.around ++ here.block ∷ []; owing = false }
+  inner_here = record { block = number; around = here.around ++ here.block ∷ [] }
 
   -- what is not round the block isn't round its declarer's
   outside_too : (block : ℕ) → Fails (is_round_here inner_here block) → Fails (is_round_here here block)
@@ -739,29 +670,12 @@ module _ (here : Here) (under : List Region) (number : ℕ) (headed : Headed) (n
 
 -- ---- the block of a routine
 
--- a result is assigned before the end
-ends_assigned : (name end : Place) (root : ℕ) (s : Passed) (a : After (Option FunctionResult)) → result_at_end name end (Some root) s ≡ Ok a
-    → list_any (nat_eq root) s.assigned ≡ true
-unfolding result_at_end is_assigned
-ends_assigned name end root s a is = by (list_any (nat_eq root) s.assigned) is
-  where
-    by : (test : Bool)
-        → and_then (if test then Ok (after (tt {0}) [] s) else Err (fault.NeverAssigned name))
-        (λ b. behind_marks {A = Option FunctionResult} b.look
-        ((site kind.UndefinedResult end >>= (λ defined. pure (Some (record { root = root; defined = defined })))) b.passed))
-        ≡ Ok a
-        → test ≡ true
-    by true h = refl
-    by false h = absurd cc
-
--- what stands behind its statements
 pub record Closed (here : Here) (b : TypedBlock) (headed : Headed) (s : Passed) (a : After (Unit {0})) : Type 0 where
   pub look : Look
   pub result : Option FunctionResult
   pub grown : Grown here look s a.passed
   pub sited : Sited (Covers 0 (b.end ∷ [])) s a.passed
   pub ends : (option_map (λ (r : FunctionResult). r.root) result ≡ headed.result) × HasSite (length a.passed.sites) result
-  pub assigned : (root : ℕ) → headed.result ≡ Some root → list_any (nat_eq root) s.assigned ≡ true
   pub look_is : a.look ≡ look ++ (BlockEnds here.block headed.around headed.parameters result b.end ∷ [])
 
 pub closed : (here : Here) (name : Place) (b : TypedBlock) (headed : Headed) (s : Passed) (a : After (Unit {0})) → Fine here s
@@ -781,8 +695,6 @@ closed here name b headed s a fine is =
       grown = law.0;
       sited = law.1;
       ends = law.2;
-      assigned = λ root told.
-          ends_assigned name b.end root s x.first (subst (λ found. result_at_end name b.end found s ≡ Ok x.first) told x.goes);
       look_is = refl;
     })
   where
@@ -899,12 +811,6 @@ routine_block_builds here under number name b places lawful old s a t is =
           let told = t.others block less other none in
           let still : block < length s.headings = omega (arith, less, no_fewer old.headings s.headings t.grows.headings) in
           ap (variables_of block) (inner_of g.way).variables ∙ f.others block still told.0 refl ∙ told.1;
-      assigned = λ root is.
-          assigned_then i.first ended root (λ there. from_old old s root t.assigned (f.assigned root there))
-          (target_ended look mark_end root (g.assigned refl root is));
-      results =
-          results_end i.first look number headed.around headed.parameters c.result b.end i.middle p.end.passed f.results (grows g.way).assigns (inner_of g.way).ends
-          (λ root there. (grows c.grown.way).assigns root (c.assigned root (sym c.ends.0 ∙ there)));
       placed = λ roots rest.
           ap (in_blocks roots) (append_assoc i.first ended rest) ∙ f.placed roots (ended ++ rest)
           ∙ ap (λ l. in_blocks roots i.first ++ l) (placed_as_far roots number headed.around headed.parameters c.result b.end look rest)
@@ -927,11 +833,6 @@ routine_block_builds here under number name b places lawful old s a t is =
     let standing =
     left_standing here under number headed names s i.middle p.end.passed s.enclosing refl t.standing t.waits_it o.other f i.standing g in
     subst (LeavesBuilt here under (Covers 0 places) old) whole (built, sited, standing)
-  where
-    from_old : {target : Bool} (old s : Passed) (root : ℕ) → s.assigned ≡ old.assigned → (list_any (nat_eq root) s.assigned ≡ true) ⊎ (target ≡ true)
-        → (list_any (nat_eq root) old.assigned ≡ true) ⊎ (target ≡ true)
-    from_old old s root same (inl there) = inl (ap (list_any (nat_eq root)) (sym same) ∙ there)
-    from_old old s root same (inr target) = inr target
 
 -- what stands behind a heading
 pub body_builds : (here : Here) (under : List Region) (begins : Begun) (name : Name) (block : TypedBlock) (places : List Place) → LawfulBody places block

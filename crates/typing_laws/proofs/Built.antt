@@ -2,12 +2,11 @@
 -- ends once, as its heading tells, and what is known of blocks outside stays.
 use Rattle.std.proofs.Common.{◌≡◌, ℕ, ◌+◌, ◌<◌, ◌≤◌, Bool, true, false, ◌&&◌, nat_eq, nat_lt, nat_le, List, [], ◌∷◌, ◌++◌, length, map, Option, Some, None, Ok}
 use Rattle.std.proofs.Common.{option_map, slice_get, refl, sym, ap, subst, ◌∙◌, arith, append_assoc, length-append, inl, inr, ◌⊎◌, suc, zero}
-use Rattle.std.specs.List.{list_any, flat_map, list_all}
+use Rattle.std.specs.List.{list_any}
 use Rattle.std.proofs.lemmas.Bool.Decides.{nat_tests}
 use Rattle.std.proofs.lemmas.Grind.{flat_map-append}
 use Rattle.std.proofs.lemmas.List.{length-map}
 use Rattle.std.proofs.lemmas.Option.{slice_get_within}
-use Rattle.std.proofs.lemmas.List.Folds.{list_all-append}
 use Rattle.scopes.specs.Scopes.{Region}
 use Rattle.typed_tree.specs.declared.tree.FunctionResult.{FunctionResult}
 use Rattle.typed_tree.specs.Ids.{Stands}
@@ -16,7 +15,7 @@ use Rattle.typed_tree.specs.Look.{Mark, Look, BlockEnds, mark_blocks, blocks_of_
 use Rattle.typed_tree.specs.declared.tree.Variable.{Variable}
 use Rattle.typing.specs.Passing.{Enclosing, Headed, Passed, After, Passing, ◌>>◌}
 use Rattle.typing.proofs.Ways.{Of, Way}
-use Rattle.typing_laws.proofs.Grown.{Sited, sited_then, sited_more, both_true, assigned_then, further, grown_further}
+use Rattle.typing_laws.proofs.Grown.{Sited, sited_then, sited_more, both_true, further, grown_further}
 use Rattle.typing_laws.proofs.Steps.{no_sites}
 use Rattle.typing_laws.proofs.Went.{Grows, grow_then, grows, no_mark, same_controls, silent}
 use Rattle.typing_laws.proofs.Headings.{parts_of}
@@ -31,8 +30,6 @@ use Rattle.typing_laws.specs.Controls.{AreUnthreatened, Each, in_blocks, mark_ch
 use Rattle.typing_laws.proofs.Spared.{spared_then}
 use Rattle.typing_laws.proofs.Kept.{each_append, each_more}
 use Rattle.typing_laws.proofs.Placed.{each_pair, each_square}
-use Rattle.typing_laws.specs.Results.{is_target, mark_results}
-use Rattle.typing_laws.proofs.Strings.{both_and}
 
 -- ---- blocks that end
 
@@ -137,9 +134,6 @@ pub record Built (here : Here) (look : Look) (old new : Passed) : Type 0 where
   pub others :
       (number : ℕ) → number < length old.headings → Fails (nat_eq here.block number) → Fails (waits_in old.enclosing.waiting number)
       → variables_of number new.variables ≡ variables_of number old.variables
-  pub assigned :
-      (root : ℕ) → list_any (nat_eq root) new.assigned ≡ true → (list_any (nat_eq root) old.assigned ≡ true) ⊎ (is_target look root ≡ true)
-  pub results : list_all (λ root. list_any (nat_eq root) new.assigned) (flat_map mark_results look) ≡ true
   pub placed : (roots : Mark → List ℕ) (rest : Look) → in_blocks roots (look ++ rest) ≡ in_blocks roots look ++ in_blocks roots rest
   pub over : (block : ℕ) → 0 < count_of block (blocks_of_look look) → IsOver here new block
   pub changed : Each (IsChanged here look new) (in_blocks mark_changes look)
@@ -152,10 +146,10 @@ pub built_further : {here : Here} {look : Look} {old new : Passed} → Built her
     → IsFurther (reached old) (reached new)
 built_further {old = old} {new = new} b = grown_further old new b.grows b.controls_kept
 
-no_fewer : {A : Type 0} (old new : List A) → IsLonger old new → length old ≤ length new
+pub no_fewer : {A : Type 0} (old new : List A) → IsLonger old new → length old ≤ length new
 no_fewer old new longer = omega (arith, ap length longer.goes_on, length-append old longer.more)
 
-between_both : (a b c number : ℕ) → a ≤ b → b ≤ c → one_if (is_between a b number) + one_if (is_between b c number) ≡ one_if (is_between a c number)
+pub between_both : (a b c number : ℕ) → a ≤ b → b ≤ c → one_if (is_between a b number) + one_if (is_between b c number) ≡ one_if (is_between a c number)
 between_both a b c number one two = grind (arith, nat_tests)
 
 none_between : (a number : ℕ) → one_if (is_between a a number) ≡ 0
@@ -175,7 +169,7 @@ waits_no_more {old = old} {new = new} b number there none =
     is_none_if (waits_in new.enclosing.waiting number)
     (omega (arith, b.accounted number, ap one_if none, not_between (length old.headings) (length new.headings) number there))
 
-and_grouped : (a b c : Bool) → (a && (b && c)) ≡ ((a && b) && c)
+pub and_grouped : (a b c : Bool) → (a && (b && c)) ≡ ((a && b) && c)
 and_grouped true b c = refl
 and_grouped false b c = refl
 
@@ -188,7 +182,7 @@ same_variable {variables} {more} root other first second longer same one two =
     some_same : Some first ≡ Some second → first ≡ second
     some_same h = cc
 
-contradicts : {b : Bool} → b ≡ true → b ≡ false → ⊥
+pub contradicts : {b : Bool} → b ≡ true → b ≡ false → ⊥
 contradicts one two = let same : true ≡ false = sym one ∙ two in absurd cc
 
 -- a block that is over doesn't end again
@@ -319,15 +313,6 @@ module _ {here : Here} {look more : Look} {old now new : Passed} (f : Built here
       (each_pair (IsControlled look now) (IsChanged here more new) Apart controls behind first_apart f.controlled g.changed)
       (each_pair (IsControlled more new) (IsChanged here look now) Apart others changes second_apart g.controlled f.changed) g.unthreatened))
 
--- what was assigned stays so
-pub all_later : (now new : Passed) → ((root : ℕ) → list_any (nat_eq root) now.assigned ≡ true → list_any (nat_eq root) new.assigned ≡ true)
-    → (roots : List ℕ) → list_all (λ root. list_any (nat_eq root) now.assigned) roots ≡ true
-    → list_all (λ root. list_any (nat_eq root) new.assigned) roots ≡ true
-all_later now new more [] all = refl
-all_later now new more (root ∷ roots) all =
-    let parts = both_and (list_any (nat_eq root) now.assigned) (list_all (λ r. list_any (nat_eq r) now.assigned) roots) all in
-    both_true _ _ (more root parts.0) (all_later now new more roots parts.1)
-
 pub built_then : {here : Here} {look more : Look} {old now new : Passed} → Built here look old now → Built here more now new
     → Built here (look ++ more) old new
 built_then {here} {look} {more} {old} {now} {new} f g = record {
@@ -346,11 +331,6 @@ built_then {here} {look} {more} {old} {now} {new} f g = record {
   others = λ number there other none.
       let still : number < length now.headings = omega (arith, there, no_fewer old.headings now.headings f.grows.headings) in
       g.others number still other (waits_no_more f number there none) ∙ f.others number there other none;
-  assigned = λ root is. assigned_then look more root (f.assigned root) (g.assigned root is);
-  results =
-      ap (list_all (λ root. list_any (nat_eq root) new.assigned)) (flat_map-append mark_results look more)
-      ∙ list_all-append (λ root. list_any (nat_eq root) new.assigned) (flat_map mark_results look) (flat_map mark_results more)
-      ∙ both_true _ _ (all_later now new g.grows.assigns (flat_map mark_results look) f.results) g.results;
   placed = λ roots rest.
       ap (in_blocks roots) (append_assoc look more rest) ∙ f.placed roots (more ++ rest) ∙ ap (λ l. in_blocks roots look ++ l) (g.placed roots rest)
       ∙ sym (append_assoc (in_blocks roots look) (in_blocks roots more) (in_blocks roots rest))
@@ -378,8 +358,6 @@ built_silent {here} {old} {new} way =
           let as_many = ap (λ (l : List Headed). one_if (is_between (length old.headings) (length l) number)) q.headings in
           omega (arith, waiting, as_many, none_between (length old.headings) number);
       others = λ number there other none. q.others number other;
-      assigned = λ root is. inl (ap (list_any (nat_eq root)) (sym q.assigned) ∙ is);
-      results = refl;
       placed = λ roots rest. refl;
       over = λ block there. absurd (omega (arith, there));
       changed = tt;
@@ -415,7 +393,6 @@ pub record Standing (here : Here) (under : List Region) (s : Passed) : Type 0 wh
   pub ready : Ready here under here.block (heads_passed s.headings) s.variables s
   pub block : s.enclosing.block ≡ here.block
   pub around : s.enclosing.around ≡ here.around
-  pub settled : here.owing ≡ false
   pub stands : StandsIn here (reached s)
   pub waiting : (number : ℕ) → waits_in s.enclosing.waiting number ≡ true → IsOpen here s number
 
@@ -428,7 +405,6 @@ standing_silent {here} {under} {old} {new} st way ready =
       ready = subst (λ h. Ready here under here.block (heads_passed h) new.variables new) (sym q.headings) ready;
       block = ap (λ (e : Enclosing). e.block) q.enclosing ∙ st.block;
       around = ap (λ (e : Enclosing). e.around) q.enclosing ∙ st.around;
-      settled = st.settled;
       stands = stands_later here (reached old) (reached new) (further way) st.stands;
       waiting = λ number waits.
           let o = st.waiting number (ap (λ (e : Enclosing). waits_in e.waiting number) (sym q.enclosing) ∙ waits) in

@@ -1,8 +1,8 @@
 -- What a form does to what is known: it adds sites, entries and perhaps types, and its marks are well formed, as they
 -- are with more sites, types, variables and headings behind. All else stays.
-use Rattle.std.proofs.Common.{◌≡◌, ℕ, ◌<◌, Bool, true, false, nat_eq, refl, ◌&&◌, List, [], ◌∷◌, ◌++◌, length, map, Some, slice_get}
-use Rattle.std.proofs.Common.{append_assoc, length-append, sym, ap, subst, ◌∙◌, arith, ◌||◌, inl, inr, ◌⊎◌}
-use Rattle.std.specs.List.{list_all, flat_map, list_any}
+use Rattle.std.proofs.Common.{◌≡◌, ℕ, ◌<◌, Bool, true, false, nat_eq, refl, ◌&&◌, List, ◌++◌, length, map, Some, slice_get}
+use Rattle.std.proofs.Common.{append_assoc, length-append, sym, ap, subst, ◌∙◌, arith}
+use Rattle.std.specs.List.{list_all, list_any}
 use Rattle.std.proofs.lemmas.List.Folds.{list_all-append}
 use Rattle.std.proofs.lemmas.Grind.{flat_map-append}
 use Rattle.types.specs.Types.{is_ordinal}
@@ -14,7 +14,7 @@ use Rattle.typing.specs.Passing.{Enclosing, Passed}
 use Rattle.typing.proofs.Ways.{Owner, Nobody, Way, Then}
 use Rattle.typing_laws.proofs.Reached.{get_longer, Signature, signature_passed, Head, head_of, Reached, reached, whole_of}
 use Rattle.typing_laws.proofs.Reached.{IsFurther, further_still, mapped_longer, Here, StandsIn, stands_later}
-use Rattle.typing_laws.proofs.Sound.{AreSound, inside_itself, regions_later, or_right}
+use Rattle.typing_laws.proofs.Sound.{AreSound, inside_itself, regions_later}
 use Rattle.typing_laws.proofs.Tables.{AreLawful, AreTexts, stands_longer, is_ordinal_longer}
 use Rattle.typing_laws.specs.Controls.{Each, mark_changes, mark_controls, spared_behind}
 use Rattle.typing_laws.proofs.Spared.{AreHeld, spared_then}
@@ -22,7 +22,6 @@ use Rattle.typing_laws.proofs.Reached.{apart_kept}
 use Rattle.typing_laws.proofs.Went.{Grows, grows, inner, same_controls}
 use Rattle.typing_laws.proofs.Kept.{MayChange, change_later, changes_of, controls_of, each_append, each_more}
 use Rattle.typing_laws.proofs.Owned.{Fails}
-use Rattle.typing_laws.specs.Results.{is_target, mark_targets}
 
 -- ---- headings that were passed
 
@@ -110,9 +109,6 @@ pub record Grown (here : Here) (look : Look) (old new : Passed) : Type 0 where
   pub way : Way true Nobody 0 0 look old new
   pub lawful : AreLawful new.types
   pub texts : AreTexts new.texts
-  pub assigned :
-      here.owing ≡ false → (root : ℕ) → list_any (nat_eq root) new.assigned ≡ true
-      → (list_any (nat_eq root) old.assigned ≡ true) ⊎ (is_target look root ≡ true)
   pub changes : Each (MayChange here (reached new)) (changes_of look)
   pub controls : Each (IsFree here old new) (controls_of look)
   pub formed : (o : Outline) → IsFurther (reached new) (whole_of o) → list_all (is_formed_mark o here.block) look ≡ true
@@ -168,41 +164,6 @@ fine_later {here} {old = old} {new = new} g f =
       fit = fit_later (reached old) (reached new) more (ap (map signature_passed) kept.headings) f.fit;
     }
 
--- a target is one among more
-any_first : (xs ys : List ℕ) (root : ℕ) → list_any (nat_eq root) xs ≡ true → list_any (nat_eq root) (xs ++ ys) ≡ true
-any_first [] ys root is = absurd cc
-any_first (x ∷ xs) ys root is = by (nat_eq root x) (any_first xs ys root) is
-  where
-    by : (test : Bool) → (list_any (nat_eq root) xs ≡ true → list_any (nat_eq root) (xs ++ ys) ≡ true) → (test || list_any (nat_eq root) xs) ≡ true
-        → (test || list_any (nat_eq root) (xs ++ ys)) ≡ true
-    by true more h = refl
-    by false more h = more h
-
-any_second : (xs ys : List ℕ) (root : ℕ) → list_any (nat_eq root) ys ≡ true → list_any (nat_eq root) (xs ++ ys) ≡ true
-any_second [] ys root is = is
-any_second (x ∷ xs) ys root is = or_right (nat_eq root x) (list_any (nat_eq root) (xs ++ ys)) (any_second xs ys root is)
-
-pub target_first : (look more : Look) (root : ℕ) → is_target look root ≡ true → is_target (look ++ more) root ≡ true
-target_first look more root is =
-    subst (λ l. list_any (nat_eq root) l ≡ true) (sym (flat_map-append mark_targets look more))
-    (any_first (flat_map mark_targets look) (flat_map mark_targets more) root is)
-
-pub target_second : (look more : Look) (root : ℕ) → is_target more root ≡ true → is_target (look ++ more) root ≡ true
-target_second look more root is =
-    subst (λ l. list_any (nat_eq root) l ≡ true) (sym (flat_map-append mark_targets look more))
-    (any_second (flat_map mark_targets look) (flat_map mark_targets more) root is)
-
--- assigned in one part or in the other
-pub assigned_then : {before between : Bool} (look more : Look) (root : ℕ)
-    → (between ≡ true → (before ≡ true) ⊎ (is_target look root ≡ true)) → (between ≡ true) ⊎ (is_target more root ≡ true)
-    → (before ≡ true) ⊎ (is_target (look ++ more) root ≡ true)
-assigned_then {before} look more root first (inl there) = by (first there)
-  where
-    by : (before ≡ true) ⊎ (is_target look root ≡ true) → (before ≡ true) ⊎ (is_target (look ++ more) root ≡ true)
-    by (inl old) = inl old
-    by (inr target) = inr (target_first look more root target)
-assigned_then {before} look more root first (inr target) = inr (target_second look more root target)
-
 -- a variable that is threatened later alone is free before
 free_before : (a b : Bool) → (a ≡ true → b ≡ true) → Fails b → Fails a
 free_before true b more is = let same : false ≡ true = sym is ∙ more refl in absurd cc
@@ -215,7 +176,6 @@ grown_then {here} {look} {more} {old} {now} {new} f g = record {
   way = Then f.way g.way;
   lawful = g.lawful;
   texts = g.texts;
-  assigned = λ settled root is. assigned_then look more root (f.assigned settled root) (g.assigned settled root is);
   changes =
       subst (Each (MayChange here (reached new))) (sym (flat_map-append mark_changes look more))
       (each_append (MayChange here (reached new)) (changes_of look) (changes_of more)

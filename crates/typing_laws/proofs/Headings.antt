@@ -279,7 +279,6 @@ result_regions number place (Some id) s a is =
 pub record HeadingAdded (here : Here) (under : List Region) (number : ℕ) (old new : Passed) : Type 0 where
   pub sites : new.sites ≡ old.sites
   pub controls_kept : new.controls ≡ old.controls
-  pub assigned : new.assigned ≡ old.assigned
   pub grows : Grows old new
   pub regions : new.regions ≡ old.regions
   pub enclosing : new.enclosing ≡ old.enclosing
@@ -368,7 +367,7 @@ innermost_sound here variables types heads (region ∷ regions) sound = sound.0
 
 module _ (here : Here) (under : List Region) (number : ℕ) (name : Name) (groups : List FormalGroup) (of_result : Option Name) where
   abbrev inner : Here
-  inner = record { block = number; around = here.around ++ here.block ∷ []; owing = false }
+  inner = record { block = number; around = here.around ++ here.block ∷ [] }
 
   abbrev pending : Head
   pending = record { around = here.around ++ here.block ∷ []; is_function = not (is_none of_result) }
@@ -624,9 +623,9 @@ module _ (here : Here) (under : List Region) (number : ℕ) (name : Name) (group
             ordinal_later r.start.types last.types r.start.variables last.variables root r.ready.base.have_types (grows p.way).types (grows p.way).variables
             (result_ordinal heads r.id r.root r.start root r.result_is r.ordinal told);
         region =
-            subst (λ h. IsSoundRegion (record { block = number; around = headed.around; owing = false }) last.variables last.types h headed.region)
+            subst (λ h. IsSoundRegion (record { block = number; around = headed.around }) last.variables last.types h headed.region)
             (sym same_heads)
-            (subst (λ l. IsSoundRegion (record { block = number; around = l; owing = false }) last.variables last.types heads headed.region) (sym around)
+            (subst (λ l. IsSoundRegion (record { block = number; around = l }) last.variables last.types heads headed.region) (sym around)
             (innermost_sound inner last.variables last.types heads last.regions p.ready.sound));
       } in
       let base =
@@ -647,14 +646,12 @@ module _ (here : Here) (under : List Region) (number : ℕ) (name : Name) (group
       let added : HeadingAdded here under number s new = record {
         sites = (silent p.way).sites ∙ (silent r.way).sites;
         controls_kept = same_controls p.way ∙ same_controls r.way;
-        assigned = (silent p.way).assigned ∙ (silent r.way).assigned;
         grows = record {
           types = types;
           variables = variables;
           headings = longer;
           sites = longer_still (grows r.way).sites (grows p.way).sites;
           threats = λ root is. (grows p.way).threats root ((grows r.way).threats root is);
-          assigns = λ root is. (grows p.way).assigns root ((grows r.way).assigns root is);
         };
         regions = regions;
         enclosing = refl;

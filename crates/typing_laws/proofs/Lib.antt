@@ -12,6 +12,7 @@ pub mod Unthreatened
 pub mod Grown
 mod Numbers
 mod Went
+mod Assigned
 pub mod Steps
 pub mod Strings
 mod Copies

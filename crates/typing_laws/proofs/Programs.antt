@@ -1,8 +1,8 @@
 -- The law of typing: what each typed program has.
 use Rattle.std.proofs.Common.{◌≡◌, ℕ, zero, suc, ◌+◌, ◌<◌, ◌≤◌, true, false, ◌&&◌, nat_eq, nat_lt, nat_le, List, [], ◌∷◌, ◌++◌, length, map, Option, Some, None}
-use Rattle.std.proofs.Common.{Ok, slice_get, refl, sym, ap, ap₂, subst, ◌∙◌, arith, append_assoc, Bool, inl, inr, option_map, ◌⊎◌}
+use Rattle.std.proofs.Common.{Ok, slice_get, refl, sym, ap, ap₂, subst, ◌∙◌, arith, append_assoc}
 use Rattle.std.specs.Prelude.{IsPermutation}
-use Rattle.std.specs.List.{range_with_len, list_all, flat_map, list_any}
+use Rattle.std.specs.List.{range_with_len, list_all}
 use Rattle.std.proofs.lemmas.Bool.Decides.{nat_tests}
 use Rattle.std.proofs.lemmas.Grind.{flat_map-append}
 use Rattle.std.proofs.lemmas.List.{length-map}
@@ -29,13 +29,13 @@ use Rattle.typing.proofs.WalkedBlocks.{typing_goes}
 use Rattle.typing.proofs.Ways.{Anyone, Way}
 use Rattle.typing_laws.specs.Lawful.{IsOutlineOf, Lawful}
 use Rattle.typing_laws.proofs.Blocks.{block_lawful}
-use Rattle.typing_laws.proofs.Bodies.{closed, closed_blocks, closed_formed, fine_standing, unthreatened_at_end, results_end}
-use Rattle.typing_laws.proofs.Bodies.{target_ended}
+use Rattle.typing_laws.proofs.Bodies.{closed, closed_blocks, closed_formed, fine_standing, unthreatened_at_end}
 use Rattle.typing_laws.proofs.Built.{AreEnds, Built, Builds, EndsSo, HasSite, Standing, built_then, ends_append, ends_later, is_between, keeps_builds, no_ends}
 use Rattle.typing_laws.proofs.Covers.{Covers, covers_behind, covers_both, covers_skip}
 use Rattle.typing_laws.proofs.Declarations.{parameter_keeps}
+use Rattle.typing_laws.proofs.Assigned.{results_assigned}
 use Rattle.typing_laws.proofs.Went.{grows, inner}
-use Rattle.typing_laws.proofs.Grown.{Grown, sited_then, both_true, fine_later, further, grown_then, assigned_then}
+use Rattle.typing_laws.proofs.Grown.{Grown, sited_then, both_true, fine_later, further, grown_then}
 use Rattle.typing_laws.proofs.Headings.{heads_count, parts_of}
 use Rattle.typing_laws.proofs.Keeping.{before, behind, each_keeps}
 use Rattle.typing_laws.proofs.Numbers.{entries_go, few_entries, few_sites, loops_go}
@@ -45,18 +45,17 @@ use Rattle.typing_laws.proofs.Owned.{cells_of_block}
 use Rattle.typing_laws.proofs.Reached.{same_longer, get_longer, mapped_get, Here, reached, whole_of, signature_of, signature_passed, IsFurther, further_still}
 use Rattle.typing_laws.proofs.Ready.{Base, IsHeaded, base_types, heads_passed}
 use Rattle.typing_laws.proofs.Sound.{IsSound, opened_holds, required_sound}
-use Rattle.typing_laws.proofs.Strings.{behind_nothing, both_and}
+use Rattle.typing_laws.proofs.Strings.{behind_nothing}
 use Rattle.typing_laws.proofs.Tables.{no_texts, required_lawful}
 use Rattle.typing_laws.proofs.Waiting.{count_append, count_of, count_range, one_if, same_counts, waits_in}
 use Rattle.typing_laws.specs.Controls.{AreUnthreatened, mark_changes, mark_controls, spared_behind}
 use Rattle.typing_laws.proofs.Spared.{none_held, spared_then}
 use Rattle.typing_laws.proofs.Placed.{placed_inner}
-use Rattle.typing_laws.specs.Results.{are_assigned, is_target, mark_results}
 
 -- ---- where a program begins
 
 abbrev program_here : Here
-program_here = record { block = 0; around = []; owing = false }
+program_here = record { block = 0; around = [] }
 
 abbrev round_it : List Region
 round_it = required_region ∷ []
@@ -108,7 +107,6 @@ begins_standing program block = record {
   };
   block = refl;
   around = refl;
-  settled = refl;
   stands = (signature_passed program_heading, refl, refl);
   waiting = λ number waits. absurd cc;
 }
@@ -124,7 +122,7 @@ parameters_build names =
 record Whole (program : Program) (a : After (Unit {0})) : Type 0 where
   pub start : Passed
   pub starts : (start.sites ≡ []) × (length start.headings ≡ 1)
-      × ((number : ℕ) → waits_in start.enclosing.waiting number ≡ false) × (start.assigned ≡ [])
+      × ((number : ℕ) → waits_in start.enclosing.waiting number ≡ false)
   pub first : Look
   pub middle : Passed
   pub built : Built program_here first start middle
@@ -135,7 +133,6 @@ record Whole (program : Program) (a : After (Unit {0})) : Type 0 where
   pub headed : Headed
   pub result : Option FunctionResult
   pub end : Place
-  pub own : (root : ℕ) → option_map (λ (r : FunctionResult). r.root) result ≡ Some root → list_any (nat_eq root) a.passed.assigned ≡ true
   pub ends : EndsSo (reached a.passed) 0 headed.around headed.parameters result
   pub look : a.look ≡ first ++ (second ++ (BlockEnds 0 headed.around headed.parameters result end ∷ []))
   pub added : List Stands
@@ -182,7 +179,7 @@ whole program a is =
     let sites : y.second.passed.sites ≡ sited.added = sited.sites ∙ ap (λ l. l ++ sited.added) (p.1.sites ∙ p.1.covered) in
     subst (Whole program) made (record {
       start = s1;
-      starts = (refl, refl, (λ number. refl), refl);
+      starts = (refl, refl, (λ number. refl));
       first = x.first.look ++ i.first;
       middle = i.middle;
       built = f;
@@ -193,7 +190,6 @@ whole program a is =
       headed = program_heading;
       result = c.result;
       end = block.end;
-      own = λ root told. (grows c.grown.way).assigns root (c.assigned root (sym c.ends.0 ∙ told));
       ends = record {
         signature = signature_passed program_heading;
         is_there = at_end;
@@ -289,35 +285,6 @@ module _ (program : Program) (a : After (Unit {0})) (w : Whole program a) where
       ap (spared_behind []) w.look
       ∙ spared_then [] w.first ended w.built.spared (spared_then [] w.second (mark_end ∷ []) (w.grown.spared [] (none_held w.middle.controls)) refl)
 
-  -- each result is assigned
-  has_results : are_assigned a.look ≡ true
-  has_results =
-      let all =
-      results_end w.first w.second 0 w.headed.around w.headed.parameters w.result w.end w.middle a.passed w.built.results (grows w.grown.way).assigns (inner w.grown.way).ends w.own in
-      ap are_assigned w.look ∙ targets (flat_map mark_results (w.first ++ ended)) all
-    where
-      empty : (root : ℕ) → list_any (nat_eq root) w.start.assigned ≡ true → ⊥
-      empty root is = no (sym (ap (list_any (nat_eq root)) w.starts.3) ∙ is)
-        where
-          no : ◌≡◌ {A = Bool} false true → ⊥
-          no h = absurd cc
-
-      from_start : (root : ℕ) {target : Bool} → (list_any (nat_eq root) w.start.assigned ≡ true) ⊎ (target ≡ true) → target ≡ true
-      from_start root (inl there) = absurd (empty root there)
-      from_start root (inr target) = target
-
-      told : (root : ℕ) → list_any (nat_eq root) a.passed.assigned ≡ true → is_target (w.first ++ ended) root ≡ true
-      told root is =
-          from_start root
-          (assigned_then w.first ended root (w.built.assigned root) (target_ended w.second mark_end root (w.grown.assigned refl root is)))
-
-      targets : (roots : List ℕ) → list_all (λ root. list_any (nat_eq root) a.passed.assigned) roots ≡ true
-          → list_all (is_target (w.first ++ ended)) roots ≡ true
-      targets [] all = refl
-      targets (root ∷ roots) all =
-          let parts = both_and (list_any (nat_eq root) a.passed.assigned) (list_all (λ r. list_any (nat_eq r) a.passed.assigned) roots) all in
-          both_true _ _ (told root parts.0) (targets roots parts.1)
-
   -- the types, variables and headings fit each other
   base : Base a.passed.types a.passed.variables a.passed.headings (length (heads_passed a.passed.headings))
   base =
@@ -399,7 +366,7 @@ module _ (program : Program) (a : After (Unit {0})) (w : Whole program a) where
         subst (λ n. list_all (λ (v : Variable). nat_lt v.block n) a.passed.variables ≡ true) (heads_count a.passed.headings) base.by_blocks;
     unthreatened = has_controls;
     spared = are_spared;
-    assigned = has_results;
+    assigned = results_assigned way refl;
     few_sites = few_sites way (omega arith);
     types = w.grown.lawful.begin;
     by_place = λ order. subst AreByPlace (sym w.sites) (covers_by_place (program_places program) w.added order w.covered);

@@ -58,7 +58,6 @@ pub record Began (here : Here) (under : List Region) (number : ℕ) (old new : P
   pub number_is : number ≡ length old.headings
   pub sites : new.sites ≡ old.sites
   pub controls_kept : new.controls ≡ old.controls
-  pub assigned : new.assigned ≡ old.assigned
   pub grows : Grows old new
   pub one_more : length new.headings ≡ length old.headings + 1
   pub waiting : new.enclosing.waiting ≡ old.enclosing.waiting
@@ -167,7 +166,6 @@ module _ (here : Here) (under : List Region) where
             number_is = refl;
             sites = added.sites;
             controls_kept = added.controls_kept;
-            assigned = added.assigned;
             grows = added.grows;
             one_more = ap length added.headings ∙ length-append s.headings (added.headed ∷ []);
             waiting = ap (λ (e : Enclosing). e.waiting) added.enclosing;
@@ -176,7 +174,6 @@ module _ (here : Here) (under : List Region) where
               ready = added.ready;
               block = ap (λ (e : Enclosing). e.block) added.enclosing ∙ st.block;
               around = ap (λ (e : Enclosing). e.around) added.enclosing ∙ st.around;
-              settled = st.settled;
               stands = stands_later here (reached s) (reached new) (grown_further s new added.grows added.controls_kept) st.stands;
               waiting = λ block waits.
                   let o = st.waiting block (ap (λ (e : Enclosing). waits_in e.waiting block) (sym added.enclosing) ∙ waits) in

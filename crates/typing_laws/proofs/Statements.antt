@@ -144,7 +144,7 @@ module _ (here : Here) where
   value_does false to becomes places value led is law = copied_does to.type_id becomes places value led.stands is law
 
   assignment_does : (name : Name) (selectors : List Selector) (rows : List (List Place)) (ws : List Written) (becomes : Place) (places : List Place)
-      (value : Written) → ((h : Here) → AreLawfulRows h rows ws) → LawfulWritten here places value
+      (value : Written) → AreLawfulRows here rows ws → LawfulWritten here places value
       → LawfulStatement (name.place ∷ (selector_places selectors rows ++ (becomes ∷ places))) (assignment name selectors ws becomes value)
   unfolding assignment
   assignment_does name selectors rows ws becomes places value laws law = record {
@@ -486,7 +486,7 @@ module _ (here : Here) where
   statement_layer (layer.Assign name selectors indexes becomes value) =
       from_layer (layer.Assign name selectors indexes becomes value)
       (assignment_does name selectors.items (map expr_places indexes.items) (map expression indexes.items) becomes (expr_places value) (expression value)
-      (λ h. indexes_lawful h indexes.items) (expression_lawful here value))
+      (indexes_lawful here indexes.items) (expression_lawful here value))
   statement_layer (layer.Call name actuals) = from_layer (layer.Call name actuals) (call_does name actuals.items)
   statement_layer (layer.Compound statements) = from_layer (bare (layer.Compound statements)) (compound_does _ _ (row_lawful statements.items))
   statement_layer (layer.If place condition consequence None) =

@@ -1,11 +1,10 @@
 -- What the steps of typing do, and what they do one after another.
 use Rattle.std.proofs.Common.{◌≡◌, ℕ, ◌+◌, ◌-◌, ◌<◌, Bool, true, false, nat_eq, nat_le, take, Result, List, [], ◌∷◌, ◌++◌, length, Option, Some, None, Ok, Err}
-use Rattle.std.proofs.Common.{if◌then◌else◌, get_or, slice_get, ◌&&◌, not, append-nil, length-append, refl, sym, ap, subst, ◌∙◌, arith, ◌||◌, inl, ◌⊎◌}
+use Rattle.std.proofs.Common.{if◌then◌else◌, get_or, slice_get, ◌&&◌, not, append-nil, length-append, refl, sym, ap, subst, ◌∙◌, arith, ◌||◌}
 use Rattle.std.specs.List.{list_any, list_all, flat_map}
 use Rattle.std.specs.Option.{option_and_then}
 use Rattle.std.proofs.lemmas.Grind.{flat_map-append}
 use Rattle.std.proofs.lemmas.List.Folds.{list_all-append, list_any-append}
-use Rattle.std.proofs.lemmas.Bool.Decides.{nat_tests}
 use Rattle.std.proofs.lemmas.Bool.{eq-eqb}
 use Rattle.place.specs.declared.Place.{Place}
 use Rattle.syntax_tree.specs.declared.Name.{Name}
@@ -26,11 +25,12 @@ use Rattle.typed_tree.specs.Look.{For, Controls, ForEnds, Mark, Look, is_formed_
 use Rattle.typing.specs.Passing.{Enclosing, Passed, Checked, After, Passing, and_then, after, pure, fail, given, by_types, mark, behind_marks, ◌>>=◌, ◌>>?◌}
 use Rattle.typing.specs.Steps.{most_sites, pass, enter, enter_as, number_loop, begin_loop, enter_loop, site, find, told, may_change}
 use Rattle.typing.specs.Steps.{begin_control, end_control, wants_output, host_type, text_at, keep_text, is_own, is_local, may_control, with_one}
-use Rattle.typing.specs.Steps.{with_threatened, assign_result, enclosing_now, heading_at, variable_at, program_heading}
+use Rattle.typing.specs.Steps.{with_threatened, enclosing_now, heading_at, variable_at, program_heading}
 use Rattle.typing.specs.Expressions.{behind}
 use Rattle.typing.specs.Statements.{for_body}
 use Rattle.typing.specs.Names.{folded}
-use Rattle.typing.proofs.Ways.{numbers_of, Nobody, Way, Stay, One, Controlled, Token, Entry, Loop, Marked, Site, Threat, Assign, Text}
+pub use Rattle.typing.proofs.Ways.{below}
+use Rattle.typing.proofs.Ways.{numbers_of, Nobody, Way, Stay, One, Controlled, Token, Entry, Loop, Marked, Site, Threat, Text, Assigned, with_result}
 use Rattle.typing_laws.proofs.Covers.{at_place}
 use Rattle.typing_laws.proofs.Grown.{heads_of, FitsHeading, Fine, Grown, Sited, sited_then, sited_more, further, fine_later, grown_then, both_true, IsFree}
 use Rattle.typing_laws.proofs.Reached.{get_longer, get_mapped, get_or_is, Signature, signature_passed, Reached, reached, whole_of, IsFurther}
@@ -38,7 +38,7 @@ use Rattle.typing_laws.proofs.Reached.{as_far, further_still, Here, StandsIn}
 use Rattle.typing_laws.proofs.Sound.{IsSound, found_holds, IsVariable, or_right}
 use Rattle.typing_laws.proofs.Tables.{AreLawful, AreTexts, texts_more}
 use Rattle.typing_laws.specs.Controls.{Each, is_bracket, mark_changes, mark_controls, spared_behind}
-use Rattle.typing_laws.specs.Results.{mark_targets}
+use Rattle.typing_laws.specs.Results.{is_target}
 use Rattle.typing_laws.proofs.Kept.{MayChange, change_later, changes_of, controls_of, each_more}
 use Rattle.typing_laws.proofs.Went.{ended_control, same_controls}
 use Rattle.typing_laws.proofs.Spared.{AreHeld, apart_held, one_mark, spared_append}
@@ -77,9 +77,6 @@ split_unless false fault a b h = (refl, cc)
 pub split_if : {A : Type 0} (test : Bool) (fault : TypeFault) (a b : A) → (if test then Ok a else Err fault) ≡ Ok b → (test ≡ true) × (a ≡ b)
 split_if true fault a b h = (refl, cc)
 split_if false fault a b h = absurd cc
-
-pub below : (a b : ℕ) → nat_le a b ≡ false → b < a
-below a b h = grind (arith, nat_tests)
 
 -- ---- one after another
 
@@ -173,26 +170,24 @@ no_sites {s} is = record { added = []; sites = is ∙ sym (append-nil s.sites); 
 
 -- without a mark
 pub grown_plain : {here : Here} {s new : Passed} → Way true Nobody 0 0 [] s new → AreLawful new.types → AreTexts new.texts
-    → (here.owing ≡ false → (root : ℕ) → list_any (nat_eq root) new.assigned ≡ true → list_any (nat_eq root) s.assigned ≡ true) → Grown here [] s new
-grown_plain way lawful texts assigned = record {
+    → Grown here [] s new
+grown_plain way lawful texts = record {
   way = way;
   lawful = lawful;
   texts = texts;
-  assigned = λ settled root is. inl (assigned settled root is);
   changes = tt;
   controls = tt;
   formed = λ o h. refl;
   spared = λ roots held. refl;
 }
 
--- a step that leaves the types, the texts, the sites and what is assigned
+-- a step that leaves the types, the texts and the sites
 pub silent_leaves : {here : Here} {A : Type 0} (K : A → Reached → Type 0) {s new : Passed} {x : A} {a : After A} → after x [] new ≡ a
-    → Way true Nobody 0 0 [] s new → new.types ≡ s.types → new.texts ≡ s.texts → new.sites ≡ s.sites → new.assigned ≡ s.assigned → Fine here s
+    → Way true Nobody 0 0 [] s new → new.types ≡ s.types → new.texts ≡ s.texts → new.sites ≡ s.sites → Fine here s
     → K x (reached new) → Leaves here Nothing s K a
-silent_leaves {here} K {s = s} same way types texts sites assigned fine known =
+silent_leaves {here} K {s = s} same way types texts sites fine known =
     subst (Leaves here Nothing s K) same (
-      grown_plain way (subst AreLawful (sym types) fine.lawful) (subst AreTexts (sym texts) fine.texts)
-          (λ settled root there. ap (list_any (nat_eq root)) (sym assigned) ∙ there),
+      grown_plain way (subst AreLawful (sym types) fine.lawful) (subst AreTexts (sym texts) fine.texts),
       no_sites sites,
       known,
     )
@@ -202,13 +197,13 @@ unfolding pass
 pass_does place = record {
   does = λ s a is fine h.
       let same : after tt [] (record s { latest = place }) ≡ a = cc in
-      silent_leaves Anything same (One (Token place)) refl refl refl refl fine tt;
+      silent_leaves Anything same (One (Token place)) refl refl refl fine tt;
 }
 
 pub pure_does : {here : Here} {least : Reached} {A : Type 0} {K : A → Reached → Type 0} (x : A)
     → ((now : Reached) → IsFurther least now → K x now) → Does here least Nothing (pure x) K
 pure_does {K = K} x known = record {
-  does = λ s a is fine h. let same : after x [] s ≡ a = cc in silent_leaves K same Stay refl refl refl refl fine (known (reached s) h);
+  does = λ s a is fine h. let same : after x [] s ≡ a = cc in silent_leaves K same Stay refl refl refl fine (known (reached s) h);
 }
 
 pub given_does : {here : Here} {least : Reached} {A : Type 0} (checked : Checked A)
@@ -217,7 +212,7 @@ given_does checked = record {
   does = λ s a is fine h.
       let x = split checked (λ b. Ok (after b [] s)) a is in
       let same : after x.0 [] s ≡ a = cc in
-      silent_leaves (λ x now. checked ≡ Ok x) same Stay refl refl refl refl fine x.1;
+      silent_leaves (λ x now. checked ≡ Ok x) same Stay refl refl refl fine x.1;
 }
 
 pub by_types_does : {here : Here} {least : Reached} {A : Type 0} (test : List Form → Checked A)
@@ -226,7 +221,7 @@ by_types_does test = record {
   does = λ s a is fine h.
       let x = split (test s.types) (λ b. Ok (after b [] s)) a is in
       let same : after x.0 [] s ≡ a = cc in
-      silent_leaves (λ x now. AreLawful now.types × (test now.types ≡ Ok x)) same Stay refl refl refl refl fine (fine.lawful, x.1);
+      silent_leaves (λ x now. AreLawful now.types × (test now.types ≡ Ok x)) same Stay refl refl refl fine (fine.lawful, x.1);
 }
 
 pub fail_does : {here : Here} {least : Reached} {A : Type 0} {Has : List Stands → Type 0} {K : A → Reached → Type 0} (why : TypeFault)
@@ -250,7 +245,7 @@ find_does {here} name = record {
       let x = split (told name.place (found s.regions text)) (λ denotation. Ok (after denotation [] (record s { latest = name.place }))) a is in
       let same : after x.0 [] (record s { latest = name.place }) ≡ a = cc in
       let there = found_holds (IsSound here s.variables s.types (heads_of (reached s))) s.regions text x.0 fine.sound (by (found s.regions text) x.0 x.1) in
-      silent_leaves (IsFound here) same (One (Token name.place)) refl refl refl refl fine (there, fine.stands);
+      silent_leaves (IsFound here) same (One (Token name.place)) refl refl refl fine (there, fine.stands);
 }
   where
     by : (r : Result Denotation ScopeFault) (d : Denotation) → told name.place r ≡ Ok d → r ≡ Ok d
@@ -262,7 +257,7 @@ unfolding wants_output
 wants_output_does {here} place = record {
   does = λ s a is fine h.
       let x = split_if s.has_output (fault.NotProgramParameter place) (after tt [] s) a is in
-      silent_leaves Anything x.1 Stay refl refl refl refl fine tt;
+      silent_leaves Anything x.1 Stay refl refl refl fine tt;
 }
 
 -- ---- marks
@@ -287,7 +282,6 @@ marked_does {here} {least} one none plain changes no_control formed = record {
           way = One (Marked one none);
           lawful = fine.lawful;
           texts = fine.texts;
-          assigned = λ settled root is. inl is;
           changes = changes (reached s) h;
           controls = subst (λ (l : List ℕ). Each (IsFree here s s) (l ++ [])) (sym no_control) tt;
           formed = λ o more. both_true _ true (formed o (further_still h more)) refl;
@@ -335,7 +329,6 @@ enter_does {here} {least} marked entry no_change plain formed = record {
           way = One (Entry (marked number) (below most_entries s.entries y.0) (entry number));
           lawful = fine.lawful;
           texts = fine.texts;
-          assigned = λ settled root is. inl is;
           changes = subst (λ (l : List ℕ). Each (MayChange here (reached new)) (l ++ [])) (sym (no_change number)) tt;
           controls = subst (λ (l : List ℕ). Each (IsFree here s new) (l ++ [])) (sym (no_control (marked number) (no_change number))) tt;
           formed = λ o more. both_true _ true (formed number o (further_still h more)) refl;
@@ -378,7 +371,6 @@ enter_loop_at {here} marked loop plain s a changes controls formed fine is = by 
             way = One (Loop made (below most_entries s.entries test) (loop s.entries s.loops));
             lawful = fine.lawful;
             texts = fine.texts;
-            assigned = λ settled root is. inl is;
             changes = changes s.entries s.loops;
             controls = controls s.entries s.loops new refl;
             formed = λ o more. both_true _ true (formed s.entries s.loops o more) refl;
@@ -441,7 +433,7 @@ may_change_does {here} {least} place root type_id known = record {
         → Leaves here Nothing s (λ _ now. MayChange here now root)
         (after (tt {0}) [] (if test then s else record s { threatened = with_one s.threatened root }))
     by s true own fine there apart =
-        silent_leaves (λ (_ : Unit {0}) now. MayChange here now root) refl Stay refl refl refl refl fine (record {
+        silent_leaves (λ (_ : Unit {0}) now. MayChange here now root) refl Stay refl refl refl fine (record {
           variable = known.variable;
           is_there = there;
           is_visible = known.is_visible;
@@ -449,7 +441,7 @@ may_change_does {here} {least} place root type_id known = record {
           apart = apart;
         })
     by s false own fine there apart =
-        silent_leaves (λ (_ : Unit {0}) now. MayChange here now root) refl (One (Threat root)) refl refl refl refl fine (record {
+        silent_leaves (λ (_ : Unit {0}) now. MayChange here now root) refl (One (Threat root)) refl refl refl fine (record {
           variable = known.variable;
           is_there = there;
           is_visible = known.is_visible;
@@ -566,9 +558,6 @@ module _ (root : ℕ) (look : Look) (s new : Passed) where
     way = Controlled root g.way;
     lawful = g.lawful;
     texts = g.texts;
-    assigned = λ settled other is.
-        subst (λ (targets : List ℕ). (list_any (nat_eq other) s.assigned ≡ true) ⊎ (list_any (nat_eq other) targets ≡ true))
-        (sym (ended_flat mark_targets look refl)) (g.assigned settled other is);
     changes =
         subst (Each (MayChange here (reached behind_it))) (sym (ended_flat mark_changes look refl))
         (each_more (MayChange here (reached new)) (MayChange here (reached behind_it)) (changes_of look) (λ other m. record {
@@ -670,7 +659,7 @@ unfolding enclosing_now
 enclosing_now_does {here} = record {
   does = λ s a is fine h.
       let same : after s.enclosing [] s ≡ a = cc in
-      silent_leaves (λ (e : Enclosing) now. (e.block ≡ here.block) × (e.around ≡ here.around)) same Stay refl refl refl refl fine (fine.block, fine.around);
+      silent_leaves (λ (e : Enclosing) now. (e.block ≡ here.block) × (e.around ≡ here.around)) same Stay refl refl refl fine (fine.block, fine.around);
 }
 
 -- the heading of a block that was passed tells what is so
@@ -683,7 +672,7 @@ heading_at_does {here} block signature there = record {
       let at = get_mapped signature_passed s.headings block signature known in
       let found : get_or s.headings block program_heading ≡ at.0 = get_or_is s.headings block program_heading at.0 at.1 in
       let same : after (get_or s.headings block program_heading) [] s ≡ a = cc in
-      silent_leaves (λ headed now. (signature_passed headed ≡ signature) × FitsHeading now block signature) same Stay refl refl refl refl fine
+      silent_leaves (λ headed now. (signature_passed headed ≡ signature) × FitsHeading now block signature) same Stay refl refl refl fine
       (ap signature_passed found ∙ at.2, fine.fit.fits block signature known);
 }
 
@@ -693,22 +682,34 @@ unfolding variable_at
 variable_at_does {here} root = record {
   does = λ s a is fine h.
       let same : after (slice_get s.variables root) [] s ≡ a = cc in
-      silent_leaves (λ found now. slice_get now.variables root ≡ found) same Stay refl refl refl refl fine refl;
+      silent_leaves (λ found now. slice_get now.variables root ≡ found) same Stay refl refl refl fine refl;
 }
 
--- the target of what is assigned comes behind
-pub assign_result_does : {here : Here} {least : Reached} (root : ℕ) → here.owing ≡ true → Does here least Nothing (assign_result root) Anything
-unfolding assign_result
-assign_result_does {here} root owing = record {
-  does = λ s a is fine h.
-      let new : Passed = record s { assigned = with_one s.assigned root } in
-      let same : after tt [] new ≡ a = cc in
-      subst (Leaves here Nothing s Anything) same
-      (grown_plain (One (Assign root)) fine.lawful fine.texts (λ settled other is. absurd (no (sym owing ∙ settled))), no_sites refl, tt);
+-- a result is assigned, and then its target is told
+pub fine_with_result : {here : Here} (s : Passed) (root : ℕ) → Fine here s → Fine here (with_result root s)
+fine_with_result s root fine = record {
+  sound = fine.sound;
+  lawful = fine.lawful;
+  texts = fine.texts;
+  block = fine.block;
+  around = fine.around;
+  stands = fine.stands;
+  fit = fine.fit;
 }
-  where
-    no : ◌≡◌ {A = Bool} true false → ⊥
-    no h = absurd cc
+
+pub grown_assigned : {here : Here} {look : Look} {s new : Passed} (root : ℕ) → is_target look root ≡ true → Grown here look (with_result root s) new
+    → Grown here look s new
+grown_assigned {here} {look} {s} {new} root told g = record {
+  way = Assigned root g.way told;
+  lawful = g.lawful;
+  texts = g.texts;
+  changes = g.changes;
+  controls =
+      each_more (IsFree here (with_result root s) new) (IsFree here s new) (controls_of look)
+      (λ other c. record { variable = c.variable; is_there = c.is_there; own = c.own; free = c.free }) g.controls;
+  formed = g.formed;
+  spared = g.spared;
+}
 
 -- ---- texts
 
@@ -718,7 +719,7 @@ unfolding text_at
 text_at_does {here} {least} number = record {
   does = λ s a is fine h.
       let same : after (get_or s.texts number []) [] s ≡ a = cc in
-      silent_leaves (λ text now. are_characters text ≡ true) same Stay refl refl refl refl fine (fine.texts number);
+      silent_leaves (λ text now. are_characters text ≡ true) same Stay refl refl refl fine (fine.texts number);
 }
 
 pub keep_text_does : {here : Here} {least : Reached} (text : List ℕ) → are_characters text ≡ true
@@ -729,7 +730,7 @@ keep_text_does {here} {least} text is_text = record {
       let new : Passed = record s { texts = s.texts ++ text ∷ [] } in
       let same : after (length s.texts) [] new ≡ a = cc in
       subst (Leaves here Nothing s Anything) same
-      (grown_plain (One (Text text)) fine.lawful (texts_more s.texts text fine.texts is_text) (λ settled root is. is), no_sites refl, tt);
+      (grown_plain (One (Text text)) fine.lawful (texts_more s.texts text fine.texts is_text), no_sites refl, tt);
 }
 
 -- ---- sites
@@ -743,7 +744,7 @@ site_does {here} {least} kind place = record {
       let y = split_unless (nat_le most_sites (length s.sites)) (fault.TooMany place) (after (length s.sites) [] new) a is in
       let counted = length-append s.sites ((kind, place) ∷ []) in
       subst (Leaves here (λ added. added ≡ (kind, place) ∷ []) s (λ id now. id < now.sites)) y.1 (
-        grown_plain (One (Site kind place (below most_sites (length s.sites) y.0))) fine.lawful fine.texts (λ settled root is. is),
+        grown_plain (One (Site kind place (below most_sites (length s.sites) y.0))) fine.lawful fine.texts,
         record { added = (kind, place) ∷ []; sites = refl; covered = refl },
         omega (arith, counted),
       );

@@ -9,8 +9,8 @@ use Rattle.typed_tree.specs.Ids.{Stands}
 use Rattle.typed_tree.specs.WellFormed.{variables_of}
 use Rattle.typing.specs.Passing.{Headed, Passed}
 use Rattle.typing.specs.Steps.{with_one}
-use Rattle.typing.proofs.Ways.{Owner, Nobody, Of, Step, Entry, Loop, Marked, Site, Threat, Assign, Typed, Define, Declare, Heading, Token}
-use Rattle.typing.proofs.Ways.{Way, Stay, One, Then, Controlled}
+use Rattle.typing.proofs.Ways.{Owner, Nobody, Of, Step, Entry, Loop, Marked, Site, Threat, Typed, Define, Declare, Heading, Token}
+use Rattle.typing.proofs.Ways.{Way, Stay, One, Then, Controlled, Assigned}
 use Rattle.typing_laws.proofs.Owned.{Fails, others_kept}
 use Rattle.typing_laws.proofs.Reached.{IsLonger, as_long, longer_still, one_longer}
 
@@ -40,7 +40,6 @@ pub record Heap : Type 0 where
   pub headings : List Headed
   pub sites : List Stands
   pub threatened : List ℕ
-  pub assigned : List ℕ
 
 abbrev pub heap_of : Passed → Heap
 heap_of s = record {
@@ -49,17 +48,15 @@ heap_of s = record {
   headings = s.headings;
   sites = s.sites;
   threatened = s.threatened;
-  assigned = s.assigned;
 }
 
--- the types, the variables, the headings and the sites are those before and perhaps more; what is threatened or assigned stays so
+-- the types, the variables, the headings and the sites are those before and perhaps more; what is threatened stays so
 pub record IsHigher (old new : Heap) : Type 0 where
   pub types : IsLonger old.types new.types
   pub variables : IsLonger old.variables new.variables
   pub headings : IsLonger old.headings new.headings
   pub sites : IsLonger old.sites new.sites
   pub threats : (root : ℕ) → list_any (nat_eq root) old.threatened ≡ true → list_any (nat_eq root) new.threatened ≡ true
-  pub assigns : (root : ℕ) → list_any (nat_eq root) old.assigned ≡ true → list_any (nat_eq root) new.assigned ≡ true
 
 abbrev pub Grows : Passed → Passed → Type 0
 Grows old new = IsHigher (heap_of old) (heap_of new)
@@ -71,7 +68,6 @@ as_high = record {
   headings = as_long;
   sites = as_long;
   threats = λ root is. is;
-  assigns = λ root is. is;
 }
 
 pub grow_then : {old now new : Heap} → IsHigher old now → IsHigher now new → IsHigher old new
@@ -81,7 +77,6 @@ grow_then f g = record {
   headings = longer_still f.headings g.headings;
   sites = longer_still f.sites g.sites;
   threats = λ root is. g.threats root (f.threats root is);
-  assigns = λ root is. g.assigns root (f.assigns root is);
 }
 
 types_grow : {acts : Bool} {owner : Owner} {from to : ℕ} {look : Look} {old new : Passed} → Step acts owner from to look old new → IsLonger old.types new.types
@@ -107,11 +102,6 @@ threats_grow : {acts : Bool} {owner : Owner} {from to : ℕ} {look : Look} {old 
 threats_grow {old = old} (Threat one) root is = kept_with old.threatened one root is
 threats_grow other root is = is
 
-assigns_grow : {acts : Bool} {owner : Owner} {from to : ℕ} {look : Look} {old new : Passed} → Step acts owner from to look old new → (root : ℕ)
-    → list_any (nat_eq root) old.assigned ≡ true → list_any (nat_eq root) new.assigned ≡ true
-assigns_grow {old = old} (Assign one) root is = kept_with old.assigned one root is
-assigns_grow other root is = is
-
 pub grows : {acts : Bool} {owner : Owner} {from to : ℕ} {look : Look} {old new : Passed} → Way acts owner from to look old new → Grows old new
 grows Stay = as_high
 grows (One step) = record {
@@ -120,10 +110,10 @@ grows (One step) = record {
   headings = headings_grow step;
   sites = sites_grow step;
   threats = threats_grow step;
-  assigns = assigns_grow step;
 }
 grows (Then first second) = grow_then (grows first) (grows second)
 grows (Controlled root way) = grows way
+grows (Assigned root way told) = grows way
 
 -- ---- control variables
 
@@ -147,6 +137,7 @@ pub same_controls : {acts : Bool} {owner : Owner} {from to : ℕ} {look : Look} 
 same_controls Stay = refl
 same_controls (One step) = controls_step step
 same_controls (Then first second) = same_controls second ∙ same_controls first
+same_controls (Assigned root way told) = same_controls way
 same_controls {old = old} (Controlled root way) = ap (λ (all : List ℕ). take (length all - 1) all) (same_controls way) ∙ ended_control old.controls root
 
 -- ---- forms that declare nothing
@@ -180,6 +171,9 @@ inner (Then {look = look} {more = more} first second) =
       enclosing = g.enclosing ∙ f.enclosing;
       ends = flat_map-append mark_blocks look more ∙ ap₂ (λ a b. a ++ b) f.ends g.ends;
     }
+inner (Assigned root way told) =
+    let f = inner way in
+    record { regions = f.regions; variables = f.variables; headings = f.headings; enclosing = f.enclosing; ends = f.ends }
 inner (Controlled {look = look} root way) =
     let f = inner way in
     record {
@@ -205,7 +199,6 @@ no_mark (Then first second) = ap₂ (λ a b. a ++ b) (no_mark first) (no_mark se
 pub record Silent (counted : ℕ) (old new : Passed) : Type 0 where
   pub sites : new.sites ≡ old.sites
   pub threatened : new.threatened ≡ old.threatened
-  pub assigned : new.assigned ≡ old.assigned
   pub headings : new.headings ≡ old.headings
   pub enclosing : record (new.enclosing) { cells = 0 } ≡ record (old.enclosing) { cells = 0 }
   pub others : (block : ℕ) → Fails (nat_eq counted block) → variables_of block new.variables ≡ variables_of block old.variables
@@ -214,7 +207,6 @@ silent_step : {counted from to : ℕ} {look : Look} {old new : Passed} → Step 
 silent_step {old = old} (Declare variable cells owns) = record {
   sites = refl;
   threatened = refl;
-  assigned = refl;
   headings = refl;
   enclosing = refl;
   others = λ block other. others_kept block old.variables variable (ap (λ n. nat_eq n block) owns ∙ other);
@@ -222,7 +214,6 @@ silent_step {old = old} (Declare variable cells owns) = record {
 silent_step other = record {
   sites = refl;
   threatened = refl;
-  assigned = refl;
   headings = refl;
   enclosing = refl;
   others = λ block other. refl;
@@ -232,7 +223,6 @@ pub silent : {counted from to : ℕ} {look : Look} {old new : Passed} → Way fa
 silent Stay = record {
   sites = refl;
   threatened = refl;
-  assigned = refl;
   headings = refl;
   enclosing = refl;
   others = λ block other. refl;
@@ -244,7 +234,6 @@ silent (Then first second) =
     record {
       sites = g.sites ∙ f.sites;
       threatened = g.threatened ∙ f.threatened;
-      assigned = g.assigned ∙ f.assigned;
       headings = g.headings ∙ f.headings;
       enclosing = g.enclosing ∙ f.enclosing;
       others = λ block other. g.others block other ∙ f.others block other;
