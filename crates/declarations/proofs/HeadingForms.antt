@@ -1,5 +1,6 @@
 -- The types and the parameters of a heading, one after another.
-use Rattle.std.proofs.Common.{◌≡◌, ◌⊎◌, true, ℕ, ◌+◌, ◌<◌, ◌≤◌, List, [], ◌∷◌, ◌++◌, flat_map, length, drop, get_or, min, Option, Ok, Err, inl, inr, refl, sym, ap}
+use Rattle.std.proofs.Common.{◌≡◌, ◌⊎◌, true, ℕ, ◌+◌, ◌<◌, ◌≤◌, List, [], ◌∷◌, ◌++◌, flat_map, length, drop, get_or, min, Option, Ok, Err, inl, inr, refl, sym}
+use Rattle.std.proofs.Common.{ap}
 use Rattle.std.proofs.Common.{ap₂, ◌∙◌, append-nil}
 use Rattle.std.proofs.lemmas.List.{drop_more, at_drop_all}
 use Rattle.syntax_tree.specs.declared.FormalGroup.{FormalGroup}
@@ -191,7 +192,8 @@ module _ (number : ℕ) (place : Place) (groups : List FormalGroup) (types : Lis
         unfolding enclosing_left open_block with_enclosing
         round_is =
             let one = same_block (result number place result_id) (result_walks true (Of number) tt 0 number place result_id refl) root [] now there passes in
-            let two = same_block (parameters number groups types) (parameters_walk true (Of number) tt 0 number groups types refl) roots [] inner last declares in
+            let two = same_block (parameters number groups types)
+            (parameters_walk true (Of number) tt 0 number groups types refl) roots [] inner last declares in
             let opened = ap enclosing_left opens in
             let begun = ap enclosing_left begins in
             ap (λ (e : Enclosing). record e { cells = old.enclosing.cells })

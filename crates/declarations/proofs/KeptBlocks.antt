@@ -27,4 +27,5 @@ routine_keeps r = (routine_walks r).at 0
 module _ {A : Type 0} (step : Passing A) (keeps : Keeps step) (answer : A) (look : Look) (old new : Passed)
     (passes : step old ≡ Ok (after answer look new)) where
   pub routines_stay : (rs : List Routine) → AreKnownRoutines rs old.regions → AreKnownRoutines rs new.regions
-  routines_stay rs known k d within = names_stay step keeps answer look old new passes (heading_names (out-Routine (slice_index_or rs k d)).heading) (known k d within)
+  routines_stay rs known k d within = names_stay step keeps answer look old new passes (heading_names (out-Routine (slice_index_or rs k d)).heading)
+      (known k d within)

@@ -1,5 +1,6 @@
 -- Each definition, each declaration and each block goes a way, and so does a whole program.
-use Rattle.std.proofs.Common.{◌≡◌, ◌++◌, ◌&&◌, ap, length, nat_le, refl, ℕ, suc, ◌+◌, Bool, true, false, if◌then◌else◌, List, [], ◌∷◌, Option, Some, None, Vec, Ok, Err, codes, nat_eq, map, sym, subst}
+use Rattle.std.proofs.Common.{◌≡◌, ◌++◌, ◌&&◌, ap, length, nat_le, refl, ℕ, suc, ◌+◌, Bool, true, false, if◌then◌else◌, List, [], ◌∷◌, Option, Some, None, Vec}
+use Rattle.std.proofs.Common.{Ok, Err, codes, nat_eq, map, sym, subst}
 use Rattle.std.specs.declared.alloc.Global.{Global}
 use Rattle.std.specs.Cmp.Lexicographic.{pointwise}
 use Rattle.place.specs.declared.Place.{Place}
@@ -41,7 +42,8 @@ use Rattle.typing.specs.Denoters.{WrittenDenoter, denoted_type, denoter_step}
 use Rattle.typing.specs.Routines as Routines
 use Rattle.typing.specs.Routines.{Begun, TypedBlock, TypedRoutine, block_step, routine_step, typed_block, typed_routine}
 use Rattle.typing.specs.Typing as Typing
-use Rattle.typing.proofs.Ways.{Owner, Anyone, Owns, Defines, Way, Stay, One, Then, Token, Site, Ended, below, Goes, Walks, then_walks, pure_walks, given_walks, by_types_walks, walk}
+use Rattle.typing.proofs.Ways.{Owner, Anyone, Owns, Defines, Way, Stay, One, Then, Token, Site, Ended, below, Goes, Walks, then_walks, pure_walks, given_walks}
+use Rattle.typing.proofs.Ways.{by_types_walks, walk}
 use Rattle.typing.proofs.Ways.{each_walks, declare_walks, latest_walks, add_type_walks, pass_walks, enclosing_now_walks, with_enclosing_walks, heading_at_walks}
 use Rattle.typing.proofs.Ways.{open_beside_walks, close_block_walks, open_block_walks, add_heading_walks, open_required_walks}
 use Rattle.typing.proofs.WalkedForms.{constant_walks, ordinal_constant_walks, body_walks}
@@ -224,7 +226,8 @@ module _ (acts : Bool) (depth : ℕ) where
   group_walks g = search (walk, denoted_type_walks acts Anyone tt depth, local_walks)
 
 -- the end of a block
-block_end_walks : (depth : ℕ) (number : ℕ) (name end : Place) (heading : Headed) → Walks (Way true Anyone depth depth) (Routines.block_end number name end heading)
+block_end_walks : (depth : ℕ) (number : ℕ) (name end : Place) (heading : Headed)
+    → Walks (Way true Anyone depth depth) (Routines.block_end number name end heading)
 unfolding Routines.block_end Routines.result_at_end is_assigned site
 block_end_walks depth number name end heading = by heading.result
   where
@@ -386,10 +389,12 @@ routine_walks =
 
 -- ---- a program
 
-program_walks : (program : Program) (block : TypedBlock) → Walks (Way true Anyone 2 2) block.typing → Walks (Way true Anyone 0 2) (Typing.program_typing program block)
+program_walks : (program : Program) (block : TypedBlock) → Walks (Way true Anyone 2 2) block.typing
+    → Walks (Way true Anyone 0 2) (Typing.program_typing program block)
 unfolding Typing.program_typing Typing.parameters_of_program
 program_walks program block law =
-    then_walks (then_walks open_required_walks λ _. then_walks (open_block_walks _) λ _. each_walks _ program.parameters.items (parameter_walks true Anyone tt 2)) λ _.
+    then_walks (then_walks open_required_walks λ _. then_walks (open_block_walks _) λ _. each_walks _ program.parameters.items
+    (parameter_walks true Anyone tt 2)) λ _.
     then_walks law λ _.
     block_end_walks 2 0 program.name.place block.end _
 

@@ -58,7 +58,8 @@ use Rattle.typing.specs.Expressions.{Written, WrittenActual, WrittenLink, expres
 use Rattle.typing.specs.Statements as Statements
 use Rattle.typing.specs.Statements.{statement}
 use Rattle.typing.proofs.Ways.{Assigned, Goes, find_walks, targets_at, with_result}
-use Rattle.typing.proofs.Ways.{Owner, Way, Walks, numbers_of, then_walks, test_walks, mark_walks, pure_walks, given_walks, enter_walks, tells_then, given_tells, test_tells, walk}
+use Rattle.typing.proofs.Ways.{Owner, Way, Walks, numbers_of, then_walks, test_walks, mark_walks, pure_walks, given_walks, enter_walks, tells_then, given_tells}
+use Rattle.typing.proofs.Ways.{test_tells, walk}
 use Rattle.typing.proofs.Ways.{pass_walks, enter_loop_walks, for_body_walks}
 
 module _ (acts : Bool) (owner : Owner) (depth : ℕ) where
@@ -213,10 +214,6 @@ module _ (owner : Owner) (depth : ℕ) where
   behind_walks None place = search walk
   behind_walks (Some kind) place = search walk
 
-  number_walks : (value : ℕ) (place : Place) (lead : Option SiteKind) → Goes_by (Expressions.number value place lead)
-  unfolding Expressions.number
-  number_walks value place lead = search (walk, behind_walks)
-
   spelled_walks : (place : Place) (id : Option ℕ) (cs : List ℕ) → Goes_by (Expressions.spelled place id cs)
   unfolding Expressions.spelled
   spelled_walks place id [] = search (walk, string_type_walks true owner depth)
@@ -227,23 +224,16 @@ module _ (owner : Owner) (depth : ℕ) where
   unfolding Expressions.string
   string_walks text place lead = search (walk, behind_walks, spelled_walks)
 
-  index_walks : (element : ArrayElement) (w : Written) → WrittenWalks w → Goes_by (Expressions.index element w)
-  unfolding Expressions.index
-  index_walks element w law = search (walk, law.typing)
-
   pub selected_walks : (before : List TreeSelector) (type_id : TypeId) (selectors : List Selector) (ws : List Written) → AllWalk ws
       → Goes_by (Expressions.selected before type_id selectors ws)
+  unfolding Expressions.index
   selected_walks before type_id [] ws laws = search walk
   selected_walks before type_id (select.Field name ∷ selectors) ws laws =
       let more = λ (before : List TreeSelector) (type_id : TypeId). selected_walks before type_id selectors ws laws in search (walk, more)
   selected_walks before type_id (select.Index place joined ∷ selectors) [] laws = search walk
   selected_walks before type_id (select.Index place joined ∷ selectors) (w ∷ ws) laws =
       let more = λ (before : List TreeSelector) (type_id : TypeId). selected_walks before type_id selectors ws laws.1 in
-      search (walk, index_walks, more, laws.0)
-
-  tests_ordinal_walks : (id : TypeId) → Goes_by (Expressions.tests_ordinal id)
-  unfolding Expressions.tests_ordinal
-  tests_ordinal_walks id = search walk
+      search (walk, more, laws.0.typing) depth 8
 
   value_walks : (ordinal : Bool) (root : ℕ) (selectors : List TreeSelector) (type_id : TypeId) (defined : ℕ) (lead : Option ℕ)
       → Goes_by ((if ordinal then Expressions.ordinal_value else Expressions.whole_value) root selectors type_id defined lead)
@@ -253,13 +243,8 @@ module _ (owner : Owner) (depth : ℕ) where
 
   accessed_walks : (root : ℕ) (type_id : TypeId) (selectors : List Selector) (ws : List Written) (place : Place) (lead : Option SiteKind) → AllWalk ws
       → Goes_by (Expressions.accessed root type_id selectors ws place lead)
-  unfolding Expressions.accessed
-  accessed_walks root type_id selectors ws place lead laws = search (walk, behind_walks, selected_walks, tests_ordinal_walks, value_walks) depth 12
-
-  component_walks : (name : Name) (selectors : List Selector) (ws : List Written) (lead : Option SiteKind) → AllWalk ws
-      → Goes_by (Expressions.component name selectors ws lead)
-  unfolding Expressions.component
-  component_walks name selectors ws lead laws = search (walk, accessed_walks)
+  unfolding Expressions.accessed Expressions.tests_ordinal
+  accessed_walks root type_id selectors ws place lead laws = search (walk, behind_walks, selected_walks, value_walks) depth 12
 
   passed_variable_walks : (name : Name) (selectors : List Selector) (ws : List Written) (wanted : TypeId) (callee position : ℕ) → AllWalk ws
       → Goes_by (Expressions.passed_variable name selectors ws wanted callee position)
@@ -267,8 +252,8 @@ module _ (owner : Owner) (depth : ℕ) where
   passed_variable_walks name selectors ws wanted callee position laws = search (walk, selected_walks) depth 12
 
   passed_value_walks : (type_id : TypeId) (w : Written) (callee position : ℕ) → WrittenWalks w → Goes_by (Expressions.passed_value type_id w callee position)
-  unfolding Expressions.passed_value Expressions.passed_ordinal Expressions.passed_whole
-  passed_value_walks type_id w callee position law = search (walk, tests_ordinal_walks, by)
+  unfolding Expressions.passed_value Expressions.tests_ordinal Expressions.passed_ordinal Expressions.passed_whole
+  passed_value_walks type_id w callee position law = search (walk, by)
     where
       by : (ordinal : Bool) → Goes_by ((if ordinal then Expressions.passed_ordinal else Expressions.passed_whole) type_id w callee position)
       by true = search (walk, law.typing)
@@ -314,41 +299,17 @@ module _ (owner : Owner) (depth : ℕ) where
   denoted_walks (denotes.Text number type_id) place lead = search (walk, behind_walks)
   denoted_walks (denotes.Variable root type_id) place lead = accessed_walks root type_id [] [] place lead tt
   denoted_walks (denotes.Routine block is_function) place lead = function_value_walks block is_function place [] lead tt
-  denoted_walks (denotes.Procedure procedure) place lead = search walk
-  denoted_walks (denotes.Function function) place lead = search walk
-  denoted_walks (denotes.TypeName type_id) place lead = search walk
-  denoted_walks denotes.Output place lead = search walk
-
-  named_walks : (name : Name) (lead : Option SiteKind) → Goes_by (Expressions.named name lead)
-  unfolding Expressions.named
-  named_walks name lead = search (walk, denoted_walks)
-
-  parenthesized_walks : (place : Place) (w : Written) (lead : Option SiteKind) → WrittenWalks w → Goes_by (Expressions.parenthesized place w lead)
-  unfolding Expressions.parenthesized
-  parenthesized_walks place w lead law = search (walk, behind_walks, law.typing)
-
-  negation_walks : (place : Place) (w : Written) (lead : Option SiteKind) → WrittenWalks w → Goes_by (Expressions.negation place w lead)
-  unfolding Expressions.negation
-  negation_walks place w lead law = search (walk, behind_walks, law.typing) depth 12
-
-  signed_walks : (s : Sign) (place : Place) (w : Written) (lead : Option SiteKind) → WrittenWalks w → Goes_by (Expressions.signed s place w lead)
-  unfolding Expressions.signed
-  signed_walks s place w lead law = search (walk, behind_walks, law.typing) depth 12
+  denoted_walks other place lead = search walk
 
   operation_walks : (operator : Operator) (place : Place) → Goes_by (Expressions.operation operator place)
   unfolding Expressions.operation Expressions.tested
   operation_walks op.Plus place = search walk
-  operation_walks op.Minus place = search walk
-  operation_walks op.Times place = search walk
-  operation_walks op.Div place = search walk
-  operation_walks op.Mod place = search walk
   operation_walks other place = search walk
 
   compares_walks : (left right : Option ℕ) → Goes_by (Expressions.compares left right)
   unfolding Expressions.compares
   compares_walks (Some left) (Some right) = search walk
-  compares_walks (Some left) None = search walk
-  compares_walks None right = search walk
+  compares_walks left right = search walk
 
   link_walks : (operator : Operator) (place : Place) (w : Written) → WrittenWalks w → LinkWalks (Expressions.link operator place w)
   unfolding Expressions.link
@@ -365,9 +326,7 @@ module _ (owner : Owner) (depth : ℕ) where
   calculation_walks : (calculated : FunctionValue) (place : Place) → Goes_by (Functions.calculation_of calculated place)
   unfolding Functions.calculation_of
   calculation_walks function.Same place = search walk
-  calculation_walks function.Absolute place = search walk
-  calculation_walks function.Square place = search walk
-  calculation_walks function.Parity place = search walk
+  calculation_walks other place = search walk
 
   begins_as_walks : (operation : FunctionOperation) (place : Place) → Goes_by (Functions.begins_as operation place)
   unfolding Functions.begins_as
@@ -401,10 +360,6 @@ module _ (owner : Owner) (depth : ℕ) where
       → Goes_by (Expressions.call_by routine d name actuals lead)
   call_by_walks None d name actuals lead laws = required_call_walks d name actuals lead laws
   call_by_walks (Some routine) d name actuals lead laws = function_value_walks routine.0 routine.1 name.place actuals lead laws
-
-  call_walks : (name : Name) (actuals : List WrittenActual) (lead : Option SiteKind) → ActualsWalk actuals → Goes_by (Expressions.call name actuals lead)
-  unfolding Expressions.call
-  call_walks name actuals lead laws = search (walk, call_by_walks)
 
   -- ---- every expression
 
@@ -451,7 +406,8 @@ module _ (owner : Owner) (depth : ℕ) where
       → WrittenWalks (Expressions.expression_step (map-Expr Expr Actual Link Written WrittenActual WrittenLink expression written_actual written_link d))
       → ExprWalks (roll-Expr d)
   from_layer d law =
-      subst WrittenWalks (sym (fold-roll-Expr Written WrittenActual WrittenLink Expressions.expression_step Expressions.actual_step Expressions.link_step d)) law
+      subst WrittenWalks
+      (sym (fold-roll-Expr Written WrittenActual WrittenLink Expressions.expression_step Expressions.actual_step Expressions.link_step d)) law
 
   all_walk : (ys : List WithExpr) → AllWalk (map expression (map (λ (y : WithExpr). y.0) ys))
   all_walk [] = tt
@@ -466,20 +422,25 @@ module _ (owner : Owner) (depth : ℕ) where
   all_links (y ∷ ys) = (y.1, all_links ys)
 
   expression_layer : (y : layer.Expr-F WithExpr WithActual WithLink) → ExprWalks (roll-Expr (bare y))
-  expression_layer (layer.Number value place) = from_layer (layer.Number value place) (written_walks place _ (number_walks value place))
-  expression_layer (layer.Name name) = from_layer (layer.Name name) (variable_walks name [] [] _ tt (named_walks name))
+  unfolding Expressions.number Expressions.named Expressions.component Expressions.call Expressions.parenthesized Expressions.negation Expressions.signed
+  expression_layer (layer.Number value place) = from_layer (layer.Number value place) (written_walks place _ (λ lead. search (walk, behind_walks)))
+  expression_layer (layer.Name name) = from_layer (layer.Name name) (variable_walks name [] [] _ tt (λ lead. search (walk, denoted_walks)))
   expression_layer (layer.Component name selectors indexes) =
       from_layer (bare (layer.Component name selectors indexes))
-      (variable_walks name selectors.items _ _ (all_walk indexes.items) (λ lead. component_walks name selectors.items _ lead (all_walk indexes.items)))
+      (variable_walks name selectors.items _ _ (all_walk indexes.items)
+      (λ lead. then_walks (find_walks name) λ d. then_walks (given_walks _) λ v. accessed_walks v.0 v.1 selectors.items _ name.place lead
+      (all_walk indexes.items)))
   expression_layer (layer.String text place) = from_layer (layer.String text place) (written_walks place _ (string_walks text.now place))
   expression_layer (layer.Call name actuals) =
-      from_layer (bare (layer.Call name actuals)) (written_walks name.place _ (λ lead. call_walks name _ lead (all_actuals actuals.items)))
+      from_layer (bare (layer.Call name actuals))
+      (written_walks name.place _ (λ lead. then_walks (find_walks name) λ d. call_by_walks (Expressions.as_routine d) d name _ lead
+      (all_actuals actuals.items)))
   expression_layer (layer.Parenthesized place inner) =
-      from_layer (bare (layer.Parenthesized place inner)) (written_walks place _ (λ lead. parenthesized_walks place _ lead inner.value.1))
+      from_layer (bare (layer.Parenthesized place inner)) (written_walks place _ (λ lead. search (walk, behind_walks, inner.value.1.typing)))
   expression_layer (layer.Not place operand) =
-      from_layer (bare (layer.Not place operand)) (written_walks place _ (λ lead. negation_walks place _ lead operand.value.1))
+      from_layer (bare (layer.Not place operand)) (written_walks place _ (λ lead. search (walk, behind_walks, operand.value.1.typing) depth 12))
   expression_layer (layer.Signed s place term) =
-      from_layer (bare (layer.Signed s place term)) (written_walks place _ (λ lead. signed_walks s place _ lead term.value.1))
+      from_layer (bare (layer.Signed s place term)) (written_walks place _ (λ lead. search (walk, behind_walks, term.value.1.typing) depth 12))
   expression_layer (layer.Chain first rest) =
       from_layer (bare (layer.Chain first rest)) (written_walks _ _ (λ lead. chain_walks _ _ lead first.value.1 (all_links rest.items)))
 
@@ -535,7 +496,8 @@ module _ (owner : Owner) (depth : ℕ) where
 
   access_walks : (name : Name) (selectors : List Selector) (ws : List Written) → AllWalk ws → (variable : ℕ × TypeId)
       → Goes_by (access_typing name selectors ws variable)
-  access_walks name selectors ws laws variable = search (walk, selected_walks, tests_ordinal_walks, target_mark_walks) depth 12
+  unfolding Expressions.tests_ordinal
+  access_walks name selectors ws laws variable = search (walk, selected_walks, target_mark_walks) depth 12
 
   target_walks : (name : Name) (selectors : List Selector) (ws : List Written) → AllWalk ws → Goes_by (Statements.target name selectors ws)
   unfolding Statements.target
@@ -575,8 +537,8 @@ module _ (owner : Owner) (depth : ℕ) where
 
   assignment_walks : (name : Name) (selectors : List Selector) (ws : List Written) (place : Place) (w : Written) → AllWalk ws → WrittenWalks w
       → Goes_by (Statements.assignment name selectors ws place w)
-  unfolding Statements.assignment
-  assignment_walks name selectors ws place w laws law = search (walk, target_walks, tests_ordinal_walks, becomes_walks)
+  unfolding Statements.assignment Expressions.tests_ordinal
+  assignment_walks name selectors ws place w laws law = search (walk, target_walks, becomes_walks)
 
   names_file_walks : (form : layer.Expr-F Expr Actual Link) → Goes_by (Statements.names_file form)
   names_file_walks (layer.Name name) = search walk
@@ -633,7 +595,8 @@ module _ (owner : Owner) (depth : ℕ) where
   declared_call_walks callee false name actuals =
       then_walks (routine_call_walks false callee name.place (map written_actual actuals) (every_actual actuals)) (λ _. pure_walks tt)
 
-  statement_call_walks : (routine : Option (ℕ × Bool)) (d : Denotation) (name : Name) (actuals : List Actual) → Goes_by (Statements.call_by routine d name actuals)
+  statement_call_walks : (routine : Option (ℕ × Bool)) (d : Denotation) (name : Name) (actuals : List Actual)
+      → Goes_by (Statements.call_by routine d name actuals)
   unfolding Statements.required_call
   statement_call_walks None d name actuals = search (walk, write_walks)
   statement_call_walks (Some routine) d name actuals = declared_call_walks routine.0 routine.1 name actuals
@@ -714,13 +677,11 @@ module _ (owner : Owner) (depth : ℕ) where
       then_walks (for_head_walks place variable first direction last one two) λ control.
       for_body_walks control body three
 
-  case_constant_walks : (type_id : TypeId) (before : List ℤ) (c : Constant) → Goes_by (Statements.case_constant type_id before c)
-  unfolding Statements.case_constant
-  case_constant_walks type_id before c = search (walk, ordinal_constant_walks true owner depth)
-
   row_walks : (type_id : TypeId) (before row : List ℤ) (cs : List Constant) → Goes_by (Statements.constant_row type_id before row cs)
+  unfolding Statements.case_constant
   row_walks type_id before row [] = search walk
-  row_walks type_id before row (c ∷ cs) = then_walks (case_constant_walks type_id (before ++ row) c) (λ value. row_walks type_id before (row ++ value ∷ []) cs)
+  row_walks type_id before row (c ∷ cs) = then_walks (test_walks _ (ordinal_constant_walks true owner depth c))
+      (λ value. row_walks type_id before (row ++ value ∷ []) cs)
 
   abbrev ArmsWalk : List (List Constant × Passing (Unit {0})) → Type 0
   ArmsWalk [] = Unit {0}

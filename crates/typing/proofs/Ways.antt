@@ -1,7 +1,8 @@
 -- The ways that typing goes, from what is known at one place of a program to what is known at another, step by step; and
 -- that a passing goes such a way whatever it answers. Each step says what it changes and which marks it leaves, and nothing of
 -- answers. So what holds of no step and of two ways one behind the other holds of each form, as soon as it holds of each step.
-use Rattle.std.proofs.Common.{◌≡◌, ℕ, suc, ◌+◌, ◌-◌, ◌<◌, Bool, true, false, if◌then◌else◌, nat_eq, nat_le, List, [], ◌∷◌, ◌++◌, length, take, Some, Result, Ok, Err, IfOk}
+use Rattle.std.proofs.Common.{◌≡◌, ℕ, suc, ◌+◌, ◌-◌, ◌<◌, Bool, true, false, if◌then◌else◌, nat_eq, nat_le, List, [], ◌∷◌, ◌++◌, length, take, Some, Result, Ok}
+use Rattle.std.proofs.Common.{Err, IfOk}
 use Rattle.std.proofs.Common.{slice_get, refl, arith}
 use Rattle.std.specs.List.{flat_map, list_all, list_any}
 use Rattle.std.proofs.lemmas.Bool.Decides.{nat_tests}
@@ -114,7 +115,8 @@ without_control s = record s { controls = take (length s.controls - 1) s.control
 
 pub data Way : Bool → Owner → ℕ → ℕ → Look → Passed → Passed → Type 0 where
   Stay : {acts : Bool} {owner : Owner} {depth : ℕ} {s : Passed} → Way acts owner depth depth [] s s
-  One : {acts : Bool} {owner : Owner} {from to : ℕ} {look : Look} {old new : Passed} → Step acts owner from to look old new → Way acts owner from to look old new
+  One : {acts : Bool} {owner : Owner} {from to : ℕ} {look : Look} {old new : Passed} → Step acts owner from to look old new
+      → Way acts owner from to look old new
   Then :
       {acts : Bool} {owner : Owner} {from between to : ℕ} {look more : Look} {old now new : Passed} → Way acts owner from between look old now
       → Way acts owner between to more now new → Way acts owner from to (look ++ more) old new
@@ -173,7 +175,8 @@ module _ {acts : Bool} {owner : Owner} {A B : Type 0} where
   goes_on first rest = then_walks first rest
 
 module _ {A B : Type 0} where
-  tested_tells : (R : Look → Passed → Passed → Type 0) (Says : B → Type 0) (test : List Form → A → Checked B) → ((types : List Form) (a : A) (b : B) → test types a ≡ Ok b → Says b)
+  tested_tells : (R : Look → Passed → Passed → Type 0) (Says : B → Type 0) (test : List Form → A → Checked B)
+      → ((types : List Form) (a : A) (b : B) → test types a ≡ Ok b → Says b)
       → (old : Passed) (outcome : Checked (After A)) → Goes R old outcome
       → IfOk (and_then outcome (λ a. and_then (test a.passed.types a.answer) (λ b. Ok (after b a.look a.passed)))) (λ b. R b.look old b.passed × Says b.answer)
   tested_tells R Says test says old (Err why) way = tt
@@ -323,7 +326,8 @@ module _ {owner : Owner} {depth : ℕ} where
   enter_walks marked entry = record { walks = λ old. by old (nat_le most_entries old.entries) refl }
     where
       by : (old : Passed) (test : Bool) → nat_le most_entries old.entries ≡ test
-          → Goes (Way true owner depth depth) old (and_then (if test then Err (TooMany old.latest) else Ok (after old.entries [] (record old { entries = old.entries + 1 })))
+          → Goes (Way true owner depth depth) old
+          (and_then (if test then Err (TooMany old.latest) else Ok (after old.entries [] (record old { entries = old.entries + 1 })))
           (λ a. behind_marks a.look (mark (marked a.answer) a.passed)))
       by old true test = tt
       by old false test = One (Entry (marked old.entries) (below most_entries old.entries test) (entry old.entries))
@@ -334,7 +338,8 @@ module _ {owner : Owner} {depth : ℕ} where
   enter_loop_walks marked entry = record { walks = λ old. by old (nat_le most_entries old.entries) refl }
     where
       by : (old : Passed) (test : Bool) → nat_le most_entries old.entries ≡ test
-          → Goes (Way true owner depth depth) old (and_then (and_then (if test then Err (TooMany old.latest) else Ok (after old.entries [] (record old { entries = old.entries + 1 })))
+          → Goes (Way true owner depth depth) old
+          (and_then (and_then (if test then Err (TooMany old.latest) else Ok (after old.entries [] (record old { entries = old.entries + 1 })))
           (λ b. behind_marks {A = ℕ × ℕ} b.look ((Steps.number_loop >>= (λ l. pure {A = ℕ × ℕ} (b.answer, l))) b.passed)))
           (λ b. behind_marks b.look (mark (marked b.answer.0 b.answer.1) b.passed)))
       by old true test = tt
@@ -357,7 +362,8 @@ module _ {owner : Owner} {depth : ℕ} where
       by old true = Stay
       by old false = One (Threat root)
 
-  pub for_body_walks : (root : ℕ) (body : Passing (Unit {0})) → Walks (Way true owner depth depth) body → Walks (Way true owner depth depth) (for_body root body)
+  pub for_body_walks : (root : ℕ) (body : Passing (Unit {0})) → Walks (Way true owner depth depth) body
+      → Walks (Way true owner depth depth) (for_body root body)
   unfolding for_body Steps.begin_control Steps.end_control
   for_body_walks root body law = record { walks = λ old. by old (body (with_control root old)) (law.walks (with_control root old)) }
     where
@@ -376,11 +382,13 @@ module _ {acts : Bool} {owner : Owner} {depth : ℕ} where
   declare_walks name denotation defines = record { walks = λ old. by old (define (folded name.text.now) denotation old.regions) refl }
     where
       by : (old : Passed) (outcome : Result (List Region) ScopeFault) → define (folded name.text.now) denotation old.regions ≡ outcome
-          → Goes {A = Unit {0}} (Way acts owner depth depth) old (and_then (Steps.told name.place outcome) (λ regions. Ok (after tt [] (record old { regions = regions }))))
+          → Goes {A = Unit {0}} (Way acts owner depth depth) old
+          (and_then (Steps.told name.place outcome) (λ regions. Ok (after tt [] (record old { regions = regions }))))
       by old (Ok regions) is = One (Define (folded name.text.now) denotation regions defines is)
       by old (Err why) is = tt
 
-  pub reserve_walks : (place : Place) (block : ℕ) (kind : VariableKind) (type_id : TypeId) → Owns owner block → Walks (Way acts owner depth depth) (Steps.reserve place block kind type_id)
+  pub reserve_walks : (place : Place) (block : ℕ) (kind : VariableKind) (type_id : TypeId) → Owns owner block
+      → Walks (Way acts owner depth depth) (Steps.reserve place block kind type_id)
   unfolding Steps.reserve
   reserve_walks place block kind type_id owns = record { walks = λ old. unless_goes (Way acts owner depth depth) old _ _ _ (λ _. One (Declare _ _ owns)) }
 

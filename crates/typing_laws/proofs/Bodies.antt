@@ -374,13 +374,15 @@ module _ (here : Here) (under : List Region) (number : ℕ) (headed : Headed) (n
       let base : Base last.types last.variables last.headings (length (heads_passed last.headings)) =
       subst (λ h. Base last.types last.variables h (length (heads_passed h))) (sym kept.headings)
       (subst (λ v. Base last.types v middle.headings (length (heads_passed middle.headings))) (sym kept.variables)
-      (base_types middle.types last.types middle.variables middle.headings (length (heads_passed middle.headings)) (grows g.way).types g.lawful inside.ready.base)) in
+      (base_types middle.types last.types middle.variables middle.headings (length (heads_passed middle.headings))
+      (grows g.way).types g.lawful inside.ready.base)) in
       let more : IsFurther (reached s) (reached last) = grown_further s last grown (same_controls g.way ∙ f.controls_kept) in
       record {
         ready = record {
           sound =
               subst (AreSound here last.variables last.types (heads_passed last.headings)) (sym regions)
-              (regions_later inside_itself grown.variables grown.types (mapped_longer head_of (mapped_longer signature_passed grown.headings)) s.regions st.ready.sound);
+              (regions_later inside_itself grown.variables grown.types
+              (mapped_longer head_of (mapped_longer signature_passed grown.headings)) s.regions st.ready.sound);
           under_it = ap outer regions ∙ st.ready.under_it;
           base = base;
           texts = g.texts;

@@ -57,53 +57,61 @@ bracket_goes : {numbers : Mark → List ℕ} {first : Mark} {look : Look} {from 
     → GoesOn numbers look from next → GoesOn numbers (first ∷ (look ++ (last ∷ []))) from next
 bracket_goes {numbers} last one two g = both_go (plain_mark {numbers = numbers} one) (both_go g (plain_mark {numbers = numbers} two))
 
-entries_step : {acts : Bool} {owner : Owner} {from to : ℕ} {look : Look} {old new : Passed} → Step acts owner from to look old new → GoesOn mark_entries look old.entries new.entries
+entries_step : {acts : Bool} {owner : Owner} {from to : ℕ} {look : Look} {old new : Passed} → Step acts owner from to look old new
+    → GoesOn mark_entries look old.entries new.entries
 entries_step (Entry one few is) = one_mark (ap (λ n. n.0) is)
 entries_step (Loop one few is) = one_mark (ap (λ n. n.0) is)
 entries_step (Marked one none) = plain_mark (ap (λ n. n.0) none)
 entries_step (Ended one no_entry no_loop all) = plain_mark no_entry
 entries_step other = no_mark
 
-pub entries_go : {acts : Bool} {owner : Owner} {from to : ℕ} {look : Look} {old new : Passed} → Way acts owner from to look old new → GoesOn mark_entries look old.entries new.entries
+pub entries_go : {acts : Bool} {owner : Owner} {from to : ℕ} {look : Look} {old new : Passed} → Way acts owner from to look old new
+    → GoesOn mark_entries look old.entries new.entries
 entries_go Stay = no_mark
 entries_go (One step) = entries_step step
 entries_go (Then first second) = both_go (entries_go first) (entries_go second)
 entries_go (Assigned root way told) = entries_go way
 entries_go (Controlled root way) = bracket_goes ForEnds refl refl (entries_go way)
 
-loops_step : {acts : Bool} {owner : Owner} {from to : ℕ} {look : Look} {old new : Passed} → Step acts owner from to look old new → GoesOn mark_loops look old.loops new.loops
+loops_step : {acts : Bool} {owner : Owner} {from to : ℕ} {look : Look} {old new : Passed} → Step acts owner from to look old new
+    → GoesOn mark_loops look old.loops new.loops
 loops_step (Entry one few is) = plain_mark (ap (λ n. n.1) is)
 loops_step (Loop one few is) = one_mark (ap (λ n. n.1) is)
 loops_step (Marked one none) = plain_mark (ap (λ n. n.1) none)
 loops_step (Ended one no_entry no_loop all) = plain_mark no_loop
 loops_step other = no_mark
 
-pub loops_go : {acts : Bool} {owner : Owner} {from to : ℕ} {look : Look} {old new : Passed} → Way acts owner from to look old new → GoesOn mark_loops look old.loops new.loops
+pub loops_go : {acts : Bool} {owner : Owner} {from to : ℕ} {look : Look} {old new : Passed} → Way acts owner from to look old new
+    → GoesOn mark_loops look old.loops new.loops
 loops_go Stay = no_mark
 loops_go (One step) = loops_step step
 loops_go (Then first second) = both_go (loops_go first) (loops_go second)
 loops_go (Assigned root way told) = loops_go way
 loops_go (Controlled root way) = bracket_goes ForEnds refl refl (loops_go way)
 
-few_step : {acts : Bool} {owner : Owner} {from to : ℕ} {look : Look} {old new : Passed} → Step acts owner from to look old new → old.entries ≤ most_entries → new.entries ≤ most_entries
+few_step : {acts : Bool} {owner : Owner} {from to : ℕ} {look : Look} {old new : Passed} → Step acts owner from to look old new → old.entries ≤ most_entries
+    → new.entries ≤ most_entries
 few_step (Entry one few is) h = omega (arith, few)
 few_step (Loop one few is) h = omega (arith, few)
 few_step other h = h
 
 -- there are never too many entries
-pub few_entries : {acts : Bool} {owner : Owner} {from to : ℕ} {look : Look} {old new : Passed} → Way acts owner from to look old new → old.entries ≤ most_entries → new.entries ≤ most_entries
+pub few_entries : {acts : Bool} {owner : Owner} {from to : ℕ} {look : Look} {old new : Passed} → Way acts owner from to look old new
+    → old.entries ≤ most_entries → new.entries ≤ most_entries
 few_entries Stay h = h
 few_entries (One step) h = few_step step h
 few_entries (Then first second) h = few_entries second (few_entries first h)
 few_entries (Assigned root way told) h = few_entries way h
 few_entries (Controlled root way) h = few_entries way h
 
-sites_step : {acts : Bool} {owner : Owner} {from to : ℕ} {look : Look} {old new : Passed} → Step acts owner from to look old new → length old.sites ≤ most_sites → length new.sites ≤ most_sites
+sites_step : {acts : Bool} {owner : Owner} {from to : ℕ} {look : Look} {old new : Passed} → Step acts owner from to look old new
+    → length old.sites ≤ most_sites → length new.sites ≤ most_sites
 sites_step {old = old} (Site kind place few) h = let counted = length-append old.sites ((kind, place) ∷ []) in omega (arith, few, counted)
 sites_step other h = h
 
 -- nor too many sites
-pub few_sites : {acts : Bool} {owner : Owner} {from to : ℕ} {look : Look} {old new : Passed} → Way acts owner from to look old new → length old.sites ≤ most_sites → length new.sites ≤ most_sites
+pub few_sites : {acts : Bool} {owner : Owner} {from to : ℕ} {look : Look} {old new : Passed} → Way acts owner from to look old new
+    → length old.sites ≤ most_sites → length new.sites ≤ most_sites
 few_sites Stay h = h
 few_sites (One step) h = sites_step step h
 few_sites (Then first second) h = few_sites second (few_sites first h)

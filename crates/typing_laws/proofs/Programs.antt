@@ -374,4 +374,5 @@ module _ (program : Program) (a : After (Unit {0})) (w : Whole program a) where
 
 -- what each typed program has
 pub typing_is_lawful : (program : Program) (a : After (Unit {0})) → typing program ≡ Ok a → Lawful program a
-typing_is_lawful program a is = is_lawful program a (whole program a is) (IfOk-at_ok (λ b. Way true Anyone 0 2 b.look (begins program.name.place) b.passed) is (typing_goes program))
+typing_is_lawful program a is = is_lawful program a (whole program a is)
+    (IfOk-at_ok (λ b. Way true Anyone 0 2 b.look (begins program.name.place) b.passed) is (typing_goes program))

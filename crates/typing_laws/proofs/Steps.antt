@@ -271,7 +271,8 @@ all_apart here s roots (root ∷ changes) held may =
     (all_apart here s roots changes held may.1)
 
 -- no entry, but well formed
-marked_does : {here : Here} {least : Reached} (one : Mark) → numbers_of one ≡ ([], [], []) → is_bracket one ≡ false → ((now : Reached) → IsFurther least now → Each (MayChange here now) (mark_changes one ++ [])) → mark_controls one ≡ []
+marked_does : {here : Here} {least : Reached} (one : Mark) → numbers_of one ≡ ([], [], []) → is_bracket one ≡ false
+    → ((now : Reached) → IsFurther least now → Each (MayChange here now) (mark_changes one ++ [])) → mark_controls one ≡ []
     → ((o : Outline) → IsFurther least (whole_of o) → is_formed_mark o here.block one ≡ true)
     → Does here least Nothing (mark one) Anything
 marked_does {here} {least} one none plain changes no_control formed = record {
@@ -297,21 +298,24 @@ no_control : (one : Mark) → mark_changes one ≡ [] → mark_controls one ≡ 
 no_control (For number loop_number place control direction) none = absurd cc
 no_control other none = refl
 
-pub mark_does : {here : Here} {least : Reached} (one : Mark) → numbers_of one ≡ ([], [], []) → mark_changes one ≡ [] → is_bracket one ≡ false → ((o : Outline) → IsFurther least (whole_of o) → is_formed_mark o here.block one ≡ true)
+pub mark_does : {here : Here} {least : Reached} (one : Mark) → numbers_of one ≡ ([], [], []) → mark_changes one ≡ [] → is_bracket one ≡ false
+    → ((o : Outline) → IsFurther least (whole_of o) → is_formed_mark o here.block one ≡ true)
     → Does here least Nothing (mark one) Anything
 mark_does {here} one none no_change plain formed =
     marked_does one none plain (λ now more. subst (λ (l : List ℕ). Each (MayChange here now) (l ++ [])) (sym no_change) tt)
     (no_control one no_change) formed
 
 -- one that changes a variable
-pub change_does : {here : Here} {least : Reached} (one : Mark) (root : ℕ) → numbers_of one ≡ ([], [], []) → mark_changes one ≡ root ∷ [] → mark_controls one ≡ [] → is_bracket one ≡ false → MayChange here least root
+pub change_does : {here : Here} {least : Reached} (one : Mark) (root : ℕ) → numbers_of one ≡ ([], [], []) → mark_changes one ≡ root ∷ []
+    → mark_controls one ≡ [] → is_bracket one ≡ false → MayChange here least root
     → ((o : Outline) → IsFurther least (whole_of o) → is_formed_mark o here.block one ≡ true) → Does here least Nothing (mark one) Anything
 change_does {here} {least} one root none change no_control plain may formed =
     marked_does one none plain
     (λ now more. subst (λ (l : List ℕ). Each (MayChange here now) (l ++ [])) (sym change) (change_later here least now root more may, tt)) no_control formed
 
 -- an entry, with the next number
-pub enter_does : {here : Here} {least : Reached} (marked : ℕ → Mark) → ((k : ℕ) → numbers_of (marked k) ≡ (k ∷ [], [], [])) → ((k : ℕ) → mark_changes (marked k) ≡ [])
+pub enter_does : {here : Here} {least : Reached} (marked : ℕ → Mark) → ((k : ℕ) → numbers_of (marked k) ≡ (k ∷ [], [], []))
+    → ((k : ℕ) → mark_changes (marked k) ≡ [])
     → ((k : ℕ) → is_bracket (marked k) ≡ false)
     → ((k : ℕ) (o : Outline) → IsFurther least (whole_of o) → is_formed_mark o here.block (marked k) ≡ true)
     → Does here least Nothing (enter_as marked) Anything
@@ -381,7 +385,8 @@ enter_loop_at {here} marked loop plain s a changes controls formed fine is = by 
           tt,
         )
 
-pub enter_loop_does : {here : Here} {least : Reached} (marked : ℕ → ℕ → Mark) → ((k l : ℕ) → numbers_of (marked k l) ≡ (k ∷ [], l ∷ [], [])) → ((k l : ℕ) → mark_changes (marked k l) ≡ [])
+pub enter_loop_does : {here : Here} {least : Reached} (marked : ℕ → ℕ → Mark) → ((k l : ℕ) → numbers_of (marked k l) ≡ (k ∷ [], l ∷ [], []))
+    → ((k l : ℕ) → mark_changes (marked k l) ≡ [])
     → ((k l : ℕ) → is_bracket (marked k l) ≡ false)
     → ((k l : ℕ) (o : Outline) → IsFurther least (whole_of o) → is_formed_mark o here.block (marked k l) ≡ true)
     → Does here least Nothing (enter_loop marked) Anything
@@ -637,7 +642,8 @@ for_body_does {here} {least} {Has} root body law = record {
       let whole : after tt (Controls root ∷ (b.look ++ (ForEnds ∷ []))) behind ≡ a =
       ap (λ (e : After (Unit {0})). after e.answer (Controls root ∷ e.look) e.passed) ended ∙ y.2 ∙ x.2 in
       let one = (law (reached start)).does start b z.1 (fine_inside s (s.controls ++ root ∷ []) fine) as_far in
-      subst (Leaves here Has s Anything) whole (grown_bracketed root b.look s b.passed one.0, record { added = one.1.added; sites = one.1.sites; covered = one.1.covered }, tt);
+      subst (Leaves here Has s Anything) whole
+      (grown_bracketed root b.look s b.passed one.0, record { added = one.1.added; sites = one.1.sites; covered = one.1.covered }, tt);
 }
   where
     ok_same : {b c : After (Unit {0})} → ◌≡◌ {A = Checked (After (Unit {0}))} (Ok b) (Ok c) → b ≡ c

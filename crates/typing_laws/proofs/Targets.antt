@@ -1,6 +1,7 @@
 -- What the target of an assignment does: a variable of the block or of one round it, or the result of a function inside its
 -- block, which is assigned then.
-use Rattle.std.proofs.Common.{◌≡◌, ℕ, ◌<◌, ap, ap₂, ◌∙◌, ◌||◌, length, nat_eq, Bool, true, false, List, [], ◌∷◌, Option, Some, None, Ok, refl, sym, slice_get, subst}
+use Rattle.std.proofs.Common.{◌≡◌, ℕ, ◌<◌, ap, ap₂, ◌∙◌, ◌||◌, length, nat_eq, Bool, true, false, List, [], ◌∷◌, Option, Some, None, Ok, refl, sym, slice_get}
+use Rattle.std.proofs.Common.{subst}
 use Rattle.std.proofs.lemmas.Bool.{eq-eqb, eqb-true}
 use Rattle.std.proofs.lemmas.Result.{IfOk-at_ok}
 use Rattle.place.specs.declared.Place.{Place}

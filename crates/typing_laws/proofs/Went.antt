@@ -1,5 +1,6 @@
 -- What each way leaves as it is, and what it makes longer.
-use Rattle.std.proofs.Common.{◌≡◌, ℕ, ◌-◌, ◌||◌, if◌then◌else◌, Bool, true, false, nat_eq, List, [], ◌∷◌, ◌++◌, length, take, refl, ap, ap₂, ◌∙◌, arith, length-append}
+use Rattle.std.proofs.Common.{◌≡◌, ℕ, ◌-◌, ◌||◌, if◌then◌else◌, Bool, true, false, nat_eq, List, [], ◌∷◌, ◌++◌, length, take, refl, ap, ap₂, ◌∙◌, arith}
+use Rattle.std.proofs.Common.{length-append}
 use Rattle.std.specs.List.{list_any}
 use Rattle.std.proofs.lemmas.Grind.{flat_map-append}
 use Rattle.types.specs.Forms.{Form}
@@ -128,12 +129,14 @@ ended_control roots root =
     let one_less : length (roots ++ root ∷ []) - 1 ≡ length roots = omega (arith, counted) in
     ap (λ (n : ℕ). take n (roots ++ root ∷ [])) one_less ∙ take_front roots root
 
-controls_step : {acts : Bool} {owner : Owner} {from to : ℕ} {look : Look} {old new : Passed} → Step acts owner from to look old new → new.controls ≡ old.controls
+controls_step : {acts : Bool} {owner : Owner} {from to : ℕ} {look : Look} {old new : Passed} → Step acts owner from to look old new
+    → new.controls ≡ old.controls
 controls_step (Token place) = refl
 controls_step other = refl
 
 -- those of the for statements round a place stay
-pub same_controls : {acts : Bool} {owner : Owner} {from to : ℕ} {look : Look} {old new : Passed} → Way acts owner from to look old new → new.controls ≡ old.controls
+pub same_controls : {acts : Bool} {owner : Owner} {from to : ℕ} {look : Look} {old new : Passed} → Way acts owner from to look old new
+    → new.controls ≡ old.controls
 same_controls Stay = refl
 same_controls (One step) = controls_step step
 same_controls (Then first second) = same_controls second ∙ same_controls first
