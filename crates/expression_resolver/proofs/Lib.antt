@@ -1,6 +1,8 @@
 mod Actuals
 mod Calls
 mod Chains
+mod Named
+mod Only
 mod Operands
 mod PassedForms
 mod Results

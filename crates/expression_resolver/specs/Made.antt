@@ -1,36 +1,42 @@
 -- How the answers are what typing says of expressions: what is made of a form has the type, the length and the leading
 -- site that typing answers, and looks so. It says nothing of what typing answers.
-use Rattle.std.specs.Prelude.{◌≡◌, ℕ, Bool, true, false, ◌||◌, List, [], ◌∷◌, ◌++◌, flat_map, length, map, nat_eq}
-use Rattle.std.specs.Prelude.{Result}
-use Rattle.std.specs.Prelude.{Option, Some, None, is_none, Vec}
+use Rattle.std.specs.Prelude.{◌≡◌, ◌⊎◌, ℕ, List, [], ◌∷◌, ◌++◌, flat_map, length, map, Result, Ok, Err}
+use Rattle.std.specs.Prelude.{Bool, true, false, Option, Some, None, Vec}
 use Rattle.std.specs.declared.alloc.Global.{Global}
 use Rattle.place.specs.declared.Place.{Place}
 use Rattle.syntax_tree.specs.declared.Actual.{Actual}
 use Rattle.syntax_tree.specs.declared.Expr.{Expr as SyntaxExpr}
-use Rattle.syntax_tree.specs.declared.Expr.TheViews.{out-Actual}
+use Rattle.syntax_tree.specs.declared.Link.{Link as SyntaxLink}
+use Rattle.syntax_tree.specs.declared.Expr.TheViews.{out-Actual, out-Link}
+use Rattle.scopes.specs.declared.denotation.Denotation.{Denotation}
+use Rattle.scopes.specs.declared.denotation.Denotation.TheVariants as denotes
 use Rattle.typed_tree.specs.declared.fault.TypeFault.{TypeFault}
-use Rattle.typed_tree.specs.declared.tree.Dyadic.{Dyadic}
+use Rattle.typed_tree.specs.declared.site.SiteKind.{SiteKind}
 use Rattle.typed_tree.specs.declared.tree.Dyadic.TheVariants as dyadic
 use Rattle.typed_tree.specs.declared.tree.Expr.{Expr}
-use Rattle.typed_tree.specs.declared.tree.Whole.{Whole}
+use Rattle.typed_tree.specs.declared.tree.Link.{Link}
+use Rattle.typed_tree.specs.declared.tree.Monadic.{Monadic}
+use Rattle.typed_tree.specs.declared.tree.Relation.{Relation}
 use Rattle.typed_tree.specs.declared.tree.Passed.{Passed as PassedOne}
 use Rattle.typed_tree.specs.declared.tree.Variable.{Variable}
 use Rattle.types.specs.declared.form.TypeId.{TypeId}
+use Rattle.types.specs.Types.{boolean}
 use Rattle.typed_tree.specs.Entries.{joined}
-use Rattle.typed_tree.specs.Look.{Look, Begins, Operator, Compared, Ends, look_call, look_expr, look_link}
-use Rattle.typed_tree.specs.Look.{look_passed, look_whole}
+use Rattle.typed_tree.specs.Look as look
+use Rattle.typed_tree.specs.Look.{Look, Text, Operation, Applied, Operator, Compared, Ends, look_call, look_expr}
+use Rattle.typed_tree.specs.Look.{look_link, look_passed, look_whole}
 use Rattle.typed_tree.specs.WellFormed.{length_of, placed, source_of}
 use Rattle.typing.specs.declared.typed.Typed.{Typed}
-use Rattle.typing.specs.Passing.{Passed, Passing, Checked, After, and_then, behind_marks, given, mark, pure, ◌>>=◌}
+use Rattle.typing.specs.Passing.{Passed, Passing, Checked, After, after, and_then, behind_marks, given, pure, ◌>>=◌}
 use Rattle.typing.specs.Passing.{◌>>◌}
-use Rattle.typing.specs.Steps.{fits, host_type}
-use Rattle.typing.specs.Expressions.{WrittenLink, typed, links, are_alike, or_no_result}
-use Rattle.typing.specs.Outcomes.{Makes, Tells}
+use Rattle.typing.specs.Steps.{enter, enter_as, host_type}
+use Rattle.typing.specs.Expressions.{behind, operand_type, typed, typed_text, or_no_result}
+use Rattle.typing.specs.Outcomes.{IsFault, Makes, Tells}
+use Rattle.expression_resolver.specs.declared.typed.Begun.{Begun}
 use Rattle.expression_resolver.specs.declared.typed.Value.{Value}
 use Rattle.expression_resolver.specs.declared.typed.Value.TheVariants.{Ordinal, Whole as WholeOf}
 use Rattle.expression_resolver.specs.declared.typed.TypedCall.{TypedCall}
 use Rattle.expression_resolver.specs.declared.typed.TypedExpr.{TypedExpr}
-use Rattle.expression_resolver.specs.declared.typed.TypedLink.{TypedLink}
 use Rattle.expression_resolver.specs.declared.typed.TypedLinks.{TypedLinks}
 
 -- how what stands for a value looks
@@ -61,58 +67,63 @@ typed_of made = record {
 abbrev pub MakesTyped : Checked (After Typed) → Result TypedExpr TypeFault → Passed → Type 0
 MakesTyped = Makes typed_of (λ made. look_value made.value)
 
+-- ---- expressions that are entered
+
+-- an expression is entered behind its leading site; or it has none, or one too many is entered
+abbrev pub Begins : Option SiteKind → Place → Passed → Result Begun TypeFault → Passed → Type 0
+Begins lead place old (Ok made) new =
+    (middle : Passed) × (behind lead place old ≡ Ok (after made.site [] middle))
+    × (enter middle ≡ Ok (after made.number [] new))
+Begins lead place old (Err why) new =
+    IsFault (behind lead place old) why
+    ⊎ ((site : Option ℕ) × (middle : Passed) × (behind lead place old ≡ Ok (after site [] middle))
+    × (enter middle ≡ Err why))
+
+-- the value of a string of a type, behind its leading site
+abbrev pub text_entered : Option ℕ → TypeId → List ℕ → Passing Typed
+text_entered site type_id characters = do
+  enter_as (λ n. Text n characters)
+  pure (typed_text type_id (length characters) site)
+
+-- what is neither a variable nor a routine of the program
+abbrev pub is_alone : Denotation → Bool
+is_alone (denotes.Variable root type_id) = false
+is_alone (denotes.Routine block is_function) = false
+is_alone d = true
+
+-- ---- operators
+
+-- an operation on an operand, with a result of a type
+pub record IsMonadicOf (begun : Begun) (operation : Monadic) (operand : Expr) (type_id : TypeId) (made : TypedExpr)
+    : Type 0 where
+  pub looks : look_value made.value ≡ Operation begun.number ∷ (look_expr operand ++ (Applied operation ∷ []))
+  pub is : typed_of made ≡ typed type_id begun.site
+
+-- an operator and its right operand, behind what stands to its left
+abbrev pub MakesLink : Typed → SyntaxLink → Checked (After Typed) → Result Link TypeFault → Passed → Type 0
+MakesLink left written = Makes (λ _. typed (operand_type (out-Link written).operator) left.site) look_link
+
+-- the operators of a chain
+abbrev pub MakesLinks : Checked (After Typed) → Result TypedLinks TypeFault → Passed → Type 0
+MakesLinks = Makes (λ made. made.typed) (λ made. flat_map look_link made.links.items)
+
+-- a chain of a first operand, an ordinal with this leading site, and the operators behind it
+pub record IsChainOf (first : Expr) (site : Option ℕ) (rest : TypedLinks) (made : TypedExpr) : Type 0 where
+  pub looks : look_value made.value
+      ≡ look.Begins ∷ (look_expr first ++ (flat_map look_link rest.links.items ++ (Ends ∷ [])))
+  pub is : typed_of made ≡ typed rest.typed.type_id site
+
 -- how two strings look that are compared, behind the right one
 abbrev pub look_compared : Option ℕ → Option ℕ → Look
 look_compared (Some left) (Some right) = Compared left right ∷ []
 look_compared left right = []
 
--- how an operator and its right operand look, where such a value stands before it
-abbrev pub look_behind : Option ℕ → TypedLink → Look
-look_behind left made =
-    Operator made.number made.operation ∷ (look_value made.operand ++ look_compared left (value_length made.operand))
-
--- an operator and its right operand, where such a value stands before it
-abbrev pub MakesLink : Typed → Checked (After Typed) → Result TypedLink TypeFault → Passed → Type 0
-MakesLink left = Makes (λ made. typed made.type_id left.site) (look_behind left.length)
-
-abbrev pub is_relation : Dyadic → Bool
-is_relation (dyadic.Relation relation) = true
-is_relation other = false
-
--- on both sides are ordinals, or strings and a relation between them
-pub record IsLinkBehind (left : Typed) (made : TypedLink) : Type 0 where
-  pub alike : are_alike left.length (value_length made.operand) ≡ true
-  pub relation : is_none left.length ≡ false → is_relation made.operation ≡ true
-
--- a relation, with a string on its right
-pub record IsRelationOfStrings (made : TypedLink) : Type 0 where
-  pub string : is_none (value_length made.operand) ≡ false
-  pub relation : is_relation made.operation ≡ true
-
--- the operators of a chain, behind an ordinal with this leading site
-abbrev pub MakesLinks : Option ℕ → Checked (After Typed) → Result TypedLinks TypeFault → Passed → Type 0
-MakesLinks site = Makes (λ made. typed made.type_id site) (λ made. flat_map look_link made.links.items)
-
--- what a chain is behind its first operand, which begins at the place
-unfoldable pub operators : Place → Typed → List WrittenLink → Passing Typed
-operators place f rest = do
-  t ← links f rest
-  given (fits (is_none f.length || nat_eq (length rest) 1) place t)
-  mark Ends
-  pure t
-
--- a chain of a first operand, an ordinal with this leading site, and the operators behind it
-pub record IsChainOf (first : Expr) (site : Option ℕ) (rest : TypedLinks) (made : TypedExpr) : Type 0 where
+-- the relation of two operands
+pub record IsRelationOf (number : ℕ) (relation : Relation) (left right : TypedExpr) (made : TypedExpr) : Type 0 where
   pub looks : look_value made.value
-      ≡ Begins ∷ (look_expr first ++ (flat_map look_link rest.links.items ++ (Ends ∷ [])))
-  pub is : typed_of made ≡ typed rest.type_id site
-
--- the relation of a first string, with these index expressions and this leading site, and the one behind it
-pub record IsComparisonOf (left : Whole) (indexes : Vec Expr Global) (site : Option ℕ) (relation : TypedLink)
-    (made : TypedExpr) : Type 0 where
-  pub looks : look_value made.value
-      ≡ Begins ∷ (look_whole left indexes.items ++ (look_behind (Some (length_of left)) relation ++ (Ends ∷ [])))
-  pub is : typed_of made ≡ typed relation.type_id site
+      ≡ look.Begins ∷ (look_value left.value ++ (Operator number (dyadic.Relation relation)
+      ∷ (look_value right.value ++ (look_compared (value_length left.value) (value_length right.value) ++ (Ends ∷ [])))))
+  pub is : typed_of made ≡ typed boolean left.site
 
 -- the value of the only actual
 abbrev pub IsOnly : List Actual → SyntaxExpr → Type 0

@@ -1,11 +1,11 @@
-ghost use Rattle.std.specs.Prelude.{◌≡◌, [], ◌∷◌, None, Ok, Some, vec_len};
-ghost use Rattle.typed_tree.specs.Look.{Text};
-ghost use Rattle.typing.specs.Expressions as spec;
+ghost use Rattle.std.specs.Prelude.{◌≡◌, [], ◌∷◌, Ok};
+ghost use Rattle.typed_tree.specs.Look.{Constant};
+ghost use Rattle.typing.specs.Expressions.{typed, typed_text};
 ghost use Rattle.typing.specs.Passing.{after};
 ghost use Rattle.expression_resolver.specs.Accesses.{IsCounted, MakesEntered, SelectsField, begun, valued};
-ghost use Rattle.expression_resolver.specs.Made.{MakesTyped, typed_of, look_value, value_length, value_source};
+ghost use Rattle.expression_resolver.specs.Made.{Begins, MakesTyped, text_entered, typed_of, look_value};
 
-use crate::typed::{Entered, Selection, TypedExpr, Value};
+use crate::typed::{Begun, Entered, Selection, TypedExpr, Value};
 use place::Place;
 use std::alloc::Global;
 use syntax_tree::Name;
@@ -30,16 +30,50 @@ impl Selection {
     }
 }
 
-/// The value of a string, which has no index expressions.
-pub(crate) fn text_value(alloc: Global, number: u32, characters: Vec<u8>) -> Value
-    ensures looks { look_value result ≡ Text number characters.items ∷ [] }
-    ensures long { value_length result ≡ Some (vec_len characters) }
-    ensures own { value_source result ≡ None }
+/// An expression is entered, behind the site that leads it.
+pub(crate) fn begin(
+    typer: &mut Typer,
+    lead: Option<SiteKind>,
+    place: Place,
+) -> Result<Begun, TypeFault>
+    ensures { Begins lead place typer.old result typer.new }
 {
-    Value::Whole {
-        value: Whole::Text { number, characters },
-        indexes: Vec::new(alloc),
+    let site = typer.behind(lead, place)?;
+    let number = typer.enter()?;
+    Ok(Begun { number, site })
+}
+
+/// The value of a constant of an ordinal type.
+pub(crate) fn constant(begun: Begun, value: i32, type_id: TypeId) -> TypedExpr
+    ensures is { typed_of result ≡ typed type_id begun.site }
+    ensures looks { look_value result.value ≡ Constant begun.number value ∷ [] }
+{
+    let Begun { number, site } = begun;
+    TypedExpr {
+        value: Value::Ordinal(Expr::Constant { number, value }),
+        type_id,
+        site,
     }
+}
+
+/// The value of a string of a type, which is entered behind its leading site.
+pub(crate) fn text(
+    typer: &mut Typer,
+    site: Option<u32>,
+    type_id: TypeId,
+    characters: Vec<u8>,
+) -> Result<TypedExpr, TypeFault>
+    ensures { MakesTyped (text_entered site type_id characters.items typer.old) result typer.new }
+{
+    let number = typer.enter()?;
+    Ok(TypedExpr {
+        value: Value::Whole {
+            value: Whole::Text { number, characters },
+            indexes: Vec::new(typer.alloc),
+        },
+        type_id,
+        site,
+    })
 }
 
 /// A variable is entered, at the place of its name: its test, the leading site, and its number.
@@ -52,27 +86,14 @@ pub(crate) fn enter(
 ) -> Result<Entered, TypeFault>
     ensures { MakesEntered root (begun place lead typer.old) result typer.new }
 {
+    let defined = typer.site(SiteKind::UndefinedVariable, place)?;
+    let Begun { number, site } = begin(typer, lead, place)?;
     Ok(Entered {
+        number,
         root,
-        defined: typer.site(SiteKind::UndefinedVariable, place)?,
-        site: typer.behind(lead, place)?,
-        number: typer.enter()?,
+        defined,
+        site,
     })
-}
-
-/// A variable itself, of a root and a type, as an expression.
-pub(crate) fn entire(
-    typer: &mut Typer,
-    root: u32,
-    type_id: TypeId,
-    place: Place,
-    lead: Option<SiteKind>,
-) -> Result<TypedExpr, TypeFault>
-    ensures { MakesTyped (spec.accessed root type_id [] [] place lead typer.old) result typer.new }
-{
-    let entered = enter(typer, root, place, lead)?;
-    let selection = Selection::nothing(typer.alloc, type_id);
-    Ok(accessed_value(typer, entered, selection))
 }
 
 /// The field of a name of what was selected so far (6.5.3.3).

@@ -4,23 +4,25 @@ ghost use Rattle.typing.specs.Passing.{behind_marks};
 ghost use Rattle.typing.specs.Expressions as spec;
 ghost use Rattle.typing.specs.Expressions.{result_variable};
 ghost use Rattle.expression_resolver.specs.Made.{IsHostOf, MakesActuals, MakesCall, MakesPassed};
-ghost use Rattle.expression_resolver.specs.Made.{typed_of, look_value, operators};
-ghost use Rattle.expression_resolver.specs.Made.{MakesTyped, MakesLink, MakesLinks, IsLinkBehind, IsOnly};
+ghost use Rattle.expression_resolver.specs.Made.{typed_of, look_value};
+ghost use Rattle.expression_resolver.specs.Made.{MakesTyped, MakesLink, MakesLinks, IsOnly, is_alone};
 ghost use Rattle.expression_resolver.specs.Accesses.{MakesSelection, MakesIndex, SelectsElement, SelectsOne, IsCounted};
 
-use crate::accesses::{accessed_value, enter, entire, select_field, text_value};
-use crate::operators::{chain, comparison, in_chain, monadic};
-use crate::typed::{Selection, TypedCall, TypedExpr, TypedLink, TypedLinks, Value};
+use crate::accesses::{accessed_value, begin, constant, enter, select_field, text};
+use crate::operators::{self, monadic};
+use crate::typed::{Begun, Selection, TypedCall, TypedExpr, TypedLinks, Value};
 use place::Place;
 use scopes::Denotation;
 use syntax_tree as syntax;
 use typed_tree::fault::TypeFault;
 use typed_tree::site::SiteKind;
 use typed_tree::tree::{
-    Access, Calculation, Call, Expr, Monadic, Passed, RangeTest, Selector, VariableKind,
+    Access, Calculation, Call, Expr, Link, Monadic, Passed, RangeTest, Selector, VariableKind,
 };
 use types::{ArrayElement, TypeId, TypeTable};
-use typing::rules::{as_function, as_routine, as_variable, sign_operation};
+use typing::rules::{
+    as_function, as_routine, as_variable, operand_type, relation_of, sign_operation, takes_operands,
+};
 use typing::{Typed, Typer, characters};
 
 /// An expression, by the kind of its leading site.
@@ -35,7 +37,18 @@ pub fn expression(
 {
     match written {
         syntax::Expr::Number { value, place } => number(typer, *value, *place, lead),
-        syntax::Expr::Name(name) => named(typer, name, lead),
+        syntax::Expr::Name(name) => {
+            let denotation = typer.find(name)?;
+            match denotation {
+                Denotation::Variable { root, type_id } => {
+                    accessed(typer, root, type_id, &[], &[], name.place, lead)
+                }
+                Denotation::Routine { block, is_function } => {
+                    function_value(typer, block, is_function, name.place, &[], lead)
+                }
+                _ => denoted(typer, denotation, name.place, lead),
+            }
+        }
         syntax::Expr::Component {
             name,
             selectors,
@@ -44,12 +57,26 @@ pub fn expression(
         syntax::Expr::String { text, place } => string(typer, text, *place, lead),
         syntax::Expr::Call { name, actuals } => call(typer, name, actuals, lead),
         syntax::Expr::Parenthesized { open, inner } => parenthesized(typer, *open, inner, lead),
-        syntax::Expr::Not { place, operand } => negation(typer, *place, operand, lead),
-        syntax::Expr::Signed { sign, place, term } => signed(typer, *sign, *place, term, lead),
+        syntax::Expr::Not { place, operand } => {
+            let operation = Monadic::Plain(Calculation::Complement);
+            prefixed(typer, TypeTable::BOOLEAN, operation, *place, operand, lead)
+        }
+        syntax::Expr::Signed { sign, place, term } => {
+            let operation = sign_operation(*sign);
+            prefixed(typer, TypeTable::INTEGER, operation, *place, term, lead)
+        }
         syntax::Expr::Chain { first, rest } => {
-            let place = first_place(first);
-            let first = expression(typer, first, lead)?;
-            behind_first(typer, place, first, rest)
+            let left = expression(typer, first, lead)?;
+            chain(typer, first_place(first), left, rest)
+        }
+        syntax::Expr::Relation {
+            left,
+            operator,
+            place,
+            right,
+        } => {
+            let left = expression(typer, left, lead)?;
+            relation(typer, left, *operator, *place, right)
         }
     }
 }
@@ -65,16 +92,11 @@ fn number(
     ensures { MakesTyped (spec.number value place lead typer.old) result typer.new }
 {
     typer.pass(place);
-    let site = typer.behind(lead, place)?;
     let Ok(value) = i32::try_from(value) else {
         return Err(TypeFault::Mismatch(place));
     };
-    let number = typer.enter()?;
-    Ok(TypedExpr {
-        value: Value::Ordinal(Expr::Constant { number, value }),
-        type_id: TypeTable::INTEGER,
-        site,
-    })
+    let begun = begin(typer, lead, place)?;
+    Ok(constant(begun, value, TypeTable::INTEGER))
 }
 
 // A string (6.1.7).
@@ -106,35 +128,14 @@ fn spelled(
     if let [character] = characters.as_slice() {
         let value = i32::from(*character);
         let number = typer.enter()?;
-        return Ok(TypedExpr {
-            value: Value::Ordinal(Expr::Constant { number, value }),
-            type_id: TypeTable::CHAR,
-            site,
-        });
+        let begun = Begun { number, site };
+        return Ok(constant(begun, value, TypeTable::CHAR));
     }
     let type_id = typer.string_type(place, characters.len())?;
-    let number = typer.enter()?;
-    Ok(TypedExpr {
-        value: text_value(typer.alloc, number, characters),
-        type_id,
-        site,
-    })
+    text(typer, site, type_id, characters)
 }
 
-// A name as an expression.
-#[tactic(auto, unfolding(typing::specs::Expressions::named))]
-fn named(
-    typer: &mut Typer,
-    name: &syntax::Name,
-    lead: Option<SiteKind>,
-) -> Result<TypedExpr, TypeFault>
-    ensures { MakesTyped (spec.named name.now lead typer.old) result typer.new }
-{
-    let denotation = typer.find(name)?;
-    denoted(typer, denotation, name.place, lead)
-}
-
-// What a name denotes, as an expression: a constant, a variable, or a function without parameters.
+// What a name denotes that is neither a variable nor a routine of the program, as an expression: a constant.
 #[tactic(auto, unfolding(typing::specs::Expressions::denoted))]
 fn denoted(
     typer: &mut Typer,
@@ -142,83 +143,25 @@ fn denoted(
     place: Place,
     lead: Option<SiteKind>,
 ) -> Result<TypedExpr, TypeFault>
+    requires { is_alone denotation ≡ true }
     ensures { MakesTyped (spec.denoted denotation place lead typer.old) result typer.new }
 {
     match denotation {
         Denotation::Constant { value, type_id } => {
-            let site = typer.behind(lead, place)?;
-            let number = typer.enter()?;
-            Ok(TypedExpr {
-                value: Value::Ordinal(Expr::Constant { number, value }),
-                type_id,
-                site,
-            })
+            let begun = begin(typer, lead, place)?;
+            Ok(constant(begun, value, type_id))
         }
         Denotation::Text { number, type_id } => {
             let site = typer.behind(lead, place)?;
             let characters = typer.text_at(number)?;
-            let number = typer.enter()?;
-            Ok(TypedExpr {
-                value: text_value(typer.alloc, number, characters),
-                type_id,
-                site,
-            })
+            text(typer, site, type_id, characters)
         }
-        Denotation::Variable { root, type_id } => entire(typer, root, type_id, place, lead),
         Denotation::Procedure(_) | Denotation::Function(_) => {
             Err(TypeFault::WrongParameters(place))
         }
-        Denotation::Routine { block, is_function } => {
-            plain_value(typer, block, is_function, place, lead)
-        }
         Denotation::TypeName(_) | Denotation::Output => Err(TypeFault::Mismatch(place)),
+        Denotation::Variable { .. } | Denotation::Routine { .. } => unreachable!(),
     }
-}
-
-// The value of a function without actual parameters: K3 at the name of a procedure.
-#[tactic(auto, unfolding(typing::specs::Expressions::function_value))]
-fn plain_value(
-    typer: &mut Typer,
-    block: u32,
-    is_function: bool,
-    place: Place,
-    lead: Option<SiteKind>,
-) -> Result<TypedExpr, TypeFault>
-    ensures { MakesTyped (spec.function_value block is_function place [] lead typer.old) result typer.new }
-{
-    if !is_function {
-        return Err(TypeFault::WrongParameters(place));
-    }
-    typer.pass(place);
-    let site = typer.behind(lead, place)?;
-    let made = plain_call(typer, block, place)?;
-    let type_id = result_type(typer, place, made.root)?;
-    Ok(TypedExpr {
-        value: Value::Ordinal(Expr::Call {
-            call: made.call,
-            actuals: made.actuals,
-        }),
-        type_id,
-        site,
-    })
-}
-
-// The call of a function without actual parameters.
-#[tactic(auto, unfolding(typing::specs::Expressions::routine_call))]
-fn plain_call(typer: &mut Typer, block: u32, place: Place) -> Result<TypedCall, TypeFault>
-    ensures { MakesCall true (spec.routine_call true block place [] typer.old) result typer.new }
-{
-    let number = typer.enter()?;
-    let found = typer.callee(block, 0, place)?;
-    Ok(TypedCall {
-        call: Call {
-            number,
-            name: place,
-            block,
-        },
-        actuals: Vec::new(typer.alloc),
-        root: found.root,
-    })
 }
 
 // A component of a variable (6.5.1, 6.5.3).
@@ -338,7 +281,7 @@ fn index(
     if !typer.may_index(element, made.typed()) {
         return Err(TypeFault::Mismatch(place));
     }
-    Ok((site, made.ordinal(place)?))
+    Ok((site, made.value.into_ordinal()))
 }
 
 #[cycle(expressions)]
@@ -357,135 +300,99 @@ fn parenthesized(
     Ok(TypedExpr { site, ..inner })
 }
 
-// `not` and its operand.
+// An operation before an operand of a type, which its result is of too.
 #[cycle(expressions)]
-#[tactic(auto, unfolding(typing::specs::Expressions::negation))]
-fn negation(
+#[tactic(auto, unfolding(typing::specs::Expressions::prefixed))]
+fn prefixed(
     typer: &mut Typer,
+    type_id: TypeId,
+    operation: Monadic,
     place: Place,
     operand: &syntax::Expr,
     lead: Option<SiteKind>,
 ) -> Result<TypedExpr, TypeFault>
-    ensures { MakesTyped (spec.negation place (spec.expression operand.now) lead typer.old) result typer.new }
-{
-    typer.pass(place);
-    let site = typer.behind(lead, place)?;
-    let number = typer.enter()?;
-    let operand = expression(typer, operand, None)?.of(TypeTable::BOOLEAN, place)?;
-    Ok(TypedExpr {
-        value: monadic(
-            typer.alloc,
-            number,
-            Monadic::Plain(Calculation::Complement),
-            operand,
-        )?,
-        type_id: TypeTable::BOOLEAN,
-        site,
-    })
-}
-
-// A sign and the term that it covers.
-#[cycle(expressions)]
-#[tactic(auto, unfolding(typing::specs::Expressions::signed))]
-fn signed(
-    typer: &mut Typer,
-    sign: syntax::Sign,
-    place: Place,
-    term: &syntax::Expr,
-    lead: Option<SiteKind>,
-) -> Result<TypedExpr, TypeFault>
-    ensures { MakesTyped (spec.signed sign place (spec.expression term.now) lead typer.old) result typer.new }
-{
-    typer.pass(place);
-    let site = typer.behind(lead, place)?;
-    let number = typer.enter()?;
-    let term = expression(typer, term, None)?.of(TypeTable::INTEGER, place)?;
-    Ok(TypedExpr {
-        value: monadic(typer.alloc, number, sign_operation(sign), term)?,
-        type_id: TypeTable::INTEGER,
-        site,
-    })
-}
-
-// The operators of a chain behind a first operand, which begins at the place. A string is an operand of one operator
-// alone.
-#[cycle(expressions)]
-fn behind_first(
-    typer: &mut Typer,
-    place: Place,
-    first: TypedExpr,
-    rest: &[syntax::Link],
-) -> Result<TypedExpr, TypeFault>
-    ensures { MakesTyped (behind_marks (Begins ∷ look_value first.value)
-        (operators place (typed_of first) (map spec.written_link rest.now) typer.old)) result typer.new }
-{
-    let left = first.typed();
-    match first.value {
-        Value::Ordinal(value) => {
-            let rest = links(typer, left.type_id, left.site, rest)?;
-            chain(typer.alloc, value, left.site, rest)
-        }
-        Value::Whole { value, indexes } => {
-            let Some((written, more)) = rest.split_first() else {
-                return Err(TypeFault::Mismatch(place));
-            };
-            let relation = link(typer, left, written)?;
-            // What an operator behind it breaks comes first; the parser makes no such chain.
-            links(typer, relation.type_id, left.site, more)?;
-            if !more.is_empty() {
-                return Err(TypeFault::Mismatch(place));
-            }
-            Ok(comparison(value, indexes, left.site, relation))
-        }
-    }
-}
-
-// The operators of a chain, behind an ordinal of type `left` with this leading site.
-#[cycle(expressions)]
-fn links(
-    typer: &mut Typer,
-    left: TypeId,
-    site: Option<u32>,
-    rest: &[syntax::Link],
-) -> Result<TypedLinks, TypeFault>
-    ensures { MakesLinks site (spec.links (spec.typed left site) (map spec.written_link rest.now) typer.old) result
+    ensures { MakesTyped (spec.prefixed type_id operation place (spec.expression operand.now) lead typer.old) result
         typer.new }
 {
-    let mut links = Vec::with_capacity(typer.alloc, rest.len())?;
-    let mut type_id = left;
-    for written in rest {
-        let before = Typed {
-            type_id,
-            length: None,
-            source: None,
-            site,
-        };
-        let next = link(typer, before, written)?;
-        type_id = next.type_id;
-        links.push(in_chain(next))?;
-    }
-    Ok(TypedLinks { links, type_id })
+    typer.pass(place);
+    let begun = begin(typer, lead, place)?;
+    let operand = expression(typer, operand, None)?.of(type_id, place)?;
+    monadic(typer.alloc, begun, operation, operand, type_id)
 }
 
-// An operator and its right operand, where such a value stands before it.
+// A chain of operators behind its first operand, which begins at the place.
 #[cycle(expressions)]
-#[tactic(auto, using(crate::proofs::Operands::linked), unfolding(typing::specs::Expressions::link))]
-fn link(typer: &mut Typer, left: Typed, written: &syntax::Link) -> Result<TypedLink, TypeFault>
-    ensures made { MakesLink left (spec.written_link written.now left typer.old) result typer.new }
-    ensures fits { IfOk result (IsLinkBehind left) }
+fn chain(
+    typer: &mut Typer,
+    place: Place,
+    left: TypedExpr,
+    rest: &[syntax::Link],
+) -> Result<TypedExpr, TypeFault>
+    ensures { MakesTyped (behind_marks (Begins ∷ look_value left.value) (spec.chain_behind place (map spec.written_link
+        rest.now) (typed_of left) typer.old)) result typer.new }
+{
+    let rest = links(typer, left.typed(), rest)?;
+    let site = left.site;
+    operators::chain(typer.alloc, left.ordinal(place)?, site, rest)
+}
+
+// The operators of a chain, behind what stands to their left.
+#[cycle(expressions)]
+fn links(typer: &mut Typer, left: Typed, rest: &[syntax::Link]) -> Result<TypedLinks, TypeFault>
+    ensures { MakesLinks (spec.links left (map spec.written_link rest.now) typer.old) result typer.new }
+{
+    let mut links = Vec::with_capacity(typer.alloc, rest.len())?;
+    let mut typed = left;
+    for written in rest {
+        links.push(link(typer, typed, written)?)?;
+        typed = Typed {
+            type_id: operand_type(written.operator),
+            length: None,
+            source: None,
+            site: typed.site,
+        };
+    }
+    Ok(TypedLinks { links, typed })
+}
+
+// An operator and its right operand, behind what stands to its left.
+#[cycle(expressions)]
+#[tactic(auto, using(typing::proofs::Written::typing_link), unfolding(typing::specs::Expressions::link))]
+fn link(typer: &mut Typer, left: Typed, written: &syntax::Link) -> Result<Link, TypeFault>
+    ensures { MakesLink left written.now (spec.written_link written.now left typer.old) result typer.new }
 {
     let operation = typer.operation(written.operator, written.place)?;
     let number = typer.enter()?;
-    let operand = expression(typer, &written.operand, None)?;
-    let type_id = typer
-        .result_type(written.operator, left, operand.typed())
-        .ok_or(TypeFault::Mismatch(written.place))?;
-    Ok(TypedLink {
+    let right = expression(typer, &written.operand, None)?;
+    if !takes_operands(written.operator, left, right.typed()) {
+        return Err(TypeFault::Mismatch(written.place));
+    }
+    Ok(Link {
         number,
         operation,
-        operand: operand.value,
-        type_id,
+        operand: right.value.into_ordinal(),
     })
+}
+
+// A relation behind its left operand (6.7.2.5): K1 at its operator where its operands can't be compared.
+#[cycle(expressions)]
+#[tactic(auto, using(crate::proofs::Operands::compares_look))]
+fn relation(
+    typer: &mut Typer,
+    left: TypedExpr,
+    operator: syntax::RelationalOperator,
+    place: Place,
+    right: &syntax::Expr,
+) -> Result<TypedExpr, TypeFault>
+    ensures { MakesTyped (behind_marks (Begins ∷ look_value left.value) (spec.relation_behind operator place
+        (spec.expression right.now) (typed_of left) typer.old)) result typer.new }
+{
+    let number = typer.enter()?;
+    let right = expression(typer, right, None)?;
+    if !typer.may_compare(left.typed(), right.typed()) {
+        return Err(TypeFault::Mismatch(place));
+    }
+    operators::relation(typer.alloc, number, relation_of(operator), left, right)
 }
 
 // The call of a function: of one that the program declares, or of a required one.
@@ -522,19 +429,14 @@ fn required_call(
         result typer.new }
 {
     let function = as_function(name.place, denotation)?;
-    let begun = typer.begin_function(function.does, name.place)?;
-    let site = typer.behind(lead, name.place)?;
-    let number = typer.enter()?;
+    let does = typer.begin_function(function.does, name.place)?;
+    let begun = begin(typer, lead, name.place)?;
     let actual = only(name.place, actuals)?;
     let place = first_place(actual);
     let argument = expression(typer, actual, None)?;
-    let (operation, type_id) = typer.applied(function, begun, place, argument.typed())?;
-    let argument = argument.ordinal(place)?;
-    Ok(TypedExpr {
-        value: monadic(typer.alloc, number, operation, argument)?,
-        type_id,
-        site,
-    })
+    let (operation, type_id) = typer.applied(function, does, place, argument.typed())?;
+    let operand = argument.value.into_ordinal();
+    monadic(typer.alloc, begun, operation, operand, type_id)
 }
 
 // The value of a function that the program declares (6.7.3), which is of the host type: K3 at the name of a procedure.
@@ -674,6 +576,7 @@ fn passed_variable(
         syntax::Expr::Call { name, .. } => Err(TypeFault::NotVariable(name.place)),
         syntax::Expr::Parenthesized { open, .. } => Err(TypeFault::NotVariable(*open)),
         syntax::Expr::Chain { first, .. } => Err(TypeFault::NotVariable(first_place(first))),
+        syntax::Expr::Relation { left, .. } => Err(TypeFault::NotVariable(first_place(left))),
     }
 }
 
@@ -746,7 +649,7 @@ fn passed_ordinal(
     let range = typer
         .fitting(type_id, made.typed())
         .ok_or(TypeFault::Mismatch(place))?;
-    let value = made.ordinal(place)?;
+    let value = made.value.into_ordinal();
     let fits = RangeTest { site, range };
     Ok(Passed::Value { value, fits })
 }
@@ -775,7 +678,7 @@ fn passed_whole(
 }
 
 // The one actual of a function, which has no width.
-#[tactic(auto, using(crate::proofs::Chains::only_one))]
+#[tactic(auto, using(crate::proofs::Only::only_one))]
 fn only<'e, 'a>(
     place: Place,
     actuals: &'e [syntax::Actual<'a>],
@@ -809,5 +712,6 @@ pub fn first_place(written: &syntax::Expr) -> Place
         | syntax::Expr::Call { name, .. } => name.place,
         syntax::Expr::Parenthesized { open, .. } => *open,
         syntax::Expr::Chain { first, .. } => first_place(first),
+        syntax::Expr::Relation { left, .. } => first_place(left),
     }
 }

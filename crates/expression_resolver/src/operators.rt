@@ -1,54 +1,35 @@
-ghost use Rattle.std.specs.Prelude.{◌≡◌, [], ◌∷◌, ◌++◌, MatchResult, is_none, true, Some};
+ghost use Rattle.std.specs.Prelude.{◌≡◌, MatchResult, true};
 ghost use Rattle.typed_tree.specs.declared.fault.TypeFault.TheVariants.{Memory};
-ghost use Rattle.typed_tree.specs.Look.{Operation, Applied, Operator, look_expr, look_link};
-ghost use Rattle.expression_resolver.specs.Made.{look_value, value_length};
-ghost use Rattle.expression_resolver.specs.Made.{IsChainOf, IsComparisonOf, IsRelationOfStrings};
+ghost use Rattle.typing.specs.Expressions.{are_alike};
+ghost use Rattle.expression_resolver.specs.Made.{value_length};
+ghost use Rattle.expression_resolver.specs.Made.{IsMonadicOf, IsChainOf, IsRelationOf};
 
-use crate::typed::{TypedExpr, TypedLink, TypedLinks, Value};
+use crate::typed::{Begun, TypedExpr, TypedLinks, Value};
 use std::alloc::Global;
 use typed_tree::fault::TypeFault;
-use typed_tree::tree::{Dyadic, Expr, Link, Monadic, Whole};
+use typed_tree::tree::{Dyadic, Expr, Link, Monadic, Relation};
+use types::{TypeId, TypeTable};
 
-/// An operation on an operand.
+/// An operation on an operand, with a result of a type.
 #[tactic(auto, using(typed_tree::proofs::Looks::look_monadic))]
 pub(crate) fn monadic(
     alloc: Global,
-    number: u32,
+    begun: Begun,
     operation: Monadic,
     operand: Expr,
-) -> Result<Value, TypeFault>
-    ensures { MatchResult result
-        (λ made. (is_none (value_length made) ≡ true)
-        × (look_value made ≡ Operation number ∷ (look_expr operand ++ (Applied operation ∷ []))))
-        (λ why. why ≡ Memory) }
+    type_id: TypeId,
+) -> Result<TypedExpr, TypeFault>
+    ensures { MatchResult result (IsMonadicOf begun operation operand type_id) (λ why. why ≡ Memory) }
 {
-    Ok(Value::Ordinal(Expr::Monadic {
-        number,
-        operation,
-        operand: Box::new(alloc, operand)?,
-    }))
-}
-
-/// An operator and its right operand, an ordinal, as a chain has them.
-#[tactic(auto, using(typed_tree::proofs::Looks::look_linked))]
-pub(crate) fn in_chain(made: TypedLink) -> Link
-    requires ordinal { is_none (value_length made.operand) ≡ true }
-    ensures { look_link result ≡ Operator made.number made.operation ∷ look_value made.operand }
-{
-    let TypedLink {
-        number,
-        operation,
-        operand,
-        ..
-    } = made;
-    match operand {
-        Value::Ordinal(operand) => Link {
-            number,
+    Ok(TypedExpr {
+        value: Value::Ordinal(Expr::Monadic {
+            number: begun.number,
             operation,
-            operand,
-        },
-        Value::Whole { .. } => unreachable!(),
-    }
+            operand: Box::new(alloc, operand)?,
+        }),
+        type_id,
+        site: begun.site,
+    })
 }
 
 /// Operators of one precedence behind a first operand.
@@ -66,47 +47,56 @@ pub(crate) fn chain(
             first: Box::new(alloc, first)?,
             rest: rest.links,
         }),
-        type_id: rest.type_id,
+        type_id: rest.typed.type_id,
         site,
     })
 }
 
-/// The relation of two strings, of which the left one has these index expressions.
-#[tactic(auto, using(typed_tree::proofs::Looks::look_compare))]
-pub(crate) fn comparison(
-    left: Whole,
-    left_indexes: Vec<Expr>,
-    site: Option<u32>,
-    made: TypedLink,
-) -> TypedExpr
-    requires strings { IsRelationOfStrings made }
-    ensures { IsComparisonOf left left_indexes site made result }
+/// The relation of two ordinals, or of two strings.
+#[tactic(auto, using(typed_tree::proofs::Looks::look_chain, typed_tree::proofs::Looks::look_compare, typed_tree::proofs::Looks::look_linked))]
+pub(crate) fn relation(
+    alloc: Global,
+    number: u32,
+    relation: Relation,
+    left: TypedExpr,
+    right: TypedExpr,
+) -> Result<TypedExpr, TypeFault>
+    requires alike { are_alike (value_length left.value) (value_length right.value) ≡ true }
+    ensures { MatchResult result (IsRelationOf number relation left right) (λ why. why ≡ Memory) }
 {
-    let TypedLink {
-        number,
-        operation,
-        operand,
-        type_id,
-    } = made;
-    match (operation, operand) {
+    let value = match (left.value, right.value) {
+        (Value::Ordinal(left), Value::Ordinal(right)) => Expr::Chain {
+            first: Box::new(alloc, left)?,
+            rest: vec![in alloc;
+                Link {
+                    number,
+                    operation: Dyadic::Relation(relation),
+                    operand: right
+                },
+            ]?,
+        },
         (
-            Dyadic::Relation(relation),
+            Value::Whole {
+                value: left,
+                indexes: left_indexes,
+            },
             Value::Whole {
                 value: right,
                 indexes: right_indexes,
             },
-        ) => TypedExpr {
-            value: Value::Ordinal(Expr::Compare {
-                number,
-                relation,
-                left,
-                left_indexes,
-                right,
-                right_indexes,
-            }),
-            type_id,
-            site,
+        ) => Expr::Compare {
+            number,
+            relation,
+            left,
+            left_indexes,
+            right,
+            right_indexes,
         },
         _ => unreachable!(),
-    }
+    };
+    Ok(TypedExpr {
+        value: Value::Ordinal(value),
+        type_id: TypeTable::BOOLEAN,
+        site: left.site,
+    })
 }

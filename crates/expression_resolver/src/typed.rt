@@ -7,7 +7,7 @@ ghost use Rattle.expression_resolver.specs.Made.{typed_of, look_value, value_len
 
 use place::Place;
 use typed_tree::fault::TypeFault;
-use typed_tree::tree::{Call, Dyadic, Expr, Link, Passed, Selector, Whole};
+use typed_tree::tree::{Call, Expr, Link, Passed, Selector, Whole};
 use types::TypeId;
 use typing::Typed;
 
@@ -30,6 +30,17 @@ impl Value {
                 ..
             } => Some(*type_id),
             _ => None,
+        }
+    }
+
+    /// The ordinal that it is.
+    pub(crate) fn into_ordinal(self) -> Expr
+        requires ordinal { is_none (value_length self) ≡ true }
+        ensures { look_value self ≡ look_expr result }
+    {
+        match self {
+            Value::Ordinal(made) => made,
+            Value::Whole { .. } => unreachable!(),
         }
     }
 
@@ -119,20 +130,11 @@ pub struct TypedCall {
     pub root: Option<u32>,
 }
 
-/// An operator and its right operand, and the type of its result.
-#[derive(Drop)]
-pub(crate) struct TypedLink {
-    pub(crate) number: u32,
-    pub(crate) operation: Dyadic,
-    pub(crate) operand: Value,
-    pub(crate) type_id: TypeId,
-}
-
-/// The operators of a chain with their right operands, and the type of its value.
+/// The operators of a chain with their right operands, and what they make of its first one.
 #[derive(Drop)]
 pub(crate) struct TypedLinks {
     pub(crate) links: Vec<Link>,
-    pub(crate) type_id: TypeId,
+    pub(crate) typed: Typed,
 }
 
 /// The selectors of an access with their index expressions, and the type of the component to which they lead
@@ -142,6 +144,14 @@ pub struct Selection {
     pub selectors: Vec<Selector>,
     pub indexes: Vec<Expr>,
     pub type_id: TypeId,
+}
+
+/// An expression that is entered.
+#[derive(Clone, Copy)]
+pub(crate) struct Begun {
+    pub(crate) number: u32,
+    /// The id of its leading site.
+    pub(crate) site: Option<u32>,
 }
 
 /// A variable that is entered in an expression, before its selectors.

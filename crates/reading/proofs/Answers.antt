@@ -11,13 +11,15 @@ use Rattle.lexer.specs.declared.token.Symbol.TheVariants as symbol
 use Rattle.lexer.specs.declared.token.Token.{Token}
 use Rattle.syntax_tree.specs.declared.Operator.{Operator}
 use Rattle.syntax_tree.specs.declared.Operator.TheVariants as op
+use Rattle.syntax_tree.specs.declared.RelationalOperator.{RelationalOperator}
+use Rattle.syntax_tree.specs.declared.RelationalOperator.TheVariants as relational
 use Rattle.syntax_tree.specs.declared.Sign.{Sign}
 use Rattle.syntax_tree.specs.declared.Sign.TheVariants as sign
 use Rattle.reading.specs.declared.refusal.Refusal.TheVariants.{TooDeep}
-use Rattle.reading.specs.Lexemes.{Spelling, IsSpelledBy, Reads, of_kind, of_kind_at, of_text, sign_kind, operator_kind}
+use Rattle.reading.specs.Lexemes.{Spelling, IsSpelledBy, Reads, of_kind, of_kind_at, of_text, sign_kind, operator_kind, relational_kind}
 use Rattle.reading.specs.Outline.{operator_level}
 use Rattle.reading.specs.Reading.{Reading, and_then, ◌>>=◌, pure, next_kind, token_by, same_kind, taken, text_taken, or_refuse, expect, expect_name}
-use Rattle.reading.specs.Reading.{operator_in, of_level, operator_taken, take_if, sign_in, sign_taken}
+use Rattle.reading.specs.Reading.{operator_in, of_level, operator_taken, relational_in, relational_taken, take_if, sign_in, sign_taken}
 use Rattle.reading.proofs.Makes.{same_kind_true, true_same_kind}
 
 pub data Answers {A : Type 0} (limit depth : ℕ) (p : Reading A) (tokens : List Token) (a : A) (others : List Token) : Type 0 where
@@ -130,12 +132,6 @@ kind_operates op.Times = refl
 kind_operates op.Div = refl
 kind_operates op.Mod = refl
 kind_operates op.And = refl
-kind_operates op.Equal = refl
-kind_operates op.NotEqual = refl
-kind_operates op.Less = refl
-kind_operates op.Greater = refl
-kind_operates op.LessOrEqual = refl
-kind_operates op.GreaterOrEqual = refl
 
 pub takes_operator : {token : Token} {behind tokens : List Token} (level : ℕ) (o : Operator) (place : Place) → tokens ≡ token ∷ behind
     → IsSpelledBy (of_kind_at (operator_kind o) place) token → operator_level o ≡ level → operator_taken level tokens ≡ Ok (Some (o, place), behind)
@@ -145,6 +141,23 @@ takes_operator {token} {behind} {tokens} level o place are is at =
     ∙ ap (λ k. take_if (of_level level (operator_in k) token.place) token behind) is.kind
     ∙ ap (λ x. take_if (of_level level x token.place) token behind) (kind_operates o)
     ∙ ap (λ b. take_if (if b then Some (o, token.place) else None) token behind) (eq-eqb (operator_level o) level at)
+    ∙ ap (λ p. Ok (Some (o, p), behind)) is.place
+
+relational_operates : (o : RelationalOperator) (place : Place) → relational_in (relational_kind o) place ≡ Some (o, place)
+relational_operates relational.Equal place = refl
+relational_operates relational.NotEqual place = refl
+relational_operates relational.Less place = refl
+relational_operates relational.Greater place = refl
+relational_operates relational.LessOrEqual place = refl
+relational_operates relational.GreaterOrEqual place = refl
+
+pub takes_relational : {token : Token} {behind tokens : List Token} (o : RelationalOperator) (place : Place) → tokens ≡ token ∷ behind
+    → IsSpelledBy (of_kind_at (relational_kind o) place) token → relational_taken tokens ≡ Ok (Some (o, place), behind)
+unfolding relational_taken
+takes_relational {token} {behind} {tokens} o place are is =
+    ap (λ ts. token_by (λ t. relational_in t.kind t.place) ts) are
+    ∙ ap (λ k. take_if (relational_in k token.place) token behind) is.kind
+    ∙ ap (λ x. take_if x token behind) (relational_operates o token.place)
     ∙ ap (λ p. Ok (Some (o, p), behind)) is.place
 
 sign_operates : (s : Sign) (place : Place) → sign_in (sign_kind s) place ≡ Some (s, place)
@@ -171,12 +184,24 @@ follows None = 0
 follows (Some (kind.Symbol symbol.OpenParenthesis)) = 9
 follows (Some (kind.Symbol symbol.OpenBracket)) = 9
 follows (Some (kind.Symbol symbol.Period)) = 9
+follows (Some (kind.Symbol symbol.Equal)) = 1
+follows (Some (kind.Symbol symbol.NotEqual)) = 1
+follows (Some (kind.Symbol symbol.Less)) = 1
+follows (Some (kind.Symbol symbol.Greater)) = 1
+follows (Some (kind.Symbol symbol.LessOrEqual)) = 1
+follows (Some (kind.Symbol symbol.GreaterOrEqual)) = 1
 follows (Some k) = tightness (operator_in k)
 
 in_tightness : (k : Kind) (level : ℕ) → follows (Some k) ≤ level → level ≤ 4 → tightness (operator_in k) ≤ level
 in_tightness (kind.Symbol symbol.OpenParenthesis) level h f = absurd (omega arith)
 in_tightness (kind.Symbol symbol.OpenBracket) level h f = absurd (omega arith)
 in_tightness (kind.Symbol symbol.Period) level h f = absurd (omega arith)
+in_tightness (kind.Symbol symbol.Equal) level h f = omega arith
+in_tightness (kind.Symbol symbol.NotEqual) level h f = omega arith
+in_tightness (kind.Symbol symbol.Less) level h f = omega arith
+in_tightness (kind.Symbol symbol.Greater) level h f = omega arith
+in_tightness (kind.Symbol symbol.LessOrEqual) level h f = omega arith
+in_tightness (kind.Symbol symbol.GreaterOrEqual) level h f = omega arith
 in_tightness k level h f = h
 
 no_operator : (level : ℕ) (found : Option Operator) (place : Place) → tightness found ≤ level → of_level level found place ≡ None
@@ -191,6 +216,20 @@ unfolding operator_taken
 misses_operator level [] h f = refl
 misses_operator level (token ∷ others) h f =
     ap (λ o. take_if o token others) (no_operator level (operator_in token.kind) token.place (in_tightness token.kind level h f))
+
+no_relational : (k : Kind) (place : Place) → follows (Some k) ≤ 0 → relational_in k place ≡ None
+no_relational (kind.Symbol symbol.Equal) place h = absurd (omega arith)
+no_relational (kind.Symbol symbol.NotEqual) place h = absurd (omega arith)
+no_relational (kind.Symbol symbol.Less) place h = absurd (omega arith)
+no_relational (kind.Symbol symbol.Greater) place h = absurd (omega arith)
+no_relational (kind.Symbol symbol.LessOrEqual) place h = absurd (omega arith)
+no_relational (kind.Symbol symbol.GreaterOrEqual) place h = absurd (omega arith)
+no_relational k place h = refl
+
+pub misses_relational : (tokens : List Token) → follows (next_kind tokens) ≤ 0 → relational_taken tokens ≡ Ok (None, tokens)
+unfolding relational_taken
+misses_relational [] h = refl
+misses_relational (token ∷ others) h = ap (λ o. take_if o token others) (no_relational token.kind token.place h)
 
 -- a token that would go on with a name doesn't come
 pub no_more_name : (k : Kind) (level : ℕ) (tokens : List Token) → follows (next_kind tokens) ≤ level → level ≤ 4 → 4 < follows (Some k) → ¬ (next_kind
@@ -212,9 +251,11 @@ follows_operator op.Times = refl
 follows_operator op.Div = refl
 follows_operator op.Mod = refl
 follows_operator op.And = refl
-follows_operator op.Equal = refl
-follows_operator op.NotEqual = refl
-follows_operator op.Less = refl
-follows_operator op.Greater = refl
-follows_operator op.LessOrEqual = refl
-follows_operator op.GreaterOrEqual = refl
+
+pub follows_relational : (o : RelationalOperator) → follows (Some (relational_kind o)) ≡ 1
+follows_relational relational.Equal = refl
+follows_relational relational.NotEqual = refl
+follows_relational relational.Less = refl
+follows_relational relational.Greater = refl
+follows_relational relational.LessOrEqual = refl
+follows_relational relational.GreaterOrEqual = refl

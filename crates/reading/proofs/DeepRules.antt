@@ -13,7 +13,7 @@ use Rattle.reading.specs.declared.refusal.Refusal.TheVariants.{NoProgram, TooDee
 use Rattle.reading.specs.Deep.{opens, last, OpensUpTo}
 use Rattle.reading.specs.Lexemes.{Lexeme, Reads, of_kind_at, sign_kind}
 use Rattle.reading.specs.Outline as form
-use Rattle.reading.specs.Outline.{Outline, has_items, nothing, kept, relation_level, sum_level, product_level}
+use Rattle.reading.specs.Outline.{Outline, has_items, nothing, kept, sum_level, product_level}
 use Rattle.reading.specs.Reading.{Outcome, Reading, and_then, expect, ◌>>=◌, pure, too_deep, here, next_kind, is_kind, more}
 use Rattle.reading.specs.Reading.{ends}
 use Rattle.reading.specs.Expressions as read
@@ -28,7 +28,7 @@ use Rattle.reading.proofs.MadeStatements.{control_made}
 use Rattle.reading.proofs.Nests.{Front, at_start, front_of, further, Nests, fewer_levels, nests_then, nests_pure, nests_refuse, nests_choose}
 use Rattle.reading.proofs.Nests.{nests_on}
 use Rattle.reading.proofs.Nests.{nests_if, nests_peek, nests_here, nests_nowhere, nests_taken, nests_text, nests_number, nests_sign, nests_direction}
-use Rattle.reading.proofs.Nests.{nests_operator}
+use Rattle.reading.proofs.Nests.{nests_operator, nests_relational}
 use Rattle.reading.proofs.Nests.{same_place, then_opened, same_stop, other_refusal, leaves_make, nests_forward, nests_wanted, nests_expect, nests_name}
 use Rattle.reading.proofs.Nests.{opening, on_opening, Steps, loop_nests, nests_loop, nests_separated, nests_many}
 
@@ -163,8 +163,7 @@ expressions_nest {n} {any} h =
     let term = chain_nests product_level h h in
     let signed : Nests n (read.signed (term_of any)) = nests_on nests_sign (λ s. nests_then term (λ t. nests_pure (form.signed s.0 s.1 t))) term in
     let simple = chain_nests sum_level signed term in
-    nests_then simple (λ left. nests_on (nests_operator relation_level) (λ o. nests_then simple (λ right. nests_pure (form.chain left (form.link o.0 o.1
-    right ∷ []))))
+    nests_then simple (λ left. nests_on nests_relational (λ o. nests_then simple (λ right. nests_pure (form.relation left o.0 o.1 right)))
     (nests_pure left))
 
 below_is : (levels : ℕ) → Nests (suc levels) (factor levels) → Nests (suc (suc levels)) (read.parenthesized (λ at. expression levels))

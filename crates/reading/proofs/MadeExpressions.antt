@@ -1,7 +1,6 @@
 -- The rules of expressions make what is spelled by the tokens that they take, well formed and no deeper than allowed.
-use Rattle.std.proofs.Common.{◌≡◌, ℕ, zero, suc, ◌≤◌, Bool, true, false, ◌&&◌, ◌||◌, nat_eq, nat_lt, if◌then◌else◌, List, [], ◌∷◌, length}
+use Rattle.std.proofs.Common.{◌≡◌, ℕ, zero, suc, ◌≤◌, Bool, true, false, ◌&&◌, nat_eq, if◌then◌else◌, List, [], ◌∷◌}
 use Rattle.std.proofs.Common.{Option, Some, refl, sym, subst, arith}
-use Rattle.std.specs.List.{list_all}
 use Rattle.std.proofs.lemmas.Bool.{eq-eqb, eqb-true}
 use Rattle.place.specs.declared.Place.{Place}
 use Rattle.lexer.specs.declared.token.Kind.TheVariants as kind
@@ -9,15 +8,16 @@ use Rattle.lexer.specs.declared.token.Symbol.TheVariants as symbol
 use Rattle.lexer.specs.declared.token.Word.TheVariants as word
 use Rattle.lexer.specs.declared.token.Token.{Token}
 use Rattle.syntax_tree.specs.declared.Operator.{Operator}
-use Rattle.reading.specs.Lexemes.{Lexeme, Reads, symbol_at, word_at, of_kind_at, sign_kind, operator_kind}
+use Rattle.reading.specs.Lexemes.{Lexeme, Reads, symbol_at, word_at, of_kind_at, sign_kind, operator_kind, relational_kind}
 use Rattle.reading.specs.Notation as shape
 use Rattle.reading.specs.Outline as form
-use Rattle.reading.specs.Outline.{Outline, ◌⧺◌, kept, nested, only_if, binding, binds, has_items, row_then, row, in_parentheses, may_chain, operator_level}
+use Rattle.reading.specs.Outline.{Outline, ◌⧺◌, kept, nested, only_if, binding, binds, has_items, row_then, row, in_parentheses, are_of_level, operator_level}
 use Rattle.reading.specs.Outline.{relation_level, sum_level, signed_level, product_level, factor_level, first_level, operand_level}
 use Rattle.reading.specs.Reading.{Reading, too_deep, is_kind}
 use Rattle.reading.specs.Expressions.{Below, index, unjoined, selector, selectors, actual, actuals, named, parenthesized, negated, any_factor, link_turn, chain}
 use Rattle.reading.specs.Expressions.{term_of, signed, simple_of, relation_of, expression_of, factor, expression, expression_below}
 use Rattle.reading.proofs.Makes.{Makes, thence, gives, deep_makes, weaker, expect_makes, name_makes, number_makes, text_makes, sign_makes, operator_makes}
+use Rattle.reading.proofs.Makes.{relational_makes}
 use Rattle.reading.proofs.Loops.{Turned, loop_makes}
 use Rattle.reading.proofs.Tests.{and_true, at_least, is_at_least}
 use Rattle.reading.proofs.Good.{Good, ◌⊕◌, none_good, kept_good, mark_good, form_good, nested_form, nested_good, if_good, binding_good}
@@ -164,7 +164,7 @@ module _ (limit : ℕ) (inner : Below) (nests : NestsIn limit inner) where
 
 module _ (limit : ℕ) where
   abbrev AreLinks : ℕ → Unit {0} → List Token → List Outline × Unit {0} → List Token → Type 0
-  AreLinks level state tokens r others = Good limit tokens (row r.0) others × (list_all (λ l. nat_eq l.level level) r.0 ≡ true)
+  AreLinks level state tokens r others = Good limit tokens (row r.0) others × (are_of_level level r.0 ≡ true)
 
   link_good : (level : ℕ) {a b c : List Token} (o : Operator × Place) {x : Outline} → operator_level o.0 ≡ level
       → Reads a (of_kind_at (operator_kind o.0) o.1 ∷ []) b → Operand (operand_level level) limit b x c
@@ -182,21 +182,18 @@ module _ (limit : ℕ) where
       (λ o a r. thence (makes a) λ x b g.
       gives (λ (found : List Outline × Unit {0}) rest others. (
         link_good level o r.0 r.1 g ⊕ others.0,
-        and_true (nat_eq (operator_level o.0) level) (list_all (λ l. nat_eq l.level level) found.0) (eq-eqb (operator_level o.0) level r.0) others.1,
+        and_true (nat_eq (operator_level o.0) level) (are_of_level level found.0) (eq-eqb (operator_level o.0) level r.0) others.1,
       )))
       (λ _. gives (none_good, refl))
 
   chain_good : (level : ℕ) {a b c : List Token} {f : Outline} (l : Outline) (ls : List Outline) → Operand (first_level level) limit a f b
-      → Good limit b (row (l ∷ ls)) c → list_all (λ k. nat_eq k.level level) (l ∷ ls) ≡ true
-      → nat_lt relation_level level || nat_eq (length (l ∷ ls)) 1 ≡ true → Operand level limit a (form.chain f (l ∷ ls)) c
-  chain_good level {f = f} l ls first g all few =
+      → Good limit b (row (l ∷ ls)) c → are_of_level level (l ∷ ls) ≡ true → Operand level limit a (form.chain f (l ∷ ls)) c
+  chain_good level {f = f} l ls first g all =
       let at : level ≡ l.level = sym (eqb-true l.level level (first_of_all (nat_eq l.level level) _ all)) in
       record {
-        good = binding_good l.level (if_good (may_chain l.level f (l ∷ ls))
-            (subst (λ m. may_chain m f (l ∷ ls) ≡ true) at
-            (and_true (binds (first_level level) f) (list_all (λ k. nat_eq k.level level) (l ∷ ls) && (nat_lt relation_level level || nat_eq (length (l ∷
-            ls)) 1)) first.binding
-            (and_true (list_all (λ k. nat_eq k.level level) (l ∷ ls)) (nat_lt relation_level level || nat_eq (length (l ∷ ls)) 1) all few)))
+        good = binding_good l.level (if_good (binds (first_level l.level) f && are_of_level l.level (l ∷ ls))
+            (subst (λ m. binds (first_level m) f && are_of_level m (l ∷ ls) ≡ true) at
+            (and_true (binds (first_level level) f) (are_of_level level (l ∷ ls)) first.binding all))
             (form_good shape.chain (first.good ⊕ g)));
         binding = is_at_least level l.level (let e = at in omega arith);
       }
@@ -206,30 +203,24 @@ module _ (limit : ℕ) where
       first_of_all false y h = absurd cc
 
   chained : (level : ℕ) {a b c : List Token} {f : Outline} (links : List Outline) → Operand (first_level level) limit a f b
-      → Good limit b (row links) c → list_all (λ k. nat_eq k.level level) links ≡ true → nat_lt relation_level level ≡ true
-      → Operand level limit a (form.chain f links) c
-  chained level {a} {b} {c} {f} [] first g all few =
+      → Good limit b (row links) c → are_of_level level links ≡ true → Operand level limit a (form.chain f links) c
+  chained level {a} {b} {c} {f} [] first g all =
       looser level (omega arith) (subst (λ t. Operand (first_level level) limit a f t) (let e : b ≡ c = g.spelled in e) first)
-  chained level (l ∷ ls) first g all few =
-      chain_good level l ls first g all (either_true (nat_lt relation_level level) (nat_eq (length (l ∷ ls)) 1) few)
-    where
-      either_true : (x y : Bool) → x ≡ true → x || y ≡ true
-      either_true true y h = refl
-      either_true false y h = absurd cc
+  chained level (l ∷ ls) first g all = chain_good level l ls first g all
 
-  pub chain_makes : (level : ℕ) (first operand : Reading Outline) → nat_lt relation_level level ≡ true
+  pub chain_makes : (level : ℕ) (first operand : Reading Outline)
       → ((tokens : List Token) → Makes first tokens (Operand (first_level level) limit tokens))
       → ((tokens : List Token) → Makes operand tokens (Operand (operand_level level) limit tokens))
       → (tokens : List Token) → Makes (chain level first operand) tokens (Operand level limit tokens)
   unfolding chain
-  chain_makes level first operand few makes each tokens =
+  chain_makes level first operand makes each tokens =
       thence (makes tokens) λ f a g.
       thence (loop_makes (link_turn level operand) (AreLinks level) (links_make level operand each) tt a) λ links b h.
-      gives (chained level links.0 g h.0 h.1 few)
+      gives (chained level links.0 g h.0 h.1)
 
   module _ (any : Reading Outline) (any_makes : (tokens : List Token) → Makes any tokens (Operand factor_level limit tokens)) where
     pub term_makes : (tokens : List Token) → Makes (term_of any) tokens (Operand product_level limit tokens)
-    term_makes tokens = chain_makes product_level any any refl any_makes any_makes tokens
+    term_makes tokens = chain_makes product_level any any any_makes any_makes tokens
 
     signed_makes : (tokens : List Token) → Makes (signed (term_of any)) tokens (Operand signed_level limit tokens)
     unfolding signed
@@ -244,16 +235,20 @@ module _ (limit : ℕ) where
         (λ _. weaker (λ o others. looser signed_level (omega arith)) (term_makes tokens))
 
     simple_makes : (tokens : List Token) → Makes (simple_of (term_of any)) tokens (Operand sum_level limit tokens)
-    simple_makes tokens = chain_makes sum_level (signed (term_of any)) (term_of any) refl signed_makes term_makes tokens
+    simple_makes tokens = chain_makes sum_level (signed (term_of any)) (term_of any) signed_makes term_makes tokens
 
     pub expression_makes : (tokens : List Token) → Makes (expression_of any) tokens (Operand relation_level limit tokens)
     unfolding relation_of
     expression_makes tokens =
         thence (simple_makes tokens) λ left a g.
-        either_here (operator_makes relation_level a) (λ mid q. q)
+        either_here (relational_makes a) (λ mid q. q)
         (λ o b r. thence (simple_makes b) λ right c h.
-        gives (chain_good relation_level (form.link o.0 o.1 right) [] g (link_good relation_level o r.0 r.1 h ⊕ none_good)
-        (and_true (nat_eq (operator_level o.0) relation_level) true (eq-eqb (operator_level o.0) relation_level r.0) refl) refl))
+        gives (record {
+          good = binding_good relation_level (if_good (binds sum_level left && binds sum_level right)
+              (and_true (binds sum_level left) (binds sum_level right) g.binding h.binding)
+              (form_good shape.relation (g.good ⊕ (kept_good (of_kind_at (relational_kind o.0) o.1) r ⊕ h.good))));
+          binding = refl;
+        }))
         (λ _. gives (looser relation_level (omega arith) g))
 
 -- ---- what is made below so many levels

@@ -17,11 +17,13 @@ use Rattle.syntax_tree.specs.declared.Direction.{Direction}
 use Rattle.syntax_tree.specs.declared.Direction.TheVariants as direction
 use Rattle.syntax_tree.specs.declared.Operator.{Operator}
 use Rattle.syntax_tree.specs.declared.Operator.TheVariants as op
-use Rattle.reading.specs.Lexemes.{Lexeme, IsSpelledBy, Reads, of_kind, of_kind_at, of_text, sign_kind, operator_kind, direction_kind}
+use Rattle.syntax_tree.specs.declared.RelationalOperator.{RelationalOperator}
+use Rattle.syntax_tree.specs.declared.RelationalOperator.TheVariants as relational
+use Rattle.reading.specs.Lexemes.{Lexeme, IsSpelledBy, Reads, of_kind, of_kind_at, of_text, sign_kind, operator_kind, relational_kind, direction_kind}
 use Rattle.reading.specs.Outline.{operator_level}
 use Rattle.reading.specs.Reading.{Outcome, Reading, and_then, ◌>>=◌, pure, refuse, too_deep, next_kind, take_if, token_by, same_kind, taken, text_taken}
 use Rattle.reading.specs.Reading.{number_in, number_taken, sign_in, sign_taken, direction_in, direction_taken, operator_in, of_level, operator_taken}
-use Rattle.reading.specs.Reading.{or_refuse, expect, expect_name, choose, on}
+use Rattle.reading.specs.Reading.{relational_in, relational_taken, or_refuse, expect, expect_name, choose, on}
 
 -- what a rule makes of tokens has this, with what is left
 pub record Makes {A : Type 0} (p : Reading A) (tokens : List Token) (Q : A → List Token → Type 0) : Type 0 where
@@ -243,13 +245,32 @@ operator_is (kind.Symbol symbol.Times) o h = let e : op.Times ≡ o = cc in ap o
 operator_is (kind.Word word.Div) o h = let e : op.Div ≡ o = cc in ap operator_kind e
 operator_is (kind.Word word.Mod) o h = let e : op.Mod ≡ o = cc in ap operator_kind e
 operator_is (kind.Word word.And) o h = let e : op.And ≡ o = cc in ap operator_kind e
-operator_is (kind.Symbol symbol.Equal) o h = let e : op.Equal ≡ o = cc in ap operator_kind e
-operator_is (kind.Symbol symbol.NotEqual) o h = let e : op.NotEqual ≡ o = cc in ap operator_kind e
-operator_is (kind.Symbol symbol.Less) o h = let e : op.Less ≡ o = cc in ap operator_kind e
-operator_is (kind.Symbol symbol.Greater) o h = let e : op.Greater ≡ o = cc in ap operator_kind e
-operator_is (kind.Symbol symbol.LessOrEqual) o h = let e : op.LessOrEqual ≡ o = cc in ap operator_kind e
-operator_is (kind.Symbol symbol.GreaterOrEqual) o h = let e : op.GreaterOrEqual ≡ o = cc in ap operator_kind e
 operator_is k o h = absurd cc
+
+of_both : (x : RelationalOperator) (place : Place) (o : RelationalOperator × Place) → ◌≡◌ {A = Option (RelationalOperator × Place)} (Some (x, place)) (Some o)
+    → (relational_kind x ≡ relational_kind o.0) × (place ≡ o.1)
+of_both x place o h =
+    let e : (x, place) ≡ o = cc in
+    (ap (λ (m : RelationalOperator × Place). relational_kind m.0) e, ap (λ (m : RelationalOperator × Place). m.1) e)
+
+relational_is : (k : Kind) (place : Place) (o : RelationalOperator × Place) → relational_in k place ≡ Some o → (k ≡ relational_kind o.0) × (place ≡ o.1)
+relational_is (kind.Symbol symbol.Equal) place o h = of_both relational.Equal place o h
+relational_is (kind.Symbol symbol.NotEqual) place o h = of_both relational.NotEqual place o h
+relational_is (kind.Symbol symbol.Less) place o h = of_both relational.Less place o h
+relational_is (kind.Symbol symbol.Greater) place o h = of_both relational.Greater place o h
+relational_is (kind.Symbol symbol.LessOrEqual) place o h = of_both relational.LessOrEqual place o h
+relational_is (kind.Symbol symbol.GreaterOrEqual) place o h = of_both relational.GreaterOrEqual place o h
+relational_is k place o h = absurd cc
+
+pub relational_makes : (tokens : List Token) → Makes relational_taken tokens (Spelled (λ o. of_kind_at (relational_kind o.0) o.1) tokens)
+unfolding relational_taken
+relational_makes tokens =
+    weaker (spelled_by (λ o. of_kind_at (relational_kind o.0) o.1) (λ token. relational_in token.kind token.place) is tokens)
+    (token_makes (λ token. relational_in token.kind token.place) tokens)
+  where
+    is : (token : Token) (o : RelationalOperator × Place) → relational_in token.kind token.place ≡ Some o → IsSpelledBy (of_kind_at (relational_kind o.0) o.1)
+        token
+    is token o h = let x = relational_is token.kind token.place o h in record { kind = x.0; text = tt; letters = tt; place = x.1 }
 
 -- an operator of a level
 abbrev pub Operates : ℕ → List Token → Option (Operator × Place) → List Token → Type 0

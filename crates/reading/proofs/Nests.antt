@@ -13,7 +13,7 @@ use Rattle.reading.specs.Lexemes.{Spelling, Reads, of_kind_at, of_text}
 use Rattle.reading.specs.Reading.{Outcome, Reading, and_then, ◌>>=◌, pure, refuse, too_deep, here, peek, next_kind, next_place, take_if, token_by, same_kind}
 use Rattle.reading.specs.Reading.{taken}
 use Rattle.reading.specs.Reading.{text_taken, number_in, number_taken, sign_in, sign_taken, direction_in, direction_taken, operator_in, of_level}
-use Rattle.reading.specs.Reading.{operator_taken}
+use Rattle.reading.specs.Reading.{operator_taken, relational_in, relational_taken}
 use Rattle.reading.specs.Reading.{is_forward, forward_taken, on, choose, or_refuse, expect, expect_name, led_turn, separated, next_turn, many}
 use Rattle.reading.specs.Reading.{Turn, more, ends, turned, loop_from, loop}
 use Rattle.reading.proofs.Makes.{Makes, split, Takes, taken_makes, expect_makes, token_makes, Took}
@@ -215,6 +215,10 @@ nests_direction = nests_token (λ token. direction_in token.kind)
 pub nests_operator : {n : ℕ} (level : ℕ) → Nests n (operator_taken level)
 unfolding operator_taken
 nests_operator level = nests_token (λ token. of_level level (operator_in token.kind) token.place)
+
+pub nests_relational : {n : ℕ} → Nests n relational_taken
+unfolding relational_taken
+nests_relational = nests_token (λ token. relational_in token.kind token.place)
 
 pub nests_forward : {n : ℕ} → Nests n forward_taken
 unfolding forward_taken

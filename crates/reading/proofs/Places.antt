@@ -54,7 +54,7 @@ use Rattle.syntax_tree.specs.declared.Block.TheViews.{roll-Block, roll-Routine}
 use Rattle.syntax_tree.specs.declared.Block.TheFolds.{map-Block, map-Routine, fold-roll-Block, fold-roll-Routine, ind-Block}
 use Rattle.syntax_tree.specs.declared.Routine.{Routine}
 use Rattle.syntax_tree.specs.declared.Program.{Program}
-use Rattle.reading.specs.Lexemes.{Spelling, Spells, direction_kind, identifier, of_kind, of_kind_at, sign_kind, symbol_at, word_at}
+use Rattle.reading.specs.Lexemes.{Spelling, Spells, direction_kind, identifier, of_kind, of_kind_at, relational_kind, sign_kind, symbol_at, word_at}
 use Rattle.reading.specs.Outline.{Outline, ◌⧺◌, nothing, row, row_then, led, in_parentheses, has_items, only_if, ending, packing, passing}
 use Rattle.reading.specs.Outline as form
 use Rattle.reading.specs.Trees as tree
@@ -225,6 +225,8 @@ expr_layer (expr.Chain b v) =
     let links = map (λ (l : KeptLink). l.0) v.items in
     ap (λ ps. expr_places b.value.0 ++ ps) (joined_rows Link link_places links)
     ∙ chain_kept (expr_outline b.value.0) links b.value.1 (all_kept Link link_outline link_places v.items)
+expr_layer (expr.Relation b o p c) =
+    both (expr_outline b.value.0) (form.kept (of_kind_at (relational_kind o) p) ⧺ expr_outline c.value.0) b.value.1 (ap (λ ps. p ∷ ps) c.value.1)
 
 expr_rolled : (y : expr.Expr-F KeptExpr KeptActual KeptLink) → ExprKept (roll-Expr (expr_parts y))
 expr_rolled y =

@@ -1,9 +1,8 @@
 -- What well formed expressions spell is read so.
-use Rattle.std.proofs.Common.{◌≡◌, ℕ, zero, suc, ◌+◌, ◌≤◌, max, Bool, true, false, ◌&&◌, ◌||◌, nat_eq, nat_lt, nat_le, if◌then◌else◌, List, [], ◌∷◌}
-use Rattle.std.proofs.Common.{◌++◌, length, map}
+use Rattle.std.proofs.Common.{◌≡◌, ℕ, zero, suc, ◌+◌, ◌≤◌, max, Bool, true, false, ◌&&◌, nat_eq, nat_le, if◌then◌else◌, List, [], ◌∷◌}
+use Rattle.std.proofs.Common.{◌++◌, map}
 use Rattle.std.proofs.Common.{Option, Some, None, Ok, refl, sym, ap, subst, ◌∙◌, arith}
 use Rattle.std.proofs.lemmas.List.{append-nil}
-use Rattle.std.specs.List.{list_all}
 use Rattle.std.specs.Option.{option_map}
 use Rattle.std.proofs.lemmas.Bool.{eq-eqb, eqb-true}
 use Rattle.place.specs.declared.Place.{Place}
@@ -18,21 +17,22 @@ use Rattle.syntax_tree.specs.declared.Selector.{Selector}
 use Rattle.syntax_tree.specs.declared.Selector.TheVariants as select
 use Rattle.syntax_tree.specs.declared.Operator.{Operator}
 use Rattle.syntax_tree.specs.declared.Operator.TheVariants as op
+use Rattle.syntax_tree.specs.declared.RelationalOperator.{RelationalOperator}
 use Rattle.syntax_tree.specs.declared.Sign.{Sign}
 use Rattle.syntax_tree.specs.declared.Expr.{Expr}
 use Rattle.syntax_tree.specs.declared.Link.{Link}
 use Rattle.syntax_tree.specs.declared.Actual.{Actual}
 use Rattle.syntax_tree.specs.declared.Expr.TheOpen as expr
 use Rattle.syntax_tree.specs.declared.Expr.TheViews.{out-Expr, roll-out-Expr, out-Link, out-Actual}
-use Rattle.reading.specs.Lexemes.{Spelling, Reads, character_string, of_kind, identifier, operator_kind}
+use Rattle.reading.specs.Lexemes.{Spelling, Reads, character_string, of_kind, of_kind_at, identifier, operator_kind, relational_kind}
 use Rattle.reading.specs.Outline as form
-use Rattle.reading.specs.Outline.{Outline, ◌⧺◌, nothing, kept, mark, nested, only_if, binds, has_items, row_then, row, led, in_parentheses, may_chain}
+use Rattle.reading.specs.Outline.{Outline, ◌⧺◌, nothing, kept, mark, nested, only_if, binds, has_items, row_then, row, led, in_parentheses, are_of_level}
 use Rattle.reading.specs.Outline.{operator_level}
 use Rattle.reading.specs.Outline.{relation_level, sum_level, signed_level, product_level, factor_level, first_level, operand_level}
 use Rattle.reading.specs.Trees.{expr_outline, link_outline, actual_outline, actual_of, selector_rows}
 use Rattle.reading.specs.Reading.{Reading, and_then, ◌>>=◌, ◌>>◌, pure, too_deep, here, next_kind, next_place, on, choose, taken}
 use Rattle.reading.specs.Reading.{Turn, more, ends, loop, led_turn, separated, expect, expect_name, or_refuse, number_taken, text_taken, sign_in, sign_taken}
-use Rattle.reading.specs.Reading.{operator_taken, take_if}
+use Rattle.reading.specs.Reading.{operator_taken, relational_taken, take_if}
 use Rattle.reading.specs.Expressions.{Below, index, unjoined, selector, selectors, actual, actuals, named, parenthesized, negated, any_factor, link_turn, chain}
 use Rattle.reading.specs.Expressions.{term_of, signed, simple_of, relation_of, expression_of, factor, expression, expression_below, factor_below}
 use Rattle.reading.proofs.Loops.{Uses, loop_ends, loop_stops, loop_goes, behind}
@@ -42,6 +42,7 @@ use Rattle.reading.proofs.Outlines.{expr_is, expr_layer, link_is, actual_is}
 use Rattle.reading.proofs.Answers.{Answers, reads, stops, answered, says, done, answers_same, of_depth, deeper, parted}
 use Rattle.reading.proofs.Answers.{takes_at, takes_of, expects_at, expects_of, misses, expects_name, takes_operator, takes_sign}
 use Rattle.reading.proofs.Answers.{misses_operator, follows, no_more_name, follows_first, follows_operator, next_first}
+use Rattle.reading.proofs.Answers.{takes_relational, misses_relational, follows_relational}
 
 -- a rule reads an outline, where what comes next can't go on with it
 abbrev pub ReadsAs : {A : Type 0} → (Option Kind → Type 0) → ℕ → Reading A → A → ℕ → Spelling → Bool → Type 0
@@ -337,6 +338,7 @@ pub data IsExpr : Outline → Type 0 where
   is_signed : (s : Sign) (p : Place) (e : Expr) → IsExpr (form.signed s p (expr_outline e))
   is_chain : (f : Expr) (o : Operator) (p : Place) (e : Expr) (ls : List Link)
       → IsExpr (form.chain (expr_outline f) (form.link o p (expr_outline e) ∷ map link_outline ls))
+  is_relation : (l : Expr) (o : RelationalOperator) (p : Place) (r : Expr) → IsExpr (form.relation (expr_outline l) o p (expr_outline r))
 
 chain_class : (f : Expr) (ls : List Link) → (only_if (has_items (map link_outline ls)) (form.chain (expr_outline f) (map link_outline ls))).well ≡ true
     → IsExpr (only_if (has_items (map link_outline ls)) (form.chain (expr_outline f) (map link_outline ls)))
@@ -355,6 +357,7 @@ layer_class (expr.Parenthesized p e) w = is_parenthesized p e.value
 layer_class (expr.Not p e) w = is_negated p e.value
 layer_class (expr.Signed s p e) w = is_signed s p e.value
 layer_class (expr.Chain f ls) w = chain_class f.value ls.items w
+layer_class (expr.Relation l o p r) w = is_relation l.value o p r.value
 
 outline_out : (e : Expr) → expr_outline e ≡ expr_layer (out-Expr e)
 outline_out e = ap expr_outline (sym (roll-out-Expr e)) ∙ expr_is (out-Expr e)
@@ -370,15 +373,8 @@ operator_at_most op.Times = omega arith
 operator_at_most op.Div = omega arith
 operator_at_most op.Mod = omega arith
 operator_at_most op.And = omega arith
-operator_at_most op.Equal = omega arith
-operator_at_most op.NotEqual = omega arith
-operator_at_most op.Less = omega arith
-operator_at_most op.Greater = omega arith
-operator_at_most op.LessOrEqual = omega arith
-operator_at_most op.GreaterOrEqual = omega arith
 
 pub data IsLevel (o : Operator) : Type 0 where
-  relates : operator_level o ≡ relation_level → IsLevel o
   adds : operator_level o ≡ sum_level → IsLevel o
   multiplies : operator_level o ≡ product_level → IsLevel o
 
@@ -390,12 +386,6 @@ level_of op.Times = multiplies refl
 level_of op.Div = multiplies refl
 level_of op.Mod = multiplies refl
 level_of op.And = multiplies refl
-level_of op.Equal = relates refl
-level_of op.NotEqual = relates refl
-level_of op.Less = relates refl
-level_of op.Greater = relates refl
-level_of op.LessOrEqual = relates refl
-level_of op.GreaterOrEqual = relates refl
 
 module _ (limit : ℕ) (inner operand : Below) (fewer : (at : Option Place) → NeverMore (inner at)) (nests : (e : Expr) → InnerReads limit inner (expr_outline e))
     (shrinks : NeverMore (any_factor inner operand)) (terms_shrink : NeverMore (term_of (any_factor inner operand)))
@@ -486,6 +476,7 @@ module _ (limit : ℕ) (inner operand : Below) (fewer : (at : Option Place) → 
   factor_reads _ (is_signed s p e) b tokens others h w f = absurd cc
   factor_reads _ (is_chain g o p e ls) b tokens others h w f = absurd (let z = operator_at_most o in let k = at_least factor_level (operator_level o) b in
       omega arith)
+  factor_reads _ (is_relation l o p r) b tokens others h w f = absurd cc
 
   -- ---- chains
 
@@ -518,7 +509,7 @@ module _ (limit : ℕ) (inner operand : Below) (fewer : (at : Option Place) → 
 
   abbrev ReadsLinks : ℕ → Reading Outline → List Outline → Type 0
   ReadsLinks level p links =
-      (tokens others : List Token) → Reads tokens (row links).spelling others → (row links).well ≡ true → list_all (λ k. nat_eq k.level level) links ≡ true
+      (tokens others : List Token) → Reads tokens (row links).spelling others → (row links).well ≡ true → are_of_level level links ≡ true
       → Looser level (next_kind others) → Answers limit (row links).depth (loop (link_turn level p) tt) tokens (links, tt) others
 
   first_link : (level : ℕ) (o : Operator) (p : Place) (x r : Outline) (tokens others : List Token) → Reads tokens (form.link o p x ⧺ r).spelling others
@@ -527,7 +518,7 @@ module _ (limit : ℕ) (inner operand : Below) (fewer : (at : Option Place) → 
       follows_first (operator_kind o) h.2 h.3.kind ∙ follows_operator o ∙ ap (λ n. n + 1) (eqb-true (operator_level o) level at)
 
   links_first : (level : ℕ) (ls : List Link) (tokens others : List Token) → Reads tokens (row (map link_outline ls)).spelling others
-      → list_all (λ k. nat_eq k.level level) (map link_outline ls) ≡ true → Looser level (next_kind others) → follows (next_kind tokens) ≤ level + 1
+      → are_of_level level (map link_outline ls) ≡ true → Looser level (next_kind others) → follows (next_kind tokens) ≤ level + 1
   links_first level [] tokens others h all f = let e : follows (next_kind tokens) ≡ follows (next_kind others) = ap (λ t. follows (next_kind t)) h in omega
       arith
   links_first level (l ∷ ls) tokens others h all f =
@@ -536,7 +527,7 @@ module _ (limit : ℕ) (inner operand : Below) (fewer : (at : Option Place) → 
       let e = first_link level (out-Link l).operator (out-Link l).place (expr_outline (out-Link l).operand) r tokens others
       (subst (λ (k : Outline). Reads tokens (k ⧺ r).spelling others) is h)
       (subst (λ (k : Outline). nat_eq k.level level ≡ true) is
-      (and_left (nat_eq (link_outline l).level level) (list_all (λ k. nat_eq k.level level) (map link_outline ls)) all)) in
+      (and_left (nat_eq (link_outline l).level level) (are_of_level level (map link_outline ls)) all)) in
       omega arith
 
   one_link : (level : ℕ) (p : Reading Outline) → NeverMore p → level + 1 ≤ operand_level level → Operands (operand_level level) p
@@ -549,9 +540,9 @@ module _ (limit : ℕ) (inner operand : Below) (fewer : (at : Option Place) → 
       let b = binds (operand_level (operator_level o)) x in
       let q = parted x.spelling r.spelling h.1 others h.4 in
       let wl = and_left (b && x.well) r.well w in
-      let same = and_left (nat_eq (operator_level o) level) (list_all (λ k. nat_eq k.level level) (map link_outline ls)) all in
+      let same = and_left (nat_eq (operator_level o) level) (are_of_level level (map link_outline ls)) all in
       let at : operator_level o ≡ level = eqb-true (operator_level o) level same in
-      let others_all = and_right (nat_eq (operator_level o) level) (list_all (λ k. nat_eq k.level level) (map link_outline ls)) all in
+      let others_all = and_right (nat_eq (operator_level o) level) (are_of_level level (map link_outline ls)) all in
       let next = links_first level ls q.0 others q.2 others_all f in
       of_depth _ (omega arith)
       (turn_answers (link_uses level p shrinks)
@@ -579,15 +570,13 @@ module _ (limit : ℕ) (inner operand : Below) (fewer : (at : Option Place) → 
       let x = expr_outline f in
       let k = form.link o pl (expr_outline e) in
       let links = k ∷ map link_outline ls in
-      let may = and_left (may_chain k.level x links) (x.well && (row links).well) w in
-      let inside = and_right (may_chain k.level x links) (x.well && (row links).well) w in
+      let may = binds (first_level k.level) x && are_of_level k.level links in
+      let may_chain = and_left may (x.well && (row links).well) w in
+      let inside = and_right may (x.well && (row links).well) w in
       let xw = and_left x.well (row links).well inside in
       let rw_ = and_right x.well (row links).well inside in
-      let few = nat_lt relation_level k.level || nat_eq (length links) 1 in
-      let all_few = and_right (binds (first_level k.level) x) (list_all (λ l. nat_eq l.level k.level) links && few) may in
-      let all = subst (λ n. list_all (λ l. nat_eq l.level n) links ≡ true) at (and_left (list_all (λ l. nat_eq l.level k.level) links) few all_few) in
-      let b = subst (λ n. binds (first_level n) x ≡ true) at (and_left (binds (first_level k.level) x) (list_all (λ l. nat_eq l.level k.level) links && few)
-      may) in
+      let all = subst (λ n. are_of_level n links ≡ true) at (and_right (binds (first_level k.level) x) (are_of_level k.level links) may_chain) in
+      let b = subst (λ n. binds (first_level n) x ≡ true) at (and_left (binds (first_level k.level) x) (are_of_level k.level links) may_chain) in
       let q = parted x.spelling (row links).spelling tokens others h in
       let next = first_link level o pl (expr_outline e) (row (map link_outline ls)) q.0 others q.2 (eq-eqb (operator_level o) level at) in
       of_depth _ (omega arith)
@@ -611,6 +600,7 @@ module _ (limit : ℕ) (inner operand : Below) (fewer : (at : Option Place) → 
   term_by _ (is_chain f o p e ls) w b =
       chain_reads product_level any any shrinks (omega arith) (omega arith) factors factors f o p e ls
       (let k = at_least product_level (operator_level o) b in let m = operator_at_most o in omega arith)
+  term_by _ (is_relation l o p r) w b = absurd cc
 
   terms : Operands product_level (term_of any)
   terms e w b = term_by (expr_outline e) (class_of e w) w b
@@ -628,6 +618,7 @@ module _ (limit : ℕ) (inner operand : Below) (fewer : (at : Option Place) → 
   factor_unsigned _ (is_signed g p e) b s tokens others h = absurd cc
   factor_unsigned _ (is_chain f o p e ls) b s tokens others h = absurd (let z = operator_at_most o in let k = at_least factor_level (operator_level o) b in
       omega arith)
+  factor_unsigned _ (is_relation l o p r) b s tokens others h = absurd cc
 
   plain_unsigned : (o : Outline) → IsExpr o → binds factor_level o ≡ true → (tokens others : List Token) → Reads tokens o.spelling others
       → sign_taken tokens ≡ Ok (None, tokens)
@@ -645,11 +636,10 @@ module _ (limit : ℕ) (inner operand : Below) (fewer : (at : Option Place) → 
       let x = expr_outline f in
       let k = form.link o p (expr_outline e) in
       let links = k ∷ map link_outline ls in
-      let few = nat_lt relation_level k.level || nat_eq (length links) 1 in
-      let may = and_left (may_chain k.level x links) (x.well && (row links).well) w in
-      let b = subst (λ n. binds (first_level n) x ≡ true) at (and_left (binds (first_level k.level) x) (list_all (λ l. nat_eq l.level k.level) links && few)
-      may) in
-      let xw = and_left x.well (row links).well (and_right (may_chain k.level x links) (x.well && (row links).well) w) in
+      let may = binds (first_level k.level) x && are_of_level k.level links in
+      let b = subst (λ n. binds (first_level n) x ≡ true) at (and_left (binds (first_level k.level) x) (are_of_level k.level links) (and_left may (x.well &&
+      (row links).well) w)) in
+      let xw = and_left x.well (row links).well (and_right may (x.well && (row links).well) w) in
       factor_unsigned x (class_of f xw) b (row links).spelling tokens others h
 
   -- a term without a sign
@@ -679,12 +669,12 @@ module _ (limit : ℕ) (inner operand : Below) (fewer : (at : Option Place) → 
   signed_by _ (is_parenthesized p e) w b = lone_signed _ (is_parenthesized p e) refl w
   signed_by _ (is_negated p e) w b = lone_signed _ (is_negated p e) refl w
   signed_by _ (is_signed s p e) w b = one_signed s p e
+  signed_by _ (is_relation l o p r) w b = absurd cc
   signed_by _ (is_chain f o p e ls) w b =
       let at : operator_level o ≡ product_level = multiplied o (level_of o) b in
       without_sign _ (chain_reads product_level any any shrinks (omega arith) (omega arith) factors factors f o p e ls at) (chain_unsigned f o p e ls w at)
     where
       multiplied : (o : Operator) → IsLevel o → nat_le signed_level (operator_level o) ≡ true → operator_level o ≡ product_level
-      multiplied o (relates at) h = absurd (let k = at_least signed_level (operator_level o) h in omega arith)
       multiplied o (adds at) h = absurd (let k = at_least signed_level (operator_level o) h in omega arith)
       multiplied o (multiplies at) h = at
 
@@ -696,7 +686,6 @@ module _ (limit : ℕ) (inner operand : Below) (fewer : (at : Option Place) → 
     where
       by : IsLevel o → ReadsForm (Looser sum_level) limit (simple_of (term_of any)) (form.chain (expr_outline f) (form.link o p (expr_outline e) ∷ map
           link_outline ls))
-      by (relates at) = absurd (let k = at_least sum_level (operator_level o) b in omega arith)
       by (adds at) = chain_reads sum_level (signed (term_of any)) (term_of any) terms_shrink (omega arith) (omega arith) signeds terms f o p e ls at
       by (multiplies at) =
           alone sum_level (signed (term_of any)) (term_of any) _ (omega arith)
@@ -709,6 +698,7 @@ module _ (limit : ℕ) (inner operand : Below) (fewer : (at : Option Place) → 
   simple_by _ (is_parenthesized p e) w b = alone sum_level (signed (term_of any)) (term_of any) _ (omega arith) (signed_by _ (is_parenthesized p e) w refl)
   simple_by _ (is_negated p e) w b = alone sum_level (signed (term_of any)) (term_of any) _ (omega arith) (signed_by _ (is_negated p e) w refl)
   simple_by _ (is_signed s p e) w b = alone sum_level (signed (term_of any)) (term_of any) _ (omega arith) (signed_by _ (is_signed s p e) w refl)
+  simple_by _ (is_relation l o p r) w b = absurd cc
 
   simples : Operands sum_level (simple_of (term_of any))
   simples e w b = simple_by (expr_outline e) (class_of e w) w b
@@ -717,52 +707,31 @@ module _ (limit : ℕ) (inner operand : Below) (fewer : (at : Option Place) → 
   unrelated : (o : Outline) → ReadsForm (Looser sum_level) limit (simple_of (term_of any)) o → ReadsForm (Looser relation_level) limit (expression_of any) o
   unfolding relation_of
   unrelated o law tokens others h w f =
-      of_depth _ (omega arith) (answered _ (law tokens others h w (omega arith)) (says (operator_taken relation_level) _ (misses_operator relation_level
-      others f (omega arith)) done))
+      of_depth _ (omega arith) (answered _ (law tokens others h w (omega arith)) (says relational_taken _ (misses_relational others f) done))
 
-  related : (f : Expr) (o : Operator) (pl : Place) (e : Expr) (ls : List Link) → operator_level o ≡ relation_level
-      → ReadsForm (Looser relation_level) limit (expression_of any) (form.chain (expr_outline f) (form.link o pl (expr_outline e) ∷ map link_outline ls))
+  related : (f : Expr) (o : RelationalOperator) (pl : Place) (e : Expr)
+      → ReadsForm (Looser relation_level) limit (expression_of any) (form.relation (expr_outline f) o pl (expr_outline e))
   unfolding relation_of
-  related f o pl e (l ∷ ls) at tokens others h w g =
-      let x = expr_outline f in
-      let k = form.link o pl (expr_outline e) in
-      let links = k ∷ map link_outline (l ∷ ls) in
-      let few = nat_lt relation_level k.level || nat_eq (length links) 1 in
-      let may = and_left (may_chain k.level x links) (x.well && (row links).well) w in
-      let one = and_right (list_all (λ l. nat_eq l.level k.level) links) few
-      (and_right (binds (first_level k.level) x) (list_all (λ l. nat_eq l.level k.level) links && few) may) in
-      absurd (several (operator_level o) (length (map link_outline ls)) at one)
-    where
-      several : (n m : ℕ) → n ≡ relation_level → nat_lt relation_level n || nat_eq (suc (suc m)) 1 ≡ true → ⊥
-      several n m e t = let u = subst (λ i. nat_lt relation_level i || nat_eq (suc (suc m)) 1 ≡ true) e t in
-          let v : suc (suc m) ≡ 1 = eqb-true (suc (suc m)) 1 u in omega arith
-  related f o pl e [] at tokens others h w g =
+  related f o pl e tokens others h w g =
       let x = expr_outline f in
       let y = expr_outline e in
-      let k = form.link o pl y in
-      let links = k ∷ [] in
-      let few = nat_lt relation_level k.level || nat_eq (length links) 1 in
-      let may = and_left (may_chain k.level x links) (x.well && (row links).well) w in
-      let inside = and_right (may_chain k.level x links) (x.well && (row links).well) w in
-      let xw = and_left x.well (row links).well inside in
-      let kw = and_left k.well true (and_right x.well (row links).well inside) in
-      let b = binds (operand_level (operator_level o)) y in
-      let q = parted x.spelling (row links).spelling tokens others h in
+      let bound = and_left (binds sum_level x && binds sum_level y) (x.well && y.well) w in
+      let well = and_right (binds sum_level x && binds sum_level y) (x.well && y.well) w in
+      let xw = and_left x.well y.well well in
+      let yw = and_right x.well y.well well in
+      let q = parted x.spelling (of_kind_at (relational_kind o) pl ∷ y.spelling) tokens others h in
       let c = q.2 in
-      let next = first_link relation_level o pl y nothing q.0 others c (eq-eqb (operator_level o) relation_level at) in
+      let next : follows (next_kind q.0) ≡ 1 = follows_first (relational_kind o) c.2 c.3.kind ∙ follows_relational o in
       of_depth _ (omega arith)
-      (answered _ (simples f xw (subst (λ n. binds (first_level n) x ≡ true) at
-      (and_left (binds (first_level k.level) x) (list_all (λ l. nat_eq l.level k.level) links && few) may)) tokens q.0 q.1 xw (omega arith))
-      (says (operator_taken relation_level) _ (takes_operator relation_level o pl c.2 c.3 at)
-      (answered _ (simples e (and_right b y.well kw) (subst (λ n. binds (operand_level n) y ≡ true) at (and_left b y.well kw)) c.1 others
-      (subst (λ s. Reads c.1 s others) (append-nil y.spelling) c.4) (and_right b y.well kw) (omega arith)) done)))
+      (answered _ (simples f xw (and_left (binds sum_level x) (binds sum_level y) bound) tokens q.0 q.1 xw (omega arith))
+      (says relational_taken _ (takes_relational o pl c.2 c.3)
+      (answered _ (simples e yw (and_right (binds sum_level x) (binds sum_level y) bound) c.1 others c.4 yw (omega arith)) done)))
 
   expression_by : (o : Outline) → IsExpr o → o.well ≡ true → ReadsForm (Looser relation_level) limit (expression_of any) o
   expression_by _ (is_chain f o p e ls) w = by (level_of o)
     where
       by : IsLevel o → ReadsForm (Looser relation_level) limit (expression_of any) (form.chain (expr_outline f) (form.link o p (expr_outline e) ∷ map
           link_outline ls))
-      by (relates at) = related f o p e ls at
       by (adds at) = unrelated _ (simple_by _ (is_chain f o p e ls) w (is_at_least sum_level (operator_level o) (omega arith)))
       by (multiplies at) = unrelated _ (simple_by _ (is_chain f o p e ls) w (is_at_least sum_level (operator_level o) (omega arith)))
   expression_by _ (is_number v p) w = unrelated _ (simple_by _ (is_number v p) w refl)
@@ -773,6 +742,7 @@ module _ (limit : ℕ) (inner operand : Below) (fewer : (at : Option Place) → 
   expression_by _ (is_parenthesized p e) w = unrelated _ (simple_by _ (is_parenthesized p e) w refl)
   expression_by _ (is_negated p e) w = unrelated _ (simple_by _ (is_negated p e) w refl)
   expression_by _ (is_signed s p e) w = unrelated _ (simple_by _ (is_signed s p e) w refl)
+  expression_by _ (is_relation l o p r) w = related l o p r
 
   pub expressions : (e : Expr) → (expr_outline e).well ≡ true → ReadsForm (Looser relation_level) limit (expression_of any) (expr_outline e)
   expressions e w = expression_by (expr_outline e) (class_of e w) w

@@ -2,16 +2,16 @@
 -- rule has two readings for what is a level below it, by the place at which that begins: of an expression, and of an
 -- operand of `not`.
 -- It says nothing of how a form is spelled: see Outline.
-use Rattle.std.specs.Prelude.{ℕ, zero, suc, Bool, true, false, if◌then◌else◌, List, [], ◌∷◌, Option, Some}
+use Rattle.std.specs.Prelude.{ℕ, zero, suc, Bool, true, false, if◌then◌else◌, List, [], Option, Some}
 use Rattle.place.specs.declared.Place.{Place}
 use Rattle.lexer.specs.declared.token.Kind.TheVariants as kind
 use Rattle.lexer.specs.declared.token.Word.TheVariants as word
 use Rattle.lexer.specs.declared.token.Symbol.TheVariants as symbol
 use Rattle.reading.specs.Outline as form
-use Rattle.reading.specs.Outline.{Outline, has_items, relation_level, sum_level, product_level}
+use Rattle.reading.specs.Outline.{Outline, has_items, sum_level, product_level}
 use Rattle.reading.specs.Reading.{Reading, ◌>>=◌, ◌>>◌, pure, too_deep, here, peek, is_kind, on, word_taken}
-use Rattle.reading.specs.Reading.{symbol_taken, text_taken, number_taken, sign_taken, operator_taken, expect_symbol}
-use Rattle.reading.specs.Reading.{expect_name, Turn, more, ends, loop, separated}
+use Rattle.reading.specs.Reading.{symbol_taken, text_taken, number_taken, sign_taken, operator_taken, relational_taken}
+use Rattle.reading.specs.Reading.{expect_symbol, expect_name, Turn, more, ends, loop, separated}
 
 -- what is a level below, by the place at which it begins
 abbrev pub Below : Type 0
@@ -108,8 +108,8 @@ simple_of term = chain sum_level (signed term) term
 unfoldable pub relation_of : Reading Outline → Reading Outline
 relation_of simple = do
   left ← simple
-  (on (operator_taken relation_level)
-      (λ o. simple >>= (λ right. pure (form.chain left (form.link o.0 o.1 right ∷ [])))) (pure left))
+  (on relational_taken
+      (λ o. simple >>= (λ right. pure (form.relation left o.0 o.1 right))) (pure left))
 
 abbrev pub expression_of : Reading Outline → Reading Outline
 expression_of factor = relation_of (simple_of (term_of factor))

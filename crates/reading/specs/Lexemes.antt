@@ -18,6 +18,8 @@ use Rattle.syntax_tree.specs.declared.Direction.{Direction}
 use Rattle.syntax_tree.specs.declared.Direction.TheVariants as direction
 use Rattle.syntax_tree.specs.declared.Operator.{Operator}
 use Rattle.syntax_tree.specs.declared.Operator.TheVariants as op
+use Rattle.syntax_tree.specs.declared.RelationalOperator.{RelationalOperator}
+use Rattle.syntax_tree.specs.declared.RelationalOperator.TheVariants as relational
 
 -- what a tree says of a token: its kind, and where the tree keeps them its text, or its letters, small or capital, and
 -- its place
@@ -80,7 +82,7 @@ abbrev pub sign_kind : Sign → Kind
 sign_kind sign.Plus = kind.Symbol symbol.Plus
 sign_kind sign.Minus = kind.Symbol symbol.Minus
 
--- the token of an operator (6.7.2.1)
+-- the token of an adding or multiplying operator (6.7.2.1)
 abbrev pub operator_kind : Operator → Kind
 operator_kind op.Plus = kind.Symbol symbol.Plus
 operator_kind op.Minus = kind.Symbol symbol.Minus
@@ -89,12 +91,15 @@ operator_kind op.Times = kind.Symbol symbol.Times
 operator_kind op.Div = kind.Word word.Div
 operator_kind op.Mod = kind.Word word.Mod
 operator_kind op.And = kind.Word word.And
-operator_kind op.Equal = kind.Symbol symbol.Equal
-operator_kind op.NotEqual = kind.Symbol symbol.NotEqual
-operator_kind op.Less = kind.Symbol symbol.Less
-operator_kind op.Greater = kind.Symbol symbol.Greater
-operator_kind op.LessOrEqual = kind.Symbol symbol.LessOrEqual
-operator_kind op.GreaterOrEqual = kind.Symbol symbol.GreaterOrEqual
+
+-- the token of a relational operator (6.7.2.1)
+abbrev pub relational_kind : RelationalOperator → Kind
+relational_kind relational.Equal = kind.Symbol symbol.Equal
+relational_kind relational.NotEqual = kind.Symbol symbol.NotEqual
+relational_kind relational.Less = kind.Symbol symbol.Less
+relational_kind relational.Greater = kind.Symbol symbol.Greater
+relational_kind relational.LessOrEqual = kind.Symbol symbol.LessOrEqual
+relational_kind relational.GreaterOrEqual = kind.Symbol symbol.GreaterOrEqual
 
 -- the token of a direction (6.8.3.9)
 abbrev pub direction_kind : Direction → Kind

@@ -17,6 +17,7 @@ pub data Shape : Type 0 where
   negated : Shape
   signed : Shape
   chain : Shape
+  relation : Shape
   actual : Shape
   empty : Shape
   assignment : Shape

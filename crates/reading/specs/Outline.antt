@@ -2,10 +2,10 @@
 -- brackets, whether it may stand so, and how deep it nests. A form is made of its parts in the order of the text.
 -- A statement, a type denoter, an actual with its width, an index expression, an expression in parentheses, an operand
 -- of `not` and the block of a procedure or function is a level of its own; a chain of operators is a list and no
--- nesting. The standard sets no bound.
+-- nesting, and neither is a relation. The standard sets no bound.
 -- This says nothing of names and types, and of what a rule makes of tokens: see Reading.
-use Rattle.std.specs.Prelude.{ℕ, ◌+◌, max, if◌then◌else◌, List, [], ◌∷◌, ◌++◌, Bool, true, false, not, ◌&&◌, ◌||◌}
-use Rattle.std.specs.Prelude.{nat_eq, nat_lt, nat_le, length}
+use Rattle.std.specs.Prelude.{ℕ, ◌+◌, max, if◌then◌else◌, List, [], ◌∷◌, ◌++◌, Bool, true, false, not, ◌&&◌}
+use Rattle.std.specs.Prelude.{nat_eq, nat_le}
 use Rattle.std.specs.List.{list_all}
 use Rattle.place.specs.declared.Place.{Place}
 use Rattle.lexer.specs.declared.token.Kind.TheVariants as kind
@@ -17,8 +17,9 @@ use Rattle.syntax_tree.specs.declared.Sign.{Sign}
 use Rattle.syntax_tree.specs.declared.Direction.{Direction}
 use Rattle.syntax_tree.specs.declared.Operator.{Operator}
 use Rattle.syntax_tree.specs.declared.Operator.TheVariants as op
+use Rattle.syntax_tree.specs.declared.RelationalOperator.{RelationalOperator}
 use Rattle.reading.specs.Lexemes.{Lexeme, Spelling, of_kind, of_kind_at, word_at, symbol_at, forward, sign_kind}
-use Rattle.reading.specs.Lexemes.{operator_kind, direction_kind}
+use Rattle.reading.specs.Lexemes.{operator_kind, relational_kind, direction_kind}
 use Rattle.reading.specs.Notation.{Shape, Notation, token, in_brackets}
 use Rattle.reading.specs.Notation as shape
 
@@ -159,12 +160,6 @@ field within name = closing within ⧺ mark symbol.Period ⧺ form shape.field_s
 
 -- the level of the chains of an operator (6.7.2.1)
 abbrev pub operator_level : Operator → ℕ
-operator_level op.Equal = relation_level
-operator_level op.NotEqual = relation_level
-operator_level op.Less = relation_level
-operator_level op.Greater = relation_level
-operator_level op.LessOrEqual = relation_level
-operator_level op.GreaterOrEqual = relation_level
 operator_level op.Plus = sum_level
 operator_level op.Minus = sum_level
 operator_level op.Or = sum_level
@@ -219,17 +214,23 @@ link o place operand =
     binding (operator_level o)
     (only_if (binds (operand_level (operator_level o)) operand) (kept (of_kind_at (operator_kind o) place) ⧺ operand))
 
--- a chain has operators of one level, and a relation has one alone
-abbrev pub may_chain : ℕ → Outline → List Outline → Bool
-may_chain level first links =
-    binds (first_level level) first
-    && (list_all (λ l. nat_eq l.level level) links && (nat_lt relation_level level || nat_eq (length links) 1))
+abbrev pub are_of_level : ℕ → List Outline → Bool
+are_of_level level = list_all (λ l. nat_eq l.level level)
 
--- a first operand, alone or with the operators behind it
+-- a first operand, alone or with the operators behind it, all of one level
 abbrev pub chain : Outline → List Outline → Outline
 chain first [] = first
 chain first (l ∷ ls) =
-    binding l.level (only_if (may_chain l.level first (l ∷ ls)) (form shape.chain (first ⧺ row (l ∷ ls))))
+    binding l.level
+    (only_if (binds (first_level l.level) first && are_of_level l.level (l ∷ ls))
+    (form shape.chain (first ⧺ row (l ∷ ls))))
+
+-- a relation (6.7.2.5), both operands of which bind more tightly
+abbrev pub relation : Outline → RelationalOperator → Place → Outline → Outline
+relation left o place right =
+    binding relation_level
+    (only_if (binds sum_level left && binds sum_level right)
+    (form shape.relation (left ⧺ kept (of_kind_at (relational_kind o) place) ⧺ right)))
 
 -- an actual parameter (6.7.3), and one with a width (6.9.3)
 abbrev pub actual : Outline → Outline

@@ -22,6 +22,8 @@ use Rattle.syntax_tree.specs.declared.Direction.{Direction}
 use Rattle.syntax_tree.specs.declared.Direction.TheVariants as direction
 use Rattle.syntax_tree.specs.declared.Operator.{Operator}
 use Rattle.syntax_tree.specs.declared.Operator.TheVariants as op
+use Rattle.syntax_tree.specs.declared.RelationalOperator.{RelationalOperator}
+use Rattle.syntax_tree.specs.declared.RelationalOperator.TheVariants as relational
 use Rattle.reading.specs.declared.refusal.Refusal.{Refusal}
 use Rattle.reading.specs.declared.refusal.Refusal.TheVariants.{NoProgram, TooDeep}
 use Rattle.reading.specs.Lexemes.{Lexeme, of_text}
@@ -137,21 +139,27 @@ operator_in (kind.Symbol symbol.Times) = Some op.Times
 operator_in (kind.Word word.Div) = Some op.Div
 operator_in (kind.Word word.Mod) = Some op.Mod
 operator_in (kind.Word word.And) = Some op.And
-operator_in (kind.Symbol symbol.Equal) = Some op.Equal
-operator_in (kind.Symbol symbol.NotEqual) = Some op.NotEqual
-operator_in (kind.Symbol symbol.Less) = Some op.Less
-operator_in (kind.Symbol symbol.Greater) = Some op.Greater
-operator_in (kind.Symbol symbol.LessOrEqual) = Some op.LessOrEqual
-operator_in (kind.Symbol symbol.GreaterOrEqual) = Some op.GreaterOrEqual
 operator_in _ = None
 
 abbrev pub of_level : ℕ → Option Operator → Place → Option (Operator × Place)
 of_level level None place = None
 of_level level (Some o) place = if nat_eq (operator_level o) level then Some (o, place) else None
 
--- an operator of a level
+-- an adding or multiplying operator, of a level
 unfoldable pub operator_taken : ℕ → Reading (Option (Operator × Place))
 operator_taken level = token_by (λ token. of_level level (operator_in token.kind) token.place)
+
+abbrev pub relational_in : Kind → Place → Option (RelationalOperator × Place)
+relational_in (kind.Symbol symbol.Equal) place = Some (relational.Equal, place)
+relational_in (kind.Symbol symbol.NotEqual) place = Some (relational.NotEqual, place)
+relational_in (kind.Symbol symbol.Less) place = Some (relational.Less, place)
+relational_in (kind.Symbol symbol.Greater) place = Some (relational.Greater, place)
+relational_in (kind.Symbol symbol.LessOrEqual) place = Some (relational.LessOrEqual, place)
+relational_in (kind.Symbol symbol.GreaterOrEqual) place = Some (relational.GreaterOrEqual, place)
+relational_in _ place = None
+
+unfoldable pub relational_taken : Reading (Option (RelationalOperator × Place))
+relational_taken = token_by (λ token. relational_in token.kind token.place)
 
 -- the directive `forward`, in small or capital letters (6.1.4)
 abbrev pub is_forward : Token → Bool

@@ -81,6 +81,7 @@ expr_step (expr.Parenthesized place inner) = form.parenthesized place inner.valu
 expr_step (expr.Not place operand) = form.negated place operand.value
 expr_step (expr.Signed sign place term) = form.signed sign place term.value
 expr_step (expr.Chain first rest) = only_if (has_items rest.items) (form.chain first.value rest.items)
+expr_step (expr.Relation left operator place right) = form.relation left.value operator place right.value
 
 abbrev pub link_step : Link-F Outline Outline Outline → Outline
 link_step link = form.link link.operator link.place link.operand

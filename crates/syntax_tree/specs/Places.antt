@@ -35,7 +35,7 @@ use Rattle.syntax_tree.specs.declared.Actual.{Actual}
 use Rattle.syntax_tree.specs.declared.Link.{Link}
 use Rattle.syntax_tree.specs.declared.Expr.TheOpen.{Expr-F, Actual-F, Link-F}
 use Rattle.syntax_tree.specs.declared.Expr.TheOpen.Expr-F.{Number, Name as NameOf, Call as CallOf, Parenthesized, Not}
-use Rattle.syntax_tree.specs.declared.Expr.TheOpen.Expr-F.{Signed, Chain, String as StringOf, Component}
+use Rattle.syntax_tree.specs.declared.Expr.TheOpen.Expr-F.{Signed, Chain, Relation, String as StringOf, Component}
 use Rattle.syntax_tree.specs.declared.Expr.TheFolds.{fold-Expr, fold-Actual, fold-Link}
 use Rattle.syntax_tree.specs.declared.Stmt.{Stmt}
 use Rattle.syntax_tree.specs.declared.Stmt.TheOpen.{Stmt-F}
@@ -76,6 +76,7 @@ expression_step (Parenthesized bracket inner) = bracket ∷ inner.value
 expression_step (Not place operand) = place ∷ operand.value
 expression_step (Signed sign place term) = place ∷ term.value
 expression_step (Chain first rest) = first.value ++ joined_places rest.items
+expression_step (Relation left operator place right) = left.value ++ place ∷ right.value
 
 -- the places of an expression
 abbrev pub expr_places : Expr → Places

@@ -244,7 +244,7 @@ pub enum Sign {
     Minus,
 }
 
-/// An operator between two operands (6.7.2.1).
+/// An adding or multiplying operator between two operands (6.7.2.1).
 #[derive(Clone, Copy)]
 pub enum Operator {
     Plus,
@@ -254,6 +254,11 @@ pub enum Operator {
     Div,
     Mod,
     And,
+}
+
+/// A relational operator (6.7.2.1).
+#[derive(Clone, Copy)]
+pub enum RelationalOperator {
     Equal,
     NotEqual,
     Less,
@@ -305,11 +310,18 @@ pub enum Expr<'a> {
         place: Place,
         term: Box<Expr<'a>>,
     },
-    /// A first operand, and one or more operators of one precedence with their right operands: a term, a simple
-    /// expression, or a relation, which has one operator alone.
+    /// A first operand, and one or more operators of one precedence with their right operands: a term or a simple
+    /// expression.
     Chain {
         first: Box<Expr<'a>>,
         rest: Vec<Link<'a>>,
+    },
+    /// `left operator right`, a relation, with the place of its operator.
+    Relation {
+        left: Box<Expr<'a>>,
+        operator: RelationalOperator,
+        place: Place,
+        right: Box<Expr<'a>>,
     },
 }
 

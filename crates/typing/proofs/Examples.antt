@@ -19,7 +19,8 @@ use Rattle.types.specs.Forms.{FieldForm, Enumeration, Subrange, Array, Record}
 use Rattle.types.specs.declared.form.TypeId.{TypeId}
 use Rattle.types.specs.Types.{required_forms, integer, boolean, char, range_of, range, field_of}
 use Rattle.typing.specs.Names.{folded, required_region}
-use Rattle.typing.specs.Expressions.{copying, fitting, typed, typed_text, typed_variable, result_type, as_function, field_named, or_not_declared}
+use Rattle.typing.specs.Expressions.{copying, fitting, typed, typed_text, typed_variable, takes_operands, may_compare, as_function, field_named}
+use Rattle.typing.specs.Expressions.{or_not_declared}
 use Rattle.typing.specs.Functions.{begins_as, calculation_of, applied}
 use Rattle.typing.specs.Passing.{Checked, and_then}
 use Rattle.typing.specs.declared.typed.Typed.{Typed}
@@ -41,20 +42,20 @@ small_letters = refl
 abbrev of : TypeId → Typed
 of type_id = typed type_id None
 
--- a sum of integers is an integer
-pub sum_of_integers : result_type required_forms op.Plus (of integer) (of integer) ≡ Some integer
+-- integers are added
+pub sum_of_integers : takes_operands op.Plus (of integer) (of integer) ≡ true
 sum_of_integers = refl
 
 -- a truth value can't be added
-pub sum_with_boolean : result_type required_forms op.Plus (of integer) (of boolean) ≡ None
+pub sum_with_boolean : takes_operands op.Plus (of integer) (of boolean) ≡ false
 sum_with_boolean = refl
 
 -- truth values are compared with each other
-pub less_of_booleans : result_type required_forms op.Less (of boolean) (of boolean) ≡ Some boolean
+pub less_of_booleans : may_compare required_forms (of boolean) (of boolean) ≡ true
 less_of_booleans = refl
 
 -- an integer is not compared with a truth value
-pub equal_of_both : result_type required_forms op.Equal (of integer) (of boolean) ≡ None
+pub equal_of_both : may_compare required_forms (of integer) (of boolean) ≡ false
 equal_of_both = refl
 
 -- maxint is a constant of type integer
@@ -196,17 +197,17 @@ module _ (place behind : Place) where
   closes = refl
 
   -- two strings of the same length are compared, and others aren't
-  pub equally_long : result_type strings op.Less (typed_text first 2 None) (typed_text second 2 None) ≡ Some boolean
+  pub equally_long : may_compare strings (typed_text first 2 None) (typed_text second 2 None) ≡ true
   equally_long = refl
 
-  pub longer : result_type strings op.Less (typed_text first 2 None) (typed_text third 3 None) ≡ None
+  pub longer : may_compare strings (typed_text first 2 None) (typed_text third 3 None) ≡ false
   longer = refl
 
   -- no string is compared with a char, or added
-  pub string_and_char : result_type strings op.Equal (typed_text first 2 None) (of char) ≡ None
+  pub string_and_char : may_compare strings (typed_text first 2 None) (of char) ≡ false
   string_and_char = refl
 
-  pub sum_of_strings : result_type strings op.Plus (typed_text first 2 None) (typed_text second 2 None) ≡ None
+  pub sum_of_strings : takes_operands op.Plus (typed_text first 2 None) (typed_text second 2 None) ≡ false
   sum_of_strings = refl
 
   -- a string is copied to a target that is as long

@@ -15,7 +15,7 @@ use Rattle.syntax_tree.specs.declared.ConstantValue.TheVariants as written_const
 use Rattle.syntax_tree.specs.declared.Direction.{Direction as SyntaxDirection}
 use Rattle.syntax_tree.specs.declared.Operator.{Operator}
 use Rattle.syntax_tree.specs.declared.Operator.TheVariants as op
-use Rattle.syntax_tree.specs.declared.Sign.{Sign}
+use Rattle.syntax_tree.specs.declared.RelationalOperator.{RelationalOperator}
 use Rattle.syntax_tree.specs.declared.Selector.{Selector}
 use Rattle.syntax_tree.specs.declared.Selector.TheVariants as select
 use Rattle.syntax_tree.specs.declared.Expr.{Expr}
@@ -306,14 +306,9 @@ module _ (owner : Owner) (depth : ℕ) where
   operation_walks op.Plus place = search walk
   operation_walks other place = search walk
 
-  compares_walks : (left right : Option ℕ) → Goes_by (Expressions.compares left right)
-  unfolding Expressions.compares
-  compares_walks (Some left) (Some right) = search walk
-  compares_walks left right = search walk
-
   link_walks : (operator : Operator) (place : Place) (w : Written) → WrittenWalks w → LinkWalks (Expressions.link operator place w)
   unfolding Expressions.link
-  link_walks operator place w law left = search (walk, operation_walks, compares_walks, law.typing) depth 12
+  link_walks operator place w law left = search (walk, operation_walks, law.typing) depth 12
 
   links_walk : (left : Typed) (ls : List WrittenLink) → LinksWalk ls → Goes_by (Expressions.links left ls)
   links_walk left [] laws = search walk
@@ -322,6 +317,16 @@ module _ (owner : Owner) (depth : ℕ) where
   chain_walks : (w : Written) (ls : List WrittenLink) (lead : Option SiteKind) → WrittenWalks w → LinksWalk ls → Goes_by (Expressions.chain w ls lead)
   unfolding Expressions.chain
   chain_walks w ls lead law laws = search (walk, law.typing, links_walk) depth 12
+
+  compares_walks : (left right : Option ℕ) → Goes_by (Expressions.compares left right)
+  unfolding Expressions.compares
+  compares_walks (Some left) (Some right) = search walk
+  compares_walks left right = search walk
+
+  relation_walks : (left : Written) (operator : RelationalOperator) (place : Place) (right : Written) (lead : Option SiteKind) → WrittenWalks left
+      → WrittenWalks right → Goes_by (Expressions.relation left operator place right lead)
+  unfolding Expressions.relation
+  relation_walks left operator place right lead law behind = search (walk, law.typing, behind.typing, compares_walks) depth 16
 
   calculation_walks : (calculated : FunctionValue) (place : Place) → Goes_by (Functions.calculation_of calculated place)
   unfolding Functions.calculation_of
@@ -422,7 +427,7 @@ module _ (owner : Owner) (depth : ℕ) where
   all_links (y ∷ ys) = (y.1, all_links ys)
 
   expression_layer : (y : layer.Expr-F WithExpr WithActual WithLink) → ExprWalks (roll-Expr (bare y))
-  unfolding Expressions.number Expressions.named Expressions.component Expressions.call Expressions.parenthesized Expressions.negation Expressions.signed
+  unfolding Expressions.number Expressions.named Expressions.component Expressions.call Expressions.parenthesized Expressions.prefixed
   expression_layer (layer.Number value place) = from_layer (layer.Number value place) (written_walks place _ (λ lead. search (walk, behind_walks)))
   expression_layer (layer.Name name) = from_layer (layer.Name name) (variable_walks name [] [] _ tt (λ lead. search (walk, denoted_walks)))
   expression_layer (layer.Component name selectors indexes) =
@@ -443,6 +448,9 @@ module _ (owner : Owner) (depth : ℕ) where
       from_layer (bare (layer.Signed s place term)) (written_walks place _ (λ lead. search (walk, behind_walks, term.value.1.typing) depth 12))
   expression_layer (layer.Chain first rest) =
       from_layer (bare (layer.Chain first rest)) (written_walks _ _ (λ lead. chain_walks _ _ lead first.value.1 (all_links rest.items)))
+  expression_layer (layer.Relation left operator place right) =
+      from_layer (bare (layer.Relation left operator place right))
+      (written_walks _ _ (λ lead. relation_walks _ operator place _ lead left.value.1 right.value.1))
 
   abbrev width_form : WithExpr → Option WithExpr → Option Written
   width_form value width =

@@ -5,6 +5,7 @@ use Rattle.std.specs.declared.alloc.Global.{Global}
 use Rattle.place.specs.declared.Place.{Place}
 use Rattle.syntax_tree.specs.declared.Name.{Name}
 use Rattle.syntax_tree.specs.declared.Constant.{Constant}
+use Rattle.syntax_tree.specs.declared.RelationalOperator.{RelationalOperator}
 use Rattle.syntax_tree.specs.declared.Sign.{Sign}
 use Rattle.syntax_tree.specs.declared.Direction.{Direction}
 use Rattle.syntax_tree.specs.declared.Expr.{Expr}
@@ -34,7 +35,7 @@ use Rattle.typing.specs.Routines.{TypedBlock, TypedRoutine, typed_block, typed_r
 use Rattle.typing.specs.Passing.{Passing}
 use Rattle.typing.specs.Expressions.{Written, WrittenActual, WrittenLink, written, written_variable, expression_step, actual_step, link_step, expression}
 use Rattle.typing.specs.Expressions.{written_link}
-use Rattle.typing.specs.Expressions.{written_actual, number, string, named, component, call, parenthesized, negation, signed, chain, link}
+use Rattle.typing.specs.Expressions.{written_actual, number, string, named, component, call, parenthesized, negation, signed, chain, relation, link}
 use Rattle.typing.specs.Statements.{statement, statement_step, assignment, procedure_call, compound, choice, while_loop, repeat_loop, for_loop, case_statement}
 use Rattle.typing.specs.Denoters.{WrittenDenoter, denoted_type, denoter_step, type_of_name, enumeration, subrange, array, record_type}
 use Rattle.typing.specs.Names.{denoter_names, denoter_step as defined_step}
@@ -81,6 +82,12 @@ pub typing_chain : (first : Box Expr Global) (rest : Vec Link Global)
     → expression (syntax.Chain first rest) ≡ written (expression first.value).first (chain (expression first.value) (map written_link rest.items))
 typing_chain first rest = rolled (syntax.Chain first rest) (layer.Chain first rest) (syntax.rolls-Chain first rest)
 
+pub typing_relation : (left : Box Expr Global) (operator : RelationalOperator) (place : Place) (right : Box Expr Global)
+    → expression (syntax.Relation left operator place right)
+    ≡ written (expression left.value).first (relation (expression left.value) operator place (expression right.value))
+typing_relation left operator place right =
+    rolled (syntax.Relation left operator place right) (layer.Relation left operator place right) (syntax.rolls-Relation left operator place right)
+
 -- an operator and its right operand, as they are read
 pub typing_link : (l : Link) → written_link l ≡ link (out-Link l).operator (out-Link l).place (expression (out-Link l).operand)
 typing_link l = fold_out-Link Written WrittenActual WrittenLink expression_step actual_step link_step l
@@ -100,7 +107,7 @@ typing_actual a =
 
 -- those of all expressions
 pub ruleset written_expressions =
-    (typing_number, typing_name, typing_component, typing_string, typing_call, typing_parenthesized, typing_not, typing_signed, typing_chain)
+    (typing_number, typing_name, typing_component, typing_string, typing_call, typing_parenthesized, typing_not, typing_signed, typing_chain, typing_relation)
 
 -- ---- statements
 

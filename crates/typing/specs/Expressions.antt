@@ -3,7 +3,7 @@
 -- kind in, as the leading kind: that site stands behind the token's own, and before all others. It says nothing of what
 -- a program does.
 use Rattle.std.specs.Prelude.{ℕ, ◌+◌, ◌&&◌, ◌||◌, Bool, true, false, not, List, [], ◌∷◌, ◌++◌, Option, Some, None}
-use Rattle.std.specs.Prelude.{is_none, Ok, Err, pos, if◌then◌else◌, nat_eq, nat_le, length, option_map}
+use Rattle.std.specs.Prelude.{is_none, Ok, Err, pos, if◌then◌else◌, nat_eq, length, option_map}
 use Rattle.std.specs.Prelude.{slice_get}
 use Rattle.place.specs.declared.Place.{Place}
 use Rattle.syntax_tree.specs.declared.Name.{Name}
@@ -11,6 +11,8 @@ use Rattle.syntax_tree.specs.declared.Sign.{Sign}
 use Rattle.syntax_tree.specs.declared.Sign.TheVariants as sign
 use Rattle.syntax_tree.specs.declared.Operator.{Operator}
 use Rattle.syntax_tree.specs.declared.Operator.TheVariants as op
+use Rattle.syntax_tree.specs.declared.RelationalOperator.{RelationalOperator}
+use Rattle.syntax_tree.specs.declared.RelationalOperator.TheVariants as relational
 use Rattle.syntax_tree.specs.declared.Expr.{Expr}
 use Rattle.syntax_tree.specs.declared.Link.{Link}
 use Rattle.syntax_tree.specs.declared.Actual.{Actual}
@@ -20,7 +22,7 @@ use Rattle.syntax_tree.specs.declared.Expr.TheOpen.{Expr-F, Link-F, Actual-F}
 use Rattle.syntax_tree.specs.declared.Expr.TheOpen.Expr-F.{Number as NumberOf, Name as NameOf, Call as CallOf}
 use Rattle.syntax_tree.specs.declared.Expr.TheOpen.Expr-F.{Parenthesized as ParenthesizedOf, Not as NotOf}
 use Rattle.syntax_tree.specs.declared.Expr.TheOpen.Expr-F.{Signed as SignedOf, Chain as ChainOf, String as StringOf}
-use Rattle.syntax_tree.specs.declared.Expr.TheOpen.Expr-F.{Component as ComponentOf}
+use Rattle.syntax_tree.specs.declared.Expr.TheOpen.Expr-F.{Component as ComponentOf, Relation as RelationOf}
 use Rattle.syntax_tree.specs.declared.Expr.TheFolds.{fold-Expr, fold-Link, fold-Actual}
 use Rattle.types.specs.Forms.{Form, Array, Record}
 use Rattle.types.specs.declared.form.RecordField.{RecordField}
@@ -40,7 +42,8 @@ use Rattle.typed_tree.specs.declared.tree.Monadic.TheVariants as monadic
 use Rattle.typed_tree.specs.declared.tree.Calculation.TheVariants as calculation
 use Rattle.typed_tree.specs.declared.tree.Dyadic.{Dyadic}
 use Rattle.typed_tree.specs.declared.tree.Dyadic.TheVariants as dyadic
-use Rattle.typed_tree.specs.declared.tree.Relation.TheVariants as relation
+use Rattle.typed_tree.specs.declared.tree.Relation.{Relation}
+use Rattle.typed_tree.specs.declared.tree.Relation.TheVariants as relate
 use Rattle.typed_tree.specs.declared.tree.Selector.{Selector as TreeSelector}
 use Rattle.typed_tree.specs.declared.tree.Selector.TheVariants as tree
 use Rattle.typed_tree.specs.declared.tree.Variable.{Variable}
@@ -51,7 +54,7 @@ use Rattle.typed_tree.specs.Look.{Calls, Called, ForValue, ForVariable, ForWhole
 use Rattle.typing.specs.declared.typed.Typed.{Typed}
 use Rattle.typing.specs.Passing.{Checked, Passing, pure, fail, given, by_types, mark, ◌>>=◌, ◌>>◌, ◌>>?◌}
 use Rattle.typing.specs.Steps.{fits, or_mismatch, pass, enter_as, site, find, heading_at, host_type, may_change}
-use Rattle.typing.specs.Steps.{text_at, variable_at}
+use Rattle.typing.specs.Steps.{text_at, value_of, variable_at}
 use Rattle.typing.specs.Names.{folded}
 use Rattle.typing.specs.Functions.{begins_as, applied}
 use Rattle.typing.specs.Strings.{string_characters, string_type}
@@ -98,10 +101,10 @@ behind (Some kind) place = site kind place >>= (λ id. pure (Some id))
 unfoldable pub number : ℕ → Place → Option SiteKind → Passing Typed
 number value place lead = do
   pass place
+  given (value_of value place)
   id ← behind lead place
-  t ← given (fits (nat_le value 2147483647) place (typed integer id))
   enter_as (λ n. Constant n (pos value))
-  pure t
+  pure (typed integer id)
 
 -- the value of a string: one character is a constant of type char, more are a string of a type of its own
 unfoldable pub spelled : Place → Option ℕ → List ℕ → Passing Typed
@@ -387,62 +390,43 @@ parenthesized place inner lead = do
   id ← behind lead place
   inner.typing None >>? (λ types t. Ok (record t { site = id }))
 
--- `not` and its operand
-unfoldable pub negation : Place → Written → Option SiteKind → Passing Typed
-negation place operand lead = do
+-- an operation before an operand of a type, which its result is of too
+unfoldable pub prefixed : TypeId → Monadic → Place → Written → Option SiteKind → Passing Typed
+prefixed type_id does place operand lead = do
   pass place
   id ← behind lead place
   enter_as Operation
-  operand.typing None >>? (λ types t. fits (is_of boolean t) place t)
-  mark (Applied (monadic.Plain calculation.Complement))
-  pure (typed boolean id)
+  operand.typing None >>? (λ types t. fits (is_of type_id t) place t)
+  mark (Applied does)
+  pure (typed type_id id)
+
+-- `not` and its operand
+abbrev pub negation : Place → Written → Option SiteKind → Passing Typed
+negation = prefixed boolean (monadic.Plain calculation.Complement)
 
 abbrev pub sign_operation : Sign → Monadic
 sign_operation sign.Plus = monadic.Plain calculation.Same
 sign_operation sign.Minus = monadic.Plain calculation.Negative
 
 -- a sign and the term that it covers
-unfoldable pub signed : Sign → Place → Written → Option SiteKind → Passing Typed
-signed sign place operand lead = do
-  pass place
-  id ← behind lead place
-  enter_as Operation
-  operand.typing None >>? (λ types t. fits (is_of integer t) place t)
-  mark (Applied (sign_operation sign))
-  pure (typed integer id)
+abbrev pub signed : Sign → Place → Written → Option SiteKind → Passing Typed
+signed sign = prefixed integer (sign_operation sign)
 
--- a type, if both operands are of it
-abbrev pub both_of : TypeId → Typed → Typed → Option TypeId
-both_of type_id left right = if is_of type_id left && is_of type_id right then Some type_id else None
+-- ---- operators between operands (6.7.2)
 
--- both are ordinals, or both are strings and equally long
-abbrev pub are_alike : Option ℕ → Option ℕ → Bool
-are_alike None None = true
-are_alike (Some left) (Some right) = nat_eq left right
-are_alike left right = false
+-- the type of both operands of an operator, and of its result
+abbrev pub operand_type : Operator → TypeId
+operand_type op.Plus = integer
+operand_type op.Minus = integer
+operand_type op.Or = boolean
+operand_type op.Times = integer
+operand_type op.Div = integer
+operand_type op.Mod = integer
+operand_type op.And = boolean
 
--- relations hold between ordinals of compatible types, and between strings of them (6.7.2.5)
-abbrev pub compared : List Form → Typed → Typed → Option TypeId
-compared types left right =
-    if are_alike left.length right.length
-    && (is_compatible types left.type_id right.type_id && (is_none left.length || is_string types left.type_id))
-    then Some boolean else None
-
--- the type of an operator's result, if its operands fit it (6.7.2)
-abbrev pub result_type : List Form → Operator → Typed → Typed → Option TypeId
-result_type types op.Plus left right = both_of integer left right
-result_type types op.Minus left right = both_of integer left right
-result_type types op.Or left right = both_of boolean left right
-result_type types op.Times left right = both_of integer left right
-result_type types op.Div left right = both_of integer left right
-result_type types op.Mod left right = both_of integer left right
-result_type types op.And left right = both_of boolean left right
-result_type types op.Equal left right = compared types left right
-result_type types op.NotEqual left right = compared types left right
-result_type types op.Less left right = compared types left right
-result_type types op.Greater left right = compared types left right
-result_type types op.LessOrEqual left right = compared types left right
-result_type types op.GreaterOrEqual left right = compared types left right
+-- both operands are of it
+abbrev pub takes_operands : Operator → Typed → Typed → Bool
+takes_operands operator left right = is_of (operand_type operator) left && is_of (operand_type operator) right
 
 -- an operation with a site at its operator
 unfoldable pub tested : (ℕ → Dyadic) → SiteKind → Place → Passing Dyadic
@@ -457,42 +441,76 @@ operation op.Times place = tested dyadic.Times kind.Overflow place
 operation op.Div place = tested dyadic.Div kind.DivisionByZero place
 operation op.Mod place = tested dyadic.Mod kind.ModByZeroOrLess place
 operation op.And place = pure dyadic.And
-operation op.Equal place = pure (dyadic.Relation relation.Equal)
-operation op.NotEqual place = pure (dyadic.Relation relation.NotEqual)
-operation op.Less place = pure (dyadic.Relation relation.Less)
-operation op.Greater place = pure (dyadic.Relation relation.Greater)
-operation op.LessOrEqual place = pure (dyadic.Relation relation.LessOrEqual)
-operation op.GreaterOrEqual place = pure (dyadic.Relation relation.GreaterOrEqual)
 
--- two strings are compared, of these lengths
-unfoldable pub compares : Option ℕ → Option ℕ → Passing (Unit {0})
-compares (Some left) (Some right) = mark (Compared left right)
-compares left right = pure tt
-
--- an operator and its right operand; its site stands before those of the operand
+-- an operator and its right operand, where the left one is known: by both it has its site or none, before the sites of
+-- the right one
 unfoldable pub link : Operator → Place → Written → WrittenLink
 link operator place operand left = do
   tests ← operation operator place
   enter_as (λ n. OperatorMark n tests)
-  right ← operand.typing None
-  type_id ← by_types (λ types. or_mismatch place (result_type types operator left right))
-  compares left.length right.length
-  pure (typed type_id left.site)
+  operand.typing None >>? (λ types right. fits (takes_operands operator left right) place right)
+  pure (typed (operand_type operator) left.site)
 
 -- operators of one precedence, from left to right
 abbrev pub links : Typed → List WrittenLink → Passing Typed
 links left [] = pure left
 links left (l ∷ ls) = l left >>= (λ t. links t ls)
 
--- a chain of operators behind a first operand; a string is an operand of one operator alone, which is a relation
-unfoldable pub chain : Written → List WrittenLink → Option SiteKind → Passing Typed
-chain first rest lead = do
+-- a first operand, and what stands behind it
+abbrev pub begun_by : Written → (Typed → Passing Typed) → Option SiteKind → Passing Typed
+begun_by first behind_it lead = do
   mark Begins
   f ← first.typing lead
+  behind_it f
+
+-- the operators of a chain behind its first operand, which begins at a place: an ordinal, as the others are
+abbrev pub chain_behind : Place → List WrittenLink → Typed → Passing Typed
+chain_behind place rest f = do
   t ← links f rest
-  given (fits (is_none f.length || nat_eq (length rest) 1) first.first t)
+  given (fits (is_none f.length) place t)
   mark Ends
-  pure t
+  pure (typed t.type_id f.site)
+
+unfoldable pub chain : Written → List WrittenLink → Option SiteKind → Passing Typed
+chain first rest = begun_by first (chain_behind first.first rest)
+
+abbrev pub relation_of : RelationalOperator → Relation
+relation_of relational.Equal = relate.Equal
+relation_of relational.NotEqual = relate.NotEqual
+relation_of relational.Less = relate.Less
+relation_of relational.Greater = relate.Greater
+relation_of relational.LessOrEqual = relate.LessOrEqual
+relation_of relational.GreaterOrEqual = relate.GreaterOrEqual
+
+-- both are ordinals, or both are strings and equally long
+abbrev pub are_alike : Option ℕ → Option ℕ → Bool
+are_alike None None = true
+are_alike (Some left) (Some right) = nat_eq left right
+are_alike left right = false
+
+-- relations hold between ordinals of compatible types, and between strings of them (6.7.2.5)
+abbrev pub may_compare : List Form → Typed → Typed → Bool
+may_compare types left right =
+    are_alike left.length right.length
+    && (is_compatible types left.type_id right.type_id && (is_none left.length || is_string types left.type_id))
+
+-- two strings are compared, of these lengths
+unfoldable pub compares : Option ℕ → Option ℕ → Passing (Unit {0})
+compares (Some left) (Some right) = mark (Compared left right)
+compares left right = pure tt
+
+-- a relation (6.7.2.5) behind its left operand, which has no site; K1 at its operator where its operands can't be
+-- compared
+abbrev pub relation_behind : RelationalOperator → Place → Written → Typed → Passing Typed
+relation_behind operator place right l = do
+  enter_as (λ n. OperatorMark n (dyadic.Relation (relation_of operator)))
+  r ← right.typing None >>? (λ types t. fits (may_compare types l t) place t)
+  compares l.length r.length
+  mark Ends
+  pure (typed boolean l.site)
+
+unfoldable pub relation : Written → RelationalOperator → Place → Written → Option SiteKind → Passing Typed
+relation left operator place right = begun_by left (relation_behind operator place right)
 
 -- the function that a name denotes
 abbrev pub as_function : Place → Denotation → Checked RequiredFunction
@@ -566,6 +584,8 @@ expression_step (ParenthesizedOf place inner) = written place (parenthesized pla
 expression_step (NotOf place operand) = written place (negation place operand.value)
 expression_step (SignedOf sign place term) = written place (signed sign place term.value)
 expression_step (ChainOf first rest) = written first.value.first (chain first.value rest.items)
+expression_step (RelationOf left operator place right) =
+    written left.value.first (relation left.value operator place right.value)
 
 -- an expression
 abbrev pub expression : Expr → Written

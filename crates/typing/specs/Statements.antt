@@ -13,6 +13,7 @@ use Rattle.syntax_tree.specs.declared.Expr.TheOpen.{Expr-F}
 use Rattle.syntax_tree.specs.declared.Expr.TheOpen.Expr-F.{Number as NumberOf, Name as NameOf, Call as FunctionOf}
 use Rattle.syntax_tree.specs.declared.Expr.TheOpen.Expr-F.{Parenthesized as ParenthesizedOf, Not as NotOf}
 use Rattle.syntax_tree.specs.declared.Expr.TheOpen.Expr-F.{Signed as SignedOf, Chain as ChainOf, String as StringOf}
+use Rattle.syntax_tree.specs.declared.Expr.TheOpen.Expr-F.{Relation as RelationOf}
 use Rattle.syntax_tree.specs.declared.Expr.TheOpen.Expr-F.{Component as ComponentOf}
 use Rattle.syntax_tree.specs.declared.Expr.TheViews.{out-Expr, out-Actual}
 use Rattle.syntax_tree.specs.declared.Link.{Link}
@@ -163,6 +164,7 @@ names_file (ParenthesizedOf place inner) = pure false
 names_file (NotOf place operand) = pure false
 names_file (SignedOf sign place term) = pure false
 names_file (ChainOf first rest) = pure false
+names_file (RelationOf left operator place right) = pure false
 
 abbrev pub unless_wide : Expr → Option Expr → Passing Bool
 unless_wide value None = names_file (out-Expr value)

@@ -1,11 +1,11 @@
-use crate::rules::{fitting, may_copy, representation, result_type};
+use crate::rules::{fitting, may_compare, may_copy, representation};
 use crate::typed::Typed;
 use crate::typer::Typer;
 use place::Place;
 use syntax_tree::Operator;
 use typed_tree::fault::TypeFault;
 use typed_tree::site::SiteKind;
-use typed_tree::tree::{Dyadic, Relation, Representation};
+use typed_tree::tree::{Dyadic, Representation};
 use types::{OrdinalRange, TypeId};
 
 impl Typer {
@@ -49,20 +49,14 @@ impl Typer {
             },
             Operator::And => Dyadic::And,
             Operator::Or => Dyadic::Or,
-            Operator::Equal => Dyadic::Relation(Relation::Equal),
-            Operator::NotEqual => Dyadic::Relation(Relation::NotEqual),
-            Operator::Less => Dyadic::Relation(Relation::Less),
-            Operator::Greater => Dyadic::Relation(Relation::Greater),
-            Operator::LessOrEqual => Dyadic::Relation(Relation::LessOrEqual),
-            Operator::GreaterOrEqual => Dyadic::Relation(Relation::GreaterOrEqual),
         })
     }
 
-    /// The type of an operator's result, if its operands fit it (6.7.2).
-    pub fn result_type(&self, operator: Operator, left: Typed, right: Typed) -> Option<TypeId>
-        ensures { result ≡ spec.result_type self.now.types operator left right }
+    /// Whether a relation may hold between two operands (6.7.2.5).
+    pub fn may_compare(&self, left: Typed, right: Typed) -> bool
+        ensures { result ≡ spec.may_compare self.now.types left right }
     {
-        result_type(&self.types, operator, left, right)
+        may_compare(&self.types, left, right)
     }
 
     /// The values of a target's type, if an ordinal value may be assigned to it (6.4.6).

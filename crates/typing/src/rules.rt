@@ -1,17 +1,17 @@
 //! The rules of types, of operators and of calls, which need nothing else of a program.
 ghost use Rattle.std.specs.Prelude.{◌≡◌, is_some, nat_eq};
 ghost use Rattle.typing.specs.Steps.{told};
-ghost use Rattle.typing.specs.Expressions.{sign_operation, both_of, compared, result_type, as_function};
-ghost use Rattle.typing.specs.Expressions.{as_routine, as_variable, fitting, copying};
+ghost use Rattle.typing.specs.Expressions.{sign_operation, operand_type, takes_operands, relation_of, may_compare};
+ghost use Rattle.typing.specs.Expressions.{as_function, as_routine, as_variable, fitting, copying};
 ghost use Rattle.typing.specs.Statements.{as_procedure, ends_line, is_output};
 ghost use Rattle.typing.specs.Statements.{representation_of, way};
 
 use crate::typed::Typed;
 use place::Place;
 use scopes::{Denotation, RequiredFunction, RequiredProcedure, ScopeFault};
-use syntax_tree::{Operator, Sign};
+use syntax_tree::{Operator, RelationalOperator, Sign};
 use typed_tree::fault::TypeFault;
-use typed_tree::tree::{Calculation, Direction, Monadic, Representation};
+use typed_tree::tree::{Calculation, Direction, Monadic, Relation, Representation};
 use types::{OrdinalRange, TypeForm, TypeId, TypeTable};
 
 // What the scopes answer, at a place.
@@ -37,42 +37,47 @@ pub fn sign_operation(sign: Sign) -> Monadic
     })
 }
 
-// A type, if both operands are of it.
-fn both_of(wanted: TypeId, left: Typed, right: Typed) -> Option<TypeId>
-    ensures { result ≡ both_of wanted left right }
-{
-    (left.is_of(wanted) && right.is_of(wanted)).then_some(wanted)
-}
-
-// The type of a relation, if its operands may be compared (6.7.2.5).
-fn compared(types: &TypeTable, left: Typed, right: Typed) -> Option<TypeId>
-    ensures { result ≡ compared types.now left right }
-{
-    if left.length != right.length || !types.compatible(left.type_id, right.type_id) {
-        return None;
-    }
-    if left.length.is_some() && !types.is_string(left.type_id) {
-        return None;
-    }
-    Some(TypeTable::BOOLEAN)
-}
-
-/// The type of an operator's result, if its operands fit it (6.7.2).
-pub fn result_type(
-    types: &TypeTable,
-    operator: Operator,
-    left: Typed,
-    right: Typed,
-) -> Option<TypeId>
-    ensures { result ≡ result_type types.now operator left right }
+/// The type of both operands of an operator, and of its result (6.7.2).
+pub fn operand_type(operator: Operator) -> TypeId
+    ensures { result ≡ operand_type operator }
 {
     match operator {
         Operator::Plus | Operator::Minus | Operator::Times | Operator::Div | Operator::Mod => {
-            both_of(TypeTable::INTEGER, left, right)
+            TypeTable::INTEGER
         }
-        Operator::And | Operator::Or => both_of(TypeTable::BOOLEAN, left, right),
-        _ => compared(types, left, right),
+        Operator::And | Operator::Or => TypeTable::BOOLEAN,
     }
+}
+
+/// Whether both operands of an operator are of its type.
+pub fn takes_operands(operator: Operator, left: Typed, right: Typed) -> bool
+    ensures { result ≡ takes_operands operator left right }
+{
+    let wanted = operand_type(operator);
+    left.is_of(wanted) && right.is_of(wanted)
+}
+
+/// The relation that an operator tells (6.7.2.5).
+pub fn relation_of(operator: RelationalOperator) -> Relation
+    ensures { result ≡ relation_of operator }
+{
+    match operator {
+        RelationalOperator::Equal => Relation::Equal,
+        RelationalOperator::NotEqual => Relation::NotEqual,
+        RelationalOperator::Less => Relation::Less,
+        RelationalOperator::Greater => Relation::Greater,
+        RelationalOperator::LessOrEqual => Relation::LessOrEqual,
+        RelationalOperator::GreaterOrEqual => Relation::GreaterOrEqual,
+    }
+}
+
+// Whether a relation may hold between two operands (6.7.2.5).
+pub(crate) fn may_compare(types: &TypeTable, left: Typed, right: Typed) -> bool
+    ensures { result ≡ may_compare types.now left right }
+{
+    left.length == right.length
+        && types.compatible(left.type_id, right.type_id)
+        && (left.length.is_none() || types.is_string(left.type_id))
 }
 
 /// The function that a name at a place denotes: K3 where it is a procedure, K1 where it is no routine.

@@ -19,7 +19,7 @@ use Rattle.typing_laws.proofs.Leading.{LawfulWritten, LawfulLink, Types}
 use Rattle.typing_laws.proofs.Accesses.{AreLawfulRows}
 use Rattle.typing_laws.proofs.Calls.{IsLawfulWidth, LawfulActual, AreLawfulActuals}
 use Rattle.typing_laws.proofs.Expressions.{number_does, string_does, named_does, component_does, parenthesized_does, negation_does, signed_does}
-use Rattle.typing_laws.proofs.Operators.{link_does, links_none, links_more, chain_does, call_does}
+use Rattle.typing_laws.proofs.Operators.{link_does, links_none, links_more, chain_does, relation_does, call_does}
 
 module _ (here : Here) where
   abbrev pub LawfulExpr : Expr → Type 0
@@ -127,6 +127,8 @@ module _ (here : Here) where
   expression_layer (layer.Not place operand) = from_layer (bare (layer.Not place operand)) (negation_does here place _ _ operand.value.1)
   expression_layer (layer.Signed s place term) = from_layer (bare (layer.Signed s place term)) (signed_does here s place _ _ term.value.1)
   expression_layer (layer.Chain first rest) = from_layer (bare (layer.Chain first rest)) (chain_does here _ _ _ _ first.value.1 (links_lawful rest.items))
+  expression_layer (layer.Relation left operator place right) =
+      from_layer (bare (layer.Relation left operator place right)) (relation_does here _ operator place _ _ _ left.value.1 right.value.1)
 
   abbrev width_row : WithExpr → Option WithExpr → Option Places
   width_row value width =

@@ -17,6 +17,7 @@ use Rattle.scopes.specs.declared.denotation.Denotation.TheVariants as denotes
 use Rattle.typed_tree.specs.declared.fault.TypeFault.TheVariants as fault
 use Rattle.typed_tree.specs.declared.site.SiteKind.{SiteKind}
 use Rattle.typed_tree.specs.declared.tree.Calculation.TheVariants as calculation
+use Rattle.typed_tree.specs.declared.tree.Monadic.{Monadic}
 use Rattle.typed_tree.specs.declared.tree.Monadic.TheVariants as monadic
 use Rattle.typed_tree.specs.declared.tree.Selector.{Selector as TreeSelector}
 use Rattle.typed_tree.specs.declared.tree.Variable.{Variable}
@@ -24,11 +25,11 @@ use Rattle.typed_tree.specs.Accesses.{index_count}
 use Rattle.typed_tree.specs.WellFormed.{Outline, monadic_is_well_formed, is_character, is_variable_kind, of_one, takes_variable}
 use Rattle.typed_tree.specs.Look.{Access, Constant, Text, Operation, Applied, ForVariable}
 use Rattle.typing.specs.Passing.{Checked, pure, ◌>>=◌, ◌>>◌}
-use Rattle.typing.specs.Steps.{fits, enter_as}
+use Rattle.typing.specs.Steps.{enter_as, value_of}
 use Rattle.typing.specs.Strings.{string_characters, string_type}
 use Rattle.typing.specs.declared.typed.Typed.{Typed}
 use Rattle.typing.specs.Expressions.{Written, written, written_variable, typed, typed_text, number, spelled, string, as_variable, component, denoted, named}
-use Rattle.typing.specs.Expressions.{parenthesized, negation, signed, sign_operation, is_of_packed, passable, passed_variable}
+use Rattle.typing.specs.Expressions.{parenthesized, prefixed, negation, signed, sign_operation, is_of_packed, passable, passed_variable}
 use Rattle.typing_laws.proofs.Reached.{Reached, IsFurther, further_still, Here}
 use Rattle.typing_laws.proofs.Kept.{change_later}
 use Rattle.typing_laws.proofs.Sound.{IsVariable, variable_later}
@@ -70,11 +71,11 @@ module _ (here : Here) where
       by : (least : Reached) (lead : Option SiteKind) → Does here least (Leads place (led lead) []) (number value place lead) Types
       by least lead =
           quietly (pass_does place) λ _ _ _ _.
+          quietly (given_does (value_of value place)) λ v _ _ is.
+          let fit = fit_is (nat_le value 2147483647) place (pos value) v is in
           joins (leads_first 2 place (led lead) []) (behind_does lead place) λ id now _ known.
-          quietly (given_does (fits (nat_le value 2147483647) place (typed integer id))) λ t _ one is.
-          let fit = fit_is (nat_le value 2147483647) place (typed integer id) t is in
-          quietly (enter_does (λ n. Constant n (pos value)) (λ n. refl) (λ n. refl) (λ n. refl) (λ n o h. fit.0)) λ _ _ two _.
-          pure_does t (λ n h. subst (λ (z : Typed). Types z n) fit.1 (ordinal_types integer id now n (further_still one (further_still two h)) known))
+          quietly (enter_does (λ n. Constant n (pos value)) (λ n. refl) (λ n. refl) (λ n. refl) (λ n o h. fit.0)) λ _ _ one _.
+          pure_does (typed integer id) (λ n h. ordinal_types integer id now n (further_still one h) known)
 
   -- two or more characters
   text_does : (place : Place) (id : Option ℕ) {least : Reached} (cs : List ℕ) → IsKnown id least → 1 < length cs → list_all is_character cs ≡ true
@@ -221,21 +222,27 @@ module _ (here : Here) where
           answer id now n b t known own more is =
               let same : record t { site = id } ≡ b = cc in subst (λ (z : Typed). Types z n) same (known_later id now n more known, own.1)
 
-  pub negation_does : (place : Place) (places : List Place) (operand : Written) → LawfulWritten here places operand
-      → LawfulWritten here (place ∷ places) (written place (negation place operand))
-  unfolding negation
-  negation_does place places operand law =
+  prefixed_does : (type_id : TypeId) (does : Monadic) → ((o : Outline) → monadic_is_well_formed o here.block does ≡ true) → (place : Place)
+      (places : List Place) (operand : Written) → LawfulWritten here places operand
+      → LawfulWritten here (place ∷ places) (written place (prefixed type_id does place operand))
+  unfolding prefixed
+  prefixed_does type_id does formed place places operand law =
       no_variable_lawful here (place ∷ places) places place _ refl
       (λ least lead is. led_covers here 2 place places (led lead) (led_alone lead is) (by least lead))
     where
-      by : (least : Reached) (lead : Option SiteKind) → Does here least (Leads place (led lead) places) (negation place operand lead) Types
+      by : (least : Reached) (lead : Option SiteKind)
+          → Does here least (Leads place (led lead) places) (prefixed type_id does place operand lead) Types
       by least lead =
           quietly (pass_does place) λ _ _ _ _.
           joins (leads_first 2 place (led lead) places) (behind_does lead place) λ id now _ known.
           quietly (enter_does Operation (λ n. refl) (λ n. refl) (λ n. refl) (λ n o h. refl)) λ _ next one _.
           last (checks {L = Anything} (law.types next None tt) λ types t b n more is _. tt) λ _ _ two _.
-          quietly (mark_does (Applied (monadic.Plain calculation.Complement)) refl refl refl (λ o h. refl)) λ _ _ three _.
-          pure_does (typed boolean id) (λ n h. ordinal_types boolean id now n (further_still one (further_still two (further_still three h))) known)
+          quietly (mark_does (Applied does) refl refl refl (λ o h. formed o)) λ _ _ three _.
+          pure_does (typed type_id id) (λ n h. ordinal_types type_id id now n (further_still one (further_still two (further_still three h))) known)
+
+  pub negation_does : (place : Place) (places : List Place) (operand : Written) → LawfulWritten here places operand
+      → LawfulWritten here (place ∷ places) (written place (negation place operand))
+  negation_does = prefixed_does boolean (monadic.Plain calculation.Complement) (λ o. refl)
 
   signs_formed : (s : Sign) (o : Outline) → monadic_is_well_formed o here.block (sign_operation s) ≡ true
   signs_formed sign.Plus o = refl
@@ -243,16 +250,4 @@ module _ (here : Here) where
 
   pub signed_does : (s : Sign) (place : Place) (places : List Place) (operand : Written) → LawfulWritten here places operand
       → LawfulWritten here (place ∷ places) (written place (signed s place operand))
-  unfolding signed
-  signed_does s place places operand law =
-      no_variable_lawful here (place ∷ places) places place _ refl
-      (λ least lead is. led_covers here 2 place places (led lead) (led_alone lead is) (by least lead))
-    where
-      by : (least : Reached) (lead : Option SiteKind) → Does here least (Leads place (led lead) places) (signed s place operand lead) Types
-      by least lead =
-          quietly (pass_does place) λ _ _ _ _.
-          joins (leads_first 2 place (led lead) places) (behind_does lead place) λ id now _ known.
-          quietly (enter_does Operation (λ n. refl) (λ n. refl) (λ n. refl) (λ n o h. refl)) λ _ next one _.
-          last (checks {L = Anything} (law.types next None tt) λ types t b n more is _. tt) λ _ _ two _.
-          quietly (mark_does (Applied (sign_operation s)) refl refl refl (λ o h. signs_formed s o)) λ _ _ three _.
-          pure_does (typed integer id) (λ n h. ordinal_types integer id now n (further_still one (further_still two (further_still three h))) known)
+  signed_does s = prefixed_does integer (sign_operation s) (signs_formed s)

@@ -1,16 +1,17 @@
 -- What operators, chains and calls do, each with the site of its operation.
-use Rattle.std.proofs.Common.{◌≡◌, ℕ, ◌<◌, Bool, true, false, ◌&&◌, ◌||◌, if◌then◌else◌, nat_eq, List, [], ◌∷◌, ◌++◌, length, Option, None, Some}
+use Rattle.std.proofs.Common.{◌≡◌, ℕ, ◌<◌, Bool, true, false, ◌&&◌, if◌then◌else◌, List, [], ◌∷◌, ◌++◌, Option, None, Some}
 use Rattle.std.proofs.Common.{Ok, ℤ, ◌+ℤ◌, ◌-ℤ◌, ◌≤ℤ◌, int_lt, int_le, is_none, pos, neg_ℤ, refl, ap, subst, ◌∙◌, arith}
 use Rattle.std.proofs.lemmas.Int.{ints}
 use Rattle.place.specs.declared.Place.{Place}
 use Rattle.syntax_tree.specs.declared.Name.{Name}
 use Rattle.syntax_tree.specs.declared.Operator.{Operator}
 use Rattle.syntax_tree.specs.declared.Operator.TheVariants as op
+use Rattle.syntax_tree.specs.declared.RelationalOperator.{RelationalOperator}
 use Rattle.syntax_tree.specs.Places.{joined_places}
 use Rattle.types.specs.declared.form.TypeId.{TypeId}
 use Rattle.types.specs.Forms.{Form}
 use Rattle.types.specs.declared.form.OrdinalRange.{OrdinalRange}
-use Rattle.types.specs.Types.{integer, boolean, is_same, is_compatible, is_string, range_of}
+use Rattle.types.specs.Types.{boolean, range_of}
 use Rattle.scopes.specs.declared.denotation.Denotation.{Denotation}
 use Rattle.scopes.specs.declared.denotation.RequiredFunction.{RequiredFunction}
 use Rattle.scopes.specs.declared.denotation.FunctionOperation.{FunctionOperation}
@@ -25,25 +26,24 @@ use Rattle.typed_tree.specs.declared.tree.Calculation.TheVariants as calculation
 use Rattle.typed_tree.specs.declared.tree.Monadic.{Monadic}
 use Rattle.typed_tree.specs.declared.tree.Dyadic.{Dyadic}
 use Rattle.typed_tree.specs.declared.tree.Dyadic.TheVariants as dyadic
-use Rattle.typed_tree.specs.declared.tree.Relation.TheVariants as relation
 use Rattle.typed_tree.specs.WellFormed.{Outline, is_whole, calculation_is_well_formed, shift_is_well_formed, monadic_is_well_formed, dyadic_is_well_formed}
 use Rattle.typed_tree.specs.Look.{Operation, Applied, Begins, Operator as OperatorMark, Compared, Ends}
-use Rattle.typing.specs.Steps.{fits, or_mismatch}
+use Rattle.typing.specs.Steps.{fits}
 use Rattle.typing.specs.declared.typed.Typed.{Typed}
-use Rattle.typing.specs.Expressions.{Written, WrittenActual, WrittenLink, written, typed, tested, operation, both_of, are_alike, compared, result_type}
-use Rattle.typing.specs.Expressions.{compares, link, links, chain, as_function, as_routine, call}
+use Rattle.typing.specs.Expressions.{Written, WrittenActual, WrittenLink, written, typed, tested, operation, operand_type, are_alike, may_compare}
+use Rattle.typing.specs.Expressions.{compares, link, links, chain, relation, relation_of, as_function, as_routine, call}
 use Rattle.typing.specs.declared.functions.BegunFunction.{BegunFunction}
 use Rattle.typing.specs.declared.functions.BegunFunction.TheVariants as begun
 use Rattle.typing.specs.Functions.{is_taken, given_type, test_kind, shift_of, no_values, all_but_last, all_but_first, passing_values, calculation_of, begins_as}
 use Rattle.typing.specs.Functions.{operation_on, applied}
 use Rattle.typing.specs.Expressions.{call_by, required_call, only}
 use Rattle.typing_laws.proofs.WholeRanges.{HaveWholeRanges, IsWholeRange, IfWhole, if_whole}
-use Rattle.typing_laws.proofs.Covers.{AreAbove, at_place, Covers, Leads, covers_both, leads_first, leads_more}
+use Rattle.typing_laws.proofs.Covers.{AreAbove, at_place, Covers, Leads, covers_both, covers_skip, leads_first, leads_more}
 use Rattle.typing_laws.proofs.Grown.{both_true}
 use Rattle.typing_laws.proofs.Reached.{Reached, whole_of, IsFurther, further_still, Here}
-use Rattle.typing_laws.proofs.Steps.{Does, Anything, Nothing, IsFound, joins, quietly, last, checks_types, pure_does, given_does, by_types_does, find_does}
+use Rattle.typing_laws.proofs.Steps.{Does, Anything, Nothing, IsFound, joins, quietly, last, checks, checks_types, sited, pure_does, given_does, find_does}
 use Rattle.typing_laws.proofs.Steps.{mark_does, enter_does, site_does, led, behind_does}
-use Rattle.typing_laws.proofs.Strings.{fit_is, there, both_and}
+use Rattle.typing_laws.proofs.Strings.{fit_is, both_and}
 use Rattle.typing_laws.proofs.Leading.{IsLed, Types, led_alone, led_behind, ordinal_types, types_later, lt_true, LawfulWritten, LawfulLink}
 use Rattle.typing_laws.proofs.Leading.{no_variable_lawful, led_covers}
 use Rattle.typing_laws.proofs.Calls.{AreLawfulActuals, routine_is, function_does as function_does_call}
@@ -122,12 +122,6 @@ module _ (here : Here) where
   operator_kinds op.Div = kind.DivisionByZero ∷ []
   operator_kinds op.Mod = kind.ModByZeroOrLess ∷ []
   operator_kinds op.And = []
-  operator_kinds op.Equal = []
-  operator_kinds op.NotEqual = []
-  operator_kinds op.Less = []
-  operator_kinds op.Greater = []
-  operator_kinds op.LessOrEqual = []
-  operator_kinds op.GreaterOrEqual = []
 
   operator_ascending : (o : Operator) → AreAbove 2 (operator_kinds o)
   operator_ascending op.Plus = (omega arith, tt)
@@ -137,12 +131,6 @@ module _ (here : Here) where
   operator_ascending op.Div = (omega arith, tt)
   operator_ascending op.Mod = (omega arith, tt)
   operator_ascending op.And = tt
-  operator_ascending op.Equal = tt
-  operator_ascending op.NotEqual = tt
-  operator_ascending op.Less = tt
-  operator_ascending op.Greater = tt
-  operator_ascending op.LessOrEqual = tt
-  operator_ascending op.GreaterOrEqual = tt
 
   -- its sites are among those that there are
   abbrev IsFormedBy : {A : Type 0} → (Outline → ℕ → A → Bool) → A → Reached → Type 0
@@ -169,56 +157,6 @@ module _ (here : Here) where
   operation_does op.Div place = tested_does dyadic.Div kind.DivisionByZero place (λ w id. lt_true id w.sites)
   operation_does op.Mod place = tested_does dyadic.Mod kind.ModByZeroOrLess place (λ w id. lt_true id w.sites)
   operation_does op.And place = pure_does dyadic.And (λ m h w more. refl)
-  operation_does op.Equal place = pure_does (dyadic.Relation relation.Equal) (λ m h w more. refl)
-  operation_does op.NotEqual place = pure_does (dyadic.Relation relation.NotEqual) (λ m h w more. refl)
-  operation_does op.Less place = pure_does (dyadic.Relation relation.Less) (λ m h w more. refl)
-  operation_does op.Greater place = pure_does (dyadic.Relation relation.Greater) (λ m h w more. refl)
-  operation_does op.LessOrEqual place = pure_does (dyadic.Relation relation.LessOrEqual) (λ m h w more. refl)
-  operation_does op.GreaterOrEqual place = pure_does (dyadic.Relation relation.GreaterOrEqual) (λ m h w more. refl)
-
-  -- an operator takes ordinals alone, or strings of one length
-  of_alike : (wanted : TypeId) (left right : Typed) (t : TypeId) → both_of wanted left right ≡ Some t → are_alike left.length right.length ≡ true
-  of_alike wanted left right t is =
-      by left.length right.length (is_same left.type_id wanted) (is_same right.type_id wanted) is
-    where
-      by : (a b : Option ℕ) (one two : Bool) → (if (is_none a && one) && (is_none b && two) then Some wanted else None) ≡ Some t → are_alike a b ≡ true
-      by None None one two h = refl
-      by None (Some n) true two h = absurd cc
-      by None (Some n) false two h = absurd cc
-      by (Some n) b one two h = absurd cc
-
-  compared_alike : (types : List Form) (left right : Typed) (t : TypeId) → compared types left right ≡ Some t
-      → are_alike left.length right.length ≡ true
-  compared_alike types left right t is =
-      by (are_alike left.length right.length)
-      (is_compatible types left.type_id right.type_id && (is_none left.length || is_string types left.type_id)) is
-    where
-      by : (a b : Bool) → (if a && b then Some boolean else None) ≡ Some t → a ≡ true
-      by true b h = refl
-      by false b h = absurd cc
-
-  result_alike : (types : List Form) (o : Operator) (left right : Typed) (t : TypeId) → result_type types o left right ≡ Some t
-      → are_alike left.length right.length ≡ true
-  result_alike types op.Plus left right t is = of_alike integer left right t is
-  result_alike types op.Minus left right t is = of_alike integer left right t is
-  result_alike types op.Or left right t is = of_alike boolean left right t is
-  result_alike types op.Times left right t is = of_alike integer left right t is
-  result_alike types op.Div left right t is = of_alike integer left right t is
-  result_alike types op.Mod left right t is = of_alike integer left right t is
-  result_alike types op.And left right t is = of_alike boolean left right t is
-  result_alike types op.Equal left right t is = compared_alike types left right t is
-  result_alike types op.NotEqual left right t is = compared_alike types left right t is
-  result_alike types op.Less left right t is = compared_alike types left right t is
-  result_alike types op.Greater left right t is = compared_alike types left right t is
-  result_alike types op.LessOrEqual left right t is = compared_alike types left right t is
-  result_alike types op.GreaterOrEqual left right t is = compared_alike types left right t is
-
-  compares_does : {least : Reached} (left right : Option ℕ) → are_alike left right ≡ true → Does here least Nothing (compares left right) Anything
-  unfolding compares
-  compares_does None None alike = pure_does tt (λ n h. tt)
-  compares_does None (Some b) alike = pure_does tt (λ n h. tt)
-  compares_does (Some a) None alike = pure_does tt (λ n h. tt)
-  compares_does (Some a) (Some b) alike = mark_does (Compared a b) refl refl refl (λ o h. alike)
 
   pub link_does : (o : Operator) (place : Place) (places : List Place) (operand : Written) → LawfulWritten here places operand
       → LawfulLink here (place ∷ places) (link o place operand)
@@ -232,12 +170,9 @@ module _ (here : Here) where
       by least left known =
           joins (leads_first 2 place (operator_kinds o) places) (operation_does o place) λ tests now one formed.
           quietly (enter_does (λ n. OperatorMark n tests) (λ n. refl) (λ n. refl) (λ n. refl) (λ n w h. formed w h)) λ _ next two _.
-          last (law.types next None tt) λ right met three _.
-          quietly (by_types_does (λ types. or_mismatch place (result_type types o left right))) λ type_id now four is.
-          let result = there place (result_type now.types o left right) type_id is.1 in
-          quietly (compares_does left.length right.length (result_alike now.types o left right type_id result)) λ _ _ five _.
-          let later = further_still one (further_still two (further_still three (further_still four five))) in
-          pure_does (typed type_id left.site) (λ n h. ordinal_types type_id left.site least n (further_still later h) known.0)
+          last (checks {L = Anything} (law.types next None tt) λ types right b n more is _. tt) λ _ _ three _.
+          let later = further_still one (further_still two three) in
+          pure_does (typed (operand_type o) left.site) (λ n h. ordinal_types (operand_type o) left.site least n (further_still later h) known.0)
 
   -- ---- chains
 
@@ -259,11 +194,49 @@ module _ (here : Here) where
       no_variable_lawful here (places ++ others) (law.begins.0 ++ others) first.first _ (ap (λ l. l ++ others) law.begins.1)
       (λ least lead is.
       quietly (mark_does Begins refl refl refl (λ o h. refl)) λ _ now _ _.
-      joins (covers_both 2 places others) (law.types now lead is) λ f met _ known.
-      last (more met f known) λ t there _ known.
-      quietly (given_does (fits (is_none f.length || nat_eq (length ls) 1) first.first t)) λ _ _ one _.
+      joins (covers_both 2 places others) (law.types now lead is) λ f met _ led.
+      last (more met f led) λ t _ behind _.
+      quietly (given_does (fits (is_none f.length) first.first t)) λ _ _ one _.
       quietly (mark_does Ends refl refl refl (λ o h. refl)) λ _ _ two _.
-      pure_does t (λ n h. types_later t there n (further_still one (further_still two h)) known))
+      pure_does (typed t.type_id f.site)
+      (λ n h. ordinal_types t.type_id f.site met n (further_still behind (further_still one (further_still two h))) led.0))
+
+  -- ---- relations
+
+  compares_does : {least : Reached} (left right : Option ℕ) → are_alike left right ≡ true → Does here least Nothing (compares left right) Anything
+  unfolding compares
+  compares_does None None alike = pure_does tt (λ n h. tt)
+  compares_does None (Some b) alike = pure_does tt (λ n h. tt)
+  compares_does (Some a) None alike = pure_does tt (λ n h. tt)
+  compares_does (Some a) (Some b) alike = mark_does (Compared a b) refl refl refl (λ o h. alike)
+
+  -- they hold between ordinals, or between strings of one length
+  abbrev AreAlike : Typed → Typed → Reached → Type 0
+  AreAlike left right now = are_alike left.length right.length ≡ true
+
+  alike_where : (types : List Form) (left t right : Typed) (place : Place) (now : Reached) → fits (may_compare types left t) place t ≡ Ok right
+      → AreAlike left right now
+  alike_where types left t right place now is =
+      let fit = fit_is (may_compare types left t) place t right is in
+      subst (λ r. AreAlike left r now) fit.1 (both_and (are_alike left.length t.length) _ fit.0).0
+
+  pub relation_does : (left : Written) (o : RelationalOperator) (place : Place) (right : Written) (places others : List Place)
+      → LawfulWritten here places left → LawfulWritten here others right
+      → LawfulWritten here (places ++ place ∷ others) (written left.first (relation left o place right))
+  unfolding relation
+  relation_does left o place right places others law behind =
+      no_variable_lawful here (places ++ place ∷ others) (law.begins.0 ++ place ∷ others) left.first _ (ap (λ l. l ++ place ∷ others) law.begins.1)
+      (λ least lead is.
+      quietly (mark_does Begins refl refl refl (λ o h. refl)) λ _ now _ _.
+      joins (covers_both 2 places (place ∷ others)) (law.types now lead is) λ l met _ known.
+      sited (covers_skip 2 place others)
+      (quietly (enter_does (λ n. OperatorMark n (dyadic.Relation (relation_of o))) (λ n. refl) (λ n. refl) (λ n. refl)
+      (λ n w h. refl)) λ _ next one _.
+      last (checks {L = AreAlike l} (behind.types next None tt) λ types t b n more is _. alike_where types l t b place n is) λ r there two alike.
+      quietly (compares_does l.length r.length alike) λ _ _ three _.
+      quietly (mark_does Ends refl refl refl (λ o h. refl)) λ _ _ four _.
+      let later = further_still one (further_still two (further_still three four)) in
+      pure_does (typed boolean l.site) (λ n h. ordinal_types boolean l.site met n (further_still later h) known.0)))
 
   -- ---- calls
 

@@ -169,6 +169,7 @@ module _ (here : Here) where
   names_file_does (expr_layer.Not place operand) = pure_does false (λ n h. tt)
   names_file_does (expr_layer.Signed s place term) = pure_does false (λ n h. tt)
   names_file_does (expr_layer.Chain first rest) = pure_does false (λ n h. tt)
+  names_file_does (expr_layer.Relation left operator place right) = pure_does false (λ n h. tt)
 
   unless_wide_does : {least : Reached} (value : Expr) (w : Option Expr) → Does here least Nothing (unless_wide value w) Anything
   unless_wide_does value None = names_file_does (out-Expr value)

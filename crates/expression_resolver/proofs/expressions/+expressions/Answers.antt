@@ -1,130 +1,125 @@
 use Rattle.std.proofs.lemmas.Bool.Decides.{nat_tests}
-use Rattle.std.proofs.Common.{rules, ◌≡◌, ◌<◌, ◌+◌, [], ◌∷◌, ◌++◌, ◌⊎◌, ap₂, get_or, length, map, refl, sym, ap, subst, ◌∙◌, arith, inr, true, false}
+use Rattle.std.proofs.Common.{rules, ◌≡◌, ◌<◌, ◌+◌, [], ◌∷◌, ◌++◌, ◌⊎◌, ap₂, get_or, length, map, sym, ap, subst, ◌∙◌, arith, inr, true, false}
 use Rattle.std.proofs.Common.{is_some, Some, None, Ok, Err}
 use Rattle.std.specs.Prelude.{slice_get}
 use Rattle.std.proofs.lemmas.List.{length-map}
-use Rattle.syntax_tree.specs.declared.Expr.TheViews.{out-Actual, out-Link}
+use Rattle.syntax_tree.specs.declared.Expr.TheViews.{out-Actual}
 use Rattle.types.specs.Types.{is_ordinal}
 use Rattle.typed_tree.specs.declared.fault.TypeFault.TheVariants as fault
 use Rattle.typed_tree.specs.WellFormed.{is_variable_kind, length_of}
 use Rattle.typed_tree.proofs.Looks.{look_function_call}
 use Rattle.typed_tree.specs.Look.{Begins}
 use Rattle.typing.specs.Passing.{after, behind_marks}
-use Rattle.typing.specs.Expressions.{Written, expression, written_actual, written_link}
+use Rattle.typing.specs.Expressions.{Written, expression, written_actual, written_link, chain_behind, relation_behind}
 use Rattle.typing.specs.Steps.{program_heading}
 use Rattle.typing.proofs.Copying.{copied_as, copy_made}
 use Rattle.typing.proofs.Written.{typing_component}
 use Rattle.typing.specs.Expressions as spec
 use Rattle.typing.specs.Outcomes.{IsFault, Makes}
-use Rattle.expression_resolver.specs.Made.{typed_of, look_value, operators, value_source, MakesTyped}
-use Rattle.expression_resolver.proofs.Chains.{stops_at_first, goes_on, ordinal_stops, ordinal_made}
-use Rattle.expression_resolver.proofs.Chains.{nothing, string_alone, string_stops, more_stop, more_refused, string_made}
-use Rattle.expression_resolver.proofs.Operands.{was_some, fits_behind}
+use Rattle.expression_resolver.specs.Made.{typed_of, look_value, value_source, MakesTyped}
 use Rattle.typed_tree.specs.Accesses.{index_count}
 use Rattle.typed_tree.specs.Look.{Access, ForWhole, look_expr, look_passed}
 use Rattle.typing.proofs.Selectors.{index_passes}
 use Rattle.expression_resolver.specs.Accesses.{value, look_selection, SelectsOne}
 use Rattle.expression_resolver.proofs.Selecting.{variable_stops, selectors_stop, component_is, elements_take_one, field_selects, element_selects}
+use Rattle.expression_resolver.proofs.Chains.{first_stops, first_goes_on, chain_begun, relation_begun}
+use Rattle.expression_resolver.proofs.Named.{name_stops, name_is, variable_named, routine_named}
 use Rattle.expression_resolver.proofs.Actuals.{ArePassedFrom, one_passed}
 use Rattle.expression_resolver.proofs.Calls.{actual_stops, call_made, count_stops, value_is, value_stops}
 use Rattle.expression_resolver.proofs.PassedForms.{other_kind, to_none, to_value, to_variable, value_by_kind, variable_made, variable_passes}
 use Rattle.expression_resolver.proofs.PassedForms.{whole_made, whole_passes}
 use Rattle.expression_resolver.proofs.expressions.+expressions.Goals as goal
 
--- ---- a chain
+-- ---- a name
 
-pub expression-returns-in_err-first-in-Chain : goal.expression-returns-in_err-first-in-Chain
-expression-returns-in_err-first-in-Chain t c =
-    let why = c.in_err-first-in-Chain.field-0.0 in
+pub expression-returns-in_err-denotation-in-Name : goal.expression-returns-in_err-denotation-in-Name
+expression-returns-in_err-denotation-in-Name t c =
+    let why = c.in_err-denotation-in-Name.field-0.0 in
     let stops : IsFault ((expression c.args.written.now).typing c.args.lead c.args.typer.now) why =
-    stops_at_first c.args.written.now c.in-Chain.first c.in-Chain.rest c.in-Chain.is c.args.lead c.args.typer.now
-    c.deref-in-Chain-2.result.now c.deref-in-Chain-2.ensures why c.in_err-first-in-Chain.ensures in
+    name_stops c.args.written.now c.in-Name.name c.in-Name.is c.args.lead c.args.typer.now why c.in_err-denotation-in-Name.ensures in
     search rules
 
-pub expression-returns-in_ok-first-in-Chain : goal.expression-returns-in_ok-first-in-Chain
-expression-returns-in_ok-first-in-Chain t c =
-    let at : c.first_place-place.result ≡ (expression c.in-Chain.first.value).first =
-    c.first_place-place.ensures ∙ ap (λ e. (expression e).first) c.deref-in-Chain.ensures in
-    subst (λ o. MakesTyped o c.behind_first.result c.behind_first.new.typer)
-    (sym (goes_on c.args.written.now c.in-Chain.first c.in-Chain.rest c.in-Chain.is c.args.lead c.args.typer.now
-    c.deref-in-Chain-2.result.now c.deref-in-Chain-2.ensures _ _ _ c.first_place-place.result c.deref-in-Chain-3.result.now at
-    c.deref-in-Chain-3.ensures.value c.in_ok-first-in-Chain.ensures))
-    c.behind_first.ensures
+pub expression-returns-in-Variable : goal.expression-returns-in-Variable
+expression-returns-in-Variable t c =
+    subst (λ o. MakesTyped o c.accessed.result c.accessed.new.typer)
+    (sym (variable_named c.args.written.now c.in-Name.name c.in-Name.is c.args.lead c.args.typer.now c.in_ok-denotation-in-Name.denotation
+    c.find.new.self c.in_ok-denotation-in-Name.ensures c.in-Variable.root c.in-Variable.type_id c.in-Variable.is))
+    c.accessed.ensures
 
--- ---- the operators behind an ordinal
+pub expression-returns-in-Routine : goal.expression-returns-in-Routine
+expression-returns-in-Routine t c =
+    subst (λ o. MakesTyped o c.function_value.result c.function_value.new.typer)
+    (sym (routine_named c.args.written.now c.in-Name.name c.in-Name.is c.args.lead c.args.typer.now c.in_ok-denotation-in-Name.denotation
+    c.find.new.self c.in_ok-denotation-in-Name.ensures c.in-Routine.block c.in-Routine.is_function c.in-Routine.is))
+    c.function_value.ensures
 
-pub behind_first-returns-in_err-rest-in-Ordinal : goal.behind_first-returns-in_err-rest-in-Ordinal
-behind_first-returns-in_err-rest-in-Ordinal t c =
-    let first = c.args.first in
-    let why = c.in_err-rest-in-Ordinal.field-0.0 in
-    let stops : IsFault (behind_marks (Begins ∷ look_value first.value)
-    (operators c.args.place (typed_of first) (map written_link c.args.rest.now) c.args.typer.now)) why =
-    ordinal_stops c.args.place first c.typed-left.result c.typed-left.ensures c.args.rest.now c.args.typer.now c.in-Ordinal.value c.in-Ordinal.is why
-    c.in_err-rest-in-Ordinal.ensures in
+pub expression-returns-in_default : goal.expression-returns-in_default
+expression-returns-in_default t c =
+    subst (λ o. MakesTyped o c.denoted.result c.denoted.new.typer)
+    (sym (name_is c.args.written.now c.in-Name.name c.in-Name.is c.args.lead c.args.typer.now c.in_ok-denotation-in-Name.denotation
+    c.find.new.self c.in_ok-denotation-in-Name.ensures))
+    c.denoted.ensures
+
+-- ---- chains and relations
+
+pub expression-returns-in_err-left-in-Chain : goal.expression-returns-in_err-left-in-Chain
+expression-returns-in_err-left-in-Chain t c =
+    let w = c.args.written.now in
+    let s = c.args.typer.now in
+    let first = c.deref-in-Chain.result.now in
+    let why = c.in_err-left-in-Chain.field-0.0 in
+    let begun = chain_begun w c.args.lead s c.in-Chain.first c.in-Chain.rest first c.in-Chain.is c.deref-in-Chain.ensures in
+    let stops : IsFault ((expression w).typing c.args.lead s) why =
+    first_stops w (expression first) (chain_behind (expression first).first (map written_link c.in-Chain.rest.items)) c.args.lead s begun why
+    c.in_err-left-in-Chain.ensures in
     search rules
 
-pub behind_first-returns-in_ok-rest-in-Ordinal : goal.behind_first-returns-in_ok-rest-in-Ordinal
-behind_first-returns-in_ok-rest-in-Ordinal t c =
-    ordinal_made c.args.place c.args.first c.typed-left.result c.typed-left.ensures c.args.rest.now c.args.typer.now c.in-Ordinal.value c.in-Ordinal.is
-    c.in_ok-rest-in-Ordinal.rest c.links.new.typer _ c.chain.result c.in_ok-rest-in-Ordinal.ensures c.in-Ordinal.value-is c.chain.ensures
+pub expression-returns-in_ok-left-in-Chain : goal.expression-returns-in_ok-left-in-Chain
+expression-returns-in_ok-left-in-Chain t c =
+    let w = c.args.written.now in
+    let s = c.args.typer.now in
+    let first = c.deref-in-Chain.result.now in
+    let left = c.in_ok-left-in-Chain.left in
+    let now = c.expression.new.typer in
+    let begun = chain_begun w c.args.lead s c.in-Chain.first c.in-Chain.rest first c.in-Chain.is c.deref-in-Chain.ensures in
+    let at : (expression first).first ≡ c.first_place.result =
+    ap (λ e. (expression e).first) (c.deref-in-Chain.ensures ∙ sym c.deref-in-Chain-2.ensures) ∙ sym c.first_place.ensures in
+    subst (λ o. MakesTyped o c.chain.result c.chain.new.typer)
+    (sym (first_goes_on w (expression first) (chain_behind (expression first).first (map written_link c.in-Chain.rest.items)) c.args.lead s begun
+    (typed_of left) (look_value left.value) now c.in_ok-left-in-Chain.ensures
+    ∙ ap (λ p. behind_marks (Begins ∷ look_value left.value) (chain_behind p (map written_link c.in-Chain.rest.items) (typed_of left) now)) at
+    ∙ ap (λ l. behind_marks (Begins ∷ look_value left.value) (chain_behind c.first_place.result (map written_link l) (typed_of left) now))
+    (sym c.deref-in-Chain-3.ensures.value)))
+    c.chain.ensures
 
--- ---- the operator behind a string
-
-pub behind_first-returns-in_default : goal.behind_first-returns-in_default
-behind_first-returns-in_default t c =
-    string_alone c.args.place c.args.first c.typed-left.result c.typed-left.ensures c.args.rest.now c.args.typer.now
-    c.in-Whole.value c.in-Whole.indexes c.in-Whole.is
-    c.in_default.ensures.cases
-
-pub behind_first-returns-in_err-relation-in-Whole : goal.behind_first-returns-in_err-relation-in-Whole
-behind_first-returns-in_err-relation-in-Whole t c =
-    let first = c.args.first in
-    let why = c.in_err-relation-in-Whole.field-0.0 in
-    let stops : IsFault (behind_marks (Begins ∷ look_value first.value)
-    (operators c.args.place (typed_of first) (map written_link c.args.rest.now) c.args.typer.now)) why =
-    string_stops c.args.place first c.typed-left.result c.typed-left.ensures c.args.rest.now c.args.typer.now
-    c.in-Whole.value c.in-Whole.indexes c.in-Whole.is
-    c.in-Some.written.now c.in-Some.more.now c.in-Some.ensures.cases.0 why c.in_err-relation-in-Whole.ensures.made in
+pub expression-returns-in_err-left-in-Relation : goal.expression-returns-in_err-left-in-Relation
+expression-returns-in_err-left-in-Relation t c =
+    let w = c.args.written.now in
+    let s = c.args.typer.now in
+    let r = c.in-Relation in
+    let operand = c.deref-in-Relation.result.now in
+    let why = c.in_err-left-in-Relation.field-0.0 in
+    let begun = relation_begun w c.args.lead s r.left r.operator r.place r.right operand r.is c.deref-in-Relation.ensures in
+    let stops : IsFault ((expression w).typing c.args.lead s) why =
+    first_stops w (expression operand) (relation_behind r.operator r.place (expression r.right.value)) c.args.lead s begun why
+    c.in_err-left-in-Relation.ensures in
     search rules
 
-pub behind_first-returns-in_err-links-in-Whole : goal.behind_first-returns-in_err-links-in-Whole
-behind_first-returns-in_err-links-in-Whole t c =
-    let first = c.args.first in
-    let why = c.in_err-links-in-Whole.field-0.0 in
-    let stops : IsFault (behind_marks (Begins ∷ look_value first.value)
-    (operators c.args.place (typed_of first) (map written_link c.args.rest.now) c.args.typer.now)) why =
-    more_stop c.args.place first c.typed-left.result c.typed-left.ensures c.args.rest.now c.args.typer.now
-    c.in-Whole.value c.in-Whole.indexes c.in-Whole.is
-    c.in-Some.written.now c.in-Some.more.now c.in-Some.ensures.cases.0 c.in_ok-relation-in-Whole.relation c.link.new.typer
-    c.in_ok-relation-in-Whole.ensures.made why c.in_err-links-in-Whole.ensures in
-    search rules
-
-pub behind_first-returns-then-not-is_empty : goal.behind_first-returns-then-not-is_empty
-behind_first-returns-then-not-is_empty t c =
-    let several : ¬ (length c.in-Some.more.now ≡ 0) = grind (arith, nat_tests, c.if-not-is_empty.true, c.is_empty.ensures) in
-    more_refused c.args.place c.args.first c.typed-left.result c.typed-left.ensures c.args.rest.now c.args.typer.now
-    c.in-Whole.value c.in-Whole.indexes c.in-Whole.is
-    c.in-Some.written.now c.in-Some.more.now c.in-Some.ensures.cases.0 c.in_ok-relation-in-Whole.relation c.link.new.typer
-    c.in_ok-relation-in-Whole.ensures.made c.in_ok-links-in-Whole.field-0 c.links-in-Whole.new.typer c.in_ok-links-in-Whole.ensures several
-
-pub behind_first-returns-else-not-is_empty : goal.behind_first-returns-else-not-is_empty
-behind_first-returns-else-not-is_empty t c =
-    let none : length c.in-Some.more.now ≡ 0 = grind (arith, nat_tests, c.if-not-is_empty.false, c.is_empty.ensures) in
-    string_made c.args.place c.args.first c.typed-left.result c.typed-left.ensures c.args.rest.now c.args.typer.now
-    c.in-Whole.value c.in-Whole.indexes c.in-Whole.is
-    c.in-Some.written.now c.in-Some.more.now c.in-Some.ensures.cases.0 c.in_ok-relation-in-Whole.relation c.link.new.typer
-    c.in_ok-relation-in-Whole.ensures.made c.in_ok-links-in-Whole.field-0 c.links-in-Whole.new.typer c.in_ok-links-in-Whole.ensures
-    _ _ c.comparison.result (nothing c.in-Some.more.now none) c.in-Whole.value-is c.in-Whole.indexes-is c.comparison.ensures
-
--- ---- an operator and its right operand
-
-pub link-returns-clause-fits : goal.link-returns-clause-fits
-link-returns-clause-fits t c =
-    let types = c.expression.new.typer.types in
-    let operator = (out-Link c.args.written.now).operator in
-    fits_behind types c.args.left c.in_ok-operand.operand operator _ _ _ _ c.in_ok-operation.ensures refl
-    (ap (spec.result_type types operator c.args.left) (sym c.typed.ensures) ∙ sym c.result_type.ensures
-    ∙ was_some c.result_type.result c.in_ok-type_id.type_id _ (sym c.ok_or.ensures.value ∙ c.in_ok-type_id.was))
+pub expression-returns-in_ok-left-in-Relation : goal.expression-returns-in_ok-left-in-Relation
+expression-returns-in_ok-left-in-Relation t c =
+    let w = c.args.written.now in
+    let s = c.args.typer.now in
+    let r = c.in-Relation in
+    let operand = c.deref-in-Relation.result.now in
+    let left = c.in_ok-left-in-Relation.left in
+    let now = c.expression-in-Relation.new.typer in
+    let begun = relation_begun w c.args.lead s r.left r.operator r.place r.right operand r.is c.deref-in-Relation.ensures in
+    subst (λ o. MakesTyped o c.relation.result c.relation.new.typer)
+    (sym (first_goes_on w (expression operand) (relation_behind r.operator r.place (expression r.right.value)) c.args.lead s begun
+    (typed_of left) (look_value left.value) now c.in_ok-left-in-Relation.ensures
+    ∙ ap (λ e. behind_marks (Begins ∷ look_value left.value) (relation_behind r.operator r.place (expression e) (typed_of left) now))
+    (sym c.deref-in-Relation-2.ensures)))
+    c.relation.ensures
 
 -- ---- an access
 

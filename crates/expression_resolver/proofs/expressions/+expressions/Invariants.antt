@@ -2,7 +2,7 @@ use Rattle.std.proofs.Common.{◌≡◌, map, drop}
 use Rattle.std.specs.Prelude.{flat_map}
 use Rattle.typed_tree.specs.Look.{look_link}
 use Rattle.typing.specs.Passing.{behind_marks}
-use Rattle.typing.specs.Expressions.{links, typed, written_link}
+use Rattle.typing.specs.Expressions.{links, written_link}
 use Rattle.expression_resolver.proofs.Selecting.{AreSelectedFrom}
 use Rattle.expression_resolver.proofs.Actuals.{ArePassedFrom}
 use Rattle.expression_resolver.proofs.expressions.+expressions.Given as goal
@@ -10,8 +10,8 @@ use Rattle.expression_resolver.proofs.expressions.+expressions.Given as goal
 -- the operators so far are made, and those behind them are left
 abbrev pub invariant-links-loop-written : goal.invariant-links-loop-written
 invariant-links-loop-written l =
-    links (typed l.fn.left l.site) (map written_link l.rest) l.initial.typer
-    ≡ behind_marks (flat_map look_link l.links.items) (links (typed l.type_id l.site) (map written_link (drop l.written-index l.rest)) l.typer)
+    links l.fn.left (map written_link l.rest) l.initial.typer
+    ≡ behind_marks (flat_map look_link l.links.items) (links l.typed (map written_link (drop l.written-index l.rest)) l.typer)
 
 -- the selectors so far are made, and those behind them are left
 abbrev pub invariant-selected-loop-selector : goal.invariant-selected-loop-selector

@@ -1,5 +1,5 @@
 use Rattle.std.proofs.Common.{refl, length, ◌≡◌, arith}
-use Rattle.expression_resolver.proofs.Chains.{one_alone}
+use Rattle.expression_resolver.proofs.Only.{one_alone}
 use Rattle.expression_resolver.proofs.expressions.only.Goals as goal
 
 -- the actual is alone
