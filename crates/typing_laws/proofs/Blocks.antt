@@ -56,7 +56,16 @@ declared_first : {here : Here} {under : List Region} {Has : List Stands → Type
 declared_first p rest s a law is st =
     let x = parts_of p (λ _. rest) s a is in
     let one = law.builds s x.first x.goes st in
-    record { look = x.first.look; middle = x.first.passed; built = one.0; sited = one.1; standing = one.2; behind_it = x.second; goes = x.goes_on; both = x.both }
+    record {
+      look = x.first.look;
+      middle = x.first.passed;
+      built = one.0;
+      sited = one.1;
+      standing = one.2;
+      behind_it = x.second;
+      goes = x.goes_on;
+      both = x.both;
+    }
 
 declared_next : {here : Here} {under : List Region} {First Second Both : List Stands → Type 0} (q rest : Passing (Unit {0})) (s : Passed)
     (a : After (Unit {0})) → ((x y : List Stands) → First x → Second y → Both (x ++ y)) → Declared here under First s (q >> rest) a

@@ -255,13 +255,7 @@ module _ (here : Here) where
       → IsRoutine here (heads_of now) routine.0 routine.1
   routine_is now (denotes.Routine block is_function) routine is sound =
       let same : (block, is_function) ≡ routine = cc in subst (λ (r : ℕ × Bool). IsRoutine here (heads_of now) r.0 r.1) same sound
-  routine_is now (denotes.Constant value type_id) routine is sound = absurd cc
-  routine_is now (denotes.Text number type_id) routine is sound = absurd cc
-  routine_is now (denotes.Variable root type_id) routine is sound = absurd cc
-  routine_is now (denotes.TypeName type_id) routine is sound = absurd cc
-  routine_is now (denotes.Procedure procedure) routine is sound = absurd cc
-  routine_is now (denotes.Function function) routine is sound = absurd cc
-  routine_is now denotes.Output routine is sound = absurd cc
+  routine_is now other routine is sound = absurd cc
 
   -- a routine that may be called here, with what its heading tells
   pub record MayCall (now : Reached) (is_function : Bool) (callee : ℕ) : Type 0 where

@@ -77,13 +77,7 @@ at_most a b h = grind (arith, nat_tests)
 pub named_is : (name : Name) (r : Result Denotation ScopeFault) (type_id : TypeId) → named_type name r ≡ Ok type_id
     → r ≡ Ok (denotes.TypeName type_id)
 named_is name (Ok (denotes.TypeName id)) type_id is = cc
-named_is name (Ok (denotes.Constant value id)) type_id is = absurd cc
-named_is name (Ok (denotes.Text number id)) type_id is = absurd cc
-named_is name (Ok (denotes.Variable root id)) type_id is = absurd cc
-named_is name (Ok (denotes.Procedure procedure)) type_id is = absurd cc
-named_is name (Ok (denotes.Function function)) type_id is = absurd cc
-named_is name (Ok (denotes.Routine block is_function)) type_id is = absurd cc
-named_is name (Ok denotes.Output) type_id is = absurd cc
+named_is name (Ok other) type_id is = absurd cc
 named_is name (Err scope.Memory) type_id is = absurd cc
 named_is name (Err scope.DeclaredTwice) type_id is = absurd cc
 named_is name (Err scope.UsedBeforeDeclared) type_id is = absurd cc

@@ -51,13 +51,7 @@ pub variable_is : (here : Here) (now : Reached) (place : Place) (d : Denotation)
 variable_is here now place (denotes.Variable root type_id) variable is sound =
     let same : (root, type_id) ≡ variable = cc in
     subst (λ (v : ℕ × TypeId). IsVariable here now.variables now.types v.0 v.1) same sound
-variable_is here now place (denotes.Constant value type_id) variable is sound = absurd cc
-variable_is here now place (denotes.Text number type_id) variable is sound = absurd cc
-variable_is here now place (denotes.TypeName type_id) variable is sound = absurd cc
-variable_is here now place (denotes.Procedure procedure) variable is sound = absurd cc
-variable_is here now place (denotes.Function function) variable is sound = absurd cc
-variable_is here now place (denotes.Routine block is_function) variable is sound = absurd cc
-variable_is here now place denotes.Output variable is sound = absurd cc
+variable_is here now place other variable is sound = absurd cc
 
 module _ (here : Here) where
   -- ---- constants and variables

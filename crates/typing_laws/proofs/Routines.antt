@@ -206,15 +206,7 @@ waits_is is_function waiting (Some (Some (denotes.Routine block of_function))) n
     by true true waits h = let same : block ≡ number = cc in ap (waits_in waiting) (sym same) ∙ waits
     by true false waits h = absurd cc
     by false two waits h = absurd cc
-waits_is is_function waiting None number is = absurd cc
-waits_is is_function waiting (Some None) number is = absurd cc
-waits_is is_function waiting (Some (Some (denotes.Constant value type_id))) number is = absurd cc
-waits_is is_function waiting (Some (Some (denotes.Text text type_id))) number is = absurd cc
-waits_is is_function waiting (Some (Some (denotes.Variable root type_id))) number is = absurd cc
-waits_is is_function waiting (Some (Some (denotes.TypeName type_id))) number is = absurd cc
-waits_is is_function waiting (Some (Some (denotes.Procedure procedure))) number is = absurd cc
-waits_is is_function waiting (Some (Some (denotes.Function function))) number is = absurd cc
-waits_is is_function waiting (Some (Some denotes.Output)) number is = absurd cc
+waits_is is_function waiting other number is = absurd cc
 
 module _ (here : Here) (under : List Region) where
   abbrev LeavesBegun : Passed → After Begun → Type 0

@@ -161,15 +161,7 @@ module _ (here : Here) where
 
   names_file_does : {least : Reached} (e : expr_layer.Expr-F Expr Actual Link) → Does here least Nothing (names_file e) Anything
   names_file_does (expr_layer.Name name) = quietly (find_does name) λ d _ _ _. pure_does (is_output d) (λ n h. tt)
-  names_file_does (expr_layer.Component name selectors indexes) = pure_does false (λ n h. tt)
-  names_file_does (expr_layer.Number value place) = pure_does false (λ n h. tt)
-  names_file_does (expr_layer.String text place) = pure_does false (λ n h. tt)
-  names_file_does (expr_layer.Call name actuals) = pure_does false (λ n h. tt)
-  names_file_does (expr_layer.Parenthesized place inner) = pure_does false (λ n h. tt)
-  names_file_does (expr_layer.Not place operand) = pure_does false (λ n h. tt)
-  names_file_does (expr_layer.Signed s place term) = pure_does false (λ n h. tt)
-  names_file_does (expr_layer.Chain first rest) = pure_does false (λ n h. tt)
-  names_file_does (expr_layer.Relation left operator place right) = pure_does false (λ n h. tt)
+  names_file_does other = pure_does false (λ n h. tt)
 
   unless_wide_does : {least : Reached} (value : Expr) (w : Option Expr) → Does here least Nothing (unless_wide value w) Anything
   unless_wide_does value None = names_file_does (out-Expr value)
