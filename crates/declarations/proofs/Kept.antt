@@ -22,7 +22,7 @@ use Rattle.typing.specs.Passing.{Passed, Passing, after, each}
 use Rattle.typing.specs.Routines.{declared, definition, group, local, parameters_named, type_definition, waiting_for}
 use Rattle.typing.specs.Steps.{add_type, declare, pass}
 use Rattle.typing.specs.Typing.{parameter_of_program}
-use Rattle.typing.proofs.Stays.{Stays, stays}
+use Rattle.typing.proofs.Stays.{stays}
 use Rattle.typing.proofs.WalkedBlocks.{declared_walks, definition_walks, denoted_type_walks, denoters_walk, group_walks, index_type_walks, index_types_walk}
 use Rattle.typing.proofs.WalkedBlocks.{local_walks, named_walk, parameter_walks, type_definition_walks, waiting_for_walks}
 use Rattle.typing.proofs.WalkedForms.{constant_walks}

@@ -1,5 +1,5 @@
 -- What stays while blocks and routines are passed: the regions round the innermost one, and the names that this one knows.
-use Rattle.std.proofs.Common.{◌≡◌, true, List, Ok, slice_index_or}
+use Rattle.std.proofs.Common.{◌≡◌, List, Ok, slice_index_or}
 use Rattle.syntax_tree.specs.declared.Block.{Block}
 use Rattle.syntax_tree.specs.declared.Block.TheViews.{out-Block, out-Routine}
 use Rattle.syntax_tree.specs.declared.Routine.{Routine}

@@ -31,7 +31,6 @@ use Rattle.syntax_tree.specs.declared.Stmt.TheFolds.{map-Stmt, fold-roll-Stmt, i
 use Rattle.syntax_tree.specs.Places.{arms_of}
 use Rattle.types.specs.Forms.{Form}
 use Rattle.types.specs.declared.form.TypeId.{TypeId}
-use Rattle.types.specs.declared.form.ArrayElement.{ArrayElement}
 use Rattle.types.specs.Types.{is_string}
 use Rattle.scopes.specs.declared.denotation.Denotation.{Denotation}
 use Rattle.scopes.specs.declared.denotation.Denotation.TheVariants as denotes

@@ -124,13 +124,9 @@ module _ (here : Here) where
   operator_kinds op.And = []
 
   operator_ascending : (o : Operator) → AreAbove 2 (operator_kinds o)
-  operator_ascending op.Plus = (omega arith, tt)
-  operator_ascending op.Minus = (omega arith, tt)
   operator_ascending op.Or = tt
-  operator_ascending op.Times = (omega arith, tt)
-  operator_ascending op.Div = (omega arith, tt)
-  operator_ascending op.Mod = (omega arith, tt)
   operator_ascending op.And = tt
+  operator_ascending other = (omega arith, tt)
 
   -- its sites are among those that there are
   abbrev IsFormedBy : {A : Type 0} → (Outline → ℕ → A → Bool) → A → Reached → Type 0
@@ -205,10 +201,8 @@ module _ (here : Here) where
 
   compares_does : {least : Reached} (left right : Option ℕ) → are_alike left right ≡ true → Does here least Nothing (compares left right) Anything
   unfolding compares
-  compares_does None None alike = pure_does tt (λ n h. tt)
-  compares_does None (Some b) alike = pure_does tt (λ n h. tt)
-  compares_does (Some a) None alike = pure_does tt (λ n h. tt)
   compares_does (Some a) (Some b) alike = mark_does (Compared a b) refl refl refl (λ o h. alike)
+  compares_does left right alike = pure_does tt (λ n h. tt)
 
   -- they hold between ordinals, or between strings of one length
   abbrev AreAlike : Typed → Typed → Reached → Type 0
