@@ -1,5 +1,6 @@
 -- The types and the parameters of a heading, one after another.
-use Rattle.std.proofs.Common.{◌≡◌, ◌⊎◌, ℕ, ◌+◌, ◌<◌, ◌≤◌, List, [], ◌∷◌, ◌++◌, flat_map, length, drop, get_or, min, Option, Ok, Err, inl, inr, refl, sym, ap}
+use Rattle.std.proofs.Common.{◌≡◌, ◌⊎◌, true, ℕ, ◌+◌, ◌<◌, ◌≤◌, List, [], ◌∷◌, ◌++◌, flat_map, length, drop, get_or, min, Option, Ok, Err, inl, inr, refl, sym}
+use Rattle.std.proofs.Common.{ap}
 use Rattle.std.proofs.Common.{ap₂, ◌∙◌, append-nil}
 use Rattle.std.proofs.lemmas.List.{drop_more, at_drop_all}
 use Rattle.syntax_tree.specs.declared.FormalGroup.{FormalGroup}
@@ -19,7 +20,9 @@ use Rattle.typing.proofs.Collected.{AreFrom, before, before_none, before_more, g
 use Rattle.typing.proofs.DenoterRows.{past_one}
 use Rattle.typing.proofs.Rows.{behind_nothing}
 use Rattle.declarations.specs.Parts.{heading_inside, heading_of}
-use Rattle.declarations.proofs.Kept.{parameters_keep, result_keeps, stays}
+use Rattle.typing.proofs.Stays.{same_block}
+use Rattle.typing.proofs.WalkedBlocks.{parameters_walk, result_walks}
+use Rattle.typing.proofs.Ways.{Of}
 
 -- ---- types
 
@@ -188,12 +191,13 @@ module _ (number : ℕ) (place : Place) (groups : List FormalGroup) (types : Lis
         round_is : record (last.enclosing) { cells = old.enclosing.cells } ≡ old.enclosing
         unfolding enclosing_left open_block with_enclosing
         round_is =
-            let one = stays (result number place result_id) (result_keeps number place result_id) root [] now there passes in
-            let two = stays (parameters number groups types) (parameters_keep number groups types) roots [] inner last declares in
+            let one = same_block (result number place result_id) (result_walks true (Of number) tt 0 number place result_id refl) root [] now there passes in
+            let two = same_block (parameters number groups types)
+            (parameters_walk true (Of number) tt 0 number groups types refl) roots [] inner last declares in
             let opened = ap enclosing_left opens in
             let begun = ap enclosing_left begins in
             ap (λ (e : Enclosing). record e { cells = old.enclosing.cells })
-            (two.block ∙ ap (λ (e : Enclosing). record e { cells = 0 }) (sym opened) ∙ one.block ∙ ap (λ (e : Enclosing). record e { cells = 0 }) (sym begun))
+            (two ∙ ap (λ (e : Enclosing). record e { cells = 0 }) (sym opened) ∙ one ∙ ap (λ (e : Enclosing). record e { cells = 0 }) (sym begun))
 
         -- what is left is the heading's end
         pub end_is_left : heading_inside number place groups types result_id old

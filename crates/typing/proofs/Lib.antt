@@ -7,6 +7,8 @@ pub mod Selectors
 pub mod Written
 mod SiteIds
 mod WaitingRows
+pub mod Ways
+pub mod WalkedForms
+pub mod WalkedBlocks
 pub mod Stays
-pub mod StayingForms
 pub mod Collected

@@ -267,7 +267,7 @@ module _ (here : Here) where
       → Does here least Nothing (ordinal_value root selectors id defined lead) Types
   unfolding ordinal_value
   ordinal_value_does {least} root selectors id defined lead l ordinal test known =
-      quietly (mark_does (Value root selectors (index_count selectors) defined) refl refl refl refl refl
+      quietly (mark_does (Value root selectors (index_count selectors) defined) refl refl refl
       (λ o h. both_true _ _ (ordinal_formed root selectors id least o l ordinal h) (lt_true defined o.sites (omega (arith, test, h.sites))))) λ _ _ one _.
       quietly (host_type_does id) λ host _ two _.
       pure_does (typed host lead) (λ n h. ordinal_types host lead least n (further_still one (further_still two h)) known)
@@ -278,7 +278,7 @@ module _ (here : Here) where
   unfolding whole_value
   whole_value_does {least} root selectors id defined lead l structured test known =
       quietly (by_types_does (λ types. Ok (cells_of types id))) λ cells now one is.
-      quietly (mark_does (WholeValue root selectors (index_count selectors) id cells defined) refl refl refl refl refl
+      quietly (mark_does (WholeValue root selectors (index_count selectors) id cells defined) refl refl refl
       (λ o h.
       let as_many = counted now cells is.1 in
       both_true _ _ (whole_formed root selectors id least o l structured (further_still one h))
@@ -318,7 +318,7 @@ module _ (here : Here) where
       led_covers here 2 place places (kind.UndefinedVariable ∷ led lead) (led_behind kind.UndefinedVariable lead (omega arith) (omega arith) is)
       (joins (leads_more place (kind.UndefinedVariable ∷ []) (led lead) places) (site_does kind.UndefinedVariable place) λ defined there one test.
       joins (leads_first 0 place (led lead) places) (behind_does lead place) λ id now two known.
-      quietly (enter_does Access (λ n. refl) (λ n. refl) (λ n. refl) (λ n. refl) (λ n. refl) (λ n o h. refl)) λ _ entered three _.
+      quietly (enter_does Access (λ n. refl) (λ n. refl) (λ n. refl) (λ n o h. refl)) λ _ entered three _.
       let start = leads_later root [] type_id _ entered (further_still one (further_still two three)) leads_to_it in
       last (selected_does root [] type_id selectors rows ws laws start) λ component met four l.
       quietly (tests_ordinal_does component.1) λ ordinal next five ordered.

@@ -24,12 +24,15 @@ use Rattle.typing.specs.Steps.{enclosing_now}
 use Rattle.typing.specs.Statements.{compound, statement}
 use Rattle.typing.specs.Routines.{TypedBlock, TypedRoutine, all_came, block_step, definition, first_waiting, group, headed, heading_name, none_waits}
 use Rattle.typing.specs.Routines.{routine_body, routine_step, type_definition, typed_block, typed_routine}
-use Rattle.typing_laws.proofs.Bodies.{Inside, LawfulBody, LeavesBuilt, body_builds, fine_standing, forward_builds}
-use Rattle.typing_laws.proofs.Built.{Built, Builds, Standing, built_silent, built_then, built_with, builds_more, builds_then, keeps_builds}
+use Rattle.typing_laws.proofs.Bodies.{Inside, LawfulBody, body_builds, fine_standing, forward_builds}
+use Rattle.typing_laws.proofs.Built.{Built, Builds, LeavesBuilt, Standing, built_silent, built_then, builds_more, builds_then, keeps_builds}
 use Rattle.typing_laws.proofs.Covers.{Covers, covers_behind, covers_both, covers_none}
 use Rattle.typing_laws.proofs.Declarations.{definition_keeps, group_keeps, type_definition_keeps}
 use Rattle.typing_laws.proofs.Headings.{parts_of, quiet_parts}
-use Rattle.typing_laws.proofs.Keeping.{before, behind, each_keeps, silent_as_is}
+use Rattle.typing.proofs.Ways.{Stay}
+use Rattle.typing_laws.proofs.Grown.{Sited, sited_then, sited_more}
+use Rattle.typing_laws.proofs.Steps.{no_sites as no_more}
+use Rattle.typing_laws.proofs.Keeping.{before, behind, each_keeps}
 use Rattle.typing_laws.proofs.Reached.{Here, as_far, reached}
 use Rattle.typing_laws.proofs.Routines.{headed_begins}
 use Rattle.typing_laws.proofs.Statements.{compound_does, statements_lawful}
@@ -41,7 +44,8 @@ use Rattle.typing_laws.proofs.Waiting.{none_waiting}
 record Declared (here : Here) (under : List Region) (Has : List Stands → Type 0) (s : Passed) (rest : Passing (Unit {0})) (a : After (Unit {0})) : Type 0 where
   pub look : Look
   pub middle : Passed
-  pub built : Built here Has look s middle
+  pub built : Built here look s middle
+  pub sited : Sited Has s middle
   pub standing : Standing here under middle
   pub behind_it : After (Unit {0})
   pub goes : rest middle ≡ Ok behind_it
@@ -52,7 +56,16 @@ declared_first : {here : Here} {under : List Region} {Has : List Stands → Type
 declared_first p rest s a law is st =
     let x = parts_of p (λ _. rest) s a is in
     let one = law.builds s x.first x.goes st in
-    record { look = x.first.look; middle = x.first.passed; built = one.0; standing = one.1; behind_it = x.second; goes = x.goes_on; both = x.both }
+    record {
+      look = x.first.look;
+      middle = x.first.passed;
+      built = one.0;
+      sited = one.1;
+      standing = one.2;
+      behind_it = x.second;
+      goes = x.goes_on;
+      both = x.both;
+    }
 
 declared_next : {here : Here} {under : List Region} {First Second Both : List Stands → Type 0} (q rest : Passing (Unit {0})) (s : Passed)
     (a : After (Unit {0})) → ((x y : List Stands) → First x → Second y → Both (x ++ y)) → Declared here under First s (q >> rest) a
@@ -62,7 +75,8 @@ declared_next q rest s a joined d law =
     record {
       look = d.look ++ e.look;
       middle = e.middle;
-      built = built_then joined d.built e.built;
+      built = built_then d.built e.built;
+      sited = sited_then joined d.sited e.sited;
       standing = e.standing;
       behind_it = e.behind_it;
       goes = e.goes;
@@ -109,7 +123,7 @@ routines_build : (here : Here) (under : List Region) (rows : List (List Place)) 
 routines_build here under [] [] laws = record {
   builds = λ s a is st.
       let same : after tt [] s ≡ a = cc in
-      subst (LeavesBuilt here under (λ sites. sites ≡ []) s) same (built_silent silent_as_is, st);
+      subst (LeavesBuilt here under (λ sites. sites ≡ []) s) same (built_silent Stay, no_more refl, st);
 }
 routines_build here under [] (r ∷ routines) laws = absurd laws
 routines_build here under (row ∷ rows) [] laws = absurd laws
@@ -168,71 +182,17 @@ module _ (constants : List ConstantDefinition) (types : List TypeDefinition) (gr
       let on : statement_part middle ≡ Ok four.behind_it =
       subst (λ (c : After (Unit {0})). statement_part c.passed ≡ Ok four.behind_it) (sym came.0) x.2 in
       let law = (compound_does here (flat_map stmt_places statements) (map statement statements) (statements_lawful here statements)).passes (reached middle) in
-      let grown = (law.does middle four.behind_it on (fine_standing here under middle four.standing) as_far).0 in
-      let f = four.built in
+      let grown = law.does middle four.behind_it on (fine_standing here under middle four.standing) as_far in
       subst (Inside here under (Covers 0 inside_places) s) four.both (record {
         first = four.look;
         second = four.behind_it.look;
         middle = middle;
-        built = record {
-          types = f.types;
-          variables = f.variables;
-          headings = f.headings;
-          added = f.added;
-          sites = f.sites;
-          covered = tt;
-          numbered = f.numbered;
-          entered = f.entered;
-          looped = f.looped;
-          begun = f.begun;
-          formed = f.formed;
-          parts = f.parts;
-          ends = f.ends;
-          accounted = f.accounted;
-          others = f.others;
-          threats = f.threats;
-          assigns = f.assigns;
-          assigned = f.assigned;
-          results = f.results;
-          placed = f.placed;
-          over = f.over;
-          changed = f.changed;
-          controlled = f.controlled;
-          unthreatened = f.unthreatened;
-          controls_kept = f.controls_kept;
-          spared = f.spared;
-        };
+        built = four.built;
         standing = four.standing;
         came = none_waiting middle.enclosing.waiting came.1;
-        grown = record {
-          regions = grown.regions;
-          longer = grown.longer;
-          lawful = grown.lawful;
-          texts = grown.texts;
-          variables_kept = grown.variables_kept;
-          headings_kept = grown.headings_kept;
-          enclosing_kept = grown.enclosing_kept;
-          added = grown.added;
-          sites = grown.sites;
-          covered = tt;
-          few_sites = grown.few_sites;
-          numbered = grown.numbered;
-          entered = grown.entered;
-          few_entries = grown.few_entries;
-          looped = grown.looped;
-          begun = grown.begun;
-          inner = grown.inner;
-          threats = grown.threats;
-          assigns = grown.assigns;
-          assigned = grown.assigned;
-          changes = grown.changes;
-          controls = grown.controls;
-          formed = grown.formed;
-          controls_kept = grown.controls_kept;
-          spared = grown.spared;
-        };
+        grown = grown.0;
         look = refl;
-        covered = covers_both 0 declared_places (flat_map stmt_places statements) f.added grown.added f.covered grown.covered;
+        sited = sited_then (covers_both 0 declared_places (flat_map stmt_places statements)) four.sited grown.1;
       })
 
 -- ---- every block and every routine
@@ -240,7 +200,7 @@ module _ (constants : List ConstantDefinition) (types : List TypeDefinition) (gr
 -- with other sites
 sited_by : (here : Here) (under : List Region) {Has Had : List Stands → Type 0} (s : Passed) (a : After (Unit {0}))
     → ((sites : List Stands) → Has sites → Had sites) → LeavesBuilt here under Has s a → LeavesBuilt here under Had s a
-sited_by here under s a has k = (built_with has k.0, k.1)
+sited_by here under s a has k = (k.0, sited_more has k.1, k.2)
 
 abbrev LawfulBlockOf : Block → Type 0
 LawfulBlockOf b = LawfulBody (block_places b) (typed_block b)

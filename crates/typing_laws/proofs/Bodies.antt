@@ -1,13 +1,12 @@
 -- What stands behind the heading of a routine: `forward`, or its block, which ends as its heading tells.
 use Rattle.std.proofs.Common.{◌≡◌, ℕ, ◌+◌, ◌<◌, ◌≤◌, Bool, true, false, ◌&&◌, nat_eq, if◌then◌else◌, List, [], ◌∷◌, ◌++◌, length, map, Option, Some, None, Ok}
-use Rattle.std.proofs.Common.{Err, option_map, slice_get, get_or, refl, sym, ap, ap₂, subst, ◌∙◌, arith, inl, inr, ◌⊎◌, append-nil, append_assoc, length-append}
+use Rattle.std.proofs.Common.{Err, option_map, slice_get, get_or, refl, sym, ap, ap₂, subst, ◌∙◌, arith, inl, inr, ◌⊎◌, append-nil, append_assoc}
 use Rattle.std.proofs.Common.{◌||◌}
-use Rattle.std.specs.List.{range_with_len, list_any, list_all, flat_map}
+use Rattle.std.specs.List.{list_any, list_all}
 use Rattle.std.proofs.lemmas.Bool.{eqb-true, eq-eqb}
 use Rattle.std.proofs.lemmas.Bool.Decides.{nat_tests}
 use Rattle.std.proofs.lemmas.Grind.{flat_map-append}
 use Rattle.std.proofs.lemmas.Option.{slice_get_within}
-use Rattle.std.proofs.lemmas.List.Folds.{list_all-append}
 use Rattle.indexmap.specs.IndexMap.{insert_entry}
 use Rattle.place.specs.declared.Place.{Place}
 use Rattle.syntax_tree.specs.declared.Name.{Name}
@@ -17,34 +16,34 @@ use Rattle.typed_tree.specs.declared.site.SiteKind.TheVariants as kind
 use Rattle.typed_tree.specs.declared.tree.FunctionResult.{FunctionResult}
 use Rattle.typed_tree.specs.Ids.{Stands}
 use Rattle.typed_tree.specs.WellFormed.{Outline, variables_of, is_one_of}
-use Rattle.typed_tree.specs.Look.{Mark, Look, BlockEnds, mark_entries, entries_of_look, mark_loops, loops_of_look, mark_blocks, blocks_of_look, are_formed}
+use Rattle.typed_tree.specs.Look.{Mark, Look, BlockEnds, mark_blocks, blocks_of_look, are_formed}
 use Rattle.typed_tree.specs.Look.{is_formed_mark}
 use Rattle.typed_tree.proofs.Blocks.{formed_as_far, formed_before}
 use Rattle.typed_tree.specs.declared.tree.Variable.{Variable}
 use Rattle.typing.specs.Names.{all_folded}
-use Rattle.typing.specs.Passing.{Enclosing, Headed, Passed, Checked, After, Passing, after, behind_marks, mark, ◌>>◌, and_then, pure, ◌>>=◌}
-use Rattle.typing.specs.Steps.{close_block, enclosing_now, heading_at, is_assigned, open_beside, program_heading, with_enclosing, site}
+use Rattle.typing.specs.Passing.{Enclosing, Headed, Passed, Checked, After, Passing, after, behind_marks, mark, ◌>>◌}
+use Rattle.typing.specs.Steps.{close_block, enclosing_now, heading_at, is_assigned, open_beside, program_heading, with_enclosing}
 use Rattle.typing.specs.Routines.{Begun, TypedBlock, block_end, forward, result_at_end, routine_block, told_waiting}
-use Rattle.typing_laws.proofs.Built.{Built, EndsSo, HasSite, IsOpen, Standing, ends_append, ends_later, is_between, no_ends, open_later, IsChanged}
-use Rattle.typing_laws.proofs.Built.{IsControlled, IsOver, all_later}
+use Rattle.typing_laws.proofs.Built.{Built, EndsSo, HasSite, IsOpen, LeavesBuilt, Standing, ends_append, ends_later, is_between, no_ends, open_later, IsChanged}
+use Rattle.typing_laws.proofs.Built.{IsControlled, IsOver, and_grouped, between_both, contradicts, no_fewer}
 use Rattle.typing_laws.proofs.Covers.{Covers, covers_both, covers_none}
-use Rattle.typing_laws.proofs.Grown.{Fine, Grown, both_true, counted, fine_later, further, go_on, grown_then, IsFree, assigned_then, target_first}
+use Rattle.typing_laws.proofs.Grown.{Fine, Grown, Sited, sited_then, both_true, fine_later, further, grown_further, grown_then, IsFree}
 use Rattle.typing_laws.proofs.Headings.{parts_of, quiet_parts}
 use Rattle.typing_laws.proofs.Owned.{Fails, block_cells_longer, other_block}
 use Rattle.typing_laws.proofs.Ready.{Base, base_types, fit_of, heads_passed, among_split, around_less}
-use Rattle.typing_laws.proofs.Reached.{IsLonger, as_long, longer_still, same_longer, mapped_longer, get_longer, get_mapped, get_or_is, mapped_get, head_of}
+use Rattle.typing_laws.proofs.Reached.{as_long, mapped_longer, get_longer, get_mapped, get_or_is, mapped_get, head_of}
 use Rattle.typing_laws.proofs.Reached.{signature_passed, Reached, reached, IsFurther, as_far, further_still, Here, stands_later, is_round_here}
 use Rattle.typing_laws.proofs.Routines.{Began, Begins}
 use Rattle.typing_laws.proofs.Sound.{AreSound, IsSoundRegion, beside_holds, inside_itself, inside_routine, regions_later, IsSound, among_more, or_right}
-use Rattle.typing_laws.proofs.Steps.{Does, Anything, Nothing, Leaves, grown_silent, last as last_does, pure_does, quietly, site_does, sited, split_if}
+use Rattle.typing.proofs.Ways.{Stay}
+use Rattle.typing_laws.proofs.Went.{Grows, as_high, grow_then, grows, inner as inner_of, same_controls}
+use Rattle.typing_laws.proofs.Steps.{Does, Anything, Nothing, no_sites, silent_leaves, last as last_does, pure_does, quietly, site_does, sited, split_if}
 use Rattle.typing_laws.proofs.Tables.{cells_in}
 use Rattle.typing_laws.proofs.Waiting.{count_append, count_of, one_if, is_place, told_of_it, told_of_others, waits_in}
 use Rattle.typing_laws.specs.Controls.{AreUnthreatened, Each, in_blocks, mark_changes, mark_controls}
 use Rattle.typing_laws.proofs.Spared.{none_held, spared_then}
-use Rattle.typing_laws.proofs.Reached.{apart_kept}
 use Rattle.typing_laws.proofs.Kept.{MayChange, changes_of, controls_of, each_append, each_more}
 use Rattle.typing_laws.proofs.Placed.{each_map, each_pair, each_square, placed_as_far, placed_inner}
-use Rattle.typing_laws.specs.Results.{is_target, mark_results}
 
 -- ---- what is told of a routine that waits
 
@@ -59,14 +58,8 @@ told_is number place s a is = cc
 -- behind a heading, once it is told whether its routine waits
 pub record Told (here : Here) (under : List Region) (number : ℕ) (told : Bool) (old new : Passed) : Type 0 where
   pub sites : new.sites ≡ old.sites
-  pub entries : new.entries ≡ old.entries
-  pub loops : new.loops ≡ old.loops
-  pub threatened : new.threatened ≡ old.threatened
   pub controls_kept : new.controls ≡ old.controls
-  pub assigned : new.assigned ≡ old.assigned
-  pub types : IsLonger old.types new.types
-  pub variables : IsLonger old.variables new.variables
-  pub headings : IsLonger old.headings new.headings
+  pub grows : Grows old new
   pub standing : Standing here under new
   pub is_open : IsOpen here new number
   pub waits_it : waits_in new.enclosing.waiting number ≡ told
@@ -99,13 +92,10 @@ told_standing here under s number place st is_open = record {
     under_it = st.ready.under_it;
     base = st.ready.base;
     texts = st.ready.texts;
-    few_sites = st.ready.few_sites;
-    few_entries = st.ready.few_entries;
     cells = st.ready.cells;
   };
   block = st.block;
   around = st.around;
-  settled = st.settled;
   stands = st.stands;
   waiting = λ block waits. opened (by block (nat_eq block number) refl waits);
 }
@@ -126,14 +116,8 @@ new_told : (here : Here) (under : List Region) (number : ℕ) (place : Option Pl
     → Began here under number old now → Told here under number (is_place place) old (with_told number place now)
 new_told here under number place old now st b = record {
   sites = b.sites;
-  entries = b.entries;
-  loops = b.loops;
-  threatened = b.threatened;
   controls_kept = b.controls_kept;
-  assigned = b.assigned;
-  types = b.types;
-  variables = b.variables;
-  headings = b.headings;
+  grows = b.grows;
   standing = told_standing here under now number place b.standing b.is_open;
   is_open = open_told here now number number place b.is_open;
   waits_it = told_of_it now.enclosing.waiting number place;
@@ -186,14 +170,8 @@ resumed_told : (here : Here) (under : List Region) (number : ℕ) (s : Passed) �
     → Told here under number false s (with_told number None s)
 resumed_told here under number s st waits = record {
   sites = refl;
-  entries = refl;
-  loops = refl;
-  threatened = refl;
   controls_kept = refl;
-  assigned = refl;
-  types = as_long;
-  variables = as_long;
-  headings = as_long;
+  grows = as_high;
   standing = told_standing here under s number None st (st.waiting number waits);
   is_open = open_told here s number number None (st.waiting number waits);
   waits_it = told_of_it s.enclosing.waiting number None;
@@ -234,28 +212,14 @@ begins_told here under b old now st (inr waited) =
 
 -- ---- the directive forward
 
-built_told : (here : Here) (under : List Region) (number : ℕ) (old new : Passed) → Told here under number true old new
-    → Built here (λ added. added ≡ []) [] old new
+built_told : (here : Here) (under : List Region) (number : ℕ) (old new : Passed) → Told here under number true old new → Built here [] old new
 built_told here under number old new t = record {
-  types = t.types;
-  variables = t.variables;
-  headings = t.headings;
-  added = [];
-  sites = t.sites ∙ sym (append-nil old.sites);
-  covered = refl;
-  numbered = refl;
-  entered = omega (arith, t.entries);
-  looped = refl;
-  begun = omega (arith, t.loops);
+  grows = t.grows;
   formed = λ o h. refl;
   parts = λ o rest. refl;
   ends = tt;
   accounted = λ block. omega (arith, t.accounted block);
   others = λ block less other none. (t.others block less other none).1;
-  threats = λ root is. ap (list_any (nat_eq root)) t.threatened ∙ is;
-  assigns = λ root is. ap (list_any (nat_eq root)) t.assigned ∙ is;
-  assigned = λ root is. inl (ap (list_any (nat_eq root)) (sym t.assigned) ∙ is);
-  results = refl;
   placed = λ roots rest. refl;
   over = λ block there. absurd (omega (arith, there));
   changed = tt;
@@ -264,10 +228,6 @@ built_told here under number old new t = record {
   controls_kept = t.controls_kept;
   spared = refl;
 }
-
--- what a routine builds, from where its heading begins
-abbrev pub LeavesBuilt : Here → List Region → (List Stands → Type 0) → Passed → After (Unit {0}) → Type 0
-LeavesBuilt here under Has s a = Built here Has a.look s a.passed × Standing here under a.passed
 
 pub forward_builds : (here : Here) (under : List Region) (b : Begun) (place : Place) (old now : Passed) (a : After (Unit {0})) → Standing here under old
     → Begins here under b old now → forward b.is_first b.number place now ≡ Ok a → LeavesBuilt here under (λ added. added ≡ []) old a
@@ -279,7 +239,7 @@ forward_builds here under b place old now a st begins is = by b.is_first begins 
     by true (inl new) goes =
         let told = new_told here under b.number (Some place) old now st new.1 in
         subst (LeavesBuilt here under (λ added. added ≡ []) old) (told_is b.number (Some place) now a goes)
-        (built_told here under b.number old (with_told b.number (Some place) now) told, told.standing)
+        (built_told here under b.number old (with_told b.number (Some place) now) told, no_sites told.sites, told.standing)
     by true (inr waited) goes = absurd cc
     by false begins goes = absurd cc
 
@@ -287,10 +247,10 @@ forward_builds here under b place old now a st begins is = by b.is_first begins 
 
 is_assigned_does : {here : Here} {least : Reached} (place : Place) (root : ℕ) → Does here least Nothing (is_assigned place root) Anything
 unfolding is_assigned
-is_assigned_does {here} place root = record {
+is_assigned_does place root = record {
   does = λ s a is fine h.
       let x = split_if (list_any (nat_eq root) s.assigned) (fault.NeverAssigned place) (after tt [] s) a is in
-      subst (Leaves here Nothing s Anything) x.1 (grown_silent here s s refl refl refl refl refl refl refl refl refl (λ root is. is) refl refl fine, tt);
+      silent_leaves Anything x.1 Stay refl refl refl fine tt;
 }
 
 -- the site of a result stands at the end
@@ -315,12 +275,12 @@ pub record Inside (here : Here) (under : List Region) (Has : List Stands → Typ
   pub first : Look
   pub second : Look
   pub middle : Passed
-  pub built : Built here (λ added. Unit {0}) first s middle
+  pub built : Built here first s middle
   pub standing : Standing here under middle
   pub came : (number : ℕ) → Fails (waits_in middle.enclosing.waiting number)
-  pub grown : Grown here (λ added. Unit {0}) second middle a.passed
+  pub grown : Grown here second middle a.passed
   pub look : a.look ≡ first ++ second
-  pub covered : Has (built.added ++ grown.added)
+  pub sited : Sited Has s a.passed
 
 pub record LawfulBody (places : List Place) (b : TypedBlock) : Type 0 where
   pub inside : List Place
@@ -334,8 +294,6 @@ fine_standing here under s st = record {
   sound = st.ready.sound;
   lawful = st.ready.base.lawful;
   texts = st.ready.texts;
-  few_sites = st.ready.few_sites;
-  few_entries = st.ready.few_entries;
   block = st.block;
   around = st.around;
   stands = st.stands;
@@ -346,12 +304,6 @@ fine_standing here under s st = record {
 module _ (look : Look) (number : ℕ) (around parameters : List ℕ) (result : Option FunctionResult) (end : Place) where
   abbrev pub closing : Mark
   closing = BlockEnds number around parameters result end
-
-  pub closed_entries : entries_of_look (look ++ (closing ∷ [])) ≡ entries_of_look look
-  closed_entries = flat_map-append mark_entries look (closing ∷ []) ∙ append-nil (entries_of_look look)
-
-  pub closed_loops : loops_of_look (look ++ (closing ∷ [])) ≡ loops_of_look look
-  closed_loops = flat_map-append mark_loops look (closing ∷ []) ∙ append-nil (loops_of_look look)
 
   pub closed_blocks : blocks_of_look look ≡ [] → blocks_of_look (look ++ (closing ∷ [])) ≡ number ∷ []
   closed_blocks inner = flat_map-append mark_blocks look (closing ∷ []) ∙ ap (λ l. l ++ number ∷ []) inner
@@ -364,20 +316,10 @@ module _ (look : Look) (number : ℕ) (around parameters : List ℕ) (result : O
       → are_formed o ((look ++ (closing ∷ [])) ++ rest) ≡ (are_formed o (look ++ (closing ∷ [])) && are_formed o rest)
   closed_parts o rest = formed_as_far o look rest number around parameters result end
 
-and_grouped : (a b c : Bool) → (a && (b && c)) ≡ ((a && b) && c)
-and_grouped true b c = refl
-and_grouped false b c = refl
-
-between_both : (a b c number : ℕ) → a ≤ b → b ≤ c → one_if (is_between a b number) + one_if (is_between b c number) ≡ one_if (is_between a c number)
-between_both a b c number one two = grind (arith, nat_tests)
-
-no_fewer : {A : Type 0} (old new : List A) → IsLonger old new → length old ≤ length new
-no_fewer old new longer = omega (arith, ap length longer.goes_on, length-append old longer.more)
-
 -- what is known where the block of a routine begins
 module _ (here : Here) (under : List Region) (number : ℕ) (headed : Headed) (names : List (List ℕ)) where
   abbrev inner : Here
-  inner = record { block = number; around = here.around ++ here.block ∷ []; owing = false }
+  inner = record { block = number; around = here.around ++ here.block ∷ [] }
 
   abbrev entered : Passed → Passed
   entered s = record s {
@@ -392,7 +334,7 @@ module _ (here : Here) (under : List Region) (number : ℕ) (headed : Headed) (n
       let heads = heads_passed s.headings in
       let told = st.ready.base.headed number headed there in
       let region : IsSoundRegion inner s.variables s.types heads headed.region =
-      subst (λ l. IsSoundRegion (record { block = number; around = l; owing = false }) s.variables s.types heads headed.region) around told.region in
+      subst (λ l. IsSoundRegion (record { block = number; around = l }) s.variables s.types heads headed.region) around told.region in
       record {
         ready = record {
           sound = (
@@ -402,13 +344,10 @@ module _ (here : Here) (under : List Region) (number : ℕ) (headed : Headed) (n
           under_it = refl;
           base = st.ready.base;
           texts = st.ready.texts;
-          few_sites = st.ready.few_sites;
-          few_entries = st.ready.few_entries;
           cells = ap (λ (h : Headed). h.cells) (sym same) ∙ o.cells;
         };
         block = refl;
         around = around;
-        settled = refl;
         stands = (signature_passed headed, mapped_get signature_passed s.headings number headed there, around);
         waiting = λ block waits. absurd cc;
       }
@@ -420,55 +359,46 @@ module _ (here : Here) (under : List Region) (number : ℕ) (headed : Headed) (n
   -- the block round it goes on
   left_standing : (s middle last : Passed) (round : Enclosing) → round ≡ s.enclosing → Standing here under s → Fails (waits_in s.enclosing.waiting number)
       → Fails (nat_eq here.block number)
-      → {first : Look} → Built inner (λ added. Unit {0}) first (entered s) middle → Standing inner s.regions middle
-      → {Has : List Stands → Type 0} {second : Look} → Grown inner Has second middle last → Standing here under (left round last)
+      → {first : Look} → Built inner first (entered s) middle → Standing inner s.regions middle
+      → {second : Look} → Grown inner second middle last → Standing here under (left round last)
   left_standing s middle last round round_is st none apart f inside g =
-      let regions : outer last.regions ≡ s.regions = ap outer g.regions ∙ inside.ready.under_it in
-      let types : IsLonger s.types last.types = longer_still f.types g.longer in
-      let variables : IsLonger s.variables last.variables = longer_still f.variables (same_longer g.variables_kept) in
-      let headings : IsLonger s.headings last.headings = longer_still f.headings (same_longer g.headings_kept) in
+      let regions : outer last.regions ≡ s.regions = ap outer (inner_of g.way).regions ∙ inside.ready.under_it in
+      let kept = inner_of g.way in
+      let grown = grow_then f.grows (grows g.way) in
       let at = get_mapped signature_passed s.headings here.block st.stands.0 st.stands.1 in
       let there = slice_get_within s.headings here.block at.0 at.1 in
       let others : (block : ℕ) → block < length s.headings → Fails (nat_eq number block)
       → variables_of block last.variables ≡ variables_of block s.variables =
-      λ block less other. ap (variables_of block) g.variables_kept ∙ f.others block less other refl in
+      λ block less other. ap (variables_of block) kept.variables ∙ f.others block less other refl in
       let own : Fails (nat_eq number here.block) = turned here.block number apart in
       let base : Base last.types last.variables last.headings (length (heads_passed last.headings)) =
-      subst (λ h. Base last.types last.variables h (length (heads_passed h))) (sym g.headings_kept)
-      (subst (λ v. Base last.types v middle.headings (length (heads_passed middle.headings))) (sym g.variables_kept)
-      (base_types middle.types last.types middle.variables middle.headings (length (heads_passed middle.headings)) g.longer g.lawful inside.ready.base)) in
-      let more : IsFurther (reached s) (reached last) = record {
-        sites = omega (arith, ap length f.sites, ap length g.sites, length-append s.sites f.added, length-append middle.sites g.added);
-        types = types;
-        variables = variables;
-        headings = mapped_longer signature_passed headings;
-        threats = λ root is. g.threats root (f.threats root is);
-        apart = λ root is. apart_kept middle last g.controls_kept root (apart_kept s middle f.controls_kept root is);
-      } in
+      subst (λ h. Base last.types last.variables h (length (heads_passed h))) (sym kept.headings)
+      (subst (λ v. Base last.types v middle.headings (length (heads_passed middle.headings))) (sym kept.variables)
+      (base_types middle.types last.types middle.variables middle.headings (length (heads_passed middle.headings))
+      (grows g.way).types g.lawful inside.ready.base)) in
+      let more : IsFurther (reached s) (reached last) = grown_further s last grown (same_controls g.way ∙ f.controls_kept) in
       record {
         ready = record {
           sound =
               subst (AreSound here last.variables last.types (heads_passed last.headings)) (sym regions)
-              (regions_later inside_itself variables types (mapped_longer head_of (mapped_longer signature_passed headings)) s.regions st.ready.sound);
+              (regions_later inside_itself grown.variables grown.types
+              (mapped_longer head_of (mapped_longer signature_passed grown.headings)) s.regions st.ready.sound);
           under_it = ap outer regions ∙ st.ready.under_it;
           base = base;
           texts = g.texts;
-          few_sites = g.few_sites;
-          few_entries = g.few_entries;
           cells =
               ap (λ (e : Enclosing). e.cells) round_is ∙ st.ready.cells
-              ∙ sym (ap (cells_in last.types) (others here.block there own) ∙ block_cells_longer types here.block s.variables st.ready.base.have_types);
+              ∙ sym (ap (cells_in last.types) (others here.block there own) ∙ block_cells_longer grown.types here.block s.variables st.ready.base.have_types);
         };
         block = ap (λ (e : Enclosing). e.block) round_is ∙ st.block;
         around = ap (λ (e : Enclosing). e.around) round_is ∙ st.around;
-        settled = st.settled;
         stands = stands_later here (reached s) (reached last) more st.stands;
         waiting = λ block waits.
             let before = ap (λ (e : Enclosing). waits_in e.waiting block) (sym round_is) ∙ waits in
             let o = st.waiting block before in
             let less = slice_get_within s.headings block o.headed o.is_there in
             let other : Fails (nat_eq number block) = differs s block none before in
-            open_left last round block (open_later here s last block types st.ready.base.have_types headings (others block less other) o);
+            open_left last round block (open_later here s last block grown.types st.ready.base.have_types grown.headings (others block less other) o);
       }
     where
       turned : (m n : ℕ) → Fails (nat_eq m n) → Fails (nat_eq n m)
@@ -483,62 +413,13 @@ module _ (here : Here) (under : List Region) (number : ℕ) (headed : Headed) (n
           no : {b : Bool} → b ≡ true → b ≡ false → ⊥
           no one two = let same : true ≡ false = sym one ∙ two in absurd cc
 
--- ---- results of a block that ends
-
--- a target is one before the end
-pub target_ended : {middle : Bool} (look : Look) (mark_end : Mark) (root : ℕ) → (middle ≡ true) ⊎ (is_target look root ≡ true)
-    → (middle ≡ true) ⊎ (is_target (look ++ (mark_end ∷ [])) root ≡ true)
-target_ended look mark_end root (inl there) = inl there
-target_ended look mark_end root (inr target) = inr (target_first look (mark_end ∷ []) root target)
-
-no_result : (one : Mark) → mark_blocks one ≡ [] → mark_results one ≡ []
-no_result (BlockEnds number around parameters result end) none = absurd cc
-no_result other none = refl
-
-first_none : (a b : List ℕ) → a ++ b ≡ [] → (a ≡ []) × (b ≡ [])
-first_none [] b is = (refl, is)
-first_none (x ∷ a) b is = absurd cc
-
-no_results : (look : Look) → blocks_of_look look ≡ [] → flat_map mark_results look ≡ []
-no_results [] none = refl
-no_results (one ∷ look) none =
-    let parts = first_none (mark_blocks one) (blocks_of_look look) none in
-    ap₂ (λ a b. a ++ b) (no_result one parts.0) (no_results look parts.1)
-
--- the results of blocks, and then that of the block which ends
-pub results_end : (first look : Look) (number : ℕ) (around parameters : List ℕ) (result : Option FunctionResult) (end : Place) (middle last : Passed)
-    → list_all (λ root. list_any (nat_eq root) middle.assigned) (flat_map mark_results first) ≡ true
-    → ((root : ℕ) → list_any (nat_eq root) middle.assigned ≡ true → list_any (nat_eq root) last.assigned ≡ true) → blocks_of_look look ≡ []
-    → ((root : ℕ) → option_map (λ (r : FunctionResult). r.root) result ≡ Some root → list_any (nat_eq root) last.assigned ≡ true)
-    → list_all (λ root. list_any (nat_eq root) last.assigned)
-    (flat_map mark_results (first ++ (look ++ (BlockEnds number around parameters result end ∷ []))))
-    ≡ true
-results_end first look number around parameters result end middle last all more inner own =
-    let mark_end = BlockEnds number around parameters result end in
-    let split =
-    flat_map-append mark_results first (look ++ (mark_end ∷ []))
-    ∙ ap (λ l. flat_map mark_results first ++ l)
-    (flat_map-append mark_results look (mark_end ∷ []) ∙ ap (λ l. l ++ flat_map mark_results (mark_end ∷ [])) (no_results look inner)) in
-    let Holds : ℕ → Bool = λ root. list_any (nat_eq root) last.assigned in
-    ap (list_all Holds) split ∙ list_all-append Holds (flat_map mark_results first) (flat_map mark_results (mark_end ∷ []))
-    ∙ both_true _ _ (all_later middle last more (flat_map mark_results first) all) (by result own)
-  where
-    by : (found : Option FunctionResult)
-        → ((root : ℕ) → option_map (λ (r : FunctionResult). r.root) found ≡ Some root → list_any (nat_eq root) last.assigned ≡ true)
-        → list_all (λ root. list_any (nat_eq root) last.assigned) (flat_map mark_results (BlockEnds number around parameters found end ∷ [])) ≡ true
-    by None told = refl
-    by (Some r) told = both_true _ true (told r.root refl) refl
-
 -- ---- control variables of a block that ends
-
-contradicts : {b : Bool} → b ≡ true → b ≡ false → ⊥
-contradicts one two = let same : true ≡ false = sym one ∙ two in absurd cc
 
 turned : (m n : ℕ) → Fails (nat_eq m n) → Fails (nat_eq n m)
 turned m n other = grind (arith, nat_tests)
 
 -- what stands round a routine's block is that, or stands round its declarer
-round_parts : (here : Here) (number block : ℕ) → is_round_here (record { block = number; around = here.around ++ here.block ∷ []; owing = false }) block ≡ true
+round_parts : (here : Here) (number block : ℕ) → is_round_here (record { block = number; around = here.around ++ here.block ∷ [] }) block ≡ true
     → (block ≡ number) ⊎ (is_round_here here block ≡ true)
 round_parts here number block is = by (nat_eq block number) refl is
   where
@@ -556,8 +437,8 @@ round_parts here number block is = by (nat_eq block number) refl is
     by false same h = inr (split_last (among_split here.around here.block block h))
 
 -- the declarations of a block, its statements, and its end
-module _ (here : Here) (start middle last : Passed) {first : Look} {second : Look} {Has : List Stands → Type 0}
-    (f : Built here (λ added. Unit {0}) first start middle) (g : Grown here Has second middle last) (mark_end : Mark) where
+module _ (here : Here) (start middle last : Passed) {first : Look} {second : Look} (f : Built here first start middle) (g : Grown here second middle last)
+    (mark_end : Mark) where
   abbrev with_end : Look
   with_end = first ++ (second ++ (mark_end ∷ []))
 
@@ -574,7 +455,7 @@ module _ (here : Here) (start middle last : Passed) {first : Look} {second : Loo
   -- a control variable of a block inside, and what the statements change
   first_apart : (control : ℕ × ℕ) (root : ℕ) → IsControlled first middle control → MayChange here (reached last) root → Apart control (here.block, root)
   first_apart control root c m same =
-      let there = ap (λ l. slice_get l control.1) g.variables_kept ∙ c.is_there in
+      let there = ap (λ l. slice_get l control.1) (inner_of g.way).variables ∙ c.is_there in
       let alike = some_alike control.1 root c.variable m.variable last.variables same there m.is_there in
       let block : m.variable.block ≡ control.0 = ap (λ (v : Variable). v.block) (sym alike) ∙ c.own in
       absurd (contradicts (ap (is_round_here here) (sym block) ∙ m.is_visible) (f.over control.0 c.ended).outside)
@@ -582,7 +463,7 @@ module _ (here : Here) (start middle last : Passed) {first : Look} {second : Loo
   -- a control variable of the statements, and what blocks inside change
   second_apart : (root : ℕ) (change : ℕ × ℕ) → IsFree here middle last root → IsChanged here first middle change → Apart (here.block, root) change
   second_apart root change c x same =
-      let there = ap (λ l. slice_get l change.1) g.variables_kept ∙ x.is_there in
+      let there = ap (λ l. slice_get l change.1) (inner_of g.way).variables ∙ x.is_there in
       let alike = some_alike root change.1 c.variable x.variable last.variables same c.is_there there in
       let own : c.variable.block ≡ here.block = eqb-true c.variable.block here.block c.own in
       let block : x.variable.block ≡ here.block = ap (λ (v : Variable). v.block) (sym alike) ∙ own in
@@ -634,7 +515,7 @@ module _ (here : Here) (start middle last : Passed) {first : Look} {second : Loo
 -- from the declarations of a block to its end
 module _ (here : Here) (under : List Region) (number : ℕ) (headed : Headed) (names : List (List ℕ)) where
   abbrev inner_here : Here
-  inner_here = record { block = number; around = here.around ++ here.block ∷ []; owing = false }
+  inner_here = record { block = number; around = here.around ++ here.block ∷ [] }
 
   -- what is not round the block isn't round its declarer's
   outside_too : (block : ℕ) → Fails (is_round_here inner_here block) → Fails (is_round_here here block)
@@ -659,9 +540,8 @@ module _ (here : Here) (under : List Region) (number : ℕ) (headed : Headed) (n
           absurd (omega (arith, less))
       by own apart false among = ap (λ b. b || false) apart
 
-  module _ (s middle last : Passed) {first : Look} {second : Look} {Has : List Stands → Type 0}
-      (f : Built inner_here (λ added. Unit {0}) first (entered here under number headed names s) middle) (g : Grown inner_here Has second middle last)
-      (mark_end : Mark) where
+  module _ (s middle last : Passed) {first : Look} {second : Look}
+      (f : Built inner_here first (entered here under number headed names s) middle) (g : Grown inner_here second middle last) (mark_end : Mark) where
     abbrev whole_look : Look
     whole_look = first ++ (second ++ (mark_end ∷ []))
 
@@ -682,7 +562,7 @@ module _ (here : Here) (under : List Region) (number : ℕ) (headed : Headed) (n
           → IsChanged here whole_look (left here under number headed names s.enclosing last) change
       first_changed change c = record {
         variable = c.variable;
-        is_there = ap (λ l. slice_get l change.1) g.variables_kept ∙ c.is_there;
+        is_there = ap (λ l. slice_get l change.1) (inner_of g.way).variables ∙ c.is_there;
         stands = by c.stands;
       }
         where
@@ -690,7 +570,7 @@ module _ (here : Here) (under : List Region) (number : ℕ) (headed : Headed) (n
               → ((is_round_here here c.variable.block ≡ true) × (list_any (nat_eq change.1) last.threatened ≡ true))
               ⊎ (0 < count_of c.variable.block (blocks_of_look whole_look))
           round threatened (inl own) = inr (subst (λ n. 0 < count_of n (blocks_of_look whole_look)) (sym own) there_last)
-          round threatened (inr outer) = inl (outer, g.threats change.1 threatened)
+          round threatened (inr outer) = inl (outer, (grows g.way).threats change.1 threatened)
 
           by : ((is_round_here inner_here c.variable.block ≡ true) × (list_any (nat_eq change.1) middle.threatened ≡ true))
               ⊎ (0 < count_of c.variable.block (blocks_of_look first))
@@ -737,7 +617,7 @@ module _ (here : Here) (under : List Region) (number : ℕ) (headed : Headed) (n
           (each_append Holds (in_blocks mark_controls first) (map (λ root. (number, root)) (controls_of second))
           (each_more (IsControlled first middle) Holds (in_blocks mark_controls first) (λ control c. record {
             variable = c.variable;
-            is_there = ap (λ l. slice_get l control.1) g.variables_kept ∙ c.is_there;
+            is_there = ap (λ l. slice_get l control.1) (inner_of g.way).variables ∙ c.is_there;
             own = c.own;
             ended = there_first control.0 c.ended;
           }) f.controlled)
@@ -750,8 +630,7 @@ module _ (here : Here) (under : List Region) (number : ℕ) (headed : Headed) (n
 
   -- the blocks that end are over
   over_all : (old s middle last : Passed) → Told here under number false old s → {first : Look}
-      → Built inner_here (λ added. Unit {0}) first (entered here under number headed names s) middle
-      → {Has : List Stands → Type 0} {second : Look} → Grown inner_here Has second middle last
+      → Built inner_here first (entered here under number headed names s) middle → {second : Look} → Grown inner_here second middle last
       → ((block : ℕ) → Fails (waits_in middle.enclosing.waiting block)) → (look : Look) (mark_end : Mark)
       → blocks_of_look (look ++ (mark_end ∷ [])) ≡ number ∷ [] → (block : ℕ)
       → 0 < count_of block (blocks_of_look (first ++ (look ++ (mark_end ∷ []))))
@@ -762,7 +641,7 @@ module _ (here : Here) (under : List Region) (number : ℕ) (headed : Headed) (n
       by (nat_eq block number) refl (omega (arith, both, ap (count_of block) blocks, there))
     where
       as_many : length last.headings ≡ length middle.headings
-      as_many = ap length g.headings_kept
+      as_many = ap length (inner_of g.way).headings
 
       new_one : 0 < count_of block (blocks_of_look first) → length s.headings ≤ block
       new_one ended = greater (is_between (length s.headings) (length middle.headings) block) refl
@@ -778,7 +657,7 @@ module _ (here : Here) (under : List Region) (number : ℕ) (headed : Headed) (n
           let at : block ≡ number = eqb-true block number same in
           let known = slice_get_within s.headings number t.is_open.headed t.is_open.is_there in
           record {
-            there = omega (arith, at, known, as_many, no_fewer s.headings middle.headings f.headings);
+            there = omega (arith, at, known, as_many, no_fewer s.headings middle.headings f.grows.headings);
             waits_not = ap (waits_in s.enclosing.waiting) at ∙ t.waits_it;
             outside = ap (is_round_here here) at ∙ itself_outside s t.standing t.is_open;
           }
@@ -793,28 +672,12 @@ module _ (here : Here) (under : List Region) (number : ℕ) (headed : Headed) (n
 
 -- ---- the block of a routine
 
--- a result is assigned before the end
-ends_assigned : (name end : Place) (root : ℕ) (s : Passed) (a : After (Option FunctionResult)) → result_at_end name end (Some root) s ≡ Ok a
-    → list_any (nat_eq root) s.assigned ≡ true
-unfolding result_at_end is_assigned
-ends_assigned name end root s a is = by (list_any (nat_eq root) s.assigned) is
-  where
-    by : (test : Bool)
-        → and_then (if test then Ok (after (tt {0}) [] s) else Err (fault.NeverAssigned name))
-        (λ b. behind_marks {A = Option FunctionResult} b.look
-        ((site kind.UndefinedResult end >>= (λ defined. pure (Some (record { root = root; defined = defined })))) b.passed))
-        ≡ Ok a
-        → test ≡ true
-    by true h = refl
-    by false h = absurd cc
-
--- what stands behind its statements
 pub record Closed (here : Here) (b : TypedBlock) (headed : Headed) (s : Passed) (a : After (Unit {0})) : Type 0 where
   pub look : Look
   pub result : Option FunctionResult
-  pub grown : Grown here (Covers 0 (b.end ∷ [])) look s a.passed
+  pub grown : Grown here look s a.passed
+  pub sited : Sited (Covers 0 (b.end ∷ [])) s a.passed
   pub ends : (option_map (λ (r : FunctionResult). r.root) result ≡ headed.result) × HasSite (length a.passed.sites) result
-  pub assigned : (root : ℕ) → headed.result ≡ Some root → list_any (nat_eq root) s.assigned ≡ true
   pub look_is : a.look ≡ look ++ (BlockEnds here.block headed.around headed.parameters result b.end ∷ [])
 
 pub closed : (here : Here) (name : Place) (b : TypedBlock) (headed : Headed) (s : Passed) (a : After (Unit {0})) → Fine here s
@@ -832,9 +695,8 @@ closed here name b headed s a fine is =
       look = x.first.look;
       result = r;
       grown = law.0;
-      ends = law.1;
-      assigned = λ root told.
-          ends_assigned name b.end root s x.first (subst (λ found. result_at_end name b.end found s ≡ Ok x.first) told x.goes);
+      sited = law.1;
+      ends = law.2;
       look_is = refl;
     })
   where
@@ -897,24 +759,21 @@ routine_block_builds here under number name b places lawful old s a t is =
     let fine = fine_later i.grown (fine_standing inside_here s.regions i.middle i.standing) in
     let c = closed inside_here name.place b headed p.typed.passed p.end fine p.ends in
     let f = i.built in
-    let g : Grown inside_here (λ added. Unit {0}) (i.second ++ c.look) i.middle p.end.passed = grown_then (λ x y one two. tt) i.grown c.grown in
+    let g = grown_then i.grown c.grown in
     let last = left here under number headed names s.enclosing p.end.passed in
     let look = i.second ++ c.look in
     let mark_end = BlockEnds number headed.around headed.parameters c.result b.end in
     let ended = look ++ (mark_end ∷ []) in
-    let counted_f = counted mark_entries i.first ended in
-    let entries = closed_entries look number headed.around headed.parameters c.result b.end in
-    let loops = closed_loops look number headed.around headed.parameters c.result b.end in
-    let blocks = closed_blocks look number headed.around headed.parameters c.result b.end g.inner in
+    let blocks = closed_blocks look number headed.around headed.parameters c.result b.end (inner_of g.way).ends in
     let all_look : p.typed.look ++ p.end.look ≡ i.first ++ ended =
     ap₂ (λ x y. x ++ y) i.look c.look_is ∙ append_assoc i.first i.second (c.look ++ (mark_end ∷ []))
     ∙ ap (λ l. i.first ++ l) (sym (append_assoc i.second c.look (mark_end ∷ []))) in
     let whole : after tt (i.first ++ ended) last ≡ a = ap (λ l. after tt l last) (sym all_look) ∙ p.both in
     let there = slice_get_within s.headings number headed o.is_there in
-    let more : IsFurther (reached i.middle) (reached last) = further g in
+    let more : IsFurther (reached i.middle) (reached last) = further g.way in
     let at_end : slice_get (map signature_passed p.end.passed.headings) number ≡ Some (signature_passed headed) =
     mapped_get signature_passed p.end.passed.headings number headed
-    (ap (λ l. slice_get l number) g.headings_kept ∙ get_longer f.headings number headed o.is_there) in
+    (ap (λ l. slice_get l number) (inner_of g.way).headings ∙ get_longer f.grows.headings number headed o.is_there) in
     let end_so : EndsSo (reached last) number headed.around headed.parameters c.result = record {
       signature = signature_passed headed;
       is_there = at_end;
@@ -923,34 +782,18 @@ routine_block_builds here under number name b places lawful old s a t is =
       result_is = sym c.ends.0;
       site = c.ends.1;
     } in
-    let built : Built here (Covers 0 places) (i.first ++ ended) old last = record {
-      types = longer_still t.types (longer_still f.types g.longer);
-      variables = longer_still t.variables (longer_still f.variables (same_longer g.variables_kept));
-      headings = longer_still t.headings (longer_still f.headings (same_longer g.headings_kept));
-      added = (f.added ++ i.grown.added) ++ c.grown.added;
-      sites =
-          c.grown.sites ∙ ap (λ l. l ++ c.grown.added) (i.grown.sites ∙ ap (λ l. l ++ i.grown.added) (f.sites ∙ ap (λ l. l ++ f.added) t.sites)
-          ∙ append_assoc old.sites f.added i.grown.added)
-          ∙ append_assoc old.sites (f.added ++ i.grown.added) c.grown.added;
-      covered =
-          subst (λ l. Covers 0 l ((f.added ++ i.grown.added) ++ c.grown.added)) (sym lawful.places_are)
-          (covers_both 0 lawful.inside (b.end ∷ []) (f.added ++ i.grown.added) c.grown.added i.covered c.grown.covered);
-      numbered =
-          go_on mark_entries i.first ended old.entries i.middle.entries
-          (f.numbered ∙ ap (λ n. range_with_len n (length (entries_of_look i.first))) t.entries)
-          (f.entered ∙ ap (λ n. n + length (entries_of_look i.first)) t.entries)
-          (entries ∙ g.numbered ∙ ap (λ l. range_with_len i.middle.entries (length l)) (sym entries));
-      entered = omega (arith, t.entries, f.entered, g.entered, counted mark_entries i.first ended, ap length entries);
-      looped =
-          go_on mark_loops i.first ended old.loops i.middle.loops
-          (f.looped ∙ ap (λ n. range_with_len n (length (loops_of_look i.first))) t.loops)
-          (f.begun ∙ ap (λ n. n + length (loops_of_look i.first)) t.loops)
-          (loops ∙ g.looped ∙ ap (λ l. range_with_len i.middle.loops (length l)) (sym loops));
-      begun = omega (arith, t.loops, f.begun, g.begun, counted mark_loops i.first ended, ap length loops);
+    let sited : Sited (Covers 0 places) old last =
+    let both = sited_then {Both = Covers 0 (lawful.inside ++ (b.end ∷ []))} (covers_both 0 lawful.inside (b.end ∷ [])) i.sited c.sited in record {
+      added = both.added;
+      sites = both.sites ∙ ap (λ l. l ++ both.added) t.sites;
+      covered = subst (λ l. Covers 0 l both.added) (sym lawful.places_are) both.covered;
+    } in
+    let built : Built here (i.first ++ ended) old last = record {
+      grows = grow_then t.grows (grow_then f.grows (grows g.way));
       formed = λ w h.
           f.parts w ended
           ∙ both_true _ _ (f.formed w (further_still more h))
-          (closed_formed look number headed.around headed.parameters c.result b.end w g.inner (g.formed w h));
+          (closed_formed look number headed.around headed.parameters c.result b.end w (inner_of g.way).ends (g.formed w h));
       parts = λ w rest.
           ap (are_formed w) (append_assoc i.first ended rest) ∙ f.parts w (ended ++ rest)
           ∙ ap (λ x. are_formed w i.first && x) (closed_parts look number headed.around headed.parameters c.result b.end w rest)
@@ -958,26 +801,18 @@ routine_block_builds here under number name b places lawful old s a t is =
           ∙ ap (λ x. x && are_formed w rest) (sym (f.parts w ended));
       ends =
           ends_append (reached last) i.first ended (ends_later (reached i.middle) (reached last) i.first more f.ends)
-          (ends_append (reached last) look (mark_end ∷ []) (no_ends (reached last) look g.inner) (end_so, tt));
+          (ends_append (reached last) look (mark_end ∷ []) (no_ends (reached last) look (inner_of g.way).ends) (end_so, tt));
       accounted = λ block.
           let both = ap (count_of block) (flat_map-append mark_blocks i.first ended) ∙ count_append block (blocks_of_look i.first) (blocks_of_look ended) in
           let one = ap (count_of block) blocks in
           let between = between_both (length old.headings) (length s.headings) (length i.middle.headings) block
-          (no_fewer old.headings s.headings t.headings) (no_fewer s.headings i.middle.headings f.headings) in
-          let as_many = ap (λ (l : List Headed). one_if (is_between (length old.headings) (length l) block)) g.headings_kept in
+          (no_fewer old.headings s.headings t.grows.headings) (no_fewer s.headings i.middle.headings f.grows.headings) in
+          let as_many = ap (λ (l : List Headed). one_if (is_between (length old.headings) (length l) block)) (inner_of g.way).headings in
           omega (arith, both, one, f.accounted block, ap one_if (i.came block), t.accounted block, between, as_many);
       others = λ block less other none.
           let told = t.others block less other none in
-          let still : block < length s.headings = omega (arith, less, no_fewer old.headings s.headings t.headings) in
-          ap (variables_of block) g.variables_kept ∙ f.others block still told.0 refl ∙ told.1;
-      threats = λ root is. g.threats root (f.threats root (ap (list_any (nat_eq root)) t.threatened ∙ is));
-      assigns = λ root is. g.assigns root (f.assigns root (ap (list_any (nat_eq root)) t.assigned ∙ is));
-      assigned = λ root is.
-          assigned_then i.first ended root (λ there. from_old old s root t.assigned (f.assigned root there))
-          (target_ended look mark_end root (g.assigned refl root is));
-      results =
-          results_end i.first look number headed.around headed.parameters c.result b.end i.middle p.end.passed f.results g.assigns g.inner
-          (λ root there. c.grown.assigns root (c.assigned root (sym c.ends.0 ∙ there)));
+          let still : block < length s.headings = omega (arith, less, no_fewer old.headings s.headings t.grows.headings) in
+          ap (variables_of block) (inner_of g.way).variables ∙ f.others block still told.0 refl ∙ told.1;
       placed = λ roots rest.
           ap (in_blocks roots) (append_assoc i.first ended rest) ∙ f.placed roots (ended ++ rest)
           ∙ ap (λ l. in_blocks roots i.first ++ l) (placed_as_far roots number headed.around headed.parameters c.result b.end look rest)
@@ -986,25 +821,20 @@ routine_block_builds here under number name b places lawful old s a t is =
       over = over_all here under number headed names old s i.middle p.end.passed t f g i.came look mark_end blocks;
       changed =
           changed_all here under number headed names s i.middle p.end.passed f g mark_end blocks
-          (placed_inner mark_changes number headed.around headed.parameters c.result b.end look g.inner refl);
+          (placed_inner mark_changes number headed.around headed.parameters c.result b.end look (inner_of g.way).ends refl);
       controlled =
           controlled_all here under number headed names s i.middle p.end.passed f g mark_end blocks
-          (placed_inner mark_controls number headed.around headed.parameters c.result b.end look g.inner refl);
+          (placed_inner mark_controls number headed.around headed.parameters c.result b.end look (inner_of g.way).ends refl);
       unthreatened =
           unthreatened_at_end inside_here start i.middle p.end.passed f g mark_end
-          (placed_inner mark_changes number headed.around headed.parameters c.result b.end look g.inner refl)
-          (placed_inner mark_controls number headed.around headed.parameters c.result b.end look g.inner refl);
-      controls_kept = g.controls_kept ∙ f.controls_kept ∙ t.controls_kept;
+          (placed_inner mark_changes number headed.around headed.parameters c.result b.end look (inner_of g.way).ends refl)
+          (placed_inner mark_controls number headed.around headed.parameters c.result b.end look (inner_of g.way).ends refl);
+      controls_kept = same_controls g.way ∙ f.controls_kept ∙ t.controls_kept;
       spared = spared_then [] i.first ended f.spared (spared_then [] look (mark_end ∷ []) (g.spared [] (none_held i.middle.controls)) refl);
     } in
     let standing =
     left_standing here under number headed names s i.middle p.end.passed s.enclosing refl t.standing t.waits_it o.other f i.standing g in
-    subst (LeavesBuilt here under (Covers 0 places) old) whole (built, standing)
-  where
-    from_old : {target : Bool} (old s : Passed) (root : ℕ) → s.assigned ≡ old.assigned → (list_any (nat_eq root) s.assigned ≡ true) ⊎ (target ≡ true)
-        → (list_any (nat_eq root) old.assigned ≡ true) ⊎ (target ≡ true)
-    from_old old s root same (inl there) = inl (ap (list_any (nat_eq root)) (sym same) ∙ there)
-    from_old old s root same (inr target) = inr target
+    subst (LeavesBuilt here under (Covers 0 places) old) whole (built, sited, standing)
 
 -- what stands behind a heading
 pub body_builds : (here : Here) (under : List Region) (begins : Begun) (name : Name) (block : TypedBlock) (places : List Place) → LawfulBody places block

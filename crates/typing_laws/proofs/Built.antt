@@ -1,36 +1,35 @@
 -- What the parts of a block build: forms of blocks inside it, with sites, entries, types, variables and headings; each block
 -- ends once, as its heading tells, and what is known of blocks outside stays.
 use Rattle.std.proofs.Common.{◌≡◌, ℕ, ◌+◌, ◌<◌, ◌≤◌, Bool, true, false, ◌&&◌, nat_eq, nat_lt, nat_le, List, [], ◌∷◌, ◌++◌, length, map, Option, Some, None, Ok}
-use Rattle.std.proofs.Common.{option_map, slice_get, refl, sym, ap, subst, ◌∙◌, arith, append-nil, append_assoc, length-append, inl, inr, ◌⊎◌, suc, zero}
-use Rattle.std.specs.List.{range_with_len, list_any, flat_map, list_all}
+use Rattle.std.proofs.Common.{option_map, slice_get, refl, sym, ap, subst, ◌∙◌, arith, append_assoc, length-append, inl, inr, ◌⊎◌, suc, zero}
+use Rattle.std.specs.List.{list_any}
 use Rattle.std.proofs.lemmas.Bool.Decides.{nat_tests}
 use Rattle.std.proofs.lemmas.Grind.{flat_map-append}
 use Rattle.std.proofs.lemmas.List.{length-map}
 use Rattle.std.proofs.lemmas.Option.{slice_get_within}
-use Rattle.std.proofs.lemmas.List.Folds.{list_all-append}
 use Rattle.scopes.specs.Scopes.{Region}
 use Rattle.typed_tree.specs.declared.tree.FunctionResult.{FunctionResult}
 use Rattle.typed_tree.specs.Ids.{Stands}
 use Rattle.typed_tree.specs.WellFormed.{Outline, variables_of}
-use Rattle.typed_tree.specs.Look.{Mark, Look, BlockEnds, mark_entries, entries_of_look, mark_loops, loops_of_look, mark_blocks, blocks_of_look, are_formed}
+use Rattle.typed_tree.specs.Look.{Mark, Look, BlockEnds, mark_blocks, blocks_of_look, are_formed}
 use Rattle.typed_tree.specs.declared.tree.Variable.{Variable}
-use Rattle.typing.specs.Passing.{Headed, Passed, After, Passing, ◌>>◌}
-use Rattle.typing_laws.proofs.Grown.{both_true, counted, go_on, assigned_then}
+use Rattle.typing.specs.Passing.{Enclosing, Headed, Passed, After, Passing, ◌>>◌}
+use Rattle.typing.proofs.Ways.{Of, Way}
+use Rattle.typing_laws.proofs.Grown.{Sited, sited_then, sited_more, both_true, further, grown_further}
+use Rattle.typing_laws.proofs.Steps.{no_sites}
+use Rattle.typing_laws.proofs.Went.{Grows, grow_then, grows, no_mark, same_controls, silent}
 use Rattle.typing_laws.proofs.Headings.{parts_of}
-use Rattle.typing_laws.proofs.Keeping.{Silent, Ready, Keeps}
+use Rattle.typing_laws.proofs.Keeping.{Ready, Keeps}
 use Rattle.typing_laws.proofs.Owned.{Fails, cells_of_block, block_cells_longer}
-use Rattle.typing_laws.proofs.Reached.{IsLonger, longer_still, same_longer, mapped_longer, get_longer, Signature, signature_passed, Head, head_of, Reached}
+use Rattle.typing_laws.proofs.Reached.{IsLonger, get_longer, Signature, signature_passed, Head, head_of, Reached}
 use Rattle.typing_laws.proofs.Reached.{reached, whole_of, IsFurther, further_still, Here, StandsIn, stands_later, is_round_here}
 use Rattle.typing_laws.proofs.Ready.{heads_passed}
 use Rattle.typing_laws.proofs.Tables.{HaveTypes, cells_in}
 use Rattle.typing_laws.proofs.Waiting.{waits_in, one_if, count_of, count_append}
 use Rattle.typing_laws.specs.Controls.{AreUnthreatened, Each, in_blocks, mark_changes, mark_controls, spared_behind}
 use Rattle.typing_laws.proofs.Spared.{spared_then}
-use Rattle.typing_laws.proofs.Reached.{apart_kept}
 use Rattle.typing_laws.proofs.Kept.{each_append, each_more}
 use Rattle.typing_laws.proofs.Placed.{each_pair, each_square}
-use Rattle.typing_laws.specs.Results.{is_target, mark_results}
-use Rattle.typing_laws.proofs.Strings.{both_and}
 
 -- ---- blocks that end
 
@@ -122,17 +121,8 @@ pub record IsControlled (look : Look) (s : Passed) (control : ℕ × ℕ) : Type
   pub own : variable.block ≡ control.0
   pub ended : 0 < count_of control.0 (blocks_of_look look)
 
-pub record Built (here : Here) (Has : List Stands → Type 0) (look : Look) (old new : Passed) : Type 0 where
-  pub types : IsLonger old.types new.types
-  pub variables : IsLonger old.variables new.variables
-  pub headings : IsLonger old.headings new.headings
-  pub added : List Stands
-  pub sites : new.sites ≡ old.sites ++ added
-  pub covered : Has added
-  pub numbered : entries_of_look look ≡ range_with_len old.entries (length (entries_of_look look))
-  pub entered : new.entries ≡ old.entries + length (entries_of_look look)
-  pub looped : loops_of_look look ≡ range_with_len old.loops (length (loops_of_look look))
-  pub begun : new.loops ≡ old.loops + length (loops_of_look look)
+pub record Built (here : Here) (look : Look) (old new : Passed) : Type 0 where
+  pub grows : Grows old new
   pub formed : (o : Outline) → IsFurther (reached new) (whole_of o) → are_formed o look ≡ true
   pub parts : (o : Outline) (rest : Look) → are_formed o (look ++ rest) ≡ (are_formed o look && are_formed o rest)
   pub ends : AreEnds (reached new) look
@@ -144,11 +134,6 @@ pub record Built (here : Here) (Has : List Stands → Type 0) (look : Look) (old
   pub others :
       (number : ℕ) → number < length old.headings → Fails (nat_eq here.block number) → Fails (waits_in old.enclosing.waiting number)
       → variables_of number new.variables ≡ variables_of number old.variables
-  pub threats : (root : ℕ) → list_any (nat_eq root) old.threatened ≡ true → list_any (nat_eq root) new.threatened ≡ true
-  pub assigns : (root : ℕ) → list_any (nat_eq root) old.assigned ≡ true → list_any (nat_eq root) new.assigned ≡ true
-  pub assigned :
-      (root : ℕ) → list_any (nat_eq root) new.assigned ≡ true → (list_any (nat_eq root) old.assigned ≡ true) ⊎ (is_target look root ≡ true)
-  pub results : list_all (λ root. list_any (nat_eq root) new.assigned) (flat_map mark_results look) ≡ true
   pub placed : (roots : Mark → List ℕ) (rest : Look) → in_blocks roots (look ++ rest) ≡ in_blocks roots look ++ in_blocks roots rest
   pub over : (block : ℕ) → 0 < count_of block (blocks_of_look look) → IsOver here new block
   pub changed : Each (IsChanged here look new) (in_blocks mark_changes look)
@@ -157,21 +142,14 @@ pub record Built (here : Here) (Has : List Stands → Type 0) (look : Look) (old
   pub controls_kept : new.controls ≡ old.controls
   pub spared : spared_behind [] look ≡ Some []
 
-pub built_further : {here : Here} {Has : List Stands → Type 0} {look : Look} {old new : Passed} → Built here Has look old new
+pub built_further : {here : Here} {look : Look} {old new : Passed} → Built here look old new
     → IsFurther (reached old) (reached new)
-built_further {old = old} {new = new} b = record {
-  sites = omega (arith, ap length b.sites, length-append old.sites b.added);
-  types = b.types;
-  variables = b.variables;
-  headings = mapped_longer signature_passed b.headings;
-  threats = b.threats;
-  apart = apart_kept old new b.controls_kept;
-}
+built_further {old = old} {new = new} b = grown_further old new b.grows b.controls_kept
 
-no_fewer : {A : Type 0} (old new : List A) → IsLonger old new → length old ≤ length new
+pub no_fewer : {A : Type 0} (old new : List A) → IsLonger old new → length old ≤ length new
 no_fewer old new longer = omega (arith, ap length longer.goes_on, length-append old longer.more)
 
-between_both : (a b c number : ℕ) → a ≤ b → b ≤ c → one_if (is_between a b number) + one_if (is_between b c number) ≡ one_if (is_between a c number)
+pub between_both : (a b c number : ℕ) → a ≤ b → b ≤ c → one_if (is_between a b number) + one_if (is_between b c number) ≡ one_if (is_between a c number)
 between_both a b c number one two = grind (arith, nat_tests)
 
 none_between : (a number : ℕ) → one_if (is_between a a number) ≡ 0
@@ -185,13 +163,13 @@ is_none_if true is = absurd (omega (arith, is))
 is_none_if false is = refl
 
 -- what doesn't wait and was there doesn't wait later
-pub waits_no_more : {here : Here} {Has : List Stands → Type 0} {look : Look} {old new : Passed} → Built here Has look old new → (number : ℕ)
+pub waits_no_more : {here : Here} {look : Look} {old new : Passed} → Built here look old new → (number : ℕ)
     → number < length old.headings → Fails (waits_in old.enclosing.waiting number) → Fails (waits_in new.enclosing.waiting number)
 waits_no_more {old = old} {new = new} b number there none =
     is_none_if (waits_in new.enclosing.waiting number)
     (omega (arith, b.accounted number, ap one_if none, not_between (length old.headings) (length new.headings) number there))
 
-and_grouped : (a b c : Bool) → (a && (b && c)) ≡ ((a && b) && c)
+pub and_grouped : (a b c : Bool) → (a && (b && c)) ≡ ((a && b) && c)
 and_grouped true b c = refl
 and_grouped false b c = refl
 
@@ -204,19 +182,19 @@ same_variable {variables} {more} root other first second longer same one two =
     some_same : Some first ≡ Some second → first ≡ second
     some_same h = cc
 
-contradicts : {b : Bool} → b ≡ true → b ≡ false → ⊥
+pub contradicts : {b : Bool} → b ≡ true → b ≡ false → ⊥
 contradicts one two = let same : true ≡ false = sym one ∙ two in absurd cc
 
 -- a block that is over doesn't end again
-pub ends_once : {here : Here} {Has : List Stands → Type 0} {look : Look} {old new : Passed} → Built here Has look old new → (block : ℕ)
+pub ends_once : {here : Here} {look : Look} {old new : Passed} → Built here look old new → (block : ℕ)
     → IsOver here old block → 0 < count_of block (blocks_of_look look) → ⊥
 ends_once {old = old} {new = new} b block over again =
     absurd (omega (arith, b.accounted block, ap one_if over.waits_not, not_between (length old.headings) (length new.headings) block over.there, again))
 
-pub over_later : {here : Here} {Has : List Stands → Type 0} {look : Look} {old new : Passed} → Built here Has look old new → (block : ℕ)
+pub over_later : {here : Here} {look : Look} {old new : Passed} → Built here look old new → (block : ℕ)
     → IsOver here old block → IsOver here new block
 over_later {old = old} {new = new} b block over = record {
-  there = omega (arith, over.there, no_fewer old.headings new.headings b.headings);
+  there = omega (arith, over.there, no_fewer old.headings new.headings b.grows.headings);
   waits_not = waits_no_more b block over.there over.waits_not;
   outside = over.outside;
 }
@@ -237,8 +215,7 @@ either_there zero b n some is = inr (omega (arith, some, is))
 either_there (suc a) b n some is = inl (omega arith)
 
 -- what is so of one part and of the other, is so of both
-module _ {here : Here} {First Second : List Stands → Type 0} {look more : Look} {old now new : Passed} (f : Built here First look old now)
-    (g : Built here Second more now new) where
+module _ {here : Here} {look more : Look} {old now new : Passed} (f : Built here look old now) (g : Built here more now new) where
   all_over : (block : ℕ) → 0 < count_of block (blocks_of_look (look ++ more)) → IsOver here new block
   all_over block there =
       let both = ap (count_of block) (flat_map-append mark_blocks look more) ∙ count_append block (blocks_of_look look) (blocks_of_look more) in
@@ -251,7 +228,7 @@ module _ {here : Here} {First Second : List Stands → Type 0} {look more : Look
   first_changed : (change : ℕ × ℕ) → IsChanged here look now change → IsChanged here (look ++ more) new change
   first_changed change c = record {
     variable = c.variable;
-    is_there = get_longer g.variables change.1 c.variable c.is_there;
+    is_there = get_longer g.grows.variables change.1 c.variable c.is_there;
     stands = by c.stands;
   }
     where
@@ -259,7 +236,7 @@ module _ {here : Here} {First Second : List Stands → Type 0} {look more : Look
           ⊎ (0 < count_of c.variable.block (blocks_of_look look))
           → ((is_round_here here c.variable.block ≡ true) × (list_any (nat_eq change.1) new.threatened ≡ true))
           ⊎ (0 < count_of c.variable.block (blocks_of_look (look ++ more)))
-      by (inl round) = inl (round.0, g.threats change.1 round.1)
+      by (inl round) = inl (round.0, g.grows.threats change.1 round.1)
       by (inr ended) = inr (more_there c.variable.block look more ended)
 
   second_changed : (change : ℕ × ℕ) → IsChanged here more new change → IsChanged here (look ++ more) new change
@@ -285,7 +262,7 @@ module _ {here : Here} {First Second : List Stands → Type 0} {look more : Look
       (each_append (IsControlled (look ++ more) new) (in_blocks mark_controls look) (in_blocks mark_controls more)
       (each_more (IsControlled look now) (IsControlled (look ++ more) new) (in_blocks mark_controls look) (λ control c. record {
         variable = c.variable;
-        is_there = get_longer g.variables control.1 c.variable c.is_there;
+        is_there = get_longer g.grows.variables control.1 c.variable c.is_there;
         own = c.own;
         ended = more_there control.0 look more c.ended;
       }) f.controlled)
@@ -301,7 +278,7 @@ module _ {here : Here} {First Second : List Stands → Type 0} {look more : Look
 
   first_apart : (control change : ℕ × ℕ) → IsControlled look now control → IsChanged here more new change → Apart control change
   first_apart control change c x same =
-      let alike = same_variable control.1 change.1 c.variable x.variable g.variables same c.is_there x.is_there in
+      let alike = same_variable control.1 change.1 c.variable x.variable g.grows.variables same c.is_there x.is_there in
       let block : x.variable.block ≡ control.0 = ap (λ (v : Variable). v.block) (sym alike) ∙ c.own in
       absurd (by block x.stands)
     where
@@ -313,7 +290,7 @@ module _ {here : Here} {First Second : List Stands → Type 0} {look more : Look
 
   second_apart : (control change : ℕ × ℕ) → IsControlled more new control → IsChanged here look now change → Apart control change
   second_apart control change c x same =
-      let alike = same_variable change.1 control.1 x.variable c.variable g.variables (sym same) x.is_there c.is_there in
+      let alike = same_variable change.1 control.1 x.variable c.variable g.grows.variables (sym same) x.is_there c.is_there in
       let block : x.variable.block ≡ control.0 = ap (λ (v : Variable). v.block) alike ∙ c.own in
       absurd (by block x.stands)
     where
@@ -336,29 +313,10 @@ module _ {here : Here} {First Second : List Stands → Type 0} {look more : Look
       (each_pair (IsControlled look now) (IsChanged here more new) Apart controls behind first_apart f.controlled g.changed)
       (each_pair (IsControlled more new) (IsChanged here look now) Apart others changes second_apart g.controlled f.changed) g.unthreatened))
 
--- what was assigned stays so
-pub all_later : (now new : Passed) → ((root : ℕ) → list_any (nat_eq root) now.assigned ≡ true → list_any (nat_eq root) new.assigned ≡ true)
-    → (roots : List ℕ) → list_all (λ root. list_any (nat_eq root) now.assigned) roots ≡ true
-    → list_all (λ root. list_any (nat_eq root) new.assigned) roots ≡ true
-all_later now new more [] all = refl
-all_later now new more (root ∷ roots) all =
-    let parts = both_and (list_any (nat_eq root) now.assigned) (list_all (λ r. list_any (nat_eq r) now.assigned) roots) all in
-    both_true _ _ (more root parts.0) (all_later now new more roots parts.1)
-
-pub built_then : {here : Here} {First Second Both : List Stands → Type 0} {look more : Look} {old now new : Passed}
-    → ((a b : List Stands) → First a → Second b → Both (a ++ b))
-    → Built here First look old now → Built here Second more now new → Built here Both (look ++ more) old new
-built_then {here} {First} {Second} {Both} {look} {more} {old} {now} {new} joined f g = record {
-  types = longer_still f.types g.types;
-  variables = longer_still f.variables g.variables;
-  headings = longer_still f.headings g.headings;
-  added = f.added ++ g.added;
-  sites = g.sites ∙ ap (λ l. l ++ g.added) f.sites ∙ append_assoc old.sites f.added g.added;
-  covered = joined f.added g.added f.covered g.covered;
-  numbered = go_on mark_entries look more old.entries now.entries f.numbered f.entered g.numbered;
-  entered = omega (arith, f.entered, g.entered, counted mark_entries look more);
-  looped = go_on mark_loops look more old.loops now.loops f.looped f.begun g.looped;
-  begun = omega (arith, f.begun, g.begun, counted mark_loops look more);
+pub built_then : {here : Here} {look more : Look} {old now new : Passed} → Built here look old now → Built here more now new
+    → Built here (look ++ more) old new
+built_then {here} {look} {more} {old} {now} {new} f g = record {
+  grows = grow_then f.grows g.grows;
   formed = λ o h. f.parts o more ∙ both_true _ _ (f.formed o (further_still (built_further g) h)) (g.formed o h);
   parts = λ o rest.
       ap (are_formed o) (append_assoc look more rest) ∙ f.parts o (more ++ rest) ∙ ap (λ b. are_formed o look && b) (g.parts o rest)
@@ -368,18 +326,11 @@ built_then {here} {First} {Second} {Both} {look} {more} {old} {now} {new} joined
   accounted = λ number.
       let blocks = ap (count_of number) (flat_map-append mark_blocks look more) ∙ count_append number (blocks_of_look look) (blocks_of_look more) in
       let between = between_both (length old.headings) (length now.headings) (length new.headings) number
-      (no_fewer old.headings now.headings f.headings) (no_fewer now.headings new.headings g.headings) in
+      (no_fewer old.headings now.headings f.grows.headings) (no_fewer now.headings new.headings g.grows.headings) in
       omega (arith, blocks, f.accounted number, g.accounted number, between);
   others = λ number there other none.
-      let still : number < length now.headings = omega (arith, there, no_fewer old.headings now.headings f.headings) in
+      let still : number < length now.headings = omega (arith, there, no_fewer old.headings now.headings f.grows.headings) in
       g.others number still other (waits_no_more f number there none) ∙ f.others number there other none;
-  threats = λ root is. g.threats root (f.threats root is);
-  assigns = λ root is. g.assigns root (f.assigns root is);
-  assigned = λ root is. assigned_then look more root (f.assigned root) (g.assigned root is);
-  results =
-      ap (list_all (λ root. list_any (nat_eq root) new.assigned)) (flat_map-append mark_results look more)
-      ∙ list_all-append (λ root. list_any (nat_eq root) new.assigned) (flat_map mark_results look) (flat_map mark_results more)
-      ∙ both_true _ _ (all_later now new g.assigns (flat_map mark_results look) f.results) g.results;
   placed = λ roots rest.
       ap (in_blocks roots) (append_assoc look more rest) ∙ f.placed roots (more ++ rest) ∙ ap (λ l. in_blocks roots look ++ l) (g.placed roots rest)
       ∙ sym (append_assoc (in_blocks roots look) (in_blocks roots more) (in_blocks roots rest))
@@ -392,71 +343,29 @@ built_then {here} {First} {Second} {Both} {look} {more} {old} {now} {new} joined
   spared = spared_then [] look more f.spared g.spared;
 }
 
--- with other sites
-pub built_with : {here : Here} {Has Had : List Stands → Type 0} {look : Look} {old new : Passed} → ((a : List Stands) → Has a → Had a)
-    → Built here Has look old new → Built here Had look old new
-built_with has b = record {
-  types = b.types;
-  variables = b.variables;
-  headings = b.headings;
-  added = b.added;
-  sites = b.sites;
-  covered = has b.added b.covered;
-  numbered = b.numbered;
-  entered = b.entered;
-  looped = b.looped;
-  begun = b.begun;
-  formed = b.formed;
-  parts = b.parts;
-  ends = b.ends;
-  accounted = b.accounted;
-  others = b.others;
-  threats = b.threats;
-  assigns = b.assigns;
-  assigned = b.assigned;
-  results = b.results;
-  placed = b.placed;
-  over = b.over;
-  changed = b.changed;
-  controlled = b.controlled;
-  unthreatened = b.unthreatened;
-  controls_kept = b.controls_kept;
-  spared = b.spared;
-}
-
 -- a step that builds nothing
-pub built_silent : {here : Here} {old new : Passed} → Silent here.block old new → Built here (λ added. added ≡ []) [] old new
-built_silent {here} {old} {new} q = record {
-  types = q.types;
-  variables = q.variables;
-  headings = same_longer q.headings;
-  added = [];
-  sites = q.sites ∙ sym (append-nil old.sites);
-  covered = refl;
-  numbered = refl;
-  entered = omega (arith, q.entries);
-  looped = refl;
-  begun = omega (arith, q.loops);
-  formed = λ o h. refl;
-  parts = λ o rest. refl;
-  ends = tt;
-  accounted = λ number.
-      let waiting = ap (λ l. one_if (waits_in l number)) q.waiting in
-      let as_many = ap (λ (l : List Headed). one_if (is_between (length old.headings) (length l) number)) q.headings in
-      omega (arith, waiting, as_many, none_between (length old.headings) number);
-  others = λ number there other none. q.others number other;
-  threats = λ root is. ap (list_any (nat_eq root)) q.threatened ∙ is;
-  assigns = λ root is. ap (list_any (nat_eq root)) q.assigned ∙ is;
-  assigned = λ root is. inl (ap (list_any (nat_eq root)) (sym q.assigned) ∙ is);
-  results = refl;
-  placed = λ roots rest. refl;
-  over = λ block there. absurd (omega (arith, there));
-  changed = tt;
-  controlled = tt;
-  unthreatened = tt;
-  controls_kept = q.controls_kept;
-  spared = refl;
-}
+pub built_silent : {here : Here} {old new : Passed} → Way false (Of here.block) 0 0 [] old new → Built here [] old new
+built_silent {here} {old} {new} way =
+    let q = silent way in
+    let same = ap (λ (e : Enclosing). e.waiting) q.enclosing in
+    record {
+      grows = grows way;
+      formed = λ o h. refl;
+      parts = λ o rest. refl;
+      ends = tt;
+      accounted = λ number.
+          let waiting = ap (λ l. one_if (waits_in l number)) same in
+          let as_many = ap (λ (l : List Headed). one_if (is_between (length old.headings) (length l) number)) q.headings in
+          omega (arith, waiting, as_many, none_between (length old.headings) number);
+      others = λ number there other none. q.others number other;
+      placed = λ roots rest. refl;
+      over = λ block there. absurd (omega (arith, there));
+      changed = tt;
+      controlled = tt;
+      unthreatened = tt;
+      controls_kept = same_controls way;
+      spared = refl;
+    }
 
 -- ---- where a block stands
 
@@ -484,27 +393,32 @@ pub record Standing (here : Here) (under : List Region) (s : Passed) : Type 0 wh
   pub ready : Ready here under here.block (heads_passed s.headings) s.variables s
   pub block : s.enclosing.block ≡ here.block
   pub around : s.enclosing.around ≡ here.around
-  pub settled : here.owing ≡ false
   pub stands : StandsIn here (reached s)
   pub waiting : (number : ℕ) → waits_in s.enclosing.waiting number ≡ true → IsOpen here s number
 
-pub standing_silent : {here : Here} {under : List Region} {old new : Passed} → Standing here under old → Silent here.block old new
+pub standing_silent : {here : Here} {under : List Region} {old new : Passed} → Standing here under old → Way false (Of here.block) 0 0 [] old new
     → Ready here under here.block (heads_passed old.headings) new.variables new → Standing here under new
-standing_silent {here} {under} {old} {new} st q ready = record {
-  ready = subst (λ h. Ready here under here.block (heads_passed h) new.variables new) (sym q.headings) ready;
-  block = q.block ∙ st.block;
-  around = q.around ∙ st.around;
-  settled = st.settled;
-  stands = stands_later here (reached old) (reached new) (built_further (built_silent {here = here} q)) st.stands;
-  waiting = λ number waits.
-      let o = st.waiting number (ap (λ l. waits_in l number) (sym q.waiting) ∙ waits) in
-      open_later here old new number q.types st.ready.base.have_types (same_longer q.headings) (q.others number o.other) o;
-}
+standing_silent {here} {under} {old} {new} st way ready =
+    let q = silent way in
+    let g = grows way in
+    record {
+      ready = subst (λ h. Ready here under here.block (heads_passed h) new.variables new) (sym q.headings) ready;
+      block = ap (λ (e : Enclosing). e.block) q.enclosing ∙ st.block;
+      around = ap (λ (e : Enclosing). e.around) q.enclosing ∙ st.around;
+      stands = stands_later here (reached old) (reached new) (further way) st.stands;
+      waiting = λ number waits.
+          let o = st.waiting number (ap (λ (e : Enclosing). waits_in e.waiting number) (sym q.enclosing) ∙ waits) in
+          open_later here old new number g.types st.ready.base.have_types g.headings (q.others number o.other) o;
+    }
 
 -- ---- parts of a block
 
+-- with such sites
+abbrev pub LeavesBuilt : Here → List Region → (List Stands → Type 0) → Passed → After (Unit {0}) → Type 0
+LeavesBuilt here under Has s a = Built here a.look s a.passed × Sited Has s a.passed × Standing here under a.passed
+
 pub record Builds (here : Here) (under : List Region) (Has : List Stands → Type 0) (p : Passing (Unit {0})) : Type 0 where
-  pub builds : (s : Passed) (a : After (Unit {0})) → p s ≡ Ok a → Standing here under s → Built here Has a.look s a.passed × Standing here under a.passed
+  pub builds : (s : Passed) (a : After (Unit {0})) → p s ≡ Ok a → Standing here under s → LeavesBuilt here under Has s a
 
 module _ {here : Here} {under : List Region} where
   pub builds_then : {First Second Both : List Stands → Type 0} {p q : Passing (Unit {0})} → ((a b : List Stands) → First a → Second b → Both (a ++ b))
@@ -513,16 +427,16 @@ module _ {here : Here} {under : List Region} where
     builds = λ s a is st.
         let x = parts_of p (λ _. q) s a is in
         let one = first.builds s x.first x.goes st in
-        let two = rest.builds x.first.passed x.second x.goes_on one.1 in
-        subst (λ (b : After (Unit {0})). Built here Both b.look s b.passed × Standing here under b.passed) x.both (built_then joined one.0 two.0, two.1);
+        let two = rest.builds x.first.passed x.second x.goes_on one.2 in
+        subst (LeavesBuilt here under Both s) x.both (built_then one.0 two.0, sited_then joined one.1 two.1, two.2);
   }
 
   pub builds_more : {Has Had : List Stands → Type 0} {p : Passing (Unit {0})} → ((a : List Stands) → Has a → Had a) → Builds here under Has p
       → Builds here under Had p
-  builds_more {Has} {Had} {p} has law = record {
+  builds_more has law = record {
     builds = λ s a is st.
         let one = law.builds s a is st in
-        (built_with has one.0, one.1);
+        (one.0, sited_more has one.1, one.2);
   }
 
   -- a step among declarations
@@ -533,7 +447,11 @@ module _ {here : Here} {under : List Region} where
   keeps_builds {p} {Also} also law = record {
     builds = λ s a is st.
         let k = (law (heads_passed s.headings) (block_there s st)).keeps s a is (st.ready, also s st) in
-        (subst (λ l. Built here (λ added. added ≡ []) l s a.passed) (sym k.0) (built_silent {here = here} k.1), standing_silent st k.1 k.2.0);
+        let way = subst (λ l. Way false (Of here.block) 0 0 l s a.passed) (no_mark k.0) k.0 in (
+          subst (λ l. Built here l s a.passed) (sym (no_mark k.0)) (built_silent {here = here} way),
+          no_sites (silent k.0).sites,
+          standing_silent st way k.1.0,
+        );
   }
     where
       block_there : (s : Passed) → Standing here under s → here.block < length (heads_passed s.headings)

@@ -152,7 +152,7 @@ module _ (here : Here) where
       (fitting_is w.first types formal.type_id t range fits, fitting_whole w.first types lawful.whole formal.type_id t range fits)) λ range next two is.
       let seen = further_still one two in
       let there = formal_later least next callee position formal seen at in
-      mark_does (ForValue (record { site = site; range = range }) callee position) refl refl refl refl refl
+      mark_does (ForValue (record { site = site; range = range }) callee position) refl refl refl
       (λ o h. value_formed next callee position formal (record { site = site; range = range }) o h there by_value
       (is_ordinal_longer seen.types formal.type_id at.stands ∙ ordinal) (omega (arith, known, two.sites)) is.0 is.1)
     where
@@ -181,7 +181,7 @@ module _ (here : Here) where
       copying_there w.first next types formal.type_id t copy same lawful (is_ordinal_longer more.types formal.type_id at.stands ∙ structured) own.1 copies))
       λ copy next more fits.
       let there = formal_later least next callee position formal more at in
-      mark_does (ForWhole formal.type_id copy.source copy.cells callee position) refl refl refl refl refl
+      mark_does (ForWhole formal.type_id copy.source copy.cells callee position) refl refl refl
       (λ o h. whole_formed next callee position formal copy o h there by_value
       (is_ordinal_longer more.types formal.type_id at.stands ∙ structured) fits)
 
@@ -255,13 +255,7 @@ module _ (here : Here) where
       → IsRoutine here (heads_of now) routine.0 routine.1
   routine_is now (denotes.Routine block is_function) routine is sound =
       let same : (block, is_function) ≡ routine = cc in subst (λ (r : ℕ × Bool). IsRoutine here (heads_of now) r.0 r.1) same sound
-  routine_is now (denotes.Constant value type_id) routine is sound = absurd cc
-  routine_is now (denotes.Text number type_id) routine is sound = absurd cc
-  routine_is now (denotes.Variable root type_id) routine is sound = absurd cc
-  routine_is now (denotes.TypeName type_id) routine is sound = absurd cc
-  routine_is now (denotes.Procedure procedure) routine is sound = absurd cc
-  routine_is now (denotes.Function function) routine is sound = absurd cc
-  routine_is now denotes.Output routine is sound = absurd cc
+  routine_is now other routine is sound = absurd cc
 
   -- a routine that may be called here, with what its heading tells
   pub record MayCall (now : Reached) (is_function : Bool) (callee : ℕ) : Type 0 where
@@ -317,7 +311,7 @@ module _ (here : Here) where
   unfolding routine_call
   routine_call_does {least} is_function callee place actuals rows routine stands laws =
       let may = may_call_it least is_function callee routine in
-      quietly (enter_does (λ n. Calls n place callee) (λ n. refl) (λ n. refl) (λ n. refl) (λ n. refl) (λ n. refl) (λ n o h. refl)) λ _ entered one _.
+      quietly (enter_does (λ n. Calls n place callee) (λ n. refl) (λ n. refl) (λ n. refl) (λ n o h. refl)) λ _ entered one _.
       quietly (heading_at_does callee may.signature (get_longer one.headings callee may.signature may.heading)) λ heading now two is.
       let known = get_longer (further_still one two).headings callee may.signature may.heading in
       let same : heading.parameters ≡ may.signature.parameters = ap (λ (s : Signature). s.parameters) is.0 in
@@ -326,7 +320,7 @@ module _ (here : Here) where
       let as_many = subst (λ l. nat_eq (length actuals) (length l) ≡ true) same (count_is place (length actuals) (length heading.parameters) counts) in
       last (actuals_do heading.parameters actuals rows callee 0 laws (parameters_later now next callee 0 heading.parameters three all)) λ _ _ four _.
       let seen = further_still one (further_still two (further_still three four)) in
-      quietly (mark_does (Called is_function callee (length actuals)) refl refl refl refl refl
+      quietly (mark_does (Called is_function callee (length actuals)) refl refl refl
       (λ o h. called_formed least is_function callee (length actuals) may stands as_many o (further_still seen h))) λ _ _ _ _.
       pure_does heading.result (λ n h. tt)
 

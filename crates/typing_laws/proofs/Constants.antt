@@ -43,12 +43,7 @@ number_whole value few = few
 pub constant_is : (place : Place) (d c : Denotation) → as_constant place d ≡ Ok c → d ≡ c
 constant_is place (denotes.Constant value type_id) c is = cc
 constant_is place (denotes.Text number type_id) c is = cc
-constant_is place (denotes.Variable root type_id) c is = absurd cc
-constant_is place (denotes.TypeName type_id) c is = absurd cc
-constant_is place (denotes.Procedure procedure) c is = absurd cc
-constant_is place (denotes.Function function) c is = absurd cc
-constant_is place (denotes.Routine block is_function) c is = absurd cc
-constant_is place denotes.Output c is = absurd cc
+constant_is place other c is = absurd cc
 
 negative_whole : (value : ℤ) → IsWhole value → IsWhole (neg_ℤ value)
 negative_whole value whole = grind (arith, ints)
@@ -82,23 +77,11 @@ module _ (here : Here) where
     behind_sound (Some at) (denotes.Constant value type_id) made is sound =
         let made_is = fit_is (is_same type_id integer && is_whole value) at.place (denotes.Constant (signed_value at.sign value) integer) made is in
         subst (IsSound here variables types heads) made_is.1 (signed_whole at.sign value sound)
-    behind_sound (Some at) (denotes.Text number type_id) made is sound = absurd cc
-    behind_sound (Some at) (denotes.Variable root type_id) made is sound = absurd cc
-    behind_sound (Some at) (denotes.TypeName type_id) made is sound = absurd cc
-    behind_sound (Some at) (denotes.Procedure procedure) made is sound = absurd cc
-    behind_sound (Some at) (denotes.Function function) made is sound = absurd cc
-    behind_sound (Some at) (denotes.Routine block is_function) made is sound = absurd cc
-    behind_sound (Some at) denotes.Output made is sound = absurd cc
+    behind_sound (Some at) other made is sound = absurd cc
 
     pub ordinal_whole : (d : Denotation) → IsSound here variables types heads d → IsWholeOrdinal (as_ordinal d)
     ordinal_whole (denotes.Constant value type_id) sound = sound
-    ordinal_whole (denotes.Text number type_id) sound = tt
-    ordinal_whole (denotes.Variable root type_id) sound = tt
-    ordinal_whole (denotes.TypeName type_id) sound = tt
-    ordinal_whole (denotes.Procedure procedure) sound = tt
-    ordinal_whole (denotes.Function function) sound = tt
-    ordinal_whole (denotes.Routine block is_function) sound = tt
-    ordinal_whole denotes.Output sound = tt
+    ordinal_whole other sound = tt
 
     pub number_sound : (number : ℕ) (place : Place) (c : Denotation)
         → fits (nat_le number 2147483647) place (denotes.Constant (pos number) integer) ≡ Ok c → IsSound here variables types heads c

@@ -49,11 +49,12 @@ use Rattle.typing_laws.proofs.Constants.{IsWhole, IsWholeOrdinal, number_whole, 
 use Rattle.typing_laws.proofs.Strings.{AreOfChar, IsStringOf, fit_is, all_of_char, no_characters, char_whole, type_added, string_type_is}
 use Rattle.typing_laws.proofs.Grown.{both_true}
 use Rattle.typing_laws.proofs.Owned.{cells_more, declares, parameters_of, results_of, roots_none_more, roots_one_more}
-use Rattle.typing_laws.proofs.Reached.{as_long, one_longer, Head, Here, is_round_here, get_last, last_or_before}
+use Rattle.typing.proofs.Ways.{Nobody, One, Stay, Token, Typed, Text, Output, Define, Declare}
+use Rattle.typing_laws.proofs.Went.{grows}
+use Rattle.typing_laws.proofs.Reached.{IsLonger, as_long, one_longer, Head, Here, is_round_here, get_last, last_or_before}
 use Rattle.typing_laws.proofs.Sound.{IsSound, IsVariable, found_holds, define_holds, inside_itself, regions_later}
 use Rattle.typing_laws.proofs.Ready.{base_variable}
-use Rattle.typing_laws.proofs.Keeping.{Silent, Ready, Keeps, Kept, silent_types, silent_regions, silent_as_is, silent_variable, silent_latest, silent_texts}
-use Rattle.typing_laws.proofs.Keeping.{silent_output, ready_regions, ready_latest, ready_output, ready_types, keeps_then, always, each_keeps, keeps_checks}
+use Rattle.typing_laws.proofs.Keeping.{Ready, Keeps, Kept, ready_regions, ready_latest, ready_output, ready_types, keeps_then, always, each_keeps, keeps_checks}
 use Rattle.typing_laws.proofs.Keeping.{pure_keeps, behind, before, aside}
 use Rattle.typing_laws.proofs.Steps.{split, split_unless, below}
 
@@ -76,13 +77,7 @@ at_most a b h = grind (arith, nat_tests)
 pub named_is : (name : Name) (r : Result Denotation ScopeFault) (type_id : TypeId) → named_type name r ≡ Ok type_id
     → r ≡ Ok (denotes.TypeName type_id)
 named_is name (Ok (denotes.TypeName id)) type_id is = cc
-named_is name (Ok (denotes.Constant value id)) type_id is = absurd cc
-named_is name (Ok (denotes.Text number id)) type_id is = absurd cc
-named_is name (Ok (denotes.Variable root id)) type_id is = absurd cc
-named_is name (Ok (denotes.Procedure procedure)) type_id is = absurd cc
-named_is name (Ok (denotes.Function function)) type_id is = absurd cc
-named_is name (Ok (denotes.Routine block is_function)) type_id is = absurd cc
-named_is name (Ok denotes.Output) type_id is = absurd cc
+named_is name (Ok other) type_id is = absurd cc
 named_is name (Err scope.Memory) type_id is = absurd cc
 named_is name (Err scope.DeclaredTwice) type_id is = absurd cc
 named_is name (Err scope.UsedBeforeDeclared) type_id is = absurd cc
@@ -162,8 +157,7 @@ module _ (here : Here) (under : List Region) (counted : ℕ) (heads : List Head)
         let sound = define_holds (IsSound here (bound s) s.types heads) text denotation s.regions x.0 from.1 r.sound defined in
         let below = define_under text denotation s.regions x.0 defined ∙ r.under_it in
         subst (Kept counted s (λ _ n. Ready here under counted heads (bound n) n)) same (
-          refl,
-          silent_regions x.0,
+          One (Define text denotation x.0 tt defined),
           subst (λ n. Ready here under counted heads n (record s { regions = x.0 })) (sym (same_bound s x.0)) (ready_regions x.0 sound below r),
         );
   }
@@ -188,7 +182,7 @@ module _ (here : Here) (under : List Region) (counted : ℕ) (heads : List Head)
 
   pass_keeps : (place : Place) → Keeps counted IsReady (pass place) Readied
   unfolding pass
-  pass_keeps place = always (pass place) tt (λ s. record s { latest = place }) (λ s. refl) λ s r. (silent_latest place, ready_latest place r)
+  pass_keeps place = always (pass place) tt (λ s. record s { latest = place }) (λ s. refl) λ s r. (One (Token place), ready_latest place r)
 
   -- what may be denoted
   abbrev IsFit : Passed → Denotation → Type 0
@@ -207,7 +201,7 @@ module _ (here : Here) (under : List Region) (counted : ℕ) (heads : List Head)
         let same : after x.0 [] (record s { latest = name.place }) ≡ a = cc in
         let it_is = told_is name.place (found s.regions text) x.0 x.1 in
         let sound = found_holds (IsSound here s.variables s.types heads) s.regions text x.0 r.sound it_is in
-        subst (Kept counted s Denotes) same (refl, silent_latest name.place, (ready_latest name.place r, sound));
+        subst (Kept counted s Denotes) same (One (Token name.place), (ready_latest name.place r, sound));
   }
 
   -- something else that holds of what an answer says
@@ -217,7 +211,7 @@ module _ (here : Here) (under : List Region) (counted : ℕ) (heads : List Head)
     keeps = λ s a is r.
         let x = split checked (λ answer. Ok (after answer [] s)) a is in
         let same : after x.0 [] s ≡ a = cc in
-        subst (Kept counted s (λ x n. IsReady n × Says x)) same (refl, silent_as_is, (r, says x.0 x.1));
+        subst (Kept counted s (λ x n. IsReady n × Says x)) same (Stay, (r, says x.0 x.1));
   }
 
   string_type_keeps : (place : Place) (n : ℕ) → 1 < n
@@ -226,7 +220,7 @@ module _ (here : Here) (under : List Region) (counted : ℕ) (heads : List Head)
     keeps = λ s a is r.
         let made = string_type_is place n s a more r.base.lawful is in
         subst (Kept counted s (λ id m. IsReady m × IsStringOf n id m.types)) made.same
-        (refl, silent_types a.passed.types made.longer, (ready_types a.passed.types made.longer made.lawful r, (made.few, made.string)));
+        (made.way, (ready_types a.passed.types (grows {acts = false} {owner = Nobody} made.way).types made.lawful r, (made.few, made.string)));
   }
 
   keep_text_keeps : (text : List ℕ) → Keeps counted (λ s. IsReady s × (are_characters text ≡ true)) (keep_text text) Readied
@@ -241,11 +235,9 @@ module _ (here : Here) (under : List Region) (counted : ℕ) (heads : List Head)
           under_it = r.under_it;
           base = r.base;
           texts = texts_more s.texts text r.texts from.1;
-          few_sites = r.few_sites;
-          few_entries = r.few_entries;
           cells = r.cells;
         } in
-        subst (Kept counted s Readied) same (refl, silent_texts (s.texts ++ text ∷ []), ready);
+        subst (Kept counted s Readied) same (One (Text text), ready);
   }
 
   text_keeps : (place : Place) (cs : List ℕ) → 1 < length cs → list_all is_character cs ≡ true
@@ -253,7 +245,7 @@ module _ (here : Here) (under : List Region) (counted : ℕ) (heads : List Head)
   text_keeps place cs more all =
       keeps_then (string_type_keeps place (length cs) more) λ type_id.
       keeps_then (before (λ s from. ((from.0, both_true _ _ from.1.0 all), from.1.1))
-      (aside {Also = λ s. is_string s.types type_id ≡ true} (λ s new silent. is_string_longer silent.types type_id) (keep_text_keeps cs))) λ number.
+      (aside {Also = λ s. is_string s.types type_id ≡ true} (λ s new longer same. is_string_longer longer type_id) (keep_text_keeps cs))) λ number.
       pure_keeps (denotes.Text number type_id) (λ s is. is)
 
   string_constant_keeps : (place : Place) (cs : List ℕ) → AreOfChar cs → Keeps counted IsReady (string_constant place cs) Denotes
@@ -298,7 +290,7 @@ module _ (here : Here) (under : List Region) (counted : ℕ) (heads : List Head)
 
   give_output_keeps : Keeps counted IsReady give_output Readied
   unfolding give_output
-  give_output_keeps = always give_output tt (λ s. record s { has_output = true }) (λ s. refl) λ s r. (silent_output, ready_output r)
+  give_output_keeps = always give_output tt (λ s. record s { has_output = true }) (λ s. refl) λ s r. (One Output, ready_output r)
 
   pub parameter_keeps : (name : Name) → Keeps counted IsReady (parameter_of_program name) Readied
   unfolding parameter_of_program
@@ -375,7 +367,7 @@ module _ (here : Here) (under : List Region) (counted : ℕ) (heads : List Head)
         let r = from.0 in
         let x = split_unless (nat_le most_variables (length s.variables)) (fault.TooMany place) (after (length s.variables) [] s) a is in
         subst (Kept counted s (λ root n. IsRoot of type_id root n × HasRoots roots results n)) x.1
-        (refl, silent_as_is, ((r.0.0, (r.0.1, below most_variables (length s.variables) x.0, r.1), refl), from.1));
+        (Stay, ((r.0.0, (r.0.1, below most_variables (length s.variables) x.0, r.1), refl), from.1));
   }
 
   pub root_is_next : (of : VariableKind) (type_id : TypeId) (root : ℕ) (s : Passed) → IsRoot of type_id root s → IsNext of type_id root s
@@ -406,15 +398,12 @@ module _ (here : Here) (under : List Region) (counted : ℕ) (heads : List Head)
                 base_variable s.types s.variables s.headings (length heads) one r.base there next.1.0 next.1.1
                 (omega (arith, r.cells, at_most most_cells taken x.0)) next.1.2;
             texts = r.texts;
-            few_sites = r.few_sites;
-            few_entries = r.few_entries;
             cells = ap (λ n. n + cells_of s.types type_id) r.cells ∙ sym (cells_more s.types counted s.variables one own);
           } in
           let at_root = next.2 in
           subst (Kept counted s (λ _ n. (IsBehind of type_id n × HasRoots (and_root of roots root) (and_result of results root) n)
           × (slice_get n.variables root ≡ Some (declared_as of type_id)))) x.1 (
-            refl,
-            silent_variable one taken refl,
+            One (Declare one taken refl),
             (
               (
                 ((ready, next.1.0), next.1.2),
@@ -458,7 +447,7 @@ module _ (here : Here) (under : List Region) (counted : ℕ) (heads : List Head)
               let known =
               subst (λ (z : After (Unit {0})). MayCome of type_id z.passed × (root ≡ length z.passed.variables) × HasRoots roots results z.passed) same.1
               (from.0.1, from.0.2, from.1) in
-              (done.0, done.1, ((done.2, known.0, known.1), known.2));
+              (done.0, ((done.1, known.0, known.1), known.2));
         }
 
   -- ---- types
@@ -473,7 +462,7 @@ module _ (here : Here) (under : List Region) (counted : ℕ) (heads : List Head)
         let one : x.0.index < length s.types =
         found_holds (IsSound here s.variables s.types heads) s.regions (folded name.text.now) (denotes.TypeName x.0) r.sound
         (named_is name denoted x.0 x.1) in
-        subst (Kept counted s IsTyped) same (refl, silent_latest name.place, (ready_latest name.place r, one));
+        subst (Kept counted s IsTyped) same (One (Token name.place), (ready_latest name.place r, one));
   }
 
   add_type_keeps : (place : Place) (form : Form)
@@ -483,8 +472,7 @@ module _ (here : Here) (under : List Region) (counted : ℕ) (heads : List Head)
         let x = type_added place form s a is in
         let lawful = lawful_more s.types form x.0 from.0.base.lawful from.1 from.2 x.1 in
         subst (Kept counted s IsTyped) x.2 (
-          refl,
-          silent_types (s.types ++ form ∷ []) (one_longer s.types form),
+          One (Typed form),
           (ready_types (s.types ++ form ∷ []) (one_longer s.types form) lawful from.0, omega (arith, length-append s.types (form ∷ []))),
         );
   }
@@ -505,7 +493,7 @@ module _ (here : Here) (under : List Region) (counted : ℕ) (heads : List Head)
             let x = split checked (λ answer. Ok (after answer [] s)) a is in
             let same : after x.0 [] s ≡ a = cc in
             subst (Kept counted s (λ value n. (IsReady n × IsWhole value) × (type_id.index < length n.types))) same
-            (refl, silent_as_is, ((from.0, whole x.0 x.1), from.1));
+            (Stay, ((from.0, whole x.0 x.1), from.1));
       }
 
       declared_value : (value : ℤ) → Keeps counted (λ s. (IsReady s × IsWhole value) × (type_id.index < length s.types))
@@ -515,7 +503,7 @@ module _ (here : Here) (under : List Region) (counted : ℕ) (heads : List Head)
         keeps = λ s a is from.
             let done = (define_keeps name (denotes.Constant value type_id)).keeps s a is (from.0.0, from.0.1) in
             let same = declare_is name (denotes.Constant value type_id) s a is in
-            (done.0, done.1, (done.2, subst (λ (z : After (Unit {0})). type_id.index < length z.passed.types) same.1 from.1));
+            (done.0, (done.1, subst (λ (z : After (Unit {0})). type_id.index < length z.passed.types) same.1 from.1));
       }
 
   latest_keeps : Keeps counted IsReady latest Readied
@@ -523,7 +511,7 @@ module _ (here : Here) (under : List Region) (counted : ℕ) (heads : List Head)
   latest_keeps = record {
     keeps = λ s a is r.
         let same : after s.latest [] s ≡ a = cc in
-        subst (Kept counted s Readied) same (refl, silent_as_is, r);
+        subst (Kept counted s Readied) same (Stay, r);
   }
 
   enumeration_keeps : (names : List Name) → Keeps counted IsReady (enumeration names) IsTyped
@@ -547,7 +535,7 @@ module _ (here : Here) (under : List Region) (counted : ℕ) (heads : List Head)
       last_keeps f = record {
         keeps = λ s a is k.
             let one = (ordinal_keeps last).keeps s a is k.0 in
-            (one.0, one.1, (one.2, k.1));
+            (one.0, (one.1, k.1));
       }
 
       form_keeps : (f : Option (ℤ × TypeId))
@@ -575,15 +563,16 @@ module _ (here : Here) (under : List Region) (counted : ℕ) (heads : List Head)
   abbrev FieldsStand : List FieldForm → Passed → Type 0
   FieldsStand fields s = AreFieldsOver (length s.types) fields
 
-  stays : (id : TypeId) (s new : Passed) → Silent counted s new → Stands id s → Stands id new
-  stays id s new silent is = stands_longer silent.types id is
+  stays : (id : TypeId) (s new : Passed) → IsLonger s.types new.types → new.enclosing.block ≡ s.enclosing.block → Stands id s → Stands id new
+  stays id s new longer same is = stands_longer longer id is
 
-  all_stay : (ids : List TypeId) (s new : Passed) → Silent counted s new → AllStand ids s → AllStand ids new
-  all_stay [] s new silent all = tt
-  all_stay (id ∷ ids) s new silent all = (stays id s new silent all.0, all_stay ids s new silent all.1)
+  all_stay : (ids : List TypeId) (s new : Passed) → IsLonger s.types new.types → new.enclosing.block ≡ s.enclosing.block → AllStand ids s → AllStand ids new
+  all_stay [] s new longer same all = tt
+  all_stay (id ∷ ids) s new longer same all = (stays id s new longer same all.0, all_stay ids s new longer same all.1)
 
-  fields_stay : (fields : List FieldForm) (s new : Passed) → Silent counted s new → FieldsStand fields s → FieldsStand fields new
-  fields_stay fields s new silent all = λ k field is. stays field.type_id s new silent (all k field is)
+  fields_stay : (fields : List FieldForm) (s new : Passed) → IsLonger s.types new.types → new.enclosing.block ≡ s.enclosing.block → FieldsStand fields s
+      → FieldsStand fields new
+  fields_stay fields s new longer same all = λ k field is. stays field.type_id s new longer same (all k field is)
 
   index_type_keeps : (w : WrittenDenoter) → KeepsDenoter w → KeepsDenoter (index_type w)
   unfolding index_type
@@ -629,7 +618,7 @@ module _ (here : Here) (under : List Region) (counted : ℕ) (heads : List Head)
         let x = split (named_fields fields type_id names) (λ answer. Ok (after answer [] s)) a is in
         let same : after x.0 [] s ≡ a = cc in
         subst (Kept counted s HaveFields) same
-        (refl, silent_as_is, (from.0.0, named_over (length s.types) fields type_id names x.0 from.0.1 from.1 x.1));
+        (Stay, (from.0.0, named_over (length s.types) fields type_id names x.0 from.0.1 from.1 x.1));
   }
 
   grouped_fields_keep : (fields : List FieldForm) (rows : List (Vec Name Global)) (ws : List WrittenDenoter) → KeepDenoters ws
@@ -713,8 +702,8 @@ module _ (here : Here) (under : List Region) (counted : ℕ) (heads : List Head)
           law.keeps s a goes (((from.0, inl refl), (refl, refl)), from.1);
     }
       where
-        counted_stays : (s new : Passed) → Silent counted s new → IsCounted s → IsCounted new
-        counted_stays s new silent is = silent.block ∙ is
+        counted_stays : (s new : Passed) → IsLonger s.types new.types → new.enclosing.block ≡ s.enclosing.block → IsCounted s → IsCounted new
+        counted_stays s new longer same is = same ∙ is
 
         behind_nothing_is : (r : Checked (After (Unit {0}))) (a : After (Unit {0})) → behind_marks [] r ≡ Ok a → r ≡ Ok a
         behind_nothing_is (Ok b) a h = let same : b ≡ a = cc in ap Ok same
@@ -726,5 +715,5 @@ module _ (here : Here) (under : List Region) (counted : ℕ) (heads : List Head)
         keeps_then (aside counted_stays (denoted_type_keeps g.denoter)) λ type_id.
         behind (λ x s is. (is.0.0, is.1)) (each_keeps (local_keeps type_id) g.names.items)
       where
-        counted_stays : (s new : Passed) → Silent counted s new → IsCounted s → IsCounted new
-        counted_stays s new silent is = silent.block ∙ is
+        counted_stays : (s new : Passed) → IsLonger s.types new.types → new.enclosing.block ≡ s.enclosing.block → IsCounted s → IsCounted new
+        counted_stays s new longer same is = same ∙ is

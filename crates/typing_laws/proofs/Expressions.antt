@@ -51,13 +51,7 @@ pub variable_is : (here : Here) (now : Reached) (place : Place) (d : Denotation)
 variable_is here now place (denotes.Variable root type_id) variable is sound =
     let same : (root, type_id) ≡ variable = cc in
     subst (λ (v : ℕ × TypeId). IsVariable here now.variables now.types v.0 v.1) same sound
-variable_is here now place (denotes.Constant value type_id) variable is sound = absurd cc
-variable_is here now place (denotes.Text number type_id) variable is sound = absurd cc
-variable_is here now place (denotes.TypeName type_id) variable is sound = absurd cc
-variable_is here now place (denotes.Procedure procedure) variable is sound = absurd cc
-variable_is here now place (denotes.Function function) variable is sound = absurd cc
-variable_is here now place (denotes.Routine block is_function) variable is sound = absurd cc
-variable_is here now place denotes.Output variable is sound = absurd cc
+variable_is here now place other variable is sound = absurd cc
 
 module _ (here : Here) where
   -- ---- constants and variables
@@ -74,7 +68,7 @@ module _ (here : Here) where
           quietly (given_does (value_of value place)) λ v _ _ is.
           let fit = fit_is (nat_le value 2147483647) place (pos value) v is in
           joins (leads_first 2 place (led lead) []) (behind_does lead place) λ id now _ known.
-          quietly (enter_does (λ n. Constant n (pos value)) (λ n. refl) (λ n. refl) (λ n. refl) (λ n. refl) (λ n. refl) (λ n o h. fit.0)) λ _ _ one _.
+          quietly (enter_does (λ n. Constant n (pos value)) (λ n. refl) (λ n. refl) (λ n. refl) (λ n o h. fit.0)) λ _ _ one _.
           pure_does (typed integer id) (λ n h. ordinal_types integer id now n (further_still one h) known)
 
   -- two or more characters
@@ -83,7 +77,7 @@ module _ (here : Here) where
       (string_type place (length cs) >>= (λ type_id. enter_as (λ n. Text n cs) >> pure (typed_text type_id (length cs) id))) Types
   text_does place id {least} cs known more all =
       quietly (string_type_does place (length cs) more) λ type_id _ one made.
-      quietly (enter_does (λ n. Text n cs) (λ n. refl) (λ n. refl) (λ n. refl) (λ n. refl) (λ n. refl) (λ n o h. both_true _ _ made.0 all)) λ _ _ two _.
+      quietly (enter_does (λ n. Text n cs) (λ n. refl) (λ n. refl) (λ n. refl) (λ n o h. both_true _ _ made.0 all)) λ _ _ two _.
       pure_does (typed_text type_id (length cs) id) (λ n h. (
         known_later id least n (further_still one (further_still two h)) known,
         λ count long. is_string_longer (further_still two h).types type_id made.1,
@@ -94,7 +88,7 @@ module _ (here : Here) where
   unfolding spelled
   spelled_does place id [] known all = absurd (no_characters all)
   spelled_does place id {least} (c ∷ []) known all =
-      quietly (enter_does (λ n. Constant n (pos c)) (λ n. refl) (λ n. refl) (λ n. refl) (λ n. refl) (λ n. refl) (λ n o h. char_whole c all.1)) λ _ _ more _.
+      quietly (enter_does (λ n. Constant n (pos c)) (λ n. refl) (λ n. refl) (λ n. refl) (λ n o h. char_whole c all.1)) λ _ _ more _.
       pure_does (typed char id) (λ n h. ordinal_types char id least n (further_still more h) known)
   spelled_does place id (c ∷ d ∷ cs) known all = text_does place id (c ∷ d ∷ cs) known (omega arith) all.1
 
@@ -119,7 +113,7 @@ module _ (here : Here) where
       by : {least : Reached} → Does here least (Leads place (led lead) []) (denoted (denotes.Constant value type_id) place lead) Types
       by =
           joins (leads_first 2 place (led lead) []) (behind_does lead place) λ id now _ known.
-          quietly (enter_does (λ n. Constant n value) (λ n. refl) (λ n. refl) (λ n. refl) (λ n. refl) (λ n. refl) (λ n o h. sound.0)) λ _ _ more _.
+          quietly (enter_does (λ n. Constant n value) (λ n. refl) (λ n. refl) (λ n. refl) (λ n o h. sound.0)) λ _ _ more _.
           pure_does (typed type_id id) (λ n h. ordinal_types type_id id now n (further_still more h) known)
   denoted_does (denotes.Text number type_id) place {least} lead is sound = led_covers here 2 place [] (led lead) (led_alone lead is) by
     where
@@ -127,7 +121,7 @@ module _ (here : Here) where
       by =
           joins (leads_first 2 place (led lead) []) (behind_does lead place) λ id now seen known.
           quietly (text_at_does number) λ cs _ one are.
-          quietly (enter_does (λ n. Text n cs) (λ n. refl) (λ n. refl) (λ n. refl) (λ n. refl) (λ n. refl) (λ n o h. are)) λ _ _ two _.
+          quietly (enter_does (λ n. Text n cs) (λ n. refl) (λ n. refl) (λ n. refl) (λ n o h. are)) λ _ _ two _.
           pure_does (typed_text type_id (length cs) id) (λ n h.
           let later = further_still one (further_still two h) in (
             known_later id now n later known,
@@ -165,7 +159,7 @@ module _ (here : Here) where
       let start = leads_nowhere here variable.0 variable.1 now found sound.1 in
       let found_there = variable_later here now there variable.0 variable.1 two found in
       quietly (may_change_does name.place variable.0 variable.1 found_there) λ _ changed three may.
-      quietly (enter_does Access (λ n. refl) (λ n. refl) (λ n. refl) (λ n. refl) (λ n. refl) (λ n o h. refl)) λ _ entered four _.
+      quietly (enter_does Access (λ n. refl) (λ n. refl) (λ n. refl) (λ n o h. refl)) λ _ entered four _.
       let seen = further_still two (further_still three four) in
       last (selected_does here variable.0 [] variable.1 selectors rows ws laws (leads_later here variable.0 [] variable.1 now entered seen start))
       λ component met five l.
@@ -175,7 +169,7 @@ module _ (here : Here) where
       let formal_there = formal_later least next callee position formal (further_still one (further_still seen (further_still five six))) at in
       let may_there = change_later here changed next variable.0 (further_still four (further_still five six)) may in
       change_does (ForVariable formal.type_id variable.0 component.0 (index_count component.0) callee position) variable.0
-      refl refl refl refl refl refl may_there
+      refl refl refl refl may_there
       (λ o h. both_true _ _ (leads_formed here variable.0 component.0 component.1 next led (λ id. is_same id formal.type_id) o h same)
       (ap (of_one (takes_variable formal.type_id)) (formal_is next callee position formal o h formal_there)
       ∙ both_true _ _ is (eq-eqb formal.type_id.index formal.type_id.index refl))))
@@ -235,9 +229,9 @@ module _ (here : Here) where
       by least lead =
           quietly (pass_does place) λ _ _ _ _.
           joins (leads_first 2 place (led lead) places) (behind_does lead place) λ id now _ known.
-          quietly (enter_does Operation (λ n. refl) (λ n. refl) (λ n. refl) (λ n. refl) (λ n. refl) (λ n o h. refl)) λ _ next one _.
+          quietly (enter_does Operation (λ n. refl) (λ n. refl) (λ n. refl) (λ n o h. refl)) λ _ next one _.
           last (checks {L = Anything} (law.types next None tt) λ types t b n more is _. tt) λ _ _ two _.
-          quietly (mark_does (Applied does) refl refl refl refl refl (λ o h. formed o)) λ _ _ three _.
+          quietly (mark_does (Applied does) refl refl refl (λ o h. formed o)) λ _ _ three _.
           pure_does (typed type_id id) (λ n h. ordinal_types type_id id now n (further_still one (further_still two (further_still three h))) known)
 
   pub negation_does : (place : Place) (places : List Place) (operand : Written) → LawfulWritten here places operand

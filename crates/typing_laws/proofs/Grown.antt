@@ -1,27 +1,27 @@
 -- What a form does to what is known: it adds sites, entries and perhaps types, and its marks are well formed, as they
 -- are with more sites, types, variables and headings behind. All else stays.
-use Rattle.std.proofs.Common.{◌≡◌, ℕ, zero, suc, ◌+◌, ◌<◌, ◌≤◌, Bool, true, false, nat_eq, refl, ◌&&◌, List, [], ◌∷◌, ◌++◌, length, map, Some, slice_get}
-use Rattle.std.proofs.Common.{append_assoc, length-append, sym, ap, ap₂, subst, ◌∙◌, arith, ◌||◌, inl, inr, ◌⊎◌}
-use Rattle.std.specs.List.{range_with_len, list_all, flat_map, list_any}
+use Rattle.std.proofs.Common.{◌≡◌, ℕ, ◌<◌, Bool, true, false, nat_eq, refl, ◌&&◌, List, ◌++◌, length, map, Some, slice_get}
+use Rattle.std.proofs.Common.{append_assoc, length-append, sym, ap, subst, ◌∙◌, arith}
+use Rattle.std.specs.List.{list_all, list_any}
 use Rattle.std.proofs.lemmas.List.Folds.{list_all-append}
 use Rattle.std.proofs.lemmas.Grind.{flat_map-append}
 use Rattle.types.specs.Types.{is_ordinal}
 use Rattle.typed_tree.specs.declared.tree.Variable.{Variable}
 use Rattle.typed_tree.specs.Ids.{Stands}
-use Rattle.typed_tree.specs.WellFormed.{Outline, is_parameter_kind, most_entries}
-use Rattle.typed_tree.specs.Look.{Mark, Look, mark_entries, entries_of_look, mark_loops, loops_of_look, blocks_of_look, mark_blocks, is_formed_mark}
+use Rattle.typed_tree.specs.WellFormed.{Outline, is_parameter_kind}
+use Rattle.typed_tree.specs.Look.{Look, is_formed_mark}
 use Rattle.typing.specs.Passing.{Enclosing, Passed}
-use Rattle.typing.specs.Steps.{most_sites}
-use Rattle.typing_laws.proofs.Reached.{IsLonger, longer_still, same_longer, get_longer, Signature, signature_passed, Head, head_of, Reached, reached, whole_of}
+use Rattle.typing.proofs.Ways.{Owner, Nobody, Way, Then}
+use Rattle.typing_laws.proofs.Reached.{get_longer, Signature, signature_passed, Head, head_of, Reached, reached, whole_of}
 use Rattle.typing_laws.proofs.Reached.{IsFurther, further_still, mapped_longer, Here, StandsIn, stands_later}
-use Rattle.typing_laws.proofs.Sound.{AreSound, inside_itself, regions_later, or_right}
+use Rattle.typing_laws.proofs.Sound.{AreSound, inside_itself, regions_later}
 use Rattle.typing_laws.proofs.Tables.{AreLawful, AreTexts, stands_longer, is_ordinal_longer}
 use Rattle.typing_laws.specs.Controls.{Each, mark_changes, mark_controls, spared_behind}
 use Rattle.typing_laws.proofs.Spared.{AreHeld, spared_then}
 use Rattle.typing_laws.proofs.Reached.{apart_kept}
+use Rattle.typing_laws.proofs.Went.{Grows, grows, inner, same_controls}
 use Rattle.typing_laws.proofs.Kept.{MayChange, change_later, changes_of, controls_of, each_append, each_more}
 use Rattle.typing_laws.proofs.Owned.{Fails}
-use Rattle.typing_laws.specs.Results.{is_target, mark_targets}
 
 -- ---- headings that were passed
 
@@ -92,8 +92,6 @@ pub record Fine (here : Here) (s : Passed) : Type 0 where
   pub sound : AreSoundAt here s
   pub lawful : AreLawful s.types
   pub texts : AreTexts s.texts
-  pub few_sites : length s.sites ≤ most_sites
-  pub few_entries : s.entries ≤ most_entries
   pub block : s.enclosing.block ≡ here.block
   pub around : s.enclosing.around ≡ here.around
   pub stands : StandsIn here (reached s)
@@ -106,133 +104,65 @@ pub record IsFree (here : Here) (old new : Passed) (root : ℕ) : Type 0 where
   pub own : nat_eq variable.block here.block ≡ true
   pub free : Fails (list_any (nat_eq root) old.threatened)
 
--- a form of a block that looks so, with sites of which something holds
-pub record Grown (here : Here) (Has : List Stands → Type 0) (look : Look) (old new : Passed) : Type 0 where
-  pub regions : new.regions ≡ old.regions
-  pub longer : IsLonger old.types new.types
+-- a form of a block that looks so
+pub record Grown (here : Here) (look : Look) (old new : Passed) : Type 0 where
+  pub way : Way true Nobody 0 0 look old new
   pub lawful : AreLawful new.types
   pub texts : AreTexts new.texts
-  pub variables_kept : new.variables ≡ old.variables
-  pub headings_kept : new.headings ≡ old.headings
-  pub enclosing_kept : new.enclosing ≡ old.enclosing
-  pub added : List Stands
-  pub sites : new.sites ≡ old.sites ++ added
-  pub covered : Has added
-  pub few_sites : length new.sites ≤ most_sites
-  pub numbered : entries_of_look look ≡ range_with_len old.entries (length (entries_of_look look))
-  pub entered : new.entries ≡ old.entries + length (entries_of_look look)
-  pub few_entries : new.entries ≤ most_entries
-  pub looped : loops_of_look look ≡ range_with_len old.loops (length (loops_of_look look))
-  pub begun : new.loops ≡ old.loops + length (loops_of_look look)
-  pub inner : blocks_of_look look ≡ []
-  pub threats : (root : ℕ) → list_any (nat_eq root) old.threatened ≡ true → list_any (nat_eq root) new.threatened ≡ true
-  pub assigns : (root : ℕ) → list_any (nat_eq root) old.assigned ≡ true → list_any (nat_eq root) new.assigned ≡ true
-  pub assigned :
-      here.owing ≡ false → (root : ℕ) → list_any (nat_eq root) new.assigned ≡ true
-      → (list_any (nat_eq root) old.assigned ≡ true) ⊎ (is_target look root ≡ true)
   pub changes : Each (MayChange here (reached new)) (changes_of look)
   pub controls : Each (IsFree here old new) (controls_of look)
   pub formed : (o : Outline) → IsFurther (reached new) (whole_of o) → list_all (is_formed_mark o here.block) look ≡ true
-  pub controls_kept : new.controls ≡ old.controls
   pub spared : (roots : List ℕ) → AreHeld roots old.controls → spared_behind roots look ≡ Some roots
 
-pub range_joins : (a m n : ℕ) → range_with_len a (m + n) ≡ range_with_len a m ++ range_with_len (a + m) n
-range_joins a zero n =
-    let left : 0 + n ≡ n = omega arith in
-    let right : a ≡ a + 0 = omega arith in
-    ap (range_with_len a) left ∙ ap (λ b. range_with_len b n) right
-range_joins a (suc m) n =
-    let left : suc m + n ≡ suc (m + n) = omega arith in
-    let right : (a + 1) + m ≡ a + suc m = omega arith in
-    ap (range_with_len a) left ∙ ap (λ l. a ∷ l) (range_joins (a + 1) m n ∙ ap (λ b. range_with_len (a + 1) m ++ range_with_len b n) right)
+-- the sites that come, of which something holds
+pub record Sited (Has : List Stands → Type 0) (old new : Passed) : Type 0 where
+  pub added : List Stands
+  pub sites : new.sites ≡ old.sites ++ added
+  pub covered : Has added
+
+abbrev pub sited_then : {First Second Both : List Stands → Type 0} {old now new : Passed} → ((a b : List Stands) → First a → Second b → Both (a ++ b))
+    → Sited First old now → Sited Second now new → Sited Both old new
+sited_then {old = old} joined f g = record {
+  added = f.added ++ g.added;
+  sites = g.sites ∙ ap (λ l. l ++ g.added) f.sites ∙ append_assoc old.sites f.added g.added;
+  covered = joined f.added g.added f.covered g.covered;
+}
+
+abbrev pub sited_more : {Has Had : List Stands → Type 0} {old new : Passed} → ((a : List Stands) → Has a → Had a) → Sited Has old new → Sited Had old new
+sited_more has x = record { added = x.added; sites = x.sites; covered = has x.added x.covered }
 
 pub both_true : (a b : Bool) → a ≡ true → b ≡ true → (a && b) ≡ true
 both_true a b x y = ap (λ c. c && b) x ∙ y
 
--- there are no fewer sites than before
-pub more_sites : {here : Here} {Has : List Stands → Type 0} {look : Look} {old new : Passed} → Grown here Has look old new
-    → length old.sites ≤ length new.sites
-more_sites {old = old} g = omega (arith, ap length g.sites, length-append old.sites g.added)
-
-pub further : {here : Here} {Has : List Stands → Type 0} {look : Look} {old new : Passed} → Grown here Has look old new
-    → IsFurther (reached old) (reached new)
-further {old = old} {new = new} g = record {
-  sites = more_sites g;
-  types = g.longer;
-  variables = same_longer g.variables_kept;
-  headings = same_longer (ap (map signature_passed) g.headings_kept);
+pub grown_further : (old new : Passed) → Grows old new → new.controls ≡ old.controls → IsFurther (reached old) (reached new)
+grown_further old new g kept = record {
+  sites = omega (arith, ap length g.sites.goes_on, length-append old.sites g.sites.more);
+  types = g.types;
+  variables = g.variables;
+  headings = mapped_longer signature_passed g.headings;
   threats = g.threats;
-  apart = apart_kept old new g.controls_kept;
+  apart = apart_kept old new kept;
 }
 
-pub fine_later : {here : Here} {Has : List Stands → Type 0} {look : Look} {old new : Passed} → Grown here Has look old new
-    → Fine here old → Fine here new
+pub further : {acts : Bool} {owner : Owner} {from to : ℕ} {look : Look} {old new : Passed} → Way acts owner from to look old new
+    → IsFurther (reached old) (reached new)
+further {old = old} {new = new} way = grown_further old new (grows way) (same_controls way)
+
+pub fine_later : {here : Here} {look : Look} {old new : Passed} → Grown here look old new → Fine here old → Fine here new
 fine_later {here} {old = old} {new = new} g f =
-    let more = further g in
-    let same = ap (map signature_passed) g.headings_kept in
+    let more = further g.way in
+    let kept = inner g.way in
     record {
       sound =
-          subst (AreSound here new.variables new.types (heads_of (reached new))) (sym g.regions)
+          subst (AreSound here new.variables new.types (heads_of (reached new))) (sym kept.regions)
           (regions_later inside_itself more.variables more.types (mapped_longer head_of more.headings) old.regions f.sound);
       lawful = g.lawful;
       texts = g.texts;
-      few_sites = g.few_sites;
-      few_entries = g.few_entries;
-      block = ap (λ (e : Enclosing). e.block) g.enclosing_kept ∙ f.block;
-      around = ap (λ (e : Enclosing). e.around) g.enclosing_kept ∙ f.around;
+      block = ap (λ (e : Enclosing). e.block) kept.enclosing ∙ f.block;
+      around = ap (λ (e : Enclosing). e.around) kept.enclosing ∙ f.around;
       stands = stands_later here (reached old) (reached new) more f.stands;
-      fit = fit_later (reached old) (reached new) more same f.fit;
+      fit = fit_later (reached old) (reached new) more (ap (map signature_passed) kept.headings) f.fit;
     }
-
--- numbers that marks have
-module _ (numbers : Mark → List ℕ) (look more : Look) where
-  pub counted : length (flat_map numbers (look ++ more)) ≡ length (flat_map numbers look) + length (flat_map numbers more)
-  counted = ap length (flat_map-append numbers look more) ∙ length-append (flat_map numbers look) (flat_map numbers more)
-
-  -- they go on
-  pub go_on : (from next : ℕ) → flat_map numbers look ≡ range_with_len from (length (flat_map numbers look)) → next ≡ from + length (flat_map numbers look)
-      → flat_map numbers more ≡ range_with_len next (length (flat_map numbers more))
-      → flat_map numbers (look ++ more) ≡ range_with_len from (length (flat_map numbers (look ++ more)))
-  go_on from next one is two =
-      flat_map-append numbers look more ∙ ap (λ l. l ++ flat_map numbers more) one
-      ∙ ap (λ l. range_with_len from (length (flat_map numbers look)) ++ l) (two ∙ ap (λ n. range_with_len n (length (flat_map numbers more))) is)
-      ∙ sym (range_joins from (length (flat_map numbers look)) (length (flat_map numbers more)))
-      ∙ ap (range_with_len from) (sym counted)
-
--- a target is one among more
-any_first : (xs ys : List ℕ) (root : ℕ) → list_any (nat_eq root) xs ≡ true → list_any (nat_eq root) (xs ++ ys) ≡ true
-any_first [] ys root is = absurd cc
-any_first (x ∷ xs) ys root is = by (nat_eq root x) (any_first xs ys root) is
-  where
-    by : (test : Bool) → (list_any (nat_eq root) xs ≡ true → list_any (nat_eq root) (xs ++ ys) ≡ true) → (test || list_any (nat_eq root) xs) ≡ true
-        → (test || list_any (nat_eq root) (xs ++ ys)) ≡ true
-    by true more h = refl
-    by false more h = more h
-
-any_second : (xs ys : List ℕ) (root : ℕ) → list_any (nat_eq root) ys ≡ true → list_any (nat_eq root) (xs ++ ys) ≡ true
-any_second [] ys root is = is
-any_second (x ∷ xs) ys root is = or_right (nat_eq root x) (list_any (nat_eq root) (xs ++ ys)) (any_second xs ys root is)
-
-pub target_first : (look more : Look) (root : ℕ) → is_target look root ≡ true → is_target (look ++ more) root ≡ true
-target_first look more root is =
-    subst (λ l. list_any (nat_eq root) l ≡ true) (sym (flat_map-append mark_targets look more))
-    (any_first (flat_map mark_targets look) (flat_map mark_targets more) root is)
-
-pub target_second : (look more : Look) (root : ℕ) → is_target more root ≡ true → is_target (look ++ more) root ≡ true
-target_second look more root is =
-    subst (λ l. list_any (nat_eq root) l ≡ true) (sym (flat_map-append mark_targets look more))
-    (any_second (flat_map mark_targets look) (flat_map mark_targets more) root is)
-
--- assigned in one part or in the other
-pub assigned_then : {before between : Bool} (look more : Look) (root : ℕ)
-    → (between ≡ true → (before ≡ true) ⊎ (is_target look root ≡ true)) → (between ≡ true) ⊎ (is_target more root ≡ true)
-    → (before ≡ true) ⊎ (is_target (look ++ more) root ≡ true)
-assigned_then {before} look more root first (inl there) = by (first there)
-  where
-    by : (before ≡ true) ⊎ (is_target look root ≡ true) → (before ≡ true) ⊎ (is_target (look ++ more) root ≡ true)
-    by (inl old) = inl old
-    by (inr target) = inr (target_first look more root target)
-assigned_then {before} look more root first (inr target) = inr (target_second look more root target)
 
 -- a variable that is threatened later alone is free before
 free_before : (a b : Bool) → (a ≡ true → b ≡ true) → Fails b → Fails a
@@ -240,42 +170,24 @@ free_before true b more is = let same : false ≡ true = sym is ∙ more refl in
 free_before false b more is = refl
 
 -- one form, and then another
-pub grown_then : {here : Here} {First Second Both : List Stands → Type 0} {look more : Look} {old now new : Passed}
-    → ((a b : List Stands) → First a → Second b → Both (a ++ b))
-    → Grown here First look old now → Grown here Second more now new → Grown here Both (look ++ more) old new
-grown_then {here} {First} {Second} {Both} {look} {more} {old} {now} {new} joined f g = record {
-  regions = g.regions ∙ f.regions;
-  longer = longer_still f.longer g.longer;
+pub grown_then : {here : Here} {look more : Look} {old now new : Passed} → Grown here look old now → Grown here more now new
+    → Grown here (look ++ more) old new
+grown_then {here} {look} {more} {old} {now} {new} f g = record {
+  way = Then f.way g.way;
   lawful = g.lawful;
   texts = g.texts;
-  variables_kept = g.variables_kept ∙ f.variables_kept;
-  headings_kept = g.headings_kept ∙ f.headings_kept;
-  enclosing_kept = g.enclosing_kept ∙ f.enclosing_kept;
-  added = f.added ++ g.added;
-  sites = g.sites ∙ ap (λ l. l ++ g.added) f.sites ∙ append_assoc old.sites f.added g.added;
-  covered = joined f.added g.added f.covered g.covered;
-  few_sites = g.few_sites;
-  numbered = go_on mark_entries look more old.entries now.entries f.numbered f.entered g.numbered;
-  entered = omega (arith, f.entered, g.entered, counted mark_entries look more);
-  few_entries = g.few_entries;
-  looped = go_on mark_loops look more old.loops now.loops f.looped f.begun g.looped;
-  begun = omega (arith, f.begun, g.begun, counted mark_loops look more);
-  inner = flat_map-append mark_blocks look more ∙ ap₂ (λ a b. a ++ b) f.inner g.inner;
-  threats = λ root is. g.threats root (f.threats root is);
-  assigns = λ root is. g.assigns root (f.assigns root is);
-  assigned = λ settled root is. assigned_then look more root (f.assigned settled root) (g.assigned settled root is);
   changes =
       subst (Each (MayChange here (reached new))) (sym (flat_map-append mark_changes look more))
       (each_append (MayChange here (reached new)) (changes_of look) (changes_of more)
       (each_more (MayChange here (reached now)) (MayChange here (reached new)) (changes_of look)
-      (λ root. change_later here (reached now) (reached new) root (further g)) f.changes)
+      (λ root. change_later here (reached now) (reached new) root (further g.way)) f.changes)
       g.changes);
   controls =
       subst (Each (IsFree here old new)) (sym (flat_map-append mark_controls look more))
       (each_append (IsFree here old new) (controls_of look) (controls_of more)
       (each_more (IsFree here old now) (IsFree here old new) (controls_of look) (λ root c. record {
         variable = c.variable;
-        is_there = ap (λ l. slice_get l root) g.variables_kept ∙ c.is_there;
+        is_there = ap (λ l. slice_get l root) (inner g.way).variables ∙ c.is_there;
         own = c.own;
         free = c.free;
       }) f.controls)
@@ -283,10 +195,9 @@ grown_then {here} {First} {Second} {Both} {look} {more} {old} {now} {new} joined
         variable = c.variable;
         is_there = c.is_there;
         own = c.own;
-        free = free_before (list_any (nat_eq root) old.threatened) (list_any (nat_eq root) now.threatened) (f.threats root) c.free;
+        free = free_before (list_any (nat_eq root) old.threatened) (list_any (nat_eq root) now.threatened) ((grows f.way).threats root) c.free;
       }) g.controls));
   formed = λ o h.
-      list_all-append (is_formed_mark o here.block) look more ∙ both_true _ _ (f.formed o (further_still (further g) h)) (g.formed o h);
-  controls_kept = g.controls_kept ∙ f.controls_kept;
-  spared = λ roots held. spared_then roots look more (f.spared roots held) (g.spared roots (subst (AreHeld roots) (sym f.controls_kept) held));
+      list_all-append (is_formed_mark o here.block) look more ∙ both_true _ _ (f.formed o (further_still (further g.way) h)) (g.formed o h);
+  spared = λ roots held. spared_then roots look more (f.spared roots held) (g.spared roots (subst (AreHeld roots) (sym (same_controls f.way)) held));
 }

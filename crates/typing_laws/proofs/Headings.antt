@@ -22,6 +22,7 @@ use Rattle.typed_tree.specs.declared.fault.TypeFault.TheVariants as fault
 use Rattle.typed_tree.specs.declared.tree.Variable.{Variable}
 use Rattle.typed_tree.specs.declared.tree.VariableKind.{VariableKind}
 use Rattle.typed_tree.specs.declared.tree.VariableKind.TheVariants as variable
+use Rattle.typed_tree.specs.Look.{Look}
 use Rattle.typed_tree.specs.WellFormed.{declarer, is_local_kind, is_parameter_kind, is_result_kind, most_blocks, most_variables, is_one_of, roots_where}
 use Rattle.typed_tree.specs.WellFormed.{variables_of}
 use Rattle.typing.specs.Names.{folded, all_folded, formal_names}
@@ -34,7 +35,9 @@ use Rattle.typing_laws.proofs.Reached.{IsLonger, as_long, longer_still, one_long
 use Rattle.typing_laws.proofs.Reached.{Here, is_round_here, StandsIn}
 use Rattle.typing_laws.proofs.Sound.{IsSound, AreSound, IsSoundRegion, found_holds, opened_holds, inside_itself, inside_routine, regions_later}
 use Rattle.typing_laws.proofs.Ready.{Base, IsHeaded, IsOrdinalAt, IsPlacedAt, base_heading, heads_passed, placed_longer, type_stands}
-use Rattle.typing_laws.proofs.Keeping.{Silent, Ready, Keeps, keeps_then, pure_keeps, aside, before}
+use Rattle.typing.proofs.Ways.{Of, Way}
+use Rattle.typing_laws.proofs.Went.{Grows, grows, no_mark, same_controls, silent}
+use Rattle.typing_laws.proofs.Keeping.{Ready, Keeps, keeps_then, pure_keeps, aside, before}
 use Rattle.typing_laws.proofs.Declarations.{IsReady, IsBehind, HasRoots, and_root, and_result, declared_keeps, named_is, next_root_keeps, reserve_keeps}
 use Rattle.typing_laws.proofs.Declarations.{root_is_next}
 use Rattle.typing_laws.proofs.Strings.{behind_nothing, fit_is, both_and}
@@ -241,8 +244,8 @@ module _ (here : Here) (under : List Region) (number : ℕ) (heads : List Head) 
         stand_later old new [] longer stand = tt
         stand_later old new (one ∷ all) longer stand = (stands_longer longer one stand.0, stand_later old new all longer stand.1)
 
-        all_stand : (s new : Passed) → Silent number s new → AllStand s.types ids → AllStand new.types ids
-        all_stand s new silent stand = stand_later s.types new.types ids silent.types stand
+        all_stand : (s new : Passed) → IsLonger s.types new.types → new.enclosing.block ≡ s.enclosing.block → AllStand s.types ids → AllStand new.types ids
+        all_stand s new longer same stand = stand_later s.types new.types ids longer stand
 
 -- it leaves the regions as they are
 result_regions : (number : ℕ) (place : Place) (id : Option TypeId) (s : Passed) (a : After (Option ℕ)) → result number place id s ≡ Ok a
@@ -275,13 +278,8 @@ result_regions number place (Some id) s a is =
 -- what a heading leaves: one more of a block of this number, and the block round it as it was
 pub record HeadingAdded (here : Here) (under : List Region) (number : ℕ) (old new : Passed) : Type 0 where
   pub sites : new.sites ≡ old.sites
-  pub entries : new.entries ≡ old.entries
-  pub loops : new.loops ≡ old.loops
-  pub threatened : new.threatened ≡ old.threatened
   pub controls_kept : new.controls ≡ old.controls
-  pub assigned : new.assigned ≡ old.assigned
-  pub types : IsLonger old.types new.types
-  pub variables : IsLonger old.variables new.variables
+  pub grows : Grows old new
   pub regions : new.regions ≡ old.regions
   pub enclosing : new.enclosing ≡ old.enclosing
   pub headed : Headed
@@ -369,7 +367,7 @@ innermost_sound here variables types heads (region ∷ regions) sound = sound.0
 
 module _ (here : Here) (under : List Region) (number : ℕ) (name : Name) (groups : List FormalGroup) (of_result : Option Name) where
   abbrev inner : Here
-  inner = record { block = number; around = here.around ++ here.block ∷ []; owing = false }
+  inner = record { block = number; around = here.around ++ here.block ∷ [] }
 
   abbrev pending : Head
   pending = record { around = here.around ++ here.block ∷ []; is_function = not (is_none of_result) }
@@ -430,7 +428,8 @@ module _ (here : Here) (under : List Region) (number : ℕ) (name : Name) (group
   record Parametered (heads : List Head) (s : Passed) (round : Enclosing) (root : Option ℕ) (a : After (Unit {0})) : Type 0 where
     pub roots : List ℕ
     pub last : Passed
-    pub silent : Silent number (opened_here s) last
+    pub look : Look
+    pub way : Way false (Of number) 0 0 look (opened_here s) last
     pub ready : Ready inner s.regions number heads last.variables last
     pub has : HasRoots inner s.regions number heads roots (roots_of root) last
     pub is : after tt [] (with_heading round root roots last) ≡ a
@@ -456,16 +455,14 @@ module _ (here : Here) (under : List Region) (number : ℕ) (name : Name) (group
         under_it = refl;
         base = ready.base;
         texts = ready.texts;
-        few_sites = ready.few_sites;
-        few_entries = ready.few_entries;
         cells = ready.cells;
       } in
-      let x = quiet_parts (parameters number groups types) rest n a on (λ b goes. (law.keeps n b goes (((set, new), stand), has)).0) in
+      let x = quiet_parts (parameters number groups types) rest n a on (λ b goes. no_mark (law.keeps n b goes (((set, new), stand), has)).0) in
       let k = law.keeps n x.0 x.1 (((set, new), stand), has) in
       let roots = x.0.answer in
       let s6 = x.0.passed in
       let last : after tt [] (with_heading round root roots s6) ≡ a = ok_is x.2 in
-      record { roots = roots; last = s6; silent = k.1; ready = k.2.0.0; has = k.2.1; is = last }
+      record { roots = roots; last = s6; look = x.0.look; way = k.0; ready = k.1.0.0; has = k.1.1; is = last }
     where
       ok_is : {b c : After (Unit {0})} → ◌≡◌ {A = Checked (After (Unit {0}))} (Ok b) (Ok c) → b ≡ c
       ok_is h = cc
@@ -476,12 +473,10 @@ module _ (here : Here) (under : List Region) (number : ℕ) (name : Name) (group
     pub id : Option TypeId
     pub as_told : is_none id ≡ is_none of_result
     pub start : Passed
-    pub from : (start.sites ≡ s.sites) × (start.entries ≡ s.entries) × (start.loops ≡ s.loops) × (start.regions ≡ s.regions)
-        × (start.headings ≡ s.headings) × IsLonger s.types start.types × IsLonger s.variables start.variables
-    pub threatened : start.threatened ≡ s.threatened
-    pub controls_kept : start.controls ≡ s.controls
-    pub assigned : start.assigned ≡ s.assigned
-    pub others : (block : ℕ) → Fails (nat_eq number block) → variables_of block start.variables ≡ variables_of block s.variables
+    pub place : Place
+    pub look : Look
+    pub way : Way false (Of number) 0 0 look (record s { latest = place; enclosing = record (s.enclosing) { cells = 0 } }) start
+    pub regions : start.regions ≡ s.regions
     pub root : Option ℕ
     pub ready : Ready inner under number (heads_passed s.headings ++ pending ∷ []) start.variables start
     pub has : HasRoots inner under number (heads_passed s.headings ++ pending ∷ []) [] (roots_of root) start
@@ -527,8 +522,6 @@ module _ (here : Here) (under : List Region) (number : ℕ) (name : Name) (group
         under_it = e.ready.under_it;
         base = e.ready.base;
         texts = e.ready.texts;
-        few_sites = e.ready.few_sites;
-        few_entries = e.ready.few_entries;
         cells = sym (ap (λ l. cells_in s.types l) (no_own number s.variables e.owned));
       } in
       let none : HasRoots inner under number heads [] [] n3 =
@@ -536,24 +529,23 @@ module _ (here : Here) (under : List Region) (number : ℕ) (name : Name) (group
       let outcome = outcome_inner heads s.types y.0.answer two.1 in
       let law = result_keeps inner under number heads there name.place y.0.answer s.types outcome in
       let z = quiet_parts (result number name.place y.0.answer) rest n3 a on3
-      (λ b goes. (law.keeps n3 b goes ((set_of n3 heads ready e.number_is, none), refl)).0) in
+      (λ b goes. no_mark (law.keeps n3 b goes ((set_of n3 heads ready e.number_is, none), refl)).0) in
       let k = law.keeps n3 z.0 z.1 ((set_of n3 heads ready e.number_is, none), refl) in
       record {
         types = x.0.answer;
         id = y.0.answer;
         as_told = two.2;
         start = z.0.passed;
-        from = (k.1.sites, k.1.entries, k.1.loops, result_regions number name.place y.0.answer n3 z.0 z.1, k.1.headings, k.1.types, k.1.variables);
-        threatened = k.1.threatened;
-        controls_kept = k.1.controls_kept;
-        assigned = k.1.assigned;
-        others = k.1.others;
+        place = two.0.0;
+        look = z.0.look;
+        way = k.0;
+        regions = result_regions number name.place y.0.answer n3 z.0 z.1;
         root = z.0.answer;
-        ready = k.2.0.0.0;
-        has = k.2.0.1;
-        result_is = k.2.1;
-        ordinal = outcome_later heads s.types z.0.passed.types y.0.answer k.1.types outcome;
-        stand = all_later s.types z.0.passed.types x.0.answer k.1.types one.1;
+        ready = k.1.0.0.0;
+        has = k.1.0.1;
+        result_is = k.1.1;
+        ordinal = outcome_later heads s.types z.0.passed.types y.0.answer (grows k.0).types outcome;
+        stand = all_later s.types z.0.passed.types x.0.answer (grows k.0).types one.1;
         goes = z.2;
       }
     where
@@ -596,7 +588,7 @@ module _ (here : Here) (under : List Region) (number : ℕ) (name : Name) (group
   heading_adds s a e is =
       let heads = heads_passed s.headings ++ pending ∷ [] in
       let r = resulted s a e is in
-      let few : length r.start.headings ≤ number = omega (arith, ap length r.from.4, e.number_is) in
+      let few : length r.start.headings ≤ number = omega (arith, ap length (silent r.way).headings, e.number_is) in
       let counted : length heads ≡ number + 1 =
       length-append (heads_passed s.headings) (pending ∷ []) ∙ ap (λ n. n + 1) (heads_count s.headings ∙ sym e.number_is) in
       let there : number < length heads = omega (arith, counted) in
@@ -604,14 +596,14 @@ module _ (here : Here) (under : List Region) (number : ℕ) (name : Name) (group
       let last = p.last in
       let headed = made s.enclosing r.root p.roots last in
       let new = with_heading s.enclosing r.root p.roots last in
-      let same_headings : last.headings ≡ s.headings = p.silent.headings ∙ r.from.4 in
+      let same_headings : last.headings ≡ s.headings = (silent p.way).headings ∙ (silent r.way).headings in
       let number_last : number ≡ length last.headings = e.number_is ∙ ap length (sym same_headings) in
-      let types : IsLonger s.types last.types = longer_still r.from.5 p.silent.types in
-      let variables : IsLonger s.variables last.variables = longer_still r.from.6 p.silent.variables in
-      let regions : new.regions ≡ s.regions = p.ready.under_it ∙ r.from.3 in
+      let types : IsLonger s.types last.types = longer_still (grows r.way).types (grows p.way).types in
+      let variables : IsLonger s.variables last.variables = longer_still (grows r.way).variables (grows p.way).variables in
+      let regions : new.regions ≡ s.regions = p.ready.under_it ∙ r.regions in
       let around : headed.around ≡ here.around ++ here.block ∷ [] = ap₂ (λ l b. l ++ b ∷ []) e.around e.block in
       let others : (block : ℕ) → Fails (nat_eq number block) → variables_of block last.variables ≡ variables_of block s.variables =
-      λ block other. p.silent.others block other ∙ r.others block other in
+      λ block other. (silent p.way).others block other ∙ (silent r.way).others block other in
       let head : head_of (signature_passed headed) ≡ pending =
       ap₂ (λ l (b : Bool). record { around = l; is_function = not b }) around (head_is r.id r.root r.start r.result_is ∙ r.as_told) in
       let same_heads : heads_passed new.headings ≡ heads =
@@ -628,12 +620,12 @@ module _ (here : Here) (under : List Region) (number : ℕ) (name : Name) (group
         parameters = sym p.has.0;
         results = sym p.has.1;
         ordinal = λ root told.
-            ordinal_later r.start.types last.types r.start.variables last.variables root r.ready.base.have_types p.silent.types p.silent.variables
+            ordinal_later r.start.types last.types r.start.variables last.variables root r.ready.base.have_types (grows p.way).types (grows p.way).variables
             (result_ordinal heads r.id r.root r.start root r.result_is r.ordinal told);
         region =
-            subst (λ h. IsSoundRegion (record { block = number; around = headed.around; owing = false }) last.variables last.types h headed.region)
+            subst (λ h. IsSoundRegion (record { block = number; around = headed.around }) last.variables last.types h headed.region)
             (sym same_heads)
-            (subst (λ l. IsSoundRegion (record { block = number; around = l; owing = false }) last.variables last.types heads headed.region) (sym around)
+            (subst (λ l. IsSoundRegion (record { block = number; around = l }) last.variables last.types heads headed.region) (sym around)
             (innermost_sound inner last.variables last.types heads last.regions p.ready.sound));
       } in
       let base =
@@ -649,19 +641,18 @@ module _ (here : Here) (under : List Region) (number : ℕ) (name : Name) (group
         under_it = ap outer regions ∙ e.ready.under_it;
         base = subst (Base last.types last.variables new.headings) (ap length (sym same_heads)) base;
         texts = p.ready.texts;
-        few_sites = p.ready.few_sites;
-        few_entries = p.ready.few_entries;
         cells = e.ready.cells ∙ sym own_cells;
       } in
       let added : HeadingAdded here under number s new = record {
-        sites = p.silent.sites ∙ r.from.0;
-        entries = p.silent.entries ∙ r.from.1;
-        loops = p.silent.loops ∙ r.from.2;
-        threatened = p.silent.threatened ∙ r.threatened;
-        controls_kept = p.silent.controls_kept ∙ r.controls_kept;
-        assigned = p.silent.assigned ∙ r.assigned;
-        types = types;
-        variables = variables;
+        sites = (silent p.way).sites ∙ (silent r.way).sites;
+        controls_kept = same_controls p.way ∙ same_controls r.way;
+        grows = record {
+          types = types;
+          variables = variables;
+          headings = longer;
+          sites = longer_still (grows r.way).sites (grows p.way).sites;
+          threats = λ root is. (grows p.way).threats root ((grows r.way).threats root is);
+        };
         regions = regions;
         enclosing = refl;
         headed = headed;

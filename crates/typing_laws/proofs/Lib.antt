@@ -10,6 +10,9 @@ mod Spared
 pub mod Sparing
 pub mod Unthreatened
 pub mod Grown
+mod Numbers
+mod Went
+mod Assigned
 pub mod Steps
 pub mod Strings
 mod Copies

@@ -124,13 +124,9 @@ module _ (here : Here) where
   operator_kinds op.And = []
 
   operator_ascending : (o : Operator) → AreAbove 2 (operator_kinds o)
-  operator_ascending op.Plus = (omega arith, tt)
-  operator_ascending op.Minus = (omega arith, tt)
   operator_ascending op.Or = tt
-  operator_ascending op.Times = (omega arith, tt)
-  operator_ascending op.Div = (omega arith, tt)
-  operator_ascending op.Mod = (omega arith, tt)
   operator_ascending op.And = tt
+  operator_ascending other = (omega arith, tt)
 
   -- its sites are among those that there are
   abbrev IsFormedBy : {A : Type 0} → (Outline → ℕ → A → Bool) → A → Reached → Type 0
@@ -169,7 +165,7 @@ module _ (here : Here) where
           → Does here least (Leads place (operator_kinds o) places) (link o place operand left) Types
       by least left known =
           joins (leads_first 2 place (operator_kinds o) places) (operation_does o place) λ tests now one formed.
-          quietly (enter_does (λ n. OperatorMark n tests) (λ n. refl) (λ n. refl) (λ n. refl) (λ n. refl) (λ n. refl) (λ n w h. formed w h)) λ _ next two _.
+          quietly (enter_does (λ n. OperatorMark n tests) (λ n. refl) (λ n. refl) (λ n. refl) (λ n w h. formed w h)) λ _ next two _.
           last (checks {L = Anything} (law.types next None tt) λ types right b n more is _. tt) λ _ _ three _.
           let later = further_still one (further_still two three) in
           pure_does (typed (operand_type o) left.site) (λ n h. ordinal_types (operand_type o) left.site least n (further_still later h) known.0)
@@ -193,11 +189,11 @@ module _ (here : Here) where
   chain_does first ls places others law more =
       no_variable_lawful here (places ++ others) (law.begins.0 ++ others) first.first _ (ap (λ l. l ++ others) law.begins.1)
       (λ least lead is.
-      quietly (mark_does Begins refl refl refl refl refl (λ o h. refl)) λ _ now _ _.
+      quietly (mark_does Begins refl refl refl (λ o h. refl)) λ _ now _ _.
       joins (covers_both 2 places others) (law.types now lead is) λ f met _ led.
       last (more met f led) λ t _ behind _.
       quietly (given_does (fits (is_none f.length) first.first t)) λ _ _ one _.
-      quietly (mark_does Ends refl refl refl refl refl (λ o h. refl)) λ _ _ two _.
+      quietly (mark_does Ends refl refl refl (λ o h. refl)) λ _ _ two _.
       pure_does (typed t.type_id f.site)
       (λ n h. ordinal_types t.type_id f.site met n (further_still behind (further_still one (further_still two h))) led.0))
 
@@ -205,10 +201,8 @@ module _ (here : Here) where
 
   compares_does : {least : Reached} (left right : Option ℕ) → are_alike left right ≡ true → Does here least Nothing (compares left right) Anything
   unfolding compares
-  compares_does None None alike = pure_does tt (λ n h. tt)
-  compares_does None (Some b) alike = pure_does tt (λ n h. tt)
-  compares_does (Some a) None alike = pure_does tt (λ n h. tt)
-  compares_does (Some a) (Some b) alike = mark_does (Compared a b) refl refl refl refl refl (λ o h. alike)
+  compares_does (Some a) (Some b) alike = mark_does (Compared a b) refl refl refl (λ o h. alike)
+  compares_does left right alike = pure_does tt (λ n h. tt)
 
   -- they hold between ordinals, or between strings of one length
   abbrev AreAlike : Typed → Typed → Reached → Type 0
@@ -227,14 +221,14 @@ module _ (here : Here) where
   relation_does left o place right places others law behind =
       no_variable_lawful here (places ++ place ∷ others) (law.begins.0 ++ place ∷ others) left.first _ (ap (λ l. l ++ place ∷ others) law.begins.1)
       (λ least lead is.
-      quietly (mark_does Begins refl refl refl refl refl (λ o h. refl)) λ _ now _ _.
+      quietly (mark_does Begins refl refl refl (λ o h. refl)) λ _ now _ _.
       joins (covers_both 2 places (place ∷ others)) (law.types now lead is) λ l met _ known.
       sited (covers_skip 2 place others)
-      (quietly (enter_does (λ n. OperatorMark n (dyadic.Relation (relation_of o))) (λ n. refl) (λ n. refl) (λ n. refl) (λ n. refl) (λ n. refl)
+      (quietly (enter_does (λ n. OperatorMark n (dyadic.Relation (relation_of o))) (λ n. refl) (λ n. refl) (λ n. refl)
       (λ n w h. refl)) λ _ next one _.
       last (checks {L = AreAlike l} (behind.types next None tt) λ types t b n more is _. alike_where types l t b place n is) λ r there two alike.
       quietly (compares_does l.length r.length alike) λ _ _ three _.
-      quietly (mark_does Ends refl refl refl refl refl (λ o h. refl)) λ _ _ four _.
+      quietly (mark_does Ends refl refl refl (λ o h. refl)) λ _ _ four _.
       let later = further_still one (further_still two (further_still three four)) in
       pure_does (typed boolean l.site) (λ n h. ordinal_types boolean l.site met n (further_still later h) known.0)))
 
@@ -304,12 +298,12 @@ module _ (here : Here) where
       led_covers here 2 name.place places (kinds ++ led lead) (function_ascending f.does lead is)
       (joins (leads_more name.place kinds (led lead) places) (function_does f.does name.place) λ operation met _ formed.
       joins (leads_first 2 name.place (led lead) places) (behind_does lead name.place) λ id now seen known.
-      quietly (enter_does Operation (λ n. refl) (λ n. refl) (λ n. refl) (λ n. refl) (λ n. refl) (λ n o h. refl)) λ _ _ one _.
+      quietly (enter_does Operation (λ n. refl) (λ n. refl) (λ n. refl) (λ n o h. refl)) λ _ _ one _.
       quietly (given_does (only name.place actuals)) λ actual m two right.
       last (checks_types {L = λ does n. IsFormedBy monadic_is_well_formed does.0 n} ((laws actual right).types m None tt)
       λ types t does n later same lawful is _. applied_formed types lawful.whole f operation actual.first t does is met n
       (further_still seen (further_still one (further_still two later))) formed) λ does _ three formed.
-      quietly (mark_does (Applied does.0) refl refl refl refl refl (λ o h. formed o h)) λ _ _ four _.
+      quietly (mark_does (Applied does.0) refl refl refl (λ o h. formed o h)) λ _ _ four _.
       let later = further_still one (further_still two (further_still three four)) in
       pure_does (typed does.1 id) (λ n h. ordinal_types does.1 id now n (further_still later h) known))
 

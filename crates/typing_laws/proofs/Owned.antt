@@ -104,15 +104,11 @@ not_both false b is = refl
 
 pub local_no_parameter : (of : VariableKind) → is_local_kind of ≡ true → Fails (is_parameter_kind of)
 local_no_parameter kind.Local is = refl
-local_no_parameter kind.ValueParameter is = absurd cc
-local_no_parameter kind.VariableParameter is = absurd cc
-local_no_parameter kind.Result is = absurd cc
+local_no_parameter other is = absurd cc
 
 pub local_no_result : (of : VariableKind) → is_local_kind of ≡ true → Fails (is_result_kind of)
 local_no_result kind.Local is = refl
-local_no_result kind.ValueParameter is = absurd cc
-local_no_result kind.VariableParameter is = absurd cc
-local_no_result kind.Result is = absurd cc
+local_no_result other is = absurd cc
 
 -- blocks are different
 pub other_block : (a b : ℕ) → (a ≡ b → ⊥) → Fails (nat_eq a b)

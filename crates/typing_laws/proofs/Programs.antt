@@ -1,12 +1,13 @@
 -- The law of typing: what each typed program has.
 use Rattle.std.proofs.Common.{◌≡◌, ℕ, zero, suc, ◌+◌, ◌<◌, ◌≤◌, true, false, ◌&&◌, nat_eq, nat_lt, nat_le, List, [], ◌∷◌, ◌++◌, length, map, Option, Some, None}
-use Rattle.std.proofs.Common.{Ok, slice_get, refl, sym, ap, ap₂, subst, ◌∙◌, arith, append_assoc, Bool, inl, inr, option_map, ◌⊎◌}
+use Rattle.std.proofs.Common.{Ok, slice_get, refl, sym, ap, ap₂, subst, ◌∙◌, arith, append_assoc}
 use Rattle.std.specs.Prelude.{IsPermutation}
-use Rattle.std.specs.List.{range_with_len, list_all, flat_map, list_any}
+use Rattle.std.specs.List.{range_with_len, list_all}
 use Rattle.std.proofs.lemmas.Bool.Decides.{nat_tests}
 use Rattle.std.proofs.lemmas.Grind.{flat_map-append}
 use Rattle.std.proofs.lemmas.List.{length-map}
 use Rattle.std.proofs.lemmas.Option.{slice_get_within}
+use Rattle.std.proofs.lemmas.Result.{IfOk-at_ok}
 use Rattle.place.specs.declared.Place.{Place}
 use Rattle.syntax_tree.specs.declared.Name.{Name}
 use Rattle.syntax_tree.specs.declared.Program.{Program}
@@ -17,41 +18,44 @@ use Rattle.typed_tree.specs.declared.tree.FunctionResult.{FunctionResult}
 use Rattle.typed_tree.specs.declared.tree.Heading.{Heading as TreeHeading}
 use Rattle.typed_tree.specs.declared.tree.Variable.{Variable}
 use Rattle.typed_tree.specs.Ids.{Stands, AreByPlace}
-use Rattle.typed_tree.specs.Look.{Look, Mark, BlockEnds, mark_entries, entries_of_look, mark_loops, loops_of_look, mark_blocks, blocks_of_look, are_formed}
+use Rattle.typed_tree.specs.Look.{Look, Mark, BlockEnds, mark_blocks, blocks_of_look, are_formed}
 use Rattle.typed_tree.specs.WellFormed.{Outline, are_few_cells, is_heading, most_entries}
 use Rattle.typing.specs.Names.{all_folded, required_region}
 use Rattle.typing.specs.Passing.{Headed, Passed, Checked, After, Passing, after, behind_marks, each, ◌>>◌}
 use Rattle.typing.specs.Steps.{begins, open_block, open_required, program_heading}
 use Rattle.typing.specs.Routines.{TypedBlock, block_end, typed_block}
 use Rattle.typing.specs.Typing.{parameter_of_program, parameters_of_program, program_typing, typing}
+use Rattle.typing.proofs.WalkedBlocks.{typing_goes}
+use Rattle.typing.proofs.Ways.{Anyone, Way}
 use Rattle.typing_laws.specs.Lawful.{IsOutlineOf, Lawful}
 use Rattle.typing_laws.proofs.Blocks.{block_lawful}
-use Rattle.typing_laws.proofs.Bodies.{closed, closed_blocks, closed_entries, closed_formed, closed_loops, fine_standing, unthreatened_at_end, results_end}
-use Rattle.typing_laws.proofs.Bodies.{target_ended}
+use Rattle.typing_laws.proofs.Bodies.{closed, closed_blocks, closed_formed, fine_standing, unthreatened_at_end}
 use Rattle.typing_laws.proofs.Built.{AreEnds, Built, Builds, EndsSo, HasSite, Standing, built_then, ends_append, ends_later, is_between, keeps_builds, no_ends}
 use Rattle.typing_laws.proofs.Covers.{Covers, covers_behind, covers_both, covers_skip}
 use Rattle.typing_laws.proofs.Declarations.{parameter_keeps}
-use Rattle.typing_laws.proofs.Grown.{Grown, both_true, counted, fine_later, further, go_on, grown_then, assigned_then}
+use Rattle.typing_laws.proofs.Assigned.{results_assigned}
+use Rattle.typing_laws.proofs.Went.{grows, inner}
+use Rattle.typing_laws.proofs.Grown.{Grown, sited_then, both_true, fine_later, further, grown_then}
 use Rattle.typing_laws.proofs.Headings.{heads_count, parts_of}
 use Rattle.typing_laws.proofs.Keeping.{before, behind, each_keeps}
+use Rattle.typing_laws.proofs.Numbers.{entries_go, few_entries, few_sites, loops_go}
 use Rattle.typing_laws.proofs.Ordered.{covers_by_place}
 use Rattle.typing_laws.proofs.Outlines.{Agrees, agrees_in, headed_at, heading_formed, same_parts}
 use Rattle.typing_laws.proofs.Owned.{cells_of_block}
 use Rattle.typing_laws.proofs.Reached.{same_longer, get_longer, mapped_get, Here, reached, whole_of, signature_of, signature_passed, IsFurther, further_still}
 use Rattle.typing_laws.proofs.Ready.{Base, IsHeaded, base_types, heads_passed}
 use Rattle.typing_laws.proofs.Sound.{IsSound, opened_holds, required_sound}
-use Rattle.typing_laws.proofs.Strings.{behind_nothing, both_and}
+use Rattle.typing_laws.proofs.Strings.{behind_nothing}
 use Rattle.typing_laws.proofs.Tables.{no_texts, required_lawful}
 use Rattle.typing_laws.proofs.Waiting.{count_append, count_of, count_range, one_if, same_counts, waits_in}
 use Rattle.typing_laws.specs.Controls.{AreUnthreatened, mark_changes, mark_controls, spared_behind}
 use Rattle.typing_laws.proofs.Spared.{none_held, spared_then}
 use Rattle.typing_laws.proofs.Placed.{placed_inner}
-use Rattle.typing_laws.specs.Results.{are_assigned, is_target, mark_results}
 
 -- ---- where a program begins
 
 abbrev program_here : Here
-program_here = record { block = 0; around = []; owing = false }
+program_here = record { block = 0; around = [] }
 
 abbrev round_it : List Region
 round_it = required_region ∷ []
@@ -99,13 +103,10 @@ begins_standing program block = record {
     under_it = refl;
     base = begins_base;
     texts = no_texts;
-    few_sites = omega arith;
-    few_entries = omega arith;
     cells = refl;
   };
   block = refl;
   around = refl;
-  settled = refl;
   stands = (signature_passed program_heading, refl, refl);
   waiting = λ number waits. absurd cc;
 }
@@ -120,19 +121,18 @@ parameters_build names =
 -- the parts of a program, as they are built
 record Whole (program : Program) (a : After (Unit {0})) : Type 0 where
   pub start : Passed
-  pub starts : (start.sites ≡ []) × (start.entries ≡ 0) × (start.loops ≡ 0) × (length start.headings ≡ 1)
-      × ((number : ℕ) → waits_in start.enclosing.waiting number ≡ false) × (start.assigned ≡ [])
+  pub starts : (start.sites ≡ []) × (length start.headings ≡ 1)
+      × ((number : ℕ) → waits_in start.enclosing.waiting number ≡ false)
   pub first : Look
   pub middle : Passed
-  pub built : Built program_here (λ added. Unit {0}) first start middle
+  pub built : Built program_here first start middle
   pub standing : Standing program_here round_it middle
   pub came : (number : ℕ) → waits_in middle.enclosing.waiting number ≡ false
   pub second : Look
-  pub grown : Grown program_here (λ added. Unit {0}) second middle a.passed
+  pub grown : Grown program_here second middle a.passed
   pub headed : Headed
   pub result : Option FunctionResult
   pub end : Place
-  pub own : (root : ℕ) → option_map (λ (r : FunctionResult). r.root) result ≡ Some root → list_any (nat_eq root) a.passed.assigned ≡ true
   pub ends : EndsSo (reached a.passed) 0 headed.around headed.parameters result
   pub look : a.look ≡ first ++ (second ++ (BlockEnds 0 headed.around headed.parameters result end ∷ []))
   pub added : List Stands
@@ -158,11 +158,11 @@ whole program a is =
     let p = (parameters_build program.parameters.items).builds s1 x.first (parameters_go program block x.first x.goes) (begins_standing program block) in
     let y = parts_of block.typing (λ _. end) x.first.passed x.second x.goes_on in
     let law = block_lawful program.block in
-    let i = law.law program_here round_it x.first.passed y.first y.goes p.1 in
+    let i = law.law program_here round_it x.first.passed y.first y.goes p.2 in
     let fine = fine_later i.grown (fine_standing program_here round_it i.middle i.standing) in
     let c = closed program_here program.name.place block program_heading y.first.passed y.second fine y.goes_on in
-    let g : Grown program_here (λ added. Unit {0}) (i.second ++ c.look) i.middle y.second.passed = grown_then (λ l m one two. tt) i.grown c.grown in
-    let f : Built program_here (λ added. Unit {0}) (x.first.look ++ i.first) s1 i.middle = built_then (λ l m one two. tt) p.0 i.built in
+    let g = grown_then i.grown c.grown in
+    let f = built_then p.0 i.built in
     let mark_end = BlockEnds 0 program_heading.around program_heading.parameters c.result block.end in
     let all_look : x.first.look ++ (y.first.look ++ y.second.look) ≡ (x.first.look ++ i.first) ++ ((i.second ++ c.look) ++ (mark_end ∷ [])) =
     ap₂ (λ l m. x.first.look ++ (l ++ m)) i.look c.look_is
@@ -174,14 +174,12 @@ whole program a is =
     let at_start : slice_get s1.headings 0 ≡ Some program_heading = refl in
     let at_end : slice_get (map signature_passed y.second.passed.headings) 0 ≡ Some (signature_passed program_heading) =
     mapped_get signature_passed y.second.passed.headings 0 program_heading
-    (ap (λ l. slice_get l 0) g.headings_kept ∙ get_longer f.headings 0 program_heading at_start) in
-    let sites : y.second.passed.sites ≡ (i.built.added ++ i.grown.added) ++ c.grown.added =
-    c.grown.sites
-    ∙ ap (λ l. l ++ c.grown.added)
-    (i.grown.sites ∙ ap (λ l. l ++ i.grown.added) (i.built.sites ∙ ap (λ l. l ++ i.built.added) (p.0.sites ∙ p.0.covered))) in
+    (ap (λ l. slice_get l 0) (inner g.way).headings ∙ get_longer f.grows.headings 0 program_heading at_start) in
+    let sited = sited_then {Both = Covers 0 (law.inside ++ (block.end ∷ []))} (covers_both 0 law.inside (block.end ∷ [])) i.sited c.sited in
+    let sites : y.second.passed.sites ≡ sited.added = sited.sites ∙ ap (λ l. l ++ sited.added) (p.1.sites ∙ p.1.covered) in
     subst (Whole program) made (record {
       start = s1;
-      starts = (refl, refl, refl, refl, (λ number. refl), refl);
+      starts = (refl, refl, (λ number. refl));
       first = x.first.look ++ i.first;
       middle = i.middle;
       built = f;
@@ -192,7 +190,6 @@ whole program a is =
       headed = program_heading;
       result = c.result;
       end = block.end;
-      own = λ root told. c.grown.assigns root (c.assigned root (sym c.ends.0 ∙ told));
       ends = record {
         signature = signature_passed program_heading;
         is_there = at_end;
@@ -202,14 +199,12 @@ whole program a is =
         site = c.ends.1;
       };
       look = all_look;
-      added = (i.built.added ++ i.grown.added) ++ c.grown.added;
+      added = sited.added;
       sites = sites;
       covered =
-          covers_skip 0 program.name.place (name_places program.parameters.items ++ block_places program.block)
-          ((i.built.added ++ i.grown.added) ++ c.grown.added)
-          (covers_behind 0 (name_places program.parameters.items) (block_places program.block) ((i.built.added ++ i.grown.added) ++ c.grown.added)
-          (subst (λ l. Covers 0 l ((i.built.added ++ i.grown.added) ++ c.grown.added)) (sym law.places_are)
-          (covers_both 0 law.inside (block.end ∷ []) (i.built.added ++ i.grown.added) c.grown.added i.covered c.grown.covered)));
+          covers_skip 0 program.name.place (name_places program.parameters.items ++ block_places program.block) sited.added
+          (covers_behind 0 (name_places program.parameters.items) (block_places program.block) sited.added
+          (subst (λ l. Covers 0 l sited.added) (sym law.places_are) sited.covered));
     })
 
 -- ---- what a program has
@@ -224,49 +219,8 @@ module _ (program : Program) (a : After (Unit {0})) (w : Whole program a) where
   at_end : {A : Type 0} (f : Look → A) → f a.look ≡ f (w.first ++ ended)
   at_end f = ap f w.look
 
-  entries_ended : entries_of_look ended ≡ entries_of_look w.second
-  entries_ended = closed_entries w.second 0 w.headed.around w.headed.parameters w.result w.end
-
-  loops_ended : loops_of_look ended ≡ loops_of_look w.second
-  loops_ended = closed_loops w.second 0 w.headed.around w.headed.parameters w.result w.end
-
-  is_numbered : entries_of_look a.look ≡ range_with_len 0 (length (entries_of_look a.look))
-  is_numbered =
-      let f = w.built in
-      let g = w.grown in
-      at_end entries_of_look
-      ∙ go_on mark_entries w.first ended 0 w.middle.entries
-      (f.numbered ∙ ap (λ n. range_with_len n (length (entries_of_look w.first))) w.starts.1)
-      (f.entered ∙ ap (λ n. n + length (entries_of_look w.first)) w.starts.1)
-      (entries_ended ∙ g.numbered ∙ ap (λ l. range_with_len w.middle.entries (length l)) (sym entries_ended))
-      ∙ ap (λ l. range_with_len 0 (length l)) (sym (at_end entries_of_look))
-
-  has_few_entries : length (entries_of_look a.look) ≤ most_entries
-  has_few_entries =
-      omega (
-        arith,
-        ap length (at_end entries_of_look),
-        counted mark_entries w.first ended,
-        ap length entries_ended,
-        w.built.entered,
-        w.grown.entered,
-        w.grown.few_entries,
-        w.starts.1,
-      )
-
-  loops_are : loops_of_look a.look ≡ range_with_len 0 (length (loops_of_look a.look))
-  loops_are =
-      let f = w.built in
-      let g = w.grown in
-      at_end loops_of_look
-      ∙ go_on mark_loops w.first ended 0 w.middle.loops
-      (f.looped ∙ ap (λ n. range_with_len n (length (loops_of_look w.first))) w.starts.2)
-      (f.begun ∙ ap (λ n. n + length (loops_of_look w.first)) w.starts.2)
-      (loops_ended ∙ g.looped ∙ ap (λ l. range_with_len w.middle.loops (length l)) (sym loops_ended))
-      ∙ ap (λ l. range_with_len 0 (length l)) (sym (at_end loops_of_look))
-
   blocks_ended : blocks_of_look ended ≡ 0 ∷ []
-  blocks_ended = closed_blocks w.second 0 w.headed.around w.headed.parameters w.result w.end w.grown.inner
+  blocks_ended = closed_blocks w.second 0 w.headed.around w.headed.parameters w.result w.end (inner w.grown.way).ends
 
   at_least_one : 0 < length a.passed.headings
   at_least_one =
@@ -282,8 +236,8 @@ module _ (program : Program) (a : After (Unit {0})) (w : Whole program a) where
       let both = ap (count_of number) (at_end blocks_of_look ∙ flat_map-append mark_blocks w.first ended)
       ∙ count_append number (blocks_of_look w.first) (blocks_of_look ended) in
       let one = ap (count_of number) blocks_ended in
-      let as_many = ap (λ (l : List Headed). one_if (is_between 1 (length l) number)) w.grown.headings_kept in
-      let from_one = ap (λ n. one_if (is_between n (length w.middle.headings) number)) w.starts.3 in
+      let as_many = ap (λ (l : List Headed). one_if (is_between 1 (length l) number)) (inner w.grown.way).headings in
+      let from_one = ap (λ n. one_if (is_between n (length w.middle.headings) number)) w.starts.1 in
       let there = slice_get_within w.middle.headings 0 in
       omega (
         arith,
@@ -291,7 +245,7 @@ module _ (program : Program) (a : After (Unit {0})) (w : Whole program a) where
         one,
         w.built.accounted number,
         ap one_if (w.came number),
-        ap one_if (w.starts.4 number),
+        ap one_if (w.starts.2 number),
         from_one,
         as_many,
         first_too number (length a.passed.headings) at_least_one,
@@ -314,16 +268,16 @@ module _ (program : Program) (a : After (Unit {0})) (w : Whole program a) where
   all_end : AreEnds (reached a.passed) a.look
   all_end =
       subst (AreEnds (reached a.passed)) (sym w.look)
-      (ends_append (reached a.passed) w.first ended (ends_later (reached w.middle) (reached a.passed) w.first (further w.grown) w.built.ends)
-      (ends_append (reached a.passed) w.second (mark_end ∷ []) (no_ends (reached a.passed) w.second w.grown.inner) (w.ends, tt)))
+      (ends_append (reached a.passed) w.first ended (ends_later (reached w.middle) (reached a.passed) w.first (further w.grown.way) w.built.ends)
+      (ends_append (reached a.passed) w.second (mark_end ∷ []) (no_ends (reached a.passed) w.second (inner w.grown.way).ends) (w.ends, tt)))
 
   -- the variables of for statements are changed in their blocks alone
   has_controls : AreUnthreatened a.look
   has_controls =
       subst AreUnthreatened (sym w.look)
       (unthreatened_at_end program_here w.start w.middle a.passed w.built w.grown mark_end
-      (placed_inner mark_changes 0 w.headed.around w.headed.parameters w.result w.end w.second w.grown.inner refl)
-      (placed_inner mark_controls 0 w.headed.around w.headed.parameters w.result w.end w.second w.grown.inner refl))
+      (placed_inner mark_changes 0 w.headed.around w.headed.parameters w.result w.end w.second (inner w.grown.way).ends refl)
+      (placed_inner mark_controls 0 w.headed.around w.headed.parameters w.result w.end w.second (inner w.grown.way).ends refl))
 
   -- and nowhere in the statement of their for
   are_spared : spared_behind [] a.look ≡ Some []
@@ -331,43 +285,14 @@ module _ (program : Program) (a : After (Unit {0})) (w : Whole program a) where
       ap (spared_behind []) w.look
       ∙ spared_then [] w.first ended w.built.spared (spared_then [] w.second (mark_end ∷ []) (w.grown.spared [] (none_held w.middle.controls)) refl)
 
-  -- each result is assigned
-  has_results : are_assigned a.look ≡ true
-  has_results =
-      let all =
-      results_end w.first w.second 0 w.headed.around w.headed.parameters w.result w.end w.middle a.passed w.built.results w.grown.assigns w.grown.inner w.own in
-      ap are_assigned w.look ∙ targets (flat_map mark_results (w.first ++ ended)) all
-    where
-      empty : (root : ℕ) → list_any (nat_eq root) w.start.assigned ≡ true → ⊥
-      empty root is = no (sym (ap (list_any (nat_eq root)) w.starts.5) ∙ is)
-        where
-          no : ◌≡◌ {A = Bool} false true → ⊥
-          no h = absurd cc
-
-      from_start : (root : ℕ) {target : Bool} → (list_any (nat_eq root) w.start.assigned ≡ true) ⊎ (target ≡ true) → target ≡ true
-      from_start root (inl there) = absurd (empty root there)
-      from_start root (inr target) = target
-
-      told : (root : ℕ) → list_any (nat_eq root) a.passed.assigned ≡ true → is_target (w.first ++ ended) root ≡ true
-      told root is =
-          from_start root
-          (assigned_then w.first ended root (w.built.assigned root) (target_ended w.second mark_end root (w.grown.assigned refl root is)))
-
-      targets : (roots : List ℕ) → list_all (λ root. list_any (nat_eq root) a.passed.assigned) roots ≡ true
-          → list_all (is_target (w.first ++ ended)) roots ≡ true
-      targets [] all = refl
-      targets (root ∷ roots) all =
-          let parts = both_and (list_any (nat_eq root) a.passed.assigned) (list_all (λ r. list_any (nat_eq r) a.passed.assigned) roots) all in
-          both_true _ _ (told root parts.0) (targets roots parts.1)
-
   -- the types, variables and headings fit each other
   base : Base a.passed.types a.passed.variables a.passed.headings (length (heads_passed a.passed.headings))
   base =
       let m = w.middle in
       let many = length (heads_passed m.headings) in
-      subst (λ h. Base a.passed.types a.passed.variables h (length (heads_passed h))) (sym w.grown.headings_kept)
-      (subst (λ v. Base a.passed.types v m.headings many) (sym w.grown.variables_kept)
-      (base_types m.types a.passed.types m.variables m.headings many w.grown.longer w.grown.lawful w.standing.ready.base))
+      subst (λ h. Base a.passed.types a.passed.variables h (length (heads_passed h))) (sym (inner w.grown.way).headings)
+      (subst (λ v. Base a.passed.types v m.headings many) (sym (inner w.grown.way).variables)
+      (base_types m.types a.passed.types m.variables m.headings many (grows w.grown.way).types w.grown.lawful w.standing.ready.base))
 
   module _ (o : Outline) (is : IsOutlineOf a o) where
     agrees : (number : ℕ) → number < length a.passed.headings → Agrees (reached a.passed) o.headings number
@@ -398,8 +323,8 @@ module _ (program : Program) (a : After (Unit {0})) (w : Whole program a) where
     is_formed : are_formed o a.look ≡ true
     is_formed =
         at_end (are_formed o) ∙ w.built.parts o ended
-        ∙ both_true _ _ (w.built.formed o (further_still (further w.grown) as_far_as))
-        (closed_formed w.second 0 w.headed.around w.headed.parameters w.result w.end o w.grown.inner (w.grown.formed o as_far_as))
+        ∙ both_true _ _ (w.built.formed o (further_still (further w.grown.way) as_far_as))
+        (closed_formed w.second 0 w.headed.around w.headed.parameters w.result w.end o (inner w.grown.way).ends (w.grown.formed o as_far_as))
 
     heading_is : (number : ℕ) (heading : TreeHeading) → slice_get o.headings number ≡ Some heading → is_heading o number heading ≡ true
     heading_is number heading there =
@@ -425,11 +350,11 @@ module _ (program : Program) (a : After (Unit {0})) (w : Whole program a) where
         le_is : (m n : ℕ) → m ≤ n → nat_le m n ≡ true
         le_is m n h = grind (arith, nat_tests)
 
-  is_lawful : Lawful program a
-  is_lawful = record {
-    numbered = is_numbered;
-    few_entries = has_few_entries;
-    loops = loops_are;
+  is_lawful : Way true Anyone 0 2 a.look (begins program.name.place) a.passed → Lawful program a
+  is_lawful way = let entries = entries_go way in record {
+    numbered = entries.ascends;
+    few_entries = omega (arith, entries.next_is, few_entries way (omega arith));
+    loops = (loops_go way).ascends;
     blocks = blocks_permuted;
     a_block = at_least_one;
     formed = is_formed;
@@ -441,8 +366,8 @@ module _ (program : Program) (a : After (Unit {0})) (w : Whole program a) where
         subst (λ n. list_all (λ (v : Variable). nat_lt v.block n) a.passed.variables ≡ true) (heads_count a.passed.headings) base.by_blocks;
     unthreatened = has_controls;
     spared = are_spared;
-    assigned = has_results;
-    few_sites = w.grown.few_sites;
+    assigned = results_assigned way refl;
+    few_sites = few_sites way (omega arith);
     types = w.grown.lawful.begin;
     by_place = λ order. subst AreByPlace (sym w.sites) (covers_by_place (program_places program) w.added order w.covered);
   }
@@ -450,3 +375,4 @@ module _ (program : Program) (a : After (Unit {0})) (w : Whole program a) where
 -- what each typed program has
 pub typing_is_lawful : (program : Program) (a : After (Unit {0})) → typing program ≡ Ok a → Lawful program a
 typing_is_lawful program a is = is_lawful program a (whole program a is)
+    (IfOk-at_ok (λ b. Way true Anyone 0 2 b.look (begins program.name.place) b.passed) is (typing_goes program))

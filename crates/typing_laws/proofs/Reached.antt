@@ -168,11 +168,10 @@ further_still f g = record {
 
 -- ---- the block round a place
 
--- its number, and the blocks round it; and whether a result may be assigned here whose target comes behind
+-- its number, and the blocks round it
 pub record Here : Type 0 where
   pub block : ℕ
   pub around : List ℕ
-  pub owing : Bool
 
 -- a block is this one, or stands round it
 abbrev pub is_round_here : Here → ℕ → Bool

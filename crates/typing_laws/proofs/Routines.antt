@@ -1,7 +1,7 @@
 -- What a routine does as far as its block: a heading that is new, or one that waits for its block; and `forward`.
 use Rattle.std.proofs.Common.{◌≡◌, ℕ, ◌+◌, ◌<◌, Bool, true, false, not, ◌||◌, ◌&&◌, nat_eq, nat_lt, nat_le, if◌then◌else◌, List, [], ◌∷◌, ◌++◌, length, Option}
 use Rattle.std.proofs.Common.{Some, None, Ok, is_none, slice_get, refl, sym, ap, subst, ◌∙◌, arith, inl, inr, ◌⊎◌, length-append}
-use Rattle.std.specs.List.{list_all, list_any}
+use Rattle.std.specs.List.{list_all}
 use Rattle.std.specs.Map.{lookup}
 use Rattle.std.proofs.lemmas.Bool.{eq-eqb}
 use Rattle.std.proofs.lemmas.Bool.Decides.{nat_tests}
@@ -25,10 +25,12 @@ use Rattle.typing.specs.Routines.{waiting_for, waits}
 use Rattle.typing_laws.proofs.Built.{IsOpen, Standing, open_later}
 use Rattle.typing_laws.proofs.Declarations.{declare_is, declare_keeps}
 use Rattle.typing_laws.proofs.Headings.{HeadingAdded, Entering, declarer_last, heading_adds, heads_count, quiet_parts}
+use Rattle.typing_laws.proofs.Grown.{grown_further}
+use Rattle.typing_laws.proofs.Went.{Grows, no_mark}
 use Rattle.typing_laws.proofs.Keeping.{Ready}
 use Rattle.typing_laws.proofs.Owned.{Fails, other_block}
-use Rattle.typing_laws.proofs.Reached.{IsLonger, as_long, one_longer, get_last, get_mapped, mapped_longer, signature_passed, Head, reached, IsFurther, Here}
-use Rattle.typing_laws.proofs.Reached.{apart_kept, is_round_here, stands_later}
+use Rattle.typing_laws.proofs.Reached.{IsLonger, as_long, one_longer, get_last, get_mapped, signature_passed, Head, reached, Here}
+use Rattle.typing_laws.proofs.Reached.{is_round_here, stands_later}
 use Rattle.typing_laws.proofs.Ready.{base_blocks, heads_passed}
 use Rattle.typing_laws.proofs.Sound.{IsRoutine, inside_itself, regions_later}
 use Rattle.typing_laws.proofs.Steps.{below, split_if, split_unless}
@@ -48,8 +50,6 @@ ready_heads here under heads head s room r = record {
       base_blocks s.types s.variables s.headings (length heads) (length (heads ++ head ∷ [])) (omega (arith, one_more)) (omega (arith, room, one_more))
       r.base;
   texts = r.texts;
-  few_sites = r.few_sites;
-  few_entries = r.few_entries;
   cells = r.cells;
 }
 
@@ -57,14 +57,8 @@ ready_heads here under heads head s room r = record {
 pub record Began (here : Here) (under : List Region) (number : ℕ) (old new : Passed) : Type 0 where
   pub number_is : number ≡ length old.headings
   pub sites : new.sites ≡ old.sites
-  pub entries : new.entries ≡ old.entries
-  pub loops : new.loops ≡ old.loops
-  pub threatened : new.threatened ≡ old.threatened
   pub controls_kept : new.controls ≡ old.controls
-  pub assigned : new.assigned ≡ old.assigned
-  pub types : IsLonger old.types new.types
-  pub variables : IsLonger old.variables new.variables
-  pub headings : IsLonger old.headings new.headings
+  pub grows : Grows old new
   pub one_more : length new.headings ≡ length old.headings + 1
   pub waiting : new.enclosing.waiting ≡ old.enclosing.waiting
   pub others : (block : ℕ) → block < length old.headings → Fails (nat_eq here.block block) → variables_of block new.variables ≡ variables_of block old.variables
@@ -132,12 +126,12 @@ module _ (here : Here) (under : List Region) where
       } in
       let declared = declare_keeps here under here.block heads name (denotes.Routine number function) (λ s. s.variables) (λ s regions. refl) in
       let rest : Unit {0} → Passing ℕ = λ _. heading number name groups of_result >> pure number in
-      let x = quiet_parts (declare name (denotes.Routine number function)) rest s a n.is (λ b goes. (declared.keeps s b goes (ready, routine)).0) in
+      let x = quiet_parts (declare name (denotes.Routine number function)) rest s a n.is (λ b goes. no_mark (declared.keeps s b goes (ready, routine)).0) in
       let k = declared.keeps s x.0 x.1 (ready, routine) in
       let d = declare_is here under here.block heads name (denotes.Routine number function) s x.0 x.1 in
       let s1 : Passed = record s { regions = d.0 } in
       let ready1 : Ready here under here.block heads s1.variables s1 =
-      subst (λ (c : After (Unit {0})). Ready here under here.block heads c.passed.variables c.passed) (sym d.1) k.2 in
+      subst (λ (c : After (Unit {0})). Ready here under here.block heads c.passed.variables c.passed) (sym d.1) k.1 in
       let on : rest tt s1 ≡ Ok a = subst (λ (c : After (Unit {0})). rest tt c.passed ≡ Ok a) (sym d.1) x.2 in
       let entering : Entering here under number head s1 = record {
         ready = ready1;
@@ -168,25 +162,11 @@ module _ (here : Here) (under : List Region) where
           let others : (block : ℕ) → block < number → Fails (nat_eq here.block block)
           → variables_of block new.variables ≡ variables_of block s.variables =
           λ block less other. added.others block (other_block number block (λ same. omega (arith, same, less))) in
-          let more : IsFurther (reached s) (reached new) = record {
-            sites = omega (arith, ap length added.sites);
-            types = added.types;
-            variables = added.variables;
-            headings = mapped_longer signature_passed longer;
-            threats = λ root is. ap (list_any (nat_eq root)) added.threatened ∙ is;
-            apart = apart_kept s new added.controls_kept;
-          } in
           record {
             number_is = refl;
             sites = added.sites;
-            entries = added.entries;
-            loops = added.loops;
-            threatened = added.threatened;
             controls_kept = added.controls_kept;
-            assigned = added.assigned;
-            types = added.types;
-            variables = added.variables;
-            headings = longer;
+            grows = added.grows;
             one_more = ap length added.headings ∙ length-append s.headings (added.headed ∷ []);
             waiting = ap (λ (e : Enclosing). e.waiting) added.enclosing;
             others = others;
@@ -194,12 +174,11 @@ module _ (here : Here) (under : List Region) where
               ready = added.ready;
               block = ap (λ (e : Enclosing). e.block) added.enclosing ∙ st.block;
               around = ap (λ (e : Enclosing). e.around) added.enclosing ∙ st.around;
-              settled = st.settled;
-              stands = stands_later here (reached s) (reached new) more st.stands;
+              stands = stands_later here (reached s) (reached new) (grown_further s new added.grows added.controls_kept) st.stands;
               waiting = λ block waits.
                   let o = st.waiting block (ap (λ (e : Enclosing). waits_in e.waiting block) (sym added.enclosing) ∙ waits) in
                   let less = slice_get_within s.headings block o.headed o.is_there in
-                  open_later here s new block added.types st.ready.base.have_types longer (others block less o.other) o;
+                  open_later here s new block added.grows.types st.ready.base.have_types longer (others block less o.other) o;
             };
             is_open = record {
               headed = added.headed;
@@ -227,15 +206,7 @@ waits_is is_function waiting (Some (Some (denotes.Routine block of_function))) n
     by true true waits h = let same : block ≡ number = cc in ap (waits_in waiting) (sym same) ∙ waits
     by true false waits h = absurd cc
     by false two waits h = absurd cc
-waits_is is_function waiting None number is = absurd cc
-waits_is is_function waiting (Some None) number is = absurd cc
-waits_is is_function waiting (Some (Some (denotes.Constant value type_id))) number is = absurd cc
-waits_is is_function waiting (Some (Some (denotes.Text text type_id))) number is = absurd cc
-waits_is is_function waiting (Some (Some (denotes.Variable root type_id))) number is = absurd cc
-waits_is is_function waiting (Some (Some (denotes.TypeName type_id))) number is = absurd cc
-waits_is is_function waiting (Some (Some (denotes.Procedure procedure))) number is = absurd cc
-waits_is is_function waiting (Some (Some (denotes.Function function))) number is = absurd cc
-waits_is is_function waiting (Some (Some denotes.Output)) number is = absurd cc
+waits_is is_function waiting other number is = absurd cc
 
 module _ (here : Here) (under : List Region) where
   abbrev LeavesBegun : Passed → After Begun → Type 0

@@ -181,7 +181,7 @@ or_right true b is = refl
 or_right false b is = is
 
 -- a routine's block is inside its declarer's
-pub inside_routine : (here : Here) (number : ℕ) → IsInside here (record { block = number; around = here.around ++ here.block ∷ []; owing = false })
+pub inside_routine : (here : Here) (number : ℕ) → IsInside here (record { block = number; around = here.around ++ here.block ∷ [] })
 inside_routine here number = record { keeps = λ block is. or_right (nat_eq block number) _ (by block (nat_eq block here.block) refl is) }
   where
     by : (block : ℕ) (test : Bool) → nat_eq block here.block ≡ test → (test || is_one_of here.around block) ≡ true

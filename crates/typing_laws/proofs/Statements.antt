@@ -31,9 +31,10 @@ use Rattle.typed_tree.specs.declared.tree.Representation.{Representation}
 use Rattle.typed_tree.specs.Ids.{Stands}
 use Rattle.typed_tree.specs.declared.tree.Variable.{Variable}
 use Rattle.typed_tree.specs.Look.{Assign, Copied, Fits, Write, Written as WrittenMark, Width, Empty, Compound, If, Then, Else, While, Do, Repeat, Until, For}
-use Rattle.typed_tree.specs.Look.{Case, Arm, Ends, Mark, WrittenString, mark_entries, mark_loops, mark_blocks, is_formed_mark}
+use Rattle.typed_tree.specs.Look.{Case, Arm, Ends, Mark, WrittenString, is_formed_mark}
 use Rattle.typed_tree.specs.WellFormed.{Outline, is_declared, is_local_kind, of_one}
 use Rattle.typing.specs.Passing.{Passing, and_then, each, ◌>>?◌}
+use Rattle.typing.proofs.Ways.{numbers_of}
 use Rattle.typing.specs.Steps.{fits, is_local, or_mismatch}
 use Rattle.typing.specs.declared.typed.Typed.{Typed}
 use Rattle.typing.specs.Expressions.{Written, WrittenActual, fitting, is_of, as_routine, as_variable, expression, written_actual}
@@ -76,7 +77,7 @@ measured_is place t id is = by (is_of integer t) t.site is
 -- a mark that says how a value is written is no entry
 abbrev IsForm : Mark → Type 0
 IsForm one =
-    (mark_entries one ≡ []) × (mark_loops one ≡ []) × (mark_blocks one ≡ []) × (mark_changes one ≡ []) × (is_bracket one ≡ false)
+    (numbers_of one ≡ ([], [], [])) × (mark_changes one ≡ []) × (is_bracket one ≡ false)
     × ((o : Outline) (block : ℕ) → is_formed_mark o block one ≡ true)
 
 form_is : (place : Place) (types : List Form) (t : Typed) (form : Mark) → or_mismatch place (written_as types t) ≡ Ok form → IsForm form
@@ -84,9 +85,9 @@ form_is place types t form is = by (is_none t.length) (representation_of types t
   where
     by : (ordinal : Bool) (representation : Option Representation) (string : Bool)
         → (if ordinal then option_map WrittenMark representation else (if string then Some WrittenString else None)) ≡ Some form → IsForm form
-    by true (Some r) string h = let same : WrittenMark r ≡ form = cc in subst IsForm same (refl, refl, refl, refl, refl, λ o block. refl)
+    by true (Some r) string h = let same : WrittenMark r ≡ form = cc in subst IsForm same (refl, refl, refl, λ o block. refl)
     by true None string h = absurd cc
-    by false r true h = let same : WrittenString ≡ form = cc in subst IsForm same (refl, refl, refl, refl, refl, λ o block. refl)
+    by false r true h = let same : WrittenString ≡ form = cc in subst IsForm same (refl, refl, refl, λ o block. refl)
     by false r false h = absurd cc
 
 module _ (here : Here) where
@@ -116,7 +117,7 @@ module _ (here : Here) where
       led_covers here 0 becomes places (kind.Subrange ∷ []) (omega arith, tt)
       (joins (leads_first 0 becomes (kind.Subrange ∷ []) places) (site_does kind.Subrange becomes) λ site there one known.
       last (ranges_do to.type_id becomes (typed_does there places value None law tt)) λ range n more is.
-      mark_does (Fits to.root to.selectors (record { site = site; range = range })) refl refl refl refl refl
+      mark_does (Fits to.root to.selectors (record { site = site; range = range })) refl refl refl
       (λ o h.
       let led_there = leads_later here to.root to.selectors to.type_id least n (further_still one more) led in
       fits_formed here to.root to.selectors to.type_id (record { site = site; range = range }) n o led_there h (omega (arith, known, more.sites)) is.0 is.1))
@@ -131,7 +132,7 @@ module _ (here : Here) where
       λ types t copy n more same lawful copies own.
       let plain = is_ordinal_longer (further_still one more).types id stands ∙ structured in
       copying_there becomes n types id t copy same lawful plain own.1 copies) λ copy n two fits.
-      mark_does (Copied id copy.source copy.cells) refl refl refl refl refl
+      mark_does (Copied id copy.source copy.cells) refl refl refl
       (λ o h.
       let seen = (further_still one two).types in
       copy_formed here.block n id copy o h (stands_longer seen id stands) (is_ordinal_longer seen id stands ∙ structured) fits))
@@ -143,13 +144,13 @@ module _ (here : Here) where
   value_does false to becomes places value led is law = copied_does to.type_id becomes places value led.stands is law
 
   assignment_does : (name : Name) (selectors : List Selector) (rows : List (List Place)) (ws : List Written) (becomes : Place) (places : List Place)
-      (value : Written) → ((h : Here) → AreLawfulRows h rows ws) → LawfulWritten here places value
+      (value : Written) → AreLawfulRows here rows ws → LawfulWritten here places value
       → LawfulStatement (name.place ∷ (selector_places selectors rows ++ (becomes ∷ places))) (assignment name selectors ws becomes value)
   unfolding assignment
   assignment_does name selectors rows ws becomes places value laws law = record {
     passes = λ least.
         sited (λ sites. covers_skip 0 name.place (selector_places selectors rows ++ (becomes ∷ places)) sites)
-        (quietly (enter_does (λ n. Assign n becomes) (λ n. refl) (λ n. refl) (λ n. refl) (λ n. refl) (λ n. refl) (λ n m h. refl)) λ _ _ _ _.
+        (quietly (enter_does (λ n. Assign n becomes) (λ n. refl) (λ n. refl) (λ n. refl) (λ n m h. refl)) λ _ _ _ _.
         joins (covers_both 0 (selector_places selectors rows) (becomes ∷ places)) (target_does here name selectors rows ws laws) λ to now _ led.
         quietly (tests_ordinal_does here to.type_id) λ ordinal next one ordered.
         value_does ordinal to becomes places value (leads_later here to.root to.selectors to.type_id now next one led)
@@ -160,15 +161,7 @@ module _ (here : Here) where
 
   names_file_does : {least : Reached} (e : expr_layer.Expr-F Expr Actual Link) → Does here least Nothing (names_file e) Anything
   names_file_does (expr_layer.Name name) = quietly (find_does name) λ d _ _ _. pure_does (is_output d) (λ n h. tt)
-  names_file_does (expr_layer.Component name selectors indexes) = pure_does false (λ n h. tt)
-  names_file_does (expr_layer.Number value place) = pure_does false (λ n h. tt)
-  names_file_does (expr_layer.String text place) = pure_does false (λ n h. tt)
-  names_file_does (expr_layer.Call name actuals) = pure_does false (λ n h. tt)
-  names_file_does (expr_layer.Parenthesized place inner) = pure_does false (λ n h. tt)
-  names_file_does (expr_layer.Not place operand) = pure_does false (λ n h. tt)
-  names_file_does (expr_layer.Signed s place term) = pure_does false (λ n h. tt)
-  names_file_does (expr_layer.Chain first rest) = pure_does false (λ n h. tt)
-  names_file_does (expr_layer.Relation left operator place right) = pure_does false (λ n h. tt)
+  names_file_does other = pure_does false (λ n h. tt)
 
   unless_wide_does : {least : Reached} (value : Expr) (w : Option Expr) → Does here least Nothing (unless_wide value w) Anything
   unless_wide_does value None = names_file_does (out-Expr value)
@@ -200,7 +193,7 @@ module _ (here : Here) where
   width_does least places (Some w) law =
       last (checks {L = λ id n. IsKnown (Some id) n} (typed_does least places w (Some kind.Width) law (omega arith)) λ types t id n more is known.
       subst (λ z. IsKnown z n) (measured_is w.first t id is) known.0) λ id n more known.
-      mark_does (Width id) refl refl refl refl refl (λ m h. lt_true id m.sites (omega (arith, known, h.sites)))
+      mark_does (Width id) refl refl refl (λ m h. lt_true id m.sites (omega (arith, known, h.sites)))
 
   parameter_does : (least : Reached) (places : List Place) (a : WrittenActual) → LawfulActual here places a
       → Does here least (Covers 0 places) (parameter a) Anything
@@ -210,7 +203,7 @@ module _ (here : Here) where
       (joins (covers_both 0 law.of_value law.of_width)
       (checks {L = λ form n. IsForm form} (typed_does least law.of_value a.value None law.value tt) λ types t form n more is _.
       form_is a.value.first types t form is) λ form now _ is.
-      quietly (mark_does form is.0 is.1 is.2 is.3 is.4 (λ o h. is.5 o here.block)) λ _ next _ _.
+      quietly (mark_does form is.0 is.1 is.2 (λ o h. is.3 o here.block)) λ _ next _ _.
       width_does next law.of_width a.width law.width)
 
   parameters_do : (least : Reached) (values : List Actual)
@@ -226,13 +219,13 @@ module _ (here : Here) where
   unfolding write
   write_does least name actuals procedure =
       quietly (wants_output_does name.place) λ _ _ _ _.
-      quietly (enter_does (λ n. Write n name.place (ends_line procedure)) (λ n. refl) (λ n. refl) (λ n. refl) (λ n. refl) (λ n. refl)
+      quietly (enter_does (λ n. Write n name.place (ends_line procedure)) (λ n. refl) (λ n. refl) (λ n. refl)
       (λ n m h. refl)) λ _ _ _ _.
       quietly (written_values_do actuals) λ values now _ among.
       sited among
       (quietly (given_does (has_values name.place procedure values)) λ _ there _ _.
       last (parameters_do there values) λ _ m _ _.
-      mark_does Ends refl refl refl refl refl (λ n h. refl))
+      mark_does Ends refl refl refl (λ n h. refl))
 
   joined_mapped : (actuals : List Actual) → joined_places (map actual_places actuals) ≡ flat_map actual_places actuals
   joined_mapped [] = refl
@@ -272,9 +265,9 @@ module _ (here : Here) where
   unfolding compound
   compound_does places statements row = record {
     passes = λ least.
-        quietly (enter_does Compound (λ n. refl) (λ n. refl) (λ n. refl) (λ n. refl) (λ n. refl) (λ n m h. refl)) λ _ now _ _.
+        quietly (enter_does Compound (λ n. refl) (λ n. refl) (λ n. refl) (λ n m h. refl)) λ _ now _ _.
         last (row now) λ _ m _ _.
-        mark_does Ends refl refl refl refl refl (λ n h. refl);
+        mark_does Ends refl refl refl (λ n h. refl);
   }
 
   -- ---- branches
@@ -293,7 +286,7 @@ module _ (here : Here) where
   unfolding alternative
   alternative_does least places None law =
       sited (λ sites none. subst (Covers 0 places) (sym none) (covers_none 0 places)) (pure_does {K = Anything} tt (λ n h. tt))
-  alternative_does least places (Some other) law = quietly (mark_does Else refl refl refl refl refl (λ n h. refl)) λ _ now _ _. law.passes now
+  alternative_does least places (Some other) law = quietly (mark_does Else refl refl refl (λ n h. refl)) λ _ now _ _. law.passes now
 
   tested_does : (least : Reached) (place : Place) (places : List Place) (w : Written) → LawfulWritten here places w
       → Does here least (Covers 0 (place ∷ places)) (tested place w) Anything
@@ -301,9 +294,9 @@ module _ (here : Here) where
   tested_does least place places w law =
       sited (λ sites. covers_skip 0 place places sites)
       (quietly (pass_does place) λ _ _ _ _.
-      quietly (enter_does If (λ n. refl) (λ n. refl) (λ n. refl) (λ n. refl) (λ n. refl) (λ n m h. refl)) λ _ now _ _.
+      quietly (enter_does If (λ n. refl) (λ n. refl) (λ n. refl) (λ n m h. refl)) λ _ now _ _.
       last (condition_does now places w law) λ _ _ _ _.
-      mark_does Then refl refl refl refl refl (λ n h. refl))
+      mark_does Then refl refl refl (λ n h. refl))
 
   choice_does : (place : Place) (tests first second : List Place) (w : Written) (consequence : Passing (Unit {0})) (other : Option (Passing (Unit {0})))
       → LawfulWritten here tests w → LawfulStatement first consequence → IsLawfulAlternative second other
@@ -314,7 +307,7 @@ module _ (here : Here) where
         joins (covers_both 0 (place ∷ tests) (first ++ second)) (tested_does least place tests w law) λ _ there _ _.
         joins (covers_both 0 first second) (one.passes there) λ _ next _ _.
         last (alternative_does next second other two) λ _ _ _ _.
-        mark_does Ends refl refl refl refl refl (λ n h. refl);
+        mark_does Ends refl refl refl (λ n h. refl);
   }
 
   -- ---- loops
@@ -326,11 +319,11 @@ module _ (here : Here) where
     passes = λ least.
         sited (λ sites. covers_skip 0 place (tests ++ inside) sites)
         (quietly (pass_does place) λ _ _ _ _.
-        quietly (enter_loop_does (λ n l. While n l place) (λ n l. refl) (λ n l. refl) (λ n l. refl) (λ n l. refl) (λ n l. refl) (λ n l m h. refl)) λ _ now _ _.
+        quietly (enter_loop_does (λ n l. While n l place) (λ n l. refl) (λ n l. refl) (λ n l. refl) (λ n l m h. refl)) λ _ now _ _.
         joins (covers_both 0 tests inside) (condition_does now tests w law) λ _ _ _ _.
-        quietly (mark_does Do refl refl refl refl refl (λ n h. refl)) λ _ there _ _.
+        quietly (mark_does Do refl refl refl (λ n h. refl)) λ _ there _ _.
         last (one.passes there) λ _ _ _ _.
-        mark_does Ends refl refl refl refl refl (λ n h. refl));
+        mark_does Ends refl refl refl (λ n h. refl));
   }
 
   repeat_does : (place : Place) (inside tests : List Place) (statements : List (Passing (Unit {0}))) (w : Written)
@@ -341,11 +334,11 @@ module _ (here : Here) where
     passes = λ least.
         sited (λ sites. covers_skip 0 place (inside ++ tests) sites)
         (quietly (pass_does place) λ _ _ _ _.
-        quietly (enter_loop_does (λ n l. Repeat n l place) (λ n l. refl) (λ n l. refl) (λ n l. refl) (λ n l. refl) (λ n l. refl) (λ n l m h. refl)) λ _ now _ _.
+        quietly (enter_loop_does (λ n l. Repeat n l place) (λ n l. refl) (λ n l. refl) (λ n l. refl) (λ n l m h. refl)) λ _ now _ _.
         joins (covers_both 0 inside tests) (row now) λ _ _ _ _.
-        quietly (mark_does Until refl refl refl refl refl (λ n h. refl)) λ _ there _ _.
+        quietly (mark_does Until refl refl refl (λ n h. refl)) λ _ there _ _.
         last (condition_does there tests w law) λ _ _ _ _.
-        mark_does Ends refl refl refl refl refl (λ n h. refl));
+        mark_does Ends refl refl refl (λ n h. refl));
   }
 
   -- the test of a bound stands before its first token's own sites
@@ -355,7 +348,7 @@ module _ (here : Here) where
   bound_does least control type_id places w led law =
       joins (covers_test here kind.Subrange (omega arith) (omega arith) places w law) (site_does kind.Subrange w.first) λ id there one known.
       last (ranges_do type_id w.first (law.types there None tt)) λ range n more is.
-      mark_does (Fits control [] (record { site = id; range = range })) refl refl refl refl refl
+      mark_does (Fits control [] (record { site = id; range = range })) refl refl refl
       (λ o h.
       let led_there = leads_later here control [] type_id least n (further_still one more) led in
       fits_formed here control [] type_id (record { site = id; range = range }) n o led_there h (omega (arith, known, more.sites)) is.0 is.1)
@@ -387,8 +380,7 @@ module _ (here : Here) where
       let seen = leads_later here control.0 [] control.1 now tests (further_still more still) led in
       let found_there = variable_later here now tests control.0 control.1 (further_still more still) found in
       quietly (may_change_does name.place control.0 control.1 found_there) λ _ changed further may.
-      controlled_does name.place control.0 (λ n l. For n l place control.0 (way d)) _ (λ n l. refl) (λ n l. refl) (λ n l. refl) (λ n l. refl)
-      (λ n l. refl) (λ n l. refl) may
+      controlled_does name.place control.0 (λ n l. For n l place control.0 (way d)) _ (λ n l. refl) (λ n l. refl) (λ n l. refl) (λ n l. refl) may
       (λ known later local n l o h.
       both_true _ _ (local_formed control.0 known o h local)
       (ordinal_formed here control.0 [] control.1 tests o seen ordinal (further_still further (further_still later h))))
@@ -418,7 +410,7 @@ module _ (here : Here) where
   case_head_does least place places w law =
       led_covers here 0 place places (kind.Case ∷ []) (omega arith, tt)
       (joins (leads_first 0 place (kind.Case ∷ []) places) (site_does kind.Case place) λ id there _ known.
-      quietly (enter_does (λ n. Case n id) (λ n. refl) (λ n. refl) (λ n. refl) (λ n. refl) (λ n. refl)
+      quietly (enter_does (λ n. Case n id) (λ n. refl) (λ n. refl) (λ n. refl)
       (λ n m h. lt_true id m.sites (omega (arith, known, h.sites)))) λ _ now _ _.
       checks {L = Anything} (typed_does now places w None law tt) λ types t b n more is _. tt)
 
@@ -431,7 +423,7 @@ module _ (here : Here) where
     passes = λ least.
         joins (covers_both 0 (place ∷ tests) inside) (case_head_does least place tests w law) λ type_id there _ _.
         last (row there type_id) λ _ _ _ _.
-        mark_does Ends refl refl refl refl refl (λ n h. refl);
+        mark_does Ends refl refl refl (λ n h. refl);
   }
 
   -- ---- every statement
@@ -472,7 +464,7 @@ module _ (here : Here) where
   arms_lawful (row ∷ rows) (y ∷ ys) type_id before least =
       sited behind_constants
       (quietly (row_does here type_id before [] row.items refl) λ values _ _ whole.
-      quietly (mark_does (Arm values) refl refl refl refl refl (λ n h. whole)) λ _ now _ _.
+      quietly (mark_does (Arm values) refl refl refl (λ n h. whole)) λ _ now _ _.
       joins (covers_both 0 (stmt_places y.0) (arms_row rows ys)) (y.1.passes now) λ _ there _ _.
       arms_lawful rows ys type_id (before ++ values) there)
     where
@@ -483,11 +475,11 @@ module _ (here : Here) where
 
   statement_layer : (y : layer.Stmt-F WithStmt) → LawfulStmt (roll-Stmt (bare y))
   statement_layer layer.Empty =
-      from_layer layer.Empty (record { passes = λ least. enter_does Empty (λ n. refl) (λ n. refl) (λ n. refl) (λ n. refl) (λ n. refl) (λ n m h. refl) })
+      from_layer layer.Empty (record { passes = λ least. enter_does Empty (λ n. refl) (λ n. refl) (λ n. refl) (λ n m h. refl) })
   statement_layer (layer.Assign name selectors indexes becomes value) =
       from_layer (layer.Assign name selectors indexes becomes value)
       (assignment_does name selectors.items (map expr_places indexes.items) (map expression indexes.items) becomes (expr_places value) (expression value)
-      (λ h. indexes_lawful h indexes.items) (expression_lawful here value))
+      (indexes_lawful here indexes.items) (expression_lawful here value))
   statement_layer (layer.Call name actuals) = from_layer (layer.Call name actuals) (call_does name actuals.items)
   statement_layer (layer.Compound statements) = from_layer (bare (layer.Compound statements)) (compound_does _ _ (row_lawful statements.items))
   statement_layer (layer.If place condition consequence None) =

@@ -1,11 +1,10 @@
 -- What the steps of typing do, and what they do one after another.
 use Rattle.std.proofs.Common.{◌≡◌, ℕ, ◌+◌, ◌-◌, ◌<◌, Bool, true, false, nat_eq, nat_le, take, Result, List, [], ◌∷◌, ◌++◌, length, Option, Some, None, Ok, Err}
-use Rattle.std.proofs.Common.{if◌then◌else◌, get_or, slice_get, ◌&&◌, not, append-nil, length-append, refl, sym, ap, subst, ◌∙◌, arith, ◌||◌, inl, ◌⊎◌}
-use Rattle.std.specs.List.{range_with_len, list_any, list_all, flat_map}
+use Rattle.std.proofs.Common.{if◌then◌else◌, get_or, slice_get, ◌&&◌, not, append-nil, length-append, refl, sym, ap, subst, ◌∙◌, arith, ◌||◌}
+use Rattle.std.specs.List.{list_any, list_all, flat_map}
 use Rattle.std.specs.Option.{option_and_then}
 use Rattle.std.proofs.lemmas.Grind.{flat_map-append}
 use Rattle.std.proofs.lemmas.List.Folds.{list_all-append, list_any-append}
-use Rattle.std.proofs.lemmas.Bool.Decides.{nat_tests}
 use Rattle.std.proofs.lemmas.Bool.{eq-eqb}
 use Rattle.place.specs.declared.Place.{Place}
 use Rattle.syntax_tree.specs.declared.Name.{Name}
@@ -22,28 +21,31 @@ use Rattle.typed_tree.specs.declared.site.SiteKind.{SiteKind}
 use Rattle.typed_tree.specs.Ids.{Stands}
 use Rattle.typed_tree.specs.WellFormed.{Outline, are_characters, is_local_kind, most_entries}
 use Rattle.typed_tree.specs.Threats.{is_none_of}
-use Rattle.typed_tree.specs.Look.{For, Controls, ForEnds, Mark, Look, mark_entries, mark_loops, mark_blocks, is_formed_mark}
-use Rattle.typing.specs.Passing.{Passed, Checked, After, Passing, and_then, after, pure, fail, given, by_types, mark, behind_marks, ◌>>=◌, ◌>>?◌}
+use Rattle.typed_tree.specs.Look.{For, Controls, ForEnds, Mark, Look, is_formed_mark}
+use Rattle.typing.specs.Passing.{Enclosing, Passed, Checked, After, Passing, and_then, after, pure, fail, given, by_types, mark, behind_marks, ◌>>=◌, ◌>>?◌}
 use Rattle.typing.specs.Steps.{most_sites, pass, enter, enter_as, number_loop, begin_loop, enter_loop, site, find, told, may_change}
 use Rattle.typing.specs.Steps.{begin_control, end_control, wants_output, host_type, text_at, keep_text, is_own, is_local, may_control, with_one}
-use Rattle.typing.specs.Steps.{with_threatened, assign_result, enclosing_now, heading_at, variable_at, program_heading}
+use Rattle.typing.specs.Steps.{with_threatened, enclosing_now, heading_at, variable_at, program_heading}
 use Rattle.typing.specs.Expressions.{behind}
 use Rattle.typing.specs.Statements.{for_body}
 use Rattle.typing.specs.Names.{folded}
+pub use Rattle.typing.proofs.Ways.{below}
+use Rattle.typing.proofs.Ways.{numbers_of, Nobody, Way, Stay, One, Controlled, Token, Entry, Loop, Marked, Site, Threat, Text, Assigned, with_result}
 use Rattle.typing_laws.proofs.Covers.{at_place}
-use Rattle.typing_laws.proofs.Grown.{heads_of, FitsHeading, Fine, Grown, further, fine_later, grown_then, both_true, IsFree}
-use Rattle.typing_laws.proofs.Reached.{IsLonger, as_long, get_longer, get_mapped, get_or_is, Signature, signature_passed, Reached, reached, whole_of, IsFurther}
+use Rattle.typing_laws.proofs.Grown.{heads_of, FitsHeading, Fine, Grown, Sited, sited_then, sited_more, further, fine_later, grown_then, both_true, IsFree}
+use Rattle.typing_laws.proofs.Reached.{get_longer, get_mapped, get_or_is, Signature, signature_passed, Reached, reached, whole_of, IsFurther}
 use Rattle.typing_laws.proofs.Reached.{as_far, further_still, Here, StandsIn}
 use Rattle.typing_laws.proofs.Sound.{IsSound, found_holds, IsVariable, or_right}
 use Rattle.typing_laws.proofs.Tables.{AreLawful, AreTexts, texts_more}
 use Rattle.typing_laws.specs.Controls.{Each, is_bracket, mark_changes, mark_controls, spared_behind}
-use Rattle.typing_laws.specs.Results.{mark_targets}
+use Rattle.typing_laws.specs.Results.{is_target}
 use Rattle.typing_laws.proofs.Kept.{MayChange, change_later, changes_of, controls_of, each_more}
+use Rattle.typing_laws.proofs.Went.{ended_control, same_controls}
 use Rattle.typing_laws.proofs.Spared.{AreHeld, apart_held, one_mark, spared_append}
 
--- a form has grown what is known, and its answer has this
+-- a form has grown what is known, with such sites, and its answer has this
 abbrev pub Leaves : {A : Type 0} → Here → (List Stands → Type 0) → Passed → (A → Reached → Type 0) → After A → Type 0
-Leaves here Has s Answers a = Grown here Has a.look s a.passed × Answers a.answer (reached a.passed)
+Leaves here Has s Answers a = Grown here a.look s a.passed × Sited Has s a.passed × Answers a.answer (reached a.passed)
 
 -- from at least so far on, its answer has this with as many sites and types as there are then
 pub record Does (here : Here) (least : Reached) {A : Type 0} (Has : List Stands → Type 0) (p : Passing A)
@@ -76,9 +78,6 @@ pub split_if : {A : Type 0} (test : Bool) (fault : TypeFault) (a b : A) → (if 
 split_if true fault a b h = (refl, cc)
 split_if false fault a b h = absurd cc
 
-pub below : (a b : ℕ) → nat_le a b ≡ false → b < a
-below a b h = grind (arith, nat_tests)
-
 -- ---- one after another
 
 pub joins : {here : Here} {least : Reached} {A B : Type 0} {First Second Both : List Stands → Type 0} {p : Passing A} {f : A → Passing B}
@@ -90,9 +89,9 @@ joins {here} {least} {A} {B} {First} {Second} {Both} {p} {f} {K} {L} joined firs
       let x = split (p s) (λ a. behind_marks a.look (f a.answer a.passed)) b is in
       let y = split_behind x.0.look (f x.0.answer x.0.passed) b x.2 in
       let one = first.does s x.0 x.1 fine h in
-      let now : IsFurther least (reached x.0.passed) = further_still h (further one.0) in
-      let two = (rest x.0.answer (reached x.0.passed) now one.1).does x.0.passed y.0 y.1 (fine_later one.0 fine) as_far in
-      subst (Leaves here Both s L) y.2 (grown_then joined one.0 two.0, two.1);
+      let now : IsFurther least (reached x.0.passed) = further_still h (further one.0.way) in
+      let two = (rest x.0.answer (reached x.0.passed) now one.2).does x.0.passed y.0 y.1 (fine_later one.0 fine) as_far in
+      subst (Leaves here Both s L) y.2 (grown_then one.0 two.0, sited_then joined one.1 two.1, two.2);
 }
 
 -- a step that adds no site, and then others
@@ -122,8 +121,9 @@ checks_types {here} {least} {A} {B} {Has} {p} {test} {K} {L} first fits = record
       let y = split (test x.0.passed.types x.0.answer) (λ b. Ok (after b x.0.look x.0.passed)) b x.2 in
       let one = first.does s x.0 x.1 fine h in
       let same : after y.0 x.0.look x.0.passed ≡ b = cc in
+      let known = further_still h (further one.0.way) in
       subst (Leaves here Has s L) same
-      (one.0, fits x.0.passed.types x.0.answer y.0 (reached x.0.passed) (further_still h (further one.0)) refl one.0.lawful y.1 one.1);
+      (one.0, one.1, fits x.0.passed.types x.0.answer y.0 (reached x.0.passed) known refl one.0.lawful y.1 one.2);
 }
 
 -- whatever they are
@@ -138,40 +138,11 @@ checks first fits = checks_types first (λ types x b now later same lawful. fits
 pub sited : {here : Here} {least : Reached} {A : Type 0} {Has Had : List Stands → Type 0} {p : Passing A} {K : A → Reached → Type 0}
     → ((a : List Stands) → Has a → Had a)
     → Does here least Has p K → Does here least Had p K
-sited {here} {Has = Has} {Had = Had} has d = record {
+sited has d = record {
   does = λ s a is fine h.
       let k = d.does s a is fine h in
-      (otherwise k.0, k.1);
+      (k.0, sited_more has k.1, k.2);
 }
-  where
-    otherwise : {look : Look} {old new : Passed} → Grown here Has look old new → Grown here Had look old new
-    otherwise g = record {
-      regions = g.regions;
-      longer = g.longer;
-      lawful = g.lawful;
-      texts = g.texts;
-      variables_kept = g.variables_kept;
-      headings_kept = g.headings_kept;
-      enclosing_kept = g.enclosing_kept;
-      added = g.added;
-      sites = g.sites;
-      covered = has g.added g.covered;
-      few_sites = g.few_sites;
-      numbered = g.numbered;
-      entered = g.entered;
-      few_entries = g.few_entries;
-      looped = g.looped;
-      begun = g.begun;
-      inner = g.inner;
-      threats = g.threats;
-      assigns = g.assigns;
-      assigned = g.assigned;
-      changes = g.changes;
-      controls = g.controls;
-      formed = g.formed;
-      controls_kept = g.controls_kept;
-      spared = g.spared;
-    }
 
 -- the same, with something else that holds of its answer
 pub answered : {here : Here} {least : Reached} {A : Type 0} {Has : List Stands → Type 0} {p : Passing A} {K L : A → Reached → Type 0}
@@ -180,7 +151,7 @@ pub answered : {here : Here} {least : Reached} {A : Type 0} {Has : List Stands �
 answered other d = record {
   does = λ s a is fine h.
       let k = d.does s a is fine h in
-      (k.0, other a.answer (reached a.passed) k.1);
+      (k.0, k.1, other a.answer (reached a.passed) k.2);
 }
 
 -- and what has come so far
@@ -189,82 +160,68 @@ pub further_answered : {here : Here} {least : Reached} {A : Type 0} {Has : List 
 further_answered d other = record {
   does = λ s a is fine h.
       let k = d.does s a is fine h in
-      (k.0, other a.answer (reached a.passed) (further_still h (further k.0)) k.1);
+      (k.0, k.1, other a.answer (reached a.passed) (further_still h (further k.0.way)) k.2);
 }
 
 -- ---- steps that add no site
 
--- what is known is the same, but for the latest token
-pub grown_silent : (here : Here) (s new : Passed) → new.regions ≡ s.regions → new.types ≡ s.types → new.texts ≡ s.texts
-    → new.variables ≡ s.variables → new.headings ≡ s.headings → new.enclosing ≡ s.enclosing → new.sites ≡ s.sites
-    → new.entries ≡ s.entries → new.loops ≡ s.loops
-    → ((root : ℕ) → list_any (nat_eq root) s.threatened ≡ true → list_any (nat_eq root) new.threatened ≡ true)
-    → new.assigned ≡ s.assigned → new.controls ≡ s.controls → Fine here s
-    → Grown here Nothing [] s new
-grown_silent here s new regions types texts declared headings enclosing sites entries loops threats assigned kept fine = record {
-  regions = regions;
-  longer = subst (IsLonger s.types) (sym types) as_long;
-  lawful = subst AreLawful (sym types) fine.lawful;
-  texts = subst AreTexts (sym texts) fine.texts;
-  variables_kept = declared;
-  headings_kept = headings;
-  enclosing_kept = enclosing;
-  added = [];
-  sites = sites ∙ sym (append-nil s.sites);
-  covered = refl;
-  few_sites = omega (arith, ap length sites, fine.few_sites);
-  numbered = refl;
-  entered = omega (arith, entries);
-  few_entries = omega (arith, entries, fine.few_entries);
-  looped = refl;
-  begun = omega (arith, loops);
-  inner = refl;
-  threats = threats;
-  assigns = λ root is. ap (list_any (nat_eq root)) assigned ∙ is;
-  assigned = λ settled root is. inl (ap (list_any (nat_eq root)) (sym assigned) ∙ is);
+pub no_sites : {s new : Passed} → new.sites ≡ s.sites → Sited Nothing s new
+no_sites {s} is = record { added = []; sites = is ∙ sym (append-nil s.sites); covered = refl }
+
+-- without a mark
+pub grown_plain : {here : Here} {s new : Passed} → Way true Nobody 0 0 [] s new → AreLawful new.types → AreTexts new.texts
+    → Grown here [] s new
+grown_plain way lawful texts = record {
+  way = way;
+  lawful = lawful;
+  texts = texts;
   changes = tt;
   controls = tt;
   formed = λ o h. refl;
-  controls_kept = kept;
   spared = λ roots held. refl;
 }
 
+-- a step that leaves the types, the texts and the sites
+pub silent_leaves : {here : Here} {A : Type 0} (K : A → Reached → Type 0) {s new : Passed} {x : A} {a : After A} → after x [] new ≡ a
+    → Way true Nobody 0 0 [] s new → new.types ≡ s.types → new.texts ≡ s.texts → new.sites ≡ s.sites → Fine here s
+    → K x (reached new) → Leaves here Nothing s K a
+silent_leaves {here} K {s = s} same way types texts sites fine known =
+    subst (Leaves here Nothing s K) same (
+      grown_plain way (subst AreLawful (sym types) fine.lawful) (subst AreTexts (sym texts) fine.texts),
+      no_sites sites,
+      known,
+    )
+
 pub pass_does : {here : Here} {least : Reached} (place : Place) → Does here least Nothing (pass place) Anything
 unfolding pass
-pass_does {here} place = record {
+pass_does place = record {
   does = λ s a is fine h.
       let same : after tt [] (record s { latest = place }) ≡ a = cc in
-      subst (Leaves here Nothing s Anything) same
-      (grown_silent here s (record s { latest = place }) refl refl refl refl refl refl refl refl refl (λ root is. is) refl refl fine, tt);
+      silent_leaves Anything same (One (Token place)) refl refl refl fine tt;
 }
 
 pub pure_does : {here : Here} {least : Reached} {A : Type 0} {K : A → Reached → Type 0} (x : A)
     → ((now : Reached) → IsFurther least now → K x now) → Does here least Nothing (pure x) K
-pure_does {here} {least} {A} {K} x known = record {
-  does = λ s a is fine h.
-      let same : after x [] s ≡ a = cc in
-      subst (Leaves here Nothing s K) same
-      (grown_silent here s s refl refl refl refl refl refl refl refl refl (λ root is. is) refl refl fine, known (reached s) h);
+pure_does {K = K} x known = record {
+  does = λ s a is fine h. let same : after x [] s ≡ a = cc in silent_leaves K same Stay refl refl refl fine (known (reached s) h);
 }
 
 pub given_does : {here : Here} {least : Reached} {A : Type 0} (checked : Checked A)
     → Does here least Nothing (given checked) (λ x now. checked ≡ Ok x)
-given_does {here} {least} {A} checked = record {
+given_does checked = record {
   does = λ s a is fine h.
       let x = split checked (λ b. Ok (after b [] s)) a is in
       let same : after x.0 [] s ≡ a = cc in
-      subst (Leaves here Nothing s (λ x now. checked ≡ Ok x)) same
-      (grown_silent here s s refl refl refl refl refl refl refl refl refl (λ root is. is) refl refl fine, x.1);
+      silent_leaves (λ x now. checked ≡ Ok x) same Stay refl refl refl fine x.1;
 }
 
 pub by_types_does : {here : Here} {least : Reached} {A : Type 0} (test : List Form → Checked A)
     → Does here least Nothing (by_types test) (λ x now. AreLawful now.types × (test now.types ≡ Ok x))
-by_types_does {here} {least} {A} test = record {
+by_types_does test = record {
   does = λ s a is fine h.
       let x = split (test s.types) (λ b. Ok (after b [] s)) a is in
       let same : after x.0 [] s ≡ a = cc in
-      subst (Leaves here Nothing s (λ x now. AreLawful now.types × (test now.types ≡ Ok x))) same
-      (grown_silent here s s refl refl refl refl refl refl refl refl refl (λ root is. is) refl refl fine, (fine.lawful, x.1));
+      silent_leaves (λ x now. AreLawful now.types × (test now.types ≡ Ok x)) same Stay refl refl refl fine (fine.lawful, x.1);
 }
 
 pub fail_does : {here : Here} {least : Reached} {A : Type 0} {Has : List Stands → Type 0} {K : A → Reached → Type 0} (why : TypeFault)
@@ -288,10 +245,7 @@ find_does {here} name = record {
       let x = split (told name.place (found s.regions text)) (λ denotation. Ok (after denotation [] (record s { latest = name.place }))) a is in
       let same : after x.0 [] (record s { latest = name.place }) ≡ a = cc in
       let there = found_holds (IsSound here s.variables s.types (heads_of (reached s))) s.regions text x.0 fine.sound (by (found s.regions text) x.0 x.1) in
-      subst (Leaves here Nothing s (λ denotation now. IsFound here denotation now)) same (
-        grown_silent here s (record s { latest = name.place }) refl refl refl refl refl refl refl refl refl (λ root is. is) refl refl fine,
-        (there, fine.stands),
-      );
+      silent_leaves (IsFound here) same (One (Token name.place)) refl refl refl fine (there, fine.stands);
 }
   where
     by : (r : Result Denotation ScopeFault) (d : Denotation) → told name.place r ≡ Ok d → r ≡ Ok d
@@ -303,7 +257,7 @@ unfolding wants_output
 wants_output_does {here} place = record {
   does = λ s a is fine h.
       let x = split_if s.has_output (fault.NotProgramParameter place) (after tt [] s) a is in
-      subst (Leaves here Nothing s Anything) x.1 (grown_silent here s s refl refl refl refl refl refl refl refl refl (λ root is. is) refl refl fine, tt);
+      silent_leaves Anything x.1 Stay refl refl refl fine tt;
 }
 
 -- ---- marks
@@ -317,43 +271,26 @@ all_apart here s roots (root ∷ changes) held may =
     (all_apart here s roots changes held may.1)
 
 -- no entry, but well formed
-marked_does : {here : Here} {least : Reached} (one : Mark) → mark_entries one ≡ [] → mark_loops one ≡ [] → mark_blocks one ≡ []
-    → is_bracket one ≡ false → ((now : Reached) → IsFurther least now → Each (MayChange here now) (mark_changes one ++ [])) → mark_controls one ≡ []
+marked_does : {here : Here} {least : Reached} (one : Mark) → numbers_of one ≡ ([], [], []) → is_bracket one ≡ false
+    → ((now : Reached) → IsFurther least now → Each (MayChange here now) (mark_changes one ++ [])) → mark_controls one ≡ []
     → ((o : Outline) → IsFurther least (whole_of o) → is_formed_mark o here.block one ≡ true)
     → Does here least Nothing (mark one) Anything
-marked_does {here} {least} one none no_loop no_block plain changes no_control formed = record {
+marked_does {here} {least} one none plain changes no_control formed = record {
   does = λ s a is fine h.
       let same : after tt (one ∷ []) s ≡ a = cc in
-      let counted : length (mark_entries one ++ []) ≡ 0 = ap (λ (l : List ℕ). length (l ++ [])) none in
-      let loops_counted : length (mark_loops one ++ []) ≡ 0 = ap (λ (l : List ℕ). length (l ++ [])) no_loop in
-      let g : Grown here Nothing (one ∷ []) s s = record {
-        regions = refl;
-        longer = as_long;
-        lawful = fine.lawful;
-        texts = fine.texts;
-        variables_kept = refl;
-        headings_kept = refl;
-        enclosing_kept = refl;
-        added = [];
-        sites = sym (append-nil s.sites);
-        covered = refl;
-        few_sites = fine.few_sites;
-        numbered = subst (λ (l : List ℕ). l ++ [] ≡ range_with_len s.entries (length (l ++ []))) (sym none) refl;
-        entered = omega (arith, counted);
-        few_entries = fine.few_entries;
-        looped = subst (λ (l : List ℕ). l ++ [] ≡ range_with_len s.loops (length (l ++ []))) (sym no_loop) refl;
-        begun = omega (arith, loops_counted);
-        inner = ap (λ l. l ++ []) no_block;
-        threats = λ root is. is;
-        assigns = λ root is. is;
-        assigned = λ settled root is. inl is;
-        changes = changes (reached s) h;
-        controls = subst (λ (l : List ℕ). Each (IsFree here s s) (l ++ [])) (sym no_control) tt;
-        formed = λ o more. both_true _ true (formed o (further_still h more)) refl;
-        controls_kept = refl;
-        spared = λ roots held. one_mark one roots plain (all_apart here s roots (mark_changes one) held (changes (reached s) h));
-      } in
-      subst (Leaves here Nothing s Anything) same (g, tt);
+      subst (Leaves here Nothing s Anything) same (
+        record {
+          way = One (Marked one none);
+          lawful = fine.lawful;
+          texts = fine.texts;
+          changes = changes (reached s) h;
+          controls = subst (λ (l : List ℕ). Each (IsFree here s s) (l ++ [])) (sym no_control) tt;
+          formed = λ o more. both_true _ true (formed o (further_still h more)) refl;
+          spared = λ roots held. one_mark one roots plain (all_apart here s roots (mark_changes one) held (changes (reached s) h));
+        },
+        no_sites refl,
+        tt,
+      );
 }
 
 -- what changes nothing controls nothing
@@ -361,29 +298,29 @@ no_control : (one : Mark) → mark_changes one ≡ [] → mark_controls one ≡ 
 no_control (For number loop_number place control direction) none = absurd cc
 no_control other none = refl
 
-pub mark_does : {here : Here} {least : Reached} (one : Mark) → mark_entries one ≡ [] → mark_loops one ≡ [] → mark_blocks one ≡ []
-    → mark_changes one ≡ [] → is_bracket one ≡ false → ((o : Outline) → IsFurther least (whole_of o) → is_formed_mark o here.block one ≡ true)
+pub mark_does : {here : Here} {least : Reached} (one : Mark) → numbers_of one ≡ ([], [], []) → mark_changes one ≡ [] → is_bracket one ≡ false
+    → ((o : Outline) → IsFurther least (whole_of o) → is_formed_mark o here.block one ≡ true)
     → Does here least Nothing (mark one) Anything
-mark_does {here} one none no_loop no_block no_change plain formed =
-    marked_does one none no_loop no_block plain (λ now more. subst (λ (l : List ℕ). Each (MayChange here now) (l ++ [])) (sym no_change) tt)
+mark_does {here} one none no_change plain formed =
+    marked_does one none plain (λ now more. subst (λ (l : List ℕ). Each (MayChange here now) (l ++ [])) (sym no_change) tt)
     (no_control one no_change) formed
 
 -- one that changes a variable
-pub change_does : {here : Here} {least : Reached} (one : Mark) (root : ℕ) → mark_entries one ≡ [] → mark_loops one ≡ [] → mark_blocks one ≡ []
-    → mark_changes one ≡ root ∷ [] → mark_controls one ≡ [] → is_bracket one ≡ false → MayChange here least root
+pub change_does : {here : Here} {least : Reached} (one : Mark) (root : ℕ) → numbers_of one ≡ ([], [], []) → mark_changes one ≡ root ∷ []
+    → mark_controls one ≡ [] → is_bracket one ≡ false → MayChange here least root
     → ((o : Outline) → IsFurther least (whole_of o) → is_formed_mark o here.block one ≡ true) → Does here least Nothing (mark one) Anything
-change_does {here} {least} one root none no_loop no_block change no_control plain may formed =
-    marked_does one none no_loop no_block plain
+change_does {here} {least} one root none change no_control plain may formed =
+    marked_does one none plain
     (λ now more. subst (λ (l : List ℕ). Each (MayChange here now) (l ++ [])) (sym change) (change_later here least now root more may, tt)) no_control formed
 
 -- an entry, with the next number
-pub enter_does : {here : Here} {least : Reached} (marked : ℕ → Mark) → ((k : ℕ) → mark_entries (marked k) ≡ k ∷ [])
-    → ((k : ℕ) → mark_loops (marked k) ≡ []) → ((k : ℕ) → mark_blocks (marked k) ≡ []) → ((k : ℕ) → mark_changes (marked k) ≡ [])
+pub enter_does : {here : Here} {least : Reached} (marked : ℕ → Mark) → ((k : ℕ) → numbers_of (marked k) ≡ (k ∷ [], [], []))
+    → ((k : ℕ) → mark_changes (marked k) ≡ [])
     → ((k : ℕ) → is_bracket (marked k) ≡ false)
     → ((k : ℕ) (o : Outline) → IsFurther least (whole_of o) → is_formed_mark o here.block (marked k) ≡ true)
     → Does here least Nothing (enter_as marked) Anything
 unfolding enter
-enter_does {here} {least} marked one no_loop no_block no_change plain formed = record {
+enter_does {here} {least} marked entry no_change plain formed = record {
   does = λ s a is fine h.
       let x = split (if nat_le most_entries s.entries then Err (fault.TooMany s.latest) else Ok (after s.entries [] (record s { entries = s.entries + 1 })))
       (λ b. behind_marks b.look (mark (marked b.answer) b.passed)) a is in
@@ -391,36 +328,19 @@ enter_does {here} {least} marked one no_loop no_block no_change plain formed = r
       let new : Passed = record s { entries = s.entries + 1 } in
       let number = s.entries in
       let same : after tt (marked s.entries ∷ []) new ≡ a = by x.0 a y.1 x.2 in
-      let counted : length (mark_entries (marked number) ++ []) ≡ 1 = ap (λ (l : List ℕ). length (l ++ [])) (one number) in
-      let loops_counted : length (mark_loops (marked number) ++ []) ≡ 0 = ap (λ (l : List ℕ). length (l ++ [])) (no_loop number) in
-      let g : Grown here Nothing (marked number ∷ []) s new = record {
-        regions = refl;
-        longer = as_long;
-        lawful = fine.lawful;
-        texts = fine.texts;
-        variables_kept = refl;
-        headings_kept = refl;
-        enclosing_kept = refl;
-        added = [];
-        sites = sym (append-nil s.sites);
-        covered = refl;
-        few_sites = fine.few_sites;
-        numbered = subst (λ (l : List ℕ). l ++ [] ≡ range_with_len s.entries (length (l ++ []))) (sym (one number)) refl;
-        entered = omega (arith, counted);
-        few_entries = omega (arith, below most_entries s.entries y.0);
-        looped = subst (λ (l : List ℕ). l ++ [] ≡ range_with_len s.loops (length (l ++ []))) (sym (no_loop number)) refl;
-        begun = omega (arith, loops_counted);
-        inner = ap (λ l. l ++ []) (no_block number);
-        threats = λ root is. is;
-        assigns = λ root is. is;
-        assigned = λ settled root is. inl is;
-        changes = subst (λ (l : List ℕ). Each (MayChange here (reached new)) (l ++ [])) (sym (no_change number)) tt;
-        controls = subst (λ (l : List ℕ). Each (IsFree here s new) (l ++ [])) (sym (no_control (marked number) (no_change number))) tt;
-        formed = λ o more. both_true _ true (formed number o (further_still h more)) refl;
-        controls_kept = refl;
-        spared = λ roots held. one_mark (marked number) roots (plain number) (ap (list_all (is_none_of roots)) (no_change number));
-      } in
-      subst (Leaves here Nothing s Anything) same (g, tt);
+      subst (Leaves here Nothing s Anything) same (
+        record {
+          way = One (Entry (marked number) (below most_entries s.entries y.0) (entry number));
+          lawful = fine.lawful;
+          texts = fine.texts;
+          changes = subst (λ (l : List ℕ). Each (MayChange here (reached new)) (l ++ [])) (sym (no_change number)) tt;
+          controls = subst (λ (l : List ℕ). Each (IsFree here s new) (l ++ [])) (sym (no_control (marked number) (no_change number))) tt;
+          formed = λ o more. both_true _ true (formed number o (further_still h more)) refl;
+          spared = λ roots held. one_mark (marked number) roots (plain number) (ap (list_all (is_none_of roots)) (no_change number));
+        },
+        no_sites refl,
+        tt,
+      );
 }
   where
     by : {new : Passed} {number : ℕ} (x : After ℕ) (a : After (Unit {0})) → after number [] new ≡ x
@@ -431,15 +351,14 @@ enter_does {here} {least} marked one no_loop no_block no_change plain formed = r
         cc
 
 -- a loop, with the next two numbers
-enter_loop_at : {here : Here} (marked : ℕ → ℕ → Mark) → ((k l : ℕ) → mark_entries (marked k l) ≡ k ∷ [])
-    → ((k l : ℕ) → mark_loops (marked k l) ≡ l ∷ []) → ((k l : ℕ) → mark_blocks (marked k l) ≡ [])
+enter_loop_at : {here : Here} (marked : ℕ → ℕ → Mark) → ((k l : ℕ) → numbers_of (marked k l) ≡ (k ∷ [], l ∷ [], []))
     → ((k l : ℕ) → is_bracket (marked k l) ≡ false) → (s : Passed) (a : After (Unit {0}))
     → ((k l : ℕ) → Each (MayChange here (reached s)) (mark_changes (marked k l) ++ []))
     → ((k l : ℕ) (new : Passed) → new.variables ≡ s.variables → Each (IsFree here s new) (mark_controls (marked k l) ++ []))
     → ((k l : ℕ) (o : Outline) → IsFurther (reached s) (whole_of o) → is_formed_mark o here.block (marked k l) ≡ true)
     → Fine here s → enter_loop marked s ≡ Ok a → Leaves here Nothing s Anything a
 unfolding begin_loop enter
-enter_loop_at {here} marked one loop no_block plain s a changes controls formed fine is = by (nat_le most_entries s.entries) refl is
+enter_loop_at {here} marked loop plain s a changes controls formed fine is = by (nat_le most_entries s.entries) refl is
   where
     by : (test : Bool) → nat_le most_entries s.entries ≡ test
         → and_then (and_then (if test then Err (fault.TooMany s.latest) else Ok (after s.entries [] (record s { entries = s.entries + 1 })))
@@ -451,69 +370,35 @@ enter_loop_at {here} marked one loop no_block plain s a changes controls formed 
         let new : Passed = record s { entries = s.entries + 1; loops = s.loops + 1 } in
         let made = marked s.entries s.loops in
         let same : after tt (made ∷ []) new ≡ a = cc in
-        let counted : length (mark_entries made ++ []) ≡ 1 = ap (λ (l : List ℕ). length (l ++ [])) (one s.entries s.loops) in
-        let loops_counted : length (mark_loops made ++ []) ≡ 1 = ap (λ (l : List ℕ). length (l ++ [])) (loop s.entries s.loops) in
-        let g : Grown here Nothing (made ∷ []) s new = record {
-          regions = refl;
-          longer = as_long;
-          lawful = fine.lawful;
-          texts = fine.texts;
-          variables_kept = refl;
-          headings_kept = refl;
-          enclosing_kept = refl;
-          added = [];
-          sites = sym (append-nil s.sites);
-          covered = refl;
-          few_sites = fine.few_sites;
-          numbered = subst (λ (l : List ℕ). l ++ [] ≡ range_with_len s.entries (length (l ++ []))) (sym (one s.entries s.loops)) refl;
-          entered = omega (arith, counted);
-          few_entries = omega (arith, below most_entries s.entries test);
-          looped = subst (λ (l : List ℕ). l ++ [] ≡ range_with_len s.loops (length (l ++ []))) (sym (loop s.entries s.loops)) refl;
-          begun = omega (arith, loops_counted);
-          inner = ap (λ l. l ++ []) (no_block s.entries s.loops);
-          threats = λ root is. is;
-          assigns = λ root is. is;
-          assigned = λ settled root is. inl is;
-          changes = changes s.entries s.loops;
-          controls = controls s.entries s.loops new refl;
-          formed = λ o more. both_true _ true (formed s.entries s.loops o more) refl;
-          controls_kept = refl;
-          spared = λ roots held.
-              one_mark made roots (plain s.entries s.loops) (all_apart here s roots (mark_changes made) held (changes s.entries s.loops));
-        } in
-        subst (Leaves here Nothing s Anything) same (g, tt)
+        subst (Leaves here Nothing s Anything) same (
+          record {
+            way = One (Loop made (below most_entries s.entries test) (loop s.entries s.loops));
+            lawful = fine.lawful;
+            texts = fine.texts;
+            changes = changes s.entries s.loops;
+            controls = controls s.entries s.loops new refl;
+            formed = λ o more. both_true _ true (formed s.entries s.loops o more) refl;
+            spared = λ roots held.
+                one_mark made roots (plain s.entries s.loops) (all_apart here s roots (mark_changes made) held (changes s.entries s.loops));
+          },
+          no_sites refl,
+          tt,
+        )
 
-pub enter_loop_does : {here : Here} {least : Reached} (marked : ℕ → ℕ → Mark) → ((k l : ℕ) → mark_entries (marked k l) ≡ k ∷ [])
-    → ((k l : ℕ) → mark_loops (marked k l) ≡ l ∷ []) → ((k l : ℕ) → mark_blocks (marked k l) ≡ []) → ((k l : ℕ) → mark_changes (marked k l) ≡ [])
+pub enter_loop_does : {here : Here} {least : Reached} (marked : ℕ → ℕ → Mark) → ((k l : ℕ) → numbers_of (marked k l) ≡ (k ∷ [], l ∷ [], []))
+    → ((k l : ℕ) → mark_changes (marked k l) ≡ [])
     → ((k l : ℕ) → is_bracket (marked k l) ≡ false)
     → ((k l : ℕ) (o : Outline) → IsFurther least (whole_of o) → is_formed_mark o here.block (marked k l) ≡ true)
     → Does here least Nothing (enter_loop marked) Anything
-enter_loop_does {here} {least} marked one loop no_block no_change plain formed = record {
+enter_loop_does {here} {least} marked loop no_change plain formed = record {
   does = λ s a is fine h.
-      enter_loop_at marked one loop no_block plain s a
+      enter_loop_at marked loop plain s a
       (λ k l. subst (λ (m : List ℕ). Each (MayChange here (reached s)) (m ++ [])) (sym (no_change k l)) tt)
       (λ k l new same. subst (λ (m : List ℕ). Each (IsFree here s new) (m ++ [])) (sym (no_control (marked k l) (no_change k l))) tt)
       (λ k l o more. formed k l o (further_still h more)) fine is;
 }
 
 -- ---- control variables
-
--- what is there is there with one more
-pub kept_with : (roots : List ℕ) (root other : ℕ) → list_any (nat_eq other) roots ≡ true → list_any (nat_eq other) (with_one roots root) ≡ true
-kept_with roots root other is = one (list_any (nat_eq root) roots)
-  where
-    before : (all : List ℕ) → list_any (nat_eq other) all ≡ true → list_any (nat_eq other) (all ++ root ∷ []) ≡ true
-    before [] h = absurd cc
-    before (first ∷ all) h = here_or (nat_eq other first) (before all) h
-      where
-        here_or : (test : Bool) → (list_any (nat_eq other) all ≡ true → list_any (nat_eq other) (all ++ root ∷ []) ≡ true)
-            → (test || list_any (nat_eq other) all) ≡ true → (test || list_any (nat_eq other) (all ++ root ∷ [])) ≡ true
-        here_or true more g = refl
-        here_or false more g = more g
-
-    one : (test : Bool) → list_any (nat_eq other) (if test then roots else roots ++ root ∷ []) ≡ true
-    one true = is
-    one false = before roots is
 
 -- a variable of this block or of one round it, which may be changed from here on
 pub may_change_does : {here : Here} {least : Reached} (place : Place) (root : ℕ) (type_id : TypeId)
@@ -525,8 +410,7 @@ may_change_does {here} {least} place root type_id known = record {
       let x = split_unless (list_any (λ control. nat_eq control root) s.controls) (fault.Threatened place) (after tt [] (with_threatened root s)) a is in
       let there = get_longer h.variables root known.variable known.is_there in
       let apart = ap not x.0 in
-      let k = by s (is_own s.enclosing.block (slice_get s.variables root)) refl fine there apart in
-      subst (Leaves here Nothing s (λ _ now. MayChange here now root)) x.1 k;
+      subst (Leaves here Nothing s (λ _ now. MayChange here now root)) x.1 (by s (is_own s.enclosing.block (slice_get s.variables root)) refl fine there apart);
 }
   where
     added : (roots : List ℕ) (root : ℕ) → list_any (nat_eq root) (with_one roots root) ≡ true
@@ -553,40 +437,35 @@ may_change_does {here} {least} place root type_id known = record {
         → slice_get s.variables root ≡ Some known.variable → not (list_any (λ control. nat_eq control root) s.controls) ≡ true
         → Leaves here Nothing s (λ _ now. MayChange here now root)
         (after (tt {0}) [] (if test then s else record s { threatened = with_one s.threatened root }))
-    by s true own fine there apart = (
-      grown_silent here s s refl refl refl refl refl refl refl refl refl (λ root is. is) refl refl fine,
-      record {
-        variable = known.variable;
-        is_there = there;
-        is_visible = known.is_visible;
-        may = or_left (nat_eq known.variable.block here.block) (list_any (nat_eq root) s.threatened) (own_is s fine there own);
-        apart = apart;
-      },
-    )
-    by s false own fine there apart = (
-      grown_silent here s (record s { threatened = with_one s.threatened root }) refl refl refl refl refl refl refl refl refl
-          (kept_with s.threatened root) refl refl fine,
-      record {
-        variable = known.variable;
-        is_there = there;
-        is_visible = known.is_visible;
-        may = or_right (nat_eq known.variable.block here.block) (list_any (nat_eq root) (with_one s.threatened root)) (added s.threatened root);
-        apart = apart;
-      },
-    )
+    by s true own fine there apart =
+        silent_leaves (λ (_ : Unit {0}) now. MayChange here now root) refl Stay refl refl refl fine (record {
+          variable = known.variable;
+          is_there = there;
+          is_visible = known.is_visible;
+          may = or_left (nat_eq known.variable.block here.block) (list_any (nat_eq root) s.threatened) (own_is s fine there own);
+          apart = apart;
+        })
+    by s false own fine there apart =
+        silent_leaves (λ (_ : Unit {0}) now. MayChange here now root) refl (One (Threat root)) refl refl refl fine (record {
+          variable = known.variable;
+          is_there = there;
+          is_visible = known.is_visible;
+          may = or_right (nat_eq known.variable.block here.block) (list_any (nat_eq root) (with_one s.threatened root)) (added s.threatened root);
+          apart = apart;
+        })
 
 -- a control variable is one of the variable declaration part of the block that no other block threatened, and its for
 -- statement begins
 pub controlled_does : {here : Here} {least : Reached} {B : Type 0} {Has : List Stands → Type 0} {L : B → Reached → Type 0} (place : Place) (root : ℕ)
-    (marked : ℕ → ℕ → Mark) (rest : Passing B) → ((k l : ℕ) → mark_entries (marked k l) ≡ k ∷ []) → ((k l : ℕ) → mark_loops (marked k l) ≡ l ∷ [])
-    → ((k l : ℕ) → mark_blocks (marked k l) ≡ []) → ((k l : ℕ) → mark_changes (marked k l) ≡ root ∷ [])
+    (marked : ℕ → ℕ → Mark) (rest : Passing B) → ((k l : ℕ) → numbers_of (marked k l) ≡ (k ∷ [], l ∷ [], []))
+    → ((k l : ℕ) → mark_changes (marked k l) ≡ root ∷ [])
     → ((k l : ℕ) → mark_controls (marked k l) ≡ root ∷ []) → ((k l : ℕ) → is_bracket (marked k l) ≡ false) → MayChange here least root
     → ((now : Reached) → IsFurther least now → is_local here.block (slice_get now.variables root) ≡ true → (k l : ℕ) (o : Outline)
     → IsFurther now (whole_of o) → is_formed_mark o here.block (marked k l) ≡ true)
     → ((now : Reached) → IsFurther least now → Does here now Has rest L)
     → Does here least Has (may_control place root >>= (λ _. enter_loop marked >>= (λ _. rest))) L
 unfolding may_control
-controlled_does {here} {least} {B} {Has} {L} place root marked rest one loop no_block changes controls plain may formed law = record {
+controlled_does {here} {least} {B} {Has} {L} place root marked rest loop changes controls plain may formed law = record {
   does = λ s b is fine h.
       let own = is_local s.enclosing.block (slice_get s.variables root) in
       let free = not (list_any (nat_eq root) s.threatened) in
@@ -604,15 +483,16 @@ controlled_does {here} {least} {B} {Has} {L} place root marked rest one loop no_
       let none = second_of own (list_any (nat_eq root) s.threatened) test.0 in
       let changed = change_later here least (reached s) root h may in
       let first =
-      enter_loop_at marked one loop no_block plain s u.0
+      enter_loop_at marked loop plain s u.0
       (λ k l. subst (λ (m : List ℕ). Each (MayChange here (reached s)) (m ++ [])) (sym (changes k l)) (changed, tt))
       (λ k l new same. subst (λ (m : List ℕ). Each (IsFree here s new) (m ++ [])) (sym (controls k l))
       (is_free s new changed.variable changed.is_there same local none, tt))
       (λ k l o more. formed (reached s) h local k l o more) fine u.1 in
-      let now : IsFurther least (reached u.0.passed) = further_still h (further first.0) in
+      let now : IsFurther least (reached u.0.passed) = further_still h (further first.0.way) in
       let second = (law (reached u.0.passed) now).does u.0.passed v.0 v.1 (fine_later first.0 fine) as_far in
       let both : Leaves here Has s L y.0 =
-      subst (Leaves here Has s L) v.2 (grown_then (λ p q none has. subst (λ l. Has (l ++ q)) (sym none) has) first.0 second.0, second.1) in
+      subst (Leaves here Has s L) v.2
+      (grown_then first.0 second.0, sited_then (λ p q none has. subst (λ l. Has (l ++ q)) (sym none) has) first.1 second.1, second.2) in
       subst (Leaves here Has s L) quiet both;
 }
   where
@@ -635,17 +515,6 @@ controlled_does {here} {least} {B} {Has} {L} place root marked rest one loop no_
     }
 
 -- ---- the statement of a for
-
--- the last one ends
-take_front : (roots : List ℕ) (root : ℕ) → take (length roots) (roots ++ root ∷ []) ≡ roots
-take_front [] root = refl
-take_front (first ∷ roots) root = ap (λ (more : List ℕ). first ∷ more) (take_front roots root)
-
-ended_control : (roots : List ℕ) (root : ℕ) → take (length (roots ++ root ∷ []) - 1) (roots ++ root ∷ []) ≡ roots
-ended_control roots root =
-    let counted = length-append roots (root ∷ []) in
-    let one_less : length (roots ++ root ∷ []) - 1 ≡ length roots = omega (arith, counted) in
-    ap (λ (n : ℕ). take n (roots ++ root ∷ [])) one_less ∙ take_front roots root
 
 -- what is apart from several is apart from all but the last
 apart_front : (roots : List ℕ) (last root : ℕ) → not (list_any (λ control. nat_eq control root) (roots ++ last ∷ [])) ≡ true
@@ -689,66 +558,42 @@ module _ (root : ℕ) (look : Look) (s new : Passed) where
       (ap (λ (all : List ℕ). take (length all - 1) all) kept ∙ ended_control s.controls root)
       ∙ apart_front s.controls root other (sym (ap (λ (all : List ℕ). not (list_any (λ control. nat_eq control other) all)) kept) ∙ apart)
 
-  grown_bracketed : {here : Here} {Has : List Stands → Type 0} → Grown here Has look inside new → Grown here Has bracketed s behind_it
-  grown_bracketed {here} {Has} g =
-      let entries = ended_flat mark_entries look refl in
-      let loops = ended_flat mark_loops look refl in
-      record {
-        regions = g.regions;
-        longer = g.longer;
-        lawful = g.lawful;
-        texts = g.texts;
-        variables_kept = g.variables_kept;
-        headings_kept = g.headings_kept;
-        enclosing_kept = g.enclosing_kept;
-        added = g.added;
-        sites = g.sites;
-        covered = g.covered;
-        few_sites = g.few_sites;
-        numbered = entries ∙ g.numbered ∙ ap (λ (l : List ℕ). range_with_len s.entries (length l)) (sym entries);
-        entered = omega (arith, g.entered, ap length entries);
-        few_entries = g.few_entries;
-        looped = loops ∙ g.looped ∙ ap (λ (l : List ℕ). range_with_len s.loops (length l)) (sym loops);
-        begun = omega (arith, g.begun, ap length loops);
-        inner = ended_flat mark_blocks look refl ∙ g.inner;
-        threats = g.threats;
-        assigns = g.assigns;
-        assigned = λ settled other is.
-            subst (λ (targets : List ℕ). (list_any (nat_eq other) s.assigned ≡ true) ⊎ (list_any (nat_eq other) targets ≡ true))
-            (sym (ended_flat mark_targets look refl)) (g.assigned settled other is);
-        changes =
-            subst (Each (MayChange here (reached behind_it))) (sym (ended_flat mark_changes look refl))
-            (each_more (MayChange here (reached new)) (MayChange here (reached behind_it)) (changes_of look) (λ other m. record {
-              variable = m.variable;
-              is_there = m.is_there;
-              is_visible = m.is_visible;
-              may = m.may;
-              apart = still_apart g.controls_kept other m.apart;
-            }) g.changes);
-        controls =
-            subst (Each (IsFree here s behind_it)) (sym (ended_flat mark_controls look refl))
-            (each_more (IsFree here inside new) (IsFree here s behind_it) (controls_of look) (λ other c. record {
-              variable = c.variable;
-              is_there = c.is_there;
-              own = c.own;
-              free = c.free;
-            }) g.controls);
-        formed = λ o h.
-            list_all-append (is_formed_mark o here.block) look (ForEnds ∷ [])
-            ∙ both_true _ _ (g.formed o (record {
-              sites = h.sites;
-              types = h.types;
-              variables = h.variables;
-              headings = h.headings;
-              threats = h.threats;
-              apart = λ other apart. refl;
-            })) refl;
-        controls_kept = ap (λ (all : List ℕ). take (length all - 1) all) g.controls_kept ∙ ended_control s.controls root;
-        spared = λ roots held.
-            spared_append (root ∷ roots) look (ForEnds ∷ [])
-            ∙ ap (option_and_then (λ (behind : List ℕ). spared_behind behind (ForEnds ∷ [])))
-            (g.spared (root ∷ roots) (held_more roots s.controls root held));
-      }
+  grown_bracketed : {here : Here} → Grown here look inside new → Grown here bracketed s behind_it
+  grown_bracketed {here} g = record {
+    way = Controlled root g.way;
+    lawful = g.lawful;
+    texts = g.texts;
+    changes =
+        subst (Each (MayChange here (reached behind_it))) (sym (ended_flat mark_changes look refl))
+        (each_more (MayChange here (reached new)) (MayChange here (reached behind_it)) (changes_of look) (λ other m. record {
+          variable = m.variable;
+          is_there = m.is_there;
+          is_visible = m.is_visible;
+          may = m.may;
+          apart = still_apart (same_controls g.way) other m.apart;
+        }) g.changes);
+    controls =
+        subst (Each (IsFree here s behind_it)) (sym (ended_flat mark_controls look refl))
+        (each_more (IsFree here inside new) (IsFree here s behind_it) (controls_of look) (λ other c. record {
+          variable = c.variable;
+          is_there = c.is_there;
+          own = c.own;
+          free = c.free;
+        }) g.controls);
+    formed = λ o h.
+        list_all-append (is_formed_mark o here.block) look (ForEnds ∷ [])
+        ∙ both_true _ _ (g.formed o (record {
+          sites = h.sites;
+          types = h.types;
+          variables = h.variables;
+          headings = h.headings;
+          threats = h.threats;
+          apart = λ other apart. refl;
+        })) refl;
+    spared = λ roots held.
+        spared_append (root ∷ roots) look (ForEnds ∷ [])
+        ∙ ap (option_and_then (λ (behind : List ℕ). spared_behind behind (ForEnds ∷ []))) (g.spared (root ∷ roots) (held_more roots s.controls root held));
+  }
 
 -- so many control variables more
 fine_inside : {here : Here} (s : Passed) (controls : List ℕ) → Fine here s → Fine here (record s { controls = controls })
@@ -756,8 +601,6 @@ fine_inside s controls fine = record {
   sound = fine.sound;
   lawful = fine.lawful;
   texts = fine.texts;
-  few_sites = fine.few_sites;
-  few_entries = fine.few_entries;
   block = fine.block;
   around = fine.around;
   stands = fine.stands;
@@ -799,7 +642,8 @@ for_body_does {here} {least} {Has} root body law = record {
       let whole : after tt (Controls root ∷ (b.look ++ (ForEnds ∷ []))) behind ≡ a =
       ap (λ (e : After (Unit {0})). after e.answer (Controls root ∷ e.look) e.passed) ended ∙ y.2 ∙ x.2 in
       let one = (law (reached start)).does start b z.1 (fine_inside s (s.controls ++ root ∷ []) fine) as_far in
-      subst (Leaves here Has s Anything) whole (grown_bracketed root b.look s b.passed one.0, tt);
+      subst (Leaves here Has s Anything) whole
+      (grown_bracketed root b.look s b.passed one.0, record { added = one.1.added; sites = one.1.sites; covered = one.1.covered }, tt);
 }
   where
     ok_same : {b c : After (Unit {0})} → ◌≡◌ {A = Checked (After (Unit {0}))} (Ok b) (Ok c) → b ≡ c
@@ -821,8 +665,7 @@ unfolding enclosing_now
 enclosing_now_does {here} = record {
   does = λ s a is fine h.
       let same : after s.enclosing [] s ≡ a = cc in
-      subst (Leaves here Nothing s (λ enclosing now. (enclosing.block ≡ here.block) × (enclosing.around ≡ here.around))) same
-      (grown_silent here s s refl refl refl refl refl refl refl refl refl (λ root is. is) refl refl fine, (fine.block, fine.around));
+      silent_leaves (λ (e : Enclosing) now. (e.block ≡ here.block) × (e.around ≡ here.around)) same Stay refl refl refl fine (fine.block, fine.around);
 }
 
 -- the heading of a block that was passed tells what is so
@@ -835,10 +678,8 @@ heading_at_does {here} block signature there = record {
       let at = get_mapped signature_passed s.headings block signature known in
       let found : get_or s.headings block program_heading ≡ at.0 = get_or_is s.headings block program_heading at.0 at.1 in
       let same : after (get_or s.headings block program_heading) [] s ≡ a = cc in
-      subst (Leaves here Nothing s (λ headed now. (signature_passed headed ≡ signature) × FitsHeading now block signature)) same (
-        grown_silent here s s refl refl refl refl refl refl refl refl refl (λ root is. is) refl refl fine,
-        (ap signature_passed found ∙ at.2, fine.fit.fits block signature known),
-      );
+      silent_leaves (λ headed now. (signature_passed headed ≡ signature) × FitsHeading now block signature) same Stay refl refl refl fine
+      (ap signature_passed found ∙ at.2, fine.fit.fits block signature known);
 }
 
 pub variable_at_does : {here : Here} {least : Reached} (root : ℕ)
@@ -847,49 +688,34 @@ unfolding variable_at
 variable_at_does {here} root = record {
   does = λ s a is fine h.
       let same : after (slice_get s.variables root) [] s ≡ a = cc in
-      subst (Leaves here Nothing s (λ found now. slice_get now.variables root ≡ found)) same
-      (grown_silent here s s refl refl refl refl refl refl refl refl refl (λ root is. is) refl refl fine, refl);
+      silent_leaves (λ found now. slice_get now.variables root ≡ found) same Stay refl refl refl fine refl;
 }
 
--- the target of what is assigned comes behind
-pub assign_result_does : {here : Here} {least : Reached} (root : ℕ) → here.owing ≡ true → Does here least Nothing (assign_result root) Anything
-unfolding assign_result
-assign_result_does {here} root owing = record {
-  does = λ s a is fine h.
-      let new : Passed = record s { assigned = with_one s.assigned root } in
-      let same : after tt [] new ≡ a = cc in
-      let g : Grown here Nothing [] s new = record {
-        regions = refl;
-        longer = as_long;
-        lawful = fine.lawful;
-        texts = fine.texts;
-        variables_kept = refl;
-        headings_kept = refl;
-        enclosing_kept = refl;
-        added = [];
-        sites = sym (append-nil s.sites);
-        covered = refl;
-        few_sites = fine.few_sites;
-        numbered = refl;
-        entered = omega arith;
-        few_entries = fine.few_entries;
-        looped = refl;
-        begun = omega arith;
-        inner = refl;
-        threats = λ root is. is;
-        assigns = λ other is. kept_with s.assigned root other is;
-        assigned = λ settled other is. absurd (no (sym owing ∙ settled));
-        changes = tt;
-        controls = tt;
-        formed = λ o more. refl;
-        controls_kept = refl;
-        spared = λ roots held. refl;
-      } in
-      subst (Leaves here Nothing s Anything) same (g, tt);
+-- a result is assigned, and then its target is told
+pub fine_with_result : {here : Here} (s : Passed) (root : ℕ) → Fine here s → Fine here (with_result root s)
+fine_with_result s root fine = record {
+  sound = fine.sound;
+  lawful = fine.lawful;
+  texts = fine.texts;
+  block = fine.block;
+  around = fine.around;
+  stands = fine.stands;
+  fit = fine.fit;
 }
-  where
-    no : ◌≡◌ {A = Bool} true false → ⊥
-    no h = absurd cc
+
+pub grown_assigned : {here : Here} {look : Look} {s new : Passed} (root : ℕ) → is_target look root ≡ true → Grown here look (with_result root s) new
+    → Grown here look s new
+grown_assigned {here} {look} {s} {new} root told g = record {
+  way = Assigned root g.way told;
+  lawful = g.lawful;
+  texts = g.texts;
+  changes = g.changes;
+  controls =
+      each_more (IsFree here (with_result root s) new) (IsFree here s new) (controls_of look)
+      (λ other c. record { variable = c.variable; is_there = c.is_there; own = c.own; free = c.free }) g.controls;
+  formed = g.formed;
+  spared = g.spared;
+}
 
 -- ---- texts
 
@@ -899,8 +725,7 @@ unfolding text_at
 text_at_does {here} {least} number = record {
   does = λ s a is fine h.
       let same : after (get_or s.texts number []) [] s ≡ a = cc in
-      subst (Leaves here Nothing s (λ text now. are_characters text ≡ true)) same
-      (grown_silent here s s refl refl refl refl refl refl refl refl refl (λ root is. is) refl refl fine, fine.texts number);
+      silent_leaves (λ text now. are_characters text ≡ true) same Stay refl refl refl fine (fine.texts number);
 }
 
 pub keep_text_does : {here : Here} {least : Reached} (text : List ℕ) → are_characters text ≡ true
@@ -910,34 +735,8 @@ keep_text_does {here} {least} text is_text = record {
   does = λ s a is fine h.
       let new : Passed = record s { texts = s.texts ++ text ∷ [] } in
       let same : after (length s.texts) [] new ≡ a = cc in
-      let g : Grown here Nothing [] s new = record {
-        regions = refl;
-        longer = as_long;
-        lawful = fine.lawful;
-        texts = texts_more s.texts text fine.texts is_text;
-        variables_kept = refl;
-        headings_kept = refl;
-        enclosing_kept = refl;
-        added = [];
-        sites = sym (append-nil s.sites);
-        covered = refl;
-        few_sites = fine.few_sites;
-        numbered = refl;
-        entered = omega arith;
-        few_entries = fine.few_entries;
-        looped = refl;
-        begun = omega arith;
-        inner = refl;
-        threats = λ root is. is;
-        assigns = λ root is. is;
-        assigned = λ settled root is. inl is;
-        changes = tt;
-        controls = tt;
-        formed = λ o more. refl;
-        controls_kept = refl;
-        spared = λ roots held. refl;
-      } in
-      subst (Leaves here Nothing s Anything) same (g, tt);
+      subst (Leaves here Nothing s Anything) same
+      (grown_plain (One (Text text)) fine.lawful (texts_more s.texts text fine.texts is_text), no_sites refl, tt);
 }
 
 -- ---- sites
@@ -950,34 +749,11 @@ site_does {here} {least} kind place = record {
       let new : Passed = record s { sites = s.sites ++ (kind, place) ∷ []; latest = place } in
       let y = split_unless (nat_le most_sites (length s.sites)) (fault.TooMany place) (after (length s.sites) [] new) a is in
       let counted = length-append s.sites ((kind, place) ∷ []) in
-      let g : Grown here (λ added. added ≡ (kind, place) ∷ []) [] s new = record {
-        regions = refl;
-        longer = as_long;
-        lawful = fine.lawful;
-        texts = fine.texts;
-        variables_kept = refl;
-        headings_kept = refl;
-        enclosing_kept = refl;
-        added = (kind, place) ∷ [];
-        sites = refl;
-        covered = refl;
-        few_sites = omega (arith, counted, below most_sites (length s.sites) y.0);
-        numbered = refl;
-        entered = omega arith;
-        few_entries = fine.few_entries;
-        looped = refl;
-        begun = omega arith;
-        inner = refl;
-        threats = λ root is. is;
-        assigns = λ root is. is;
-        assigned = λ settled root is. inl is;
-        changes = tt;
-        controls = tt;
-        formed = λ o more. refl;
-        controls_kept = refl;
-        spared = λ roots held. refl;
-      } in
-      subst (Leaves here (λ added. added ≡ (kind, place) ∷ []) s (λ id now. id < now.sites)) y.1 (g, omega (arith, counted));
+      subst (Leaves here (λ added. added ≡ (kind, place) ∷ []) s (λ id now. id < now.sites)) y.1 (
+        grown_plain (One (Site kind place (below most_sites (length s.sites) y.0))) fine.lawful fine.texts,
+        record { added = (kind, place) ∷ []; sites = refl; covered = refl },
+        omega (arith, counted),
+      );
 }
 
 -- the kinds of the leading site

@@ -1,6 +1,6 @@
 -- What strings do: a string has at most as many characters as a type has cells, and its type leaves all others as they are.
 use Rattle.std.proofs.Common.{◌≡◌, ℕ, ℤ, ◌*◌, ◌≤◌, Bool, true, false, ◌&&◌, not, nat_le, List, [], ◌∷◌, ◌++◌, length, Option, Some, None, Result, Ok, Err, pos}
-use Rattle.std.proofs.Common.{refl, sym, ap, ap₂, subst, ◌∙◌, arith, slice_get, append-nil, append_assoc, inl, ◌<◌, is_some, int_lt, if◌then◌else◌}
+use Rattle.std.proofs.Common.{refl, sym, ap, ap₂, subst, ◌∙◌, arith, slice_get, ◌<◌, is_some, int_lt, if◌then◌else◌}
 use Rattle.std.proofs.Common.{length-append}
 use Rattle.std.specs.Prelude.{◌==◌, ◌-ℤ◌, ◌+ℤ◌}
 use Rattle.std.specs.List.{list_all}
@@ -20,9 +20,10 @@ use Rattle.typing.specs.Passing.{Passed, Checked, After, Passing, and_then, afte
 use Rattle.typing.specs.Steps.{fits, or_mismatch, value_of, added, add_type, keep_text}
 use Rattle.typing.specs.Strings.{characters, string_characters, string_type, string_constant}
 use Rattle.typing_laws.proofs.Tables.{AreLawful, admitted_few, char_cell, is_string_longer, lawful_more, required_stand}
-use Rattle.typing_laws.proofs.Reached.{IsLonger, Here, Reached, further_still, get_longer, one_longer}
-use Rattle.typing_laws.proofs.Grown.{Grown, both_true}
-use Rattle.typing_laws.proofs.Steps.{Does, Nothing, Leaves, IsSoundThen, split, quietly, pure_does, keep_text_does}
+use Rattle.typing_laws.proofs.Reached.{Here, Reached, further_still, get_longer, one_longer}
+use Rattle.typing.proofs.Ways.{Owner, Way, One, Then, Typed}
+use Rattle.typing_laws.proofs.Grown.{both_true}
+use Rattle.typing_laws.proofs.Steps.{Does, Nothing, Leaves, IsSoundThen, split, quietly, pure_does, keep_text_does, grown_plain, no_sites}
 
 -- ---- tests
 
@@ -143,7 +144,7 @@ string_at_end types n more =
 -- a string type is new, and leaves all other types
 pub record IsStringType (n : ℕ) (s : Passed) (a : After TypeId) : Type 0 where
   pub same : after a.answer [] (record s { types = a.passed.types }) ≡ a
-  pub longer : IsLonger s.types a.passed.types
+  pub way : {acts : Bool} {owner : Owner} → Way acts owner 0 0 [] s (record s { types = a.passed.types })
   pub lawful : AreLawful a.passed.types
   pub few : nat_le n 65536 ≡ true
   pub string : is_string a.passed.types a.answer ≡ true
@@ -165,7 +166,7 @@ string_type_is place n s a more are is =
     let longer = length-append s.types (form (pos n) ∷ []) in
     subst (IsStringType n s) z.2 (record {
       same = refl;
-      longer = record { more = form (pos n) ∷ array ∷ []; goes_on = append_assoc s.types (form (pos n) ∷ []) (array ∷ []) };
+      way = Then (One (Typed (form (pos n)))) (One (Typed array));
       lawful = lawful_more (s.types ++ form (pos n) ∷ []) array z.0 one tt (omega (arith, longer), omega (arith, chars, longer)) z.1;
       few = few_components s.types n z.0 one z.1;
       string = string_at_end s.types n more;
@@ -180,35 +181,8 @@ module _ {here : Here} {least : Reached} where
   string_type_does place n more = record {
     does = λ s a is fine h.
         let made = string_type_is place n s a more fine.lawful is in
-        let new : Passed = record s { types = a.passed.types } in
-        let g : Grown here Nothing [] s new = record {
-          regions = refl;
-          longer = made.longer;
-          lawful = made.lawful;
-          texts = fine.texts;
-          variables_kept = refl;
-          headings_kept = refl;
-          enclosing_kept = refl;
-          added = [];
-          sites = sym (append-nil s.sites);
-          covered = refl;
-          few_sites = fine.few_sites;
-          numbered = refl;
-          entered = omega arith;
-          few_entries = fine.few_entries;
-          looped = refl;
-          begun = omega arith;
-          inner = refl;
-          threats = λ root is. is;
-          assigns = λ root is. is;
-          assigned = λ settled root is. inl is;
-          changes = tt;
-          controls = tt;
-          formed = λ o more. refl;
-          controls_kept = refl;
-          spared = λ roots held. refl;
-        } in
-        subst (Leaves here Nothing s (λ id now. IsStringOf n id now.types)) made.same (g, (made.few, made.string));
+        subst (Leaves here Nothing s (λ id now. IsStringOf n id now.types)) made.same
+        (grown_plain made.way made.lawful fine.texts, no_sites refl, (made.few, made.string));
   }
 
 -- ---- constants

@@ -85,11 +85,6 @@ bare = map-Stmt Told Stmt (λ s. s.0)
 
 controls_layer : (y : Stmt-F Told)
     → HasControls (statement_look (map-Stmt Stmt Look look_stmt (bare y))) (statement_inside (map-Stmt Stmt Inside inside_of (bare y))).controls
-controls_layer (Empty number) = λ root is. absurd cc
-controls_layer (Assign number becomes target indexes fits value) = λ root is. absurd cc
-controls_layer (Copy number becomes target indexes type_id value value_indexes) = λ root is. absurd cc
-controls_layer (Write number name parameters ends_line) = λ root is. absurd cc
-controls_layer (Calling call actuals) = λ root is. absurd cc
 controls_layer (Compound number statements) = all_told statements.items (Ends ∷ [])
 controls_layer (If number condition consequence None) =
     let own = (inside_of consequence.value.0).controls in
@@ -119,6 +114,7 @@ controls_layer (Case number site index constants arms) =
     let inside = arms_look constants.items (map look_stmt (map (λ (s : Told). s.0) arms.items)) in
     let controls = (all_inside (map inside_of (map (λ (s : Told). s.0) arms.items))).controls in
     behind_others (look_expr index) (inside ++ (Ends ∷ [])) controls (before_others inside (Ends ∷ []) controls (arms_told constants.items arms.items))
+controls_layer other = λ root is. absurd cc
 
 controls_told : (s : Stmt) → HasControls (look_stmt s) (inside_of s).controls
 controls_told =

@@ -7,7 +7,7 @@ use Rattle.typing.specs.Routines.{TypedRoutine, typed_block, typed_routine}
 use Rattle.typing.specs.View.{enclosing_of}
 use Rattle.declarations.specs.Known.{AreKnownRoutines}
 use Rattle.declarations.specs.Parts.{block_declarations}
-use Rattle.declarations.proofs.KeptBlocks.{declarations_keep, deep, deep_behind, routine_deep, routines_stay}
+use Rattle.declarations.proofs.KeptBlocks.{declarations_keep, routine_keeps, routines_stay}
 use Rattle.declarations.proofs.Opened.{routines_known}
 use Rattle.resolver.specs.Made.{MakesStmt, look_made, statement_part}
 use Rattle.resolver.proofs.BlockForms.{begun_stops, block_stops, body_answers, routine_answers, routine_next, routines_stop}
@@ -19,8 +19,8 @@ body-routines-requires t c =
     let b = c.args.written.now in
     let old = c.args.typer.now in
     let new = c.declare.new.typer in
-    let stays = deep_behind (block_declarations b) (deep (declarations_keep b)) tt [] old new c.in_ok-declare.ensures in
-    let known = routines_stay stays (out-Block b).routines.items (routines_known old.regions b c.requires.known) in
+    let known = routines_stay (block_declarations b) (declarations_keep b) tt [] old new c.in_ok-declare.ensures (out-Block b).routines.items
+    (routines_known old.regions b c.requires.known) in
     (search (rules, the_lemmas), subst (λ l. AreKnownRoutines l new.regions) (sym c.deref.ensures.value) known)
 
 -- its routines stop
@@ -58,7 +58,7 @@ routines-loop-next-preserved t c =
           routine_next written c.args.typer.now c.args.made.now.items here.next-index here.made.items here.typer here.invariant.from r
           c.loop-next-test.true c.next-item.is own.0 c.routine.new.made.items new own.1 own.2;
       known =
-          routines_stay (deep_behind (typed_routine r).typing (routine_deep r) tt (look_made own.0) here.typer new own.2) written here.invariant.known;
+          routines_stay (typed_routine r).typing (routine_keeps r) tt (look_made own.0) here.typer new own.2 written here.invariant.known;
     }
 
 -- ---- the block of a routine

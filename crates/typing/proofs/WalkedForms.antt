@@ -1,0 +1,770 @@
+-- Each constant, each expression and each statement goes a way.
+use Rattle.std.proofs.Common.{◌≡◌, option_map, ℕ, ◌+◌, ℤ, Bool, true, false, if◌then◌else◌, List, [], ◌∷◌, ◌++◌, map, Option, Some}
+use Rattle.std.proofs.Common.{None, Vec, Ok, Err, ◌||◌, nat_eq, get_or, slice_get, refl, sym, ap, subst}
+use Rattle.std.specs.List.{flat_map, list_any}
+use Rattle.std.proofs.lemmas.Bool.{eq-eqb}
+use Rattle.std.proofs.lemmas.Grind.{flat_map-append}
+use Rattle.typed_tree.specs.WellFormed.{is_one_of}
+use Rattle.std.specs.Prelude.{is_none}
+use Rattle.std.specs.declared.alloc.Global.{Global}
+use Rattle.place.specs.declared.Place.{Place}
+use Rattle.syntax_tree.specs.declared.Name.{Name}
+use Rattle.syntax_tree.specs.declared.Constant.{Constant}
+use Rattle.syntax_tree.specs.declared.ConstantValue.{ConstantValue}
+use Rattle.syntax_tree.specs.declared.ConstantValue.TheVariants as written_constant
+use Rattle.syntax_tree.specs.declared.Direction.{Direction as SyntaxDirection}
+use Rattle.syntax_tree.specs.declared.Operator.{Operator}
+use Rattle.syntax_tree.specs.declared.Operator.TheVariants as op
+use Rattle.syntax_tree.specs.declared.RelationalOperator.{RelationalOperator}
+use Rattle.syntax_tree.specs.declared.Selector.{Selector}
+use Rattle.syntax_tree.specs.declared.Selector.TheVariants as select
+use Rattle.syntax_tree.specs.declared.Expr.{Expr}
+use Rattle.syntax_tree.specs.declared.Link.{Link}
+use Rattle.syntax_tree.specs.declared.Actual.{Actual}
+use Rattle.syntax_tree.specs.declared.Expr.TheOpen as layer
+use Rattle.syntax_tree.specs.declared.Expr.TheViews.{roll-Expr, roll-Link, roll-Actual, out-Expr, out-Actual}
+use Rattle.syntax_tree.specs.declared.Expr.TheFolds.{map-Expr, map-Link, map-Actual, fold-roll-Expr, fold-roll-Link, fold-roll-Actual, ind-Expr, ind-Actual}
+use Rattle.syntax_tree.specs.declared.Stmt.{Stmt}
+use Rattle.syntax_tree.specs.declared.Stmt.TheOpen as stmt_layer
+use Rattle.syntax_tree.specs.declared.Stmt.TheViews.{roll-Stmt}
+use Rattle.syntax_tree.specs.declared.Stmt.TheFolds.{map-Stmt, fold-roll-Stmt, ind-Stmt}
+use Rattle.syntax_tree.specs.Places.{arms_of}
+use Rattle.types.specs.Forms.{Form}
+use Rattle.types.specs.declared.form.TypeId.{TypeId}
+use Rattle.types.specs.Types.{is_string}
+use Rattle.scopes.specs.declared.denotation.Denotation.{Denotation}
+use Rattle.scopes.specs.declared.denotation.Denotation.TheVariants as denotes
+use Rattle.scopes.specs.declared.denotation.FunctionOperation.{FunctionOperation}
+use Rattle.scopes.specs.declared.denotation.FunctionOperation.TheVariants.{Calculates, Tests}
+use Rattle.scopes.specs.declared.denotation.FunctionValue.{FunctionValue}
+use Rattle.scopes.specs.declared.denotation.FunctionValue.TheVariants as function
+use Rattle.scopes.specs.declared.denotation.RequiredProcedure.{RequiredProcedure}
+use Rattle.typed_tree.specs.declared.site.SiteKind.{SiteKind}
+use Rattle.typed_tree.specs.declared.tree.Selector.{Selector as TreeSelector}
+use Rattle.typed_tree.specs.declared.tree.Variable.{Variable}
+use Rattle.typed_tree.specs.WellFormed.{is_variable_kind}
+use Rattle.typed_tree.specs.declared.tree.Representation.{Representation}
+use Rattle.typed_tree.specs.Look as Look
+use Rattle.typed_tree.specs.Look.{Mark}
+use Rattle.typing.specs.declared.typed.Typed.{Typed}
+use Rattle.typing.specs.Passing.{Passed, Checked, After, Passing, after, and_then, behind_marks, each, given, mark, pure, ◌>>=◌, ◌>>◌}
+use Rattle.typing.specs.Steps.{assign_result, enclosing_now, enter_as, heading_at, may_change, or_mismatch, program_heading, variable_at}
+use Rattle.typing.specs.Strings.{string_type, string_constant}
+use Rattle.typing.specs.Constants as Constants
+use Rattle.typing.specs.Functions as Functions
+use Rattle.typing.specs.Expressions as Expressions
+use Rattle.typing.specs.Expressions.{Written, WrittenActual, WrittenLink, expression, written_actual, written_link}
+use Rattle.typing.specs.Statements as Statements
+use Rattle.typing.specs.Statements.{statement}
+use Rattle.typing.proofs.Ways.{Assigned, Goes, find_walks, targets_at, with_result}
+use Rattle.typing.proofs.Ways.{Owner, Way, Walks, numbers_of, then_walks, test_walks, mark_walks, pure_walks, given_walks, enter_walks, tells_then, given_tells}
+use Rattle.typing.proofs.Ways.{test_tells, walk}
+use Rattle.typing.proofs.Ways.{pass_walks, enter_loop_walks, for_body_walks}
+
+module _ (acts : Bool) (owner : Owner) (depth : ℕ) where
+  -- ---- constants
+
+  string_type_walks : (place : Place) (n : ℕ) → Walks (Way acts owner depth depth) (string_type place n)
+  unfolding string_type
+  string_type_walks place n = search walk
+
+  string_constant_walks : (place : Place) (cs : List ℕ) → Walks (Way acts owner depth depth) (string_constant place cs)
+  unfolding string_constant
+  string_constant_walks place [] = search (walk, string_type_walks)
+  string_constant_walks place (c ∷ []) = search walk
+  string_constant_walks place (c ∷ d ∷ cs) = search (walk, string_type_walks)
+
+  unsigned_walks : (value : ConstantValue) → Walks (Way acts owner depth depth) (Constants.unsigned_constant value)
+  unfolding Constants.unsigned_constant
+  unsigned_walks (written_constant.Number value place) = search walk
+  unsigned_walks (written_constant.String text place) = search (walk, string_constant_walks)
+  unsigned_walks (written_constant.Name name) = search walk
+
+  pub constant_walks : (c : Constant) → Walks (Way acts owner depth depth) (Constants.constant c)
+  unfolding Constants.constant
+  constant_walks c = search (walk, unsigned_walks)
+
+  pub ordinal_constant_walks : (c : Constant) → Walks (Way acts owner depth depth) (Constants.ordinal_constant c)
+  unfolding Constants.ordinal_constant
+  ordinal_constant_walks c = search (walk, constant_walks)
+
+-- ---- targets
+
+-- what comes behind the variable left of `:=`
+abbrev pub access_typing : Name → List Selector → List Written → ℕ × TypeId → Passing Statements.Accessed
+access_typing name selectors ws variable = do
+  may_change name.place variable.0
+  enter_as Look.Access
+  component ← Expressions.selected [] variable.1 selectors ws
+  ordinal ← Expressions.tests_ordinal component.1
+  mark (Statements.target_mark ordinal variable.0 component.0 component.1)
+  pure (record { root = variable.0; selectors = component.0; type_id = component.1 })
+
+-- a variable is told as assigned
+abbrev pub IsTold : ℕ → Look.Look → Passed → Passed → Type 0
+IsTold root look old new = list_any (nat_eq root) (flat_map targets_at look) ≡ true
+
+any_second : (xs ys : List ℕ) (root : ℕ) → list_any (nat_eq root) ys ≡ true → list_any (nat_eq root) (xs ++ ys) ≡ true
+any_second [] ys root is = is
+any_second (x ∷ xs) ys root is = by (nat_eq root x) (any_second xs ys root is)
+  where
+    by : (test : Bool) → list_any (nat_eq root) (xs ++ ys) ≡ true → (test || list_any (nat_eq root) (xs ++ ys)) ≡ true
+    by true more = refl
+    by false more = more
+
+told_behind : {A B : Type 0} (root : ℕ) (p : Passing A) (f : A → Passing B) → ((a : A) → Walks (IsTold root) (f a)) → Walks (IsTold root) (p >>= f)
+told_behind {A} {B} root p f rest = record { walks = λ old. by old (p old) }
+  where
+    behind : (old between : Passed) (look : Look.Look) (outcome : Checked (After B)) → Goes (IsTold root) between outcome
+        → Goes (IsTold root) old (behind_marks look outcome)
+    behind old between look (Ok b) told =
+        subst (λ l. list_any (nat_eq root) l ≡ true) (sym (flat_map-append targets_at look b.look))
+        (any_second (flat_map targets_at look) (flat_map targets_at b.look) root told)
+    behind old between look (Err why) told = tt
+
+    by : (old : Passed) (outcome : Checked (After A))
+        → Goes (IsTold root) old (and_then outcome (λ a. behind_marks a.look (f a.answer a.passed)))
+    by old (Ok a) = behind old a.passed a.look (f a.answer a.passed) ((rest a.answer).walks a.passed)
+    by old (Err why) = tt
+
+pub access_told : (name : Name) (selectors : List Selector) (ws : List Written) (variable : ℕ × TypeId)
+    → Walks (IsTold variable.0) (access_typing name selectors ws variable)
+access_told name selectors ws variable =
+    told_behind variable.0 (may_change name.place variable.0) _ λ _.
+    told_behind variable.0 (enter_as Look.Access) _ λ _.
+    told_behind variable.0 (Expressions.selected [] variable.1 selectors ws) _ λ component.
+    told_behind variable.0 (Expressions.tests_ordinal component.1) _ λ ordinal.
+    last component ordinal
+  where
+    last : (component : List TreeSelector × TypeId) (ordinal : Bool)
+        → Walks (IsTold variable.0) (mark (Statements.target_mark ordinal variable.0 component.0 component.1)
+        >> pure {A = Statements.Accessed} (record { root = variable.0; selectors = component.0; type_id = component.1 }))
+    last component true = record { walks = λ old. ap (λ b. b || false) (eq-eqb variable.0 variable.0 refl) }
+    last component false = record { walks = λ old. ap (λ b. b || false) (eq-eqb variable.0 variable.0 refl) }
+
+-- the result of a function, inside its block, is assigned, and nothing else changes
+pub record AssignsResult (place : Place) (block : ℕ) (s : Passed) (a : After (ℕ × TypeId)) : Type 0 where
+  pub root : ℕ
+  pub type_id : TypeId
+  pub inside : is_one_of (s.enclosing.block ∷ s.enclosing.around) block ≡ true
+  pub result : (get_or s.headings block program_heading).result ≡ Some root
+  pub found : Statements.or_no_variable place (slice_get s.variables root) ≡ Ok type_id
+  pub is : after (root, type_id) [] (with_result root s) ≡ a
+
+pub function_target_is : (place : Place) (block : ℕ) (s : Passed) (a : After (ℕ × TypeId)) → Statements.function_target place block s ≡ Ok a
+    → AssignsResult place block s a
+unfolding Statements.function_target enclosing_now heading_at variable_at assign_result
+function_target_is place block s a is =
+    by (is_one_of (s.enclosing.block ∷ s.enclosing.around) block) refl (get_or s.headings block program_heading).result refl is
+  where
+    found : (root : ℕ) (checked : Checked TypeId) → Statements.or_no_variable place (slice_get s.variables root) ≡ checked
+        → is_one_of (s.enclosing.block ∷ s.enclosing.around) block ≡ true → (get_or s.headings block program_heading).result ≡ Some root
+        → behind_marks [] (behind_marks [] (behind_marks [] (behind_marks [] (and_then (and_then checked (λ id. Ok (after id [] (with_result root s))))
+        (λ b. behind_marks b.look (pure {A = ℕ × TypeId} (root, b.answer) b.passed)))))) ≡ Ok a
+        → AssignsResult place block s a
+    found root (Ok id) there inside result h = record { root = root; type_id = id; inside = inside; result = result; found = there; is = cc }
+    found root (Err why) there inside result h = absurd cc
+
+    by : (inside : Bool) → is_one_of (s.enclosing.block ∷ s.enclosing.around) block ≡ inside → (result : Option ℕ)
+        → (get_or s.headings block program_heading).result ≡ result
+        → behind_marks [] (behind_marks [] ((Statements.result_target place inside result >>= (λ root. variable_at root
+        >>= (λ found. given (Statements.or_no_variable place found) >>= (λ id. pure {A = ℕ × TypeId} (root, id))))) s)) ≡ Ok a
+        → AssignsResult place block s a
+    by true inside (Some root) result h = found root (Statements.or_no_variable place (slice_get s.variables root)) refl inside result h
+    by true inside None result h = absurd cc
+    by false inside result is_result h = absurd cc
+
+module _ (owner : Owner) (depth : ℕ) where
+  abbrev pub Goes_by : {A : Type 0} → Passing A → Type 0
+  Goes_by p = Walks (Way true owner depth depth) p
+
+  -- ---- expressions
+
+  -- an expression, however it is passed
+  pub record WrittenWalks (w : Written) : Type 0 where
+    pub typing : (lead : Option SiteKind) → Goes_by (w.typing lead)
+    pub passing : (wanted : TypeId) (callee position : ℕ) → Goes_by (w.passing wanted callee position)
+
+  abbrev pub WidthWalks : Option Written → Type 0
+  WidthWalks None = Unit {0}
+  WidthWalks (Some w) = WrittenWalks w
+
+  pub record ActualWalks (a : WrittenActual) : Type 0 where
+    pub value : WrittenWalks a.value
+    pub width : WidthWalks a.width
+
+  abbrev pub LinkWalks : WrittenLink → Type 0
+  LinkWalks l = (left : Typed) → Goes_by (l left)
+
+  abbrev pub AllWalk : List Written → Type 0
+  AllWalk [] = Unit {0}
+  AllWalk (w ∷ ws) = WrittenWalks w × AllWalk ws
+
+  abbrev pub ActualsWalk : List WrittenActual → Type 0
+  ActualsWalk [] = Unit {0}
+  ActualsWalk (a ∷ actuals) = ActualWalks a × ActualsWalk actuals
+
+  abbrev pub LinksWalk : List WrittenLink → Type 0
+  LinksWalk [] = Unit {0}
+  LinksWalk (l ∷ ls) = LinkWalks l × LinksWalk ls
+
+  behind_walks : (lead : Option SiteKind) (place : Place) → Goes_by (Expressions.behind lead place)
+  unfolding Expressions.behind
+  behind_walks None place = search walk
+  behind_walks (Some kind) place = search walk
+
+  spelled_walks : (place : Place) (id : Option ℕ) (cs : List ℕ) → Goes_by (Expressions.spelled place id cs)
+  unfolding Expressions.spelled
+  spelled_walks place id [] = search (walk, string_type_walks true owner depth)
+  spelled_walks place id (c ∷ []) = search walk
+  spelled_walks place id (c ∷ d ∷ cs) = search (walk, string_type_walks true owner depth)
+
+  string_walks : (text : List ℕ) (place : Place) (lead : Option SiteKind) → Goes_by (Expressions.string text place lead)
+  unfolding Expressions.string
+  string_walks text place lead = search (walk, behind_walks, spelled_walks)
+
+  pub selected_walks : (before : List TreeSelector) (type_id : TypeId) (selectors : List Selector) (ws : List Written) → AllWalk ws
+      → Goes_by (Expressions.selected before type_id selectors ws)
+  unfolding Expressions.index
+  selected_walks before type_id [] ws laws = search walk
+  selected_walks before type_id (select.Field name ∷ selectors) ws laws =
+      let more = λ (before : List TreeSelector) (type_id : TypeId). selected_walks before type_id selectors ws laws in search (walk, more)
+  selected_walks before type_id (select.Index place joined ∷ selectors) [] laws = search walk
+  selected_walks before type_id (select.Index place joined ∷ selectors) (w ∷ ws) laws =
+      let more = λ (before : List TreeSelector) (type_id : TypeId). selected_walks before type_id selectors ws laws.1 in
+      search (walk, more, laws.0.typing) depth 8
+
+  value_walks : (ordinal : Bool) (root : ℕ) (selectors : List TreeSelector) (type_id : TypeId) (defined : ℕ) (lead : Option ℕ)
+      → Goes_by ((if ordinal then Expressions.ordinal_value else Expressions.whole_value) root selectors type_id defined lead)
+  unfolding Expressions.ordinal_value Expressions.whole_value
+  value_walks true root selectors type_id defined lead = search walk
+  value_walks false root selectors type_id defined lead = search walk
+
+  accessed_walks : (root : ℕ) (type_id : TypeId) (selectors : List Selector) (ws : List Written) (place : Place) (lead : Option SiteKind) → AllWalk ws
+      → Goes_by (Expressions.accessed root type_id selectors ws place lead)
+  unfolding Expressions.accessed Expressions.tests_ordinal
+  accessed_walks root type_id selectors ws place lead laws = search (walk, behind_walks, selected_walks, value_walks) depth 12
+
+  passed_variable_walks : (name : Name) (selectors : List Selector) (ws : List Written) (wanted : TypeId) (callee position : ℕ) → AllWalk ws
+      → Goes_by (Expressions.passed_variable name selectors ws wanted callee position)
+  unfolding Expressions.passed_variable
+  passed_variable_walks name selectors ws wanted callee position laws = search (walk, selected_walks) depth 12
+
+  passed_value_walks : (type_id : TypeId) (w : Written) (callee position : ℕ) → WrittenWalks w → Goes_by (Expressions.passed_value type_id w callee position)
+  unfolding Expressions.passed_value Expressions.tests_ordinal Expressions.passed_ordinal Expressions.passed_whole
+  passed_value_walks type_id w callee position law = search (walk, by)
+    where
+      by : (ordinal : Bool) → Goes_by ((if ordinal then Expressions.passed_ordinal else Expressions.passed_whole) type_id w callee position)
+      by true = search (walk, law.typing)
+      by false = search (walk, law.typing)
+
+  passed_to_walks : (formal : Option Variable) (w : Written) (callee position : ℕ) → WrittenWalks w → Goes_by (Expressions.passed_to formal w callee position)
+  passed_to_walks None w callee position law = search walk
+  passed_to_walks (Some formal) w callee position law = by (is_variable_kind formal.kind)
+    where
+      by : (variable : Bool) → Goes_by ((if variable then w.passing formal.type_id else Expressions.passed_value formal.type_id w) callee position)
+      by true = law.passing formal.type_id callee position
+      by false = passed_value_walks formal.type_id w callee position law
+
+  actual_walks : (a : WrittenActual) (root callee position : ℕ) → ActualWalks a → Goes_by (Expressions.actual a root callee position)
+  unfolding Expressions.actual
+  actual_walks a root callee position law = search (walk, passed_to_walks, law.value)
+
+  actuals_walk : (roots : List ℕ) (actuals : List WrittenActual) (callee position : ℕ) → ActualsWalk actuals
+      → Goes_by (Expressions.actuals_for roots actuals callee position)
+  actuals_walk [] actuals callee position laws = search walk
+  actuals_walk (root ∷ roots) [] callee position laws = search walk
+  actuals_walk (root ∷ roots) (a ∷ actuals) callee position laws =
+      then_walks (actual_walks a root callee position laws.0) (λ _. actuals_walk roots actuals callee (position + 1) laws.1)
+
+  routine_call_walks : (is_function : Bool) (callee : ℕ) (place : Place) (actuals : List WrittenActual) → ActualsWalk actuals
+      → Goes_by (Expressions.routine_call is_function callee place actuals)
+  unfolding Expressions.routine_call
+  routine_call_walks is_function callee place actuals laws = search (walk, actuals_walk) depth 12
+
+  result_variable_walks : (root : Option ℕ) → Goes_by (Expressions.result_variable root)
+  result_variable_walks None = search walk
+  result_variable_walks (Some root) = search walk
+
+  function_value_walks : (callee : ℕ) (is_function : Bool) (place : Place) (actuals : List WrittenActual) (lead : Option SiteKind) → ActualsWalk actuals
+      → Goes_by (Expressions.function_value callee is_function place actuals lead)
+  unfolding Expressions.function_value
+  function_value_walks callee false place actuals lead laws = search walk
+  function_value_walks callee true place actuals lead laws = search (walk, behind_walks, routine_call_walks, result_variable_walks) depth 12
+
+  denoted_walks : (d : Denotation) (place : Place) (lead : Option SiteKind) → Goes_by (Expressions.denoted d place lead)
+  unfolding Expressions.denoted
+  denoted_walks (denotes.Constant value type_id) place lead = search (walk, behind_walks)
+  denoted_walks (denotes.Text number type_id) place lead = search (walk, behind_walks)
+  denoted_walks (denotes.Variable root type_id) place lead = accessed_walks root type_id [] [] place lead tt
+  denoted_walks (denotes.Routine block is_function) place lead = function_value_walks block is_function place [] lead tt
+  denoted_walks other place lead = search walk
+
+  operation_walks : (operator : Operator) (place : Place) → Goes_by (Expressions.operation operator place)
+  unfolding Expressions.operation Expressions.tested
+  operation_walks op.Plus place = search walk
+  operation_walks other place = search walk
+
+  link_walks : (operator : Operator) (place : Place) (w : Written) → WrittenWalks w → LinkWalks (Expressions.link operator place w)
+  unfolding Expressions.link
+  link_walks operator place w law left = search (walk, operation_walks, law.typing) depth 12
+
+  links_walk : (left : Typed) (ls : List WrittenLink) → LinksWalk ls → Goes_by (Expressions.links left ls)
+  links_walk left [] laws = search walk
+  links_walk left (l ∷ ls) laws = then_walks (laws.0 left) (λ t. links_walk t ls laws.1)
+
+  chain_walks : (w : Written) (ls : List WrittenLink) (lead : Option SiteKind) → WrittenWalks w → LinksWalk ls → Goes_by (Expressions.chain w ls lead)
+  unfolding Expressions.chain
+  chain_walks w ls lead law laws = search (walk, law.typing, links_walk) depth 12
+
+  compares_walks : (left right : Option ℕ) → Goes_by (Expressions.compares left right)
+  unfolding Expressions.compares
+  compares_walks (Some left) (Some right) = search walk
+  compares_walks left right = search walk
+
+  relation_walks : (left : Written) (operator : RelationalOperator) (place : Place) (right : Written) (lead : Option SiteKind) → WrittenWalks left
+      → WrittenWalks right → Goes_by (Expressions.relation left operator place right lead)
+  unfolding Expressions.relation
+  relation_walks left operator place right lead law behind = search (walk, law.typing, behind.typing, compares_walks) depth 16
+
+  calculation_walks : (calculated : FunctionValue) (place : Place) → Goes_by (Functions.calculation_of calculated place)
+  unfolding Functions.calculation_of
+  calculation_walks function.Same place = search walk
+  calculation_walks other place = search walk
+
+  begins_as_walks : (operation : FunctionOperation) (place : Place) → Goes_by (Functions.begins_as operation place)
+  unfolding Functions.begins_as
+  begins_as_walks (Calculates calculated) place = search (walk, calculation_walks)
+  begins_as_walks (Tests tested) place = search walk
+
+  -- the one actual of a required function
+  only_walks : (place : Place) (actuals : List WrittenActual) → ActualsWalk actuals → (w : Written) → Expressions.only place actuals ≡ Ok w → WrittenWalks w
+  only_walks place [] laws w is = absurd cc
+  only_walks place (a ∷ b ∷ actuals) laws w is = absurd cc
+  only_walks place (a ∷ []) laws w is = by a.value a.width is laws.0.value
+    where
+      by : (value : Written) (width : Option Written) → Expressions.without_width place value width ≡ Ok w → WrittenWalks value → WrittenWalks w
+      by value None h law = let same : value ≡ w = cc in subst WrittenWalks same law
+      by value (Some other) h law = absurd cc
+
+  required_call_walks : (d : Denotation) (name : Name) (actuals : List WrittenActual) (lead : Option SiteKind) → ActualsWalk actuals
+      → Goes_by (Expressions.required_call d name actuals lead)
+  unfolding Expressions.required_call
+  required_call_walks d name actuals lead laws =
+      then_walks (given_walks _) λ f.
+      then_walks (begins_as_walks f.does name.place) λ operation.
+      then_walks (behind_walks lead name.place) λ id.
+      then_walks (enter_walks _ (λ n. refl)) λ _.
+      tells_then (given_tells WrittenWalks _ (only_walks name.place actuals laws)) λ w law.
+      then_walks (test_walks _ (law.typing None)) λ does.
+      then_walks (mark_walks (Look.Applied does.0) refl) λ _.
+      pure_walks (Expressions.typed does.1 id)
+
+  call_by_walks : (routine : Option (ℕ × Bool)) (d : Denotation) (name : Name) (actuals : List WrittenActual) (lead : Option SiteKind) → ActualsWalk actuals
+      → Goes_by (Expressions.call_by routine d name actuals lead)
+  call_by_walks None d name actuals lead laws = required_call_walks d name actuals lead laws
+  call_by_walks (Some routine) d name actuals lead laws = function_value_walks routine.0 routine.1 name.place actuals lead laws
+
+  -- ---- every expression
+
+  written_walks : (place : Place) (typing : Option SiteKind → Passing Typed) → ((lead : Option SiteKind) → Goes_by (typing lead))
+      → WrittenWalks (Expressions.written place typing)
+  unfolding Expressions.no_variable
+  written_walks place typing walks = record { typing = walks; passing = λ wanted callee position. search walk }
+
+  variable_walks : (name : Name) (selectors : List Selector) (ws : List Written) (typing : Option SiteKind → Passing Typed) → AllWalk ws
+      → ((lead : Option SiteKind) → Goes_by (typing lead)) → WrittenWalks (Expressions.written_variable name selectors ws typing)
+  variable_walks name selectors ws typing laws walks = record {
+    typing = walks;
+    passing = λ wanted callee position. passed_variable_walks name selectors ws wanted callee position laws;
+  }
+
+  abbrev ExprWalks : Expr → Type 0
+  ExprWalks w = WrittenWalks (expression w)
+
+  abbrev ActualOfWalks : Actual → Type 0
+  ActualOfWalks w = ActualWalks (written_actual w)
+
+  abbrev LinkOfWalks : Link → Type 0
+  LinkOfWalks w = LinkWalks (written_link w)
+
+  abbrev WithExpr : Type 0
+  WithExpr = (w : Expr) × ExprWalks w
+
+  abbrev WithActual : Type 0
+  WithActual = (w : Actual) × ActualOfWalks w
+
+  abbrev WithLink : Type 0
+  WithLink = (w : Link) × LinkOfWalks w
+
+  abbrev bare : layer.Expr-F WithExpr WithActual WithLink → layer.Expr-F Expr Actual Link
+  bare y = map-Expr WithExpr WithActual WithLink Expr Actual Link (λ w. w.0) (λ w. w.0) (λ w. w.0) y
+
+  abbrev bare_actual : layer.Actual-F WithExpr WithActual WithLink → layer.Actual-F Expr Actual Link
+  bare_actual y = map-Actual WithExpr WithActual WithLink Expr Actual Link (λ w. w.0) (λ w. w.0) (λ w. w.0) y
+
+  abbrev bare_link : layer.Link-F WithExpr WithActual WithLink → layer.Link-F Expr Actual Link
+  bare_link y = map-Link WithExpr WithActual WithLink Expr Actual Link (λ w. w.0) (λ w. w.0) (λ w. w.0) y
+
+  from_layer : (d : layer.Expr-F Expr Actual Link)
+      → WrittenWalks (Expressions.expression_step (map-Expr Expr Actual Link Written WrittenActual WrittenLink expression written_actual written_link d))
+      → ExprWalks (roll-Expr d)
+  from_layer d law =
+      subst WrittenWalks
+      (sym (fold-roll-Expr Written WrittenActual WrittenLink Expressions.expression_step Expressions.actual_step Expressions.link_step d)) law
+
+  all_walk : (ys : List WithExpr) → AllWalk (map expression (map (λ (y : WithExpr). y.0) ys))
+  all_walk [] = tt
+  all_walk (y ∷ ys) = (y.1, all_walk ys)
+
+  all_actuals : (ys : List WithActual) → ActualsWalk (map written_actual (map (λ (y : WithActual). y.0) ys))
+  all_actuals [] = tt
+  all_actuals (y ∷ ys) = (y.1, all_actuals ys)
+
+  all_links : (ys : List WithLink) → LinksWalk (map written_link (map (λ (y : WithLink). y.0) ys))
+  all_links [] = tt
+  all_links (y ∷ ys) = (y.1, all_links ys)
+
+  expression_layer : (y : layer.Expr-F WithExpr WithActual WithLink) → ExprWalks (roll-Expr (bare y))
+  unfolding Expressions.number Expressions.named Expressions.component Expressions.call Expressions.parenthesized Expressions.prefixed
+  expression_layer (layer.Number value place) = from_layer (layer.Number value place) (written_walks place _ (λ lead. search (walk, behind_walks)))
+  expression_layer (layer.Name name) = from_layer (layer.Name name) (variable_walks name [] [] _ tt (λ lead. search (walk, denoted_walks)))
+  expression_layer (layer.Component name selectors indexes) =
+      from_layer (bare (layer.Component name selectors indexes))
+      (variable_walks name selectors.items _ _ (all_walk indexes.items)
+      (λ lead. then_walks (find_walks name) λ d. then_walks (given_walks _) λ v. accessed_walks v.0 v.1 selectors.items _ name.place lead
+      (all_walk indexes.items)))
+  expression_layer (layer.String text place) = from_layer (layer.String text place) (written_walks place _ (string_walks text.now place))
+  expression_layer (layer.Call name actuals) =
+      from_layer (bare (layer.Call name actuals))
+      (written_walks name.place _ (λ lead. then_walks (find_walks name) λ d. call_by_walks (Expressions.as_routine d) d name _ lead
+      (all_actuals actuals.items)))
+  expression_layer (layer.Parenthesized place inner) =
+      from_layer (bare (layer.Parenthesized place inner)) (written_walks place _ (λ lead. search (walk, behind_walks, inner.value.1.typing)))
+  expression_layer (layer.Not place operand) =
+      from_layer (bare (layer.Not place operand)) (written_walks place _ (λ lead. search (walk, behind_walks, operand.value.1.typing) depth 12))
+  expression_layer (layer.Signed s place term) =
+      from_layer (bare (layer.Signed s place term)) (written_walks place _ (λ lead. search (walk, behind_walks, term.value.1.typing) depth 12))
+  expression_layer (layer.Chain first rest) =
+      from_layer (bare (layer.Chain first rest)) (written_walks _ _ (λ lead. chain_walks _ _ lead first.value.1 (all_links rest.items)))
+  expression_layer (layer.Relation left operator place right) =
+      from_layer (bare (layer.Relation left operator place right))
+      (written_walks _ _ (λ lead. relation_walks _ operator place _ lead left.value.1 right.value.1))
+
+  abbrev width_form : WithExpr → Option WithExpr → Option Written
+  width_form value width =
+      let d = bare_actual (record { value = value; width = width }) in
+      (map-Actual Expr Actual Link Written WrittenActual WrittenLink expression written_actual written_link d).width
+
+  width_law : (value : WithExpr) (width : Option WithExpr) → WidthWalks (width_form value width)
+  width_law value None = tt
+  width_law value (Some w) = w.1
+
+  actual_layer : (y : layer.Actual-F WithExpr WithActual WithLink) → ActualOfWalks (roll-Actual (bare_actual y))
+  actual_layer y =
+      subst ActualWalks
+      (sym (fold-roll-Actual Written WrittenActual WrittenLink Expressions.expression_step Expressions.actual_step Expressions.link_step (bare_actual y)))
+      (record { value = y.value.1; width = width_law y.value y.width })
+
+  link_layer : (y : layer.Link-F WithExpr WithActual WithLink) → LinkOfWalks (roll-Link (bare_link y))
+  link_layer y =
+      subst LinkWalks
+      (sym (fold-roll-Link Written WrittenActual WrittenLink Expressions.expression_step Expressions.actual_step Expressions.link_step (bare_link y)))
+      (link_walks y.operator y.place _ y.operand.1)
+
+  pub expression_walks : (w : Expr) → ExprWalks w
+  expression_walks =
+      ind-Expr ExprWalks ActualOfWalks LinkOfWalks
+      (λ x y is. subst (λ z. ExprWalks (roll-Expr z)) is (expression_layer y))
+      (λ x y is. subst (λ z. ActualOfWalks (roll-Actual z)) is (actual_layer y))
+      (λ x y is. subst (λ z. LinkOfWalks (roll-Link z)) is (link_layer y))
+
+  pub written_actual_walks : (w : Actual) → ActualOfWalks w
+  written_actual_walks =
+      ind-Actual ExprWalks ActualOfWalks LinkOfWalks
+      (λ x y is. subst (λ z. ExprWalks (roll-Expr z)) is (expression_layer y))
+      (λ x y is. subst (λ z. ActualOfWalks (roll-Actual z)) is (actual_layer y))
+      (λ x y is. subst (λ z. LinkOfWalks (roll-Link z)) is (link_layer y))
+
+  indexes_walk : (ws : List Expr) → AllWalk (map expression ws)
+  indexes_walk [] = tt
+  indexes_walk (w ∷ ws) = (expression_walks w, indexes_walk ws)
+
+  every_actual : (ws : List Actual) → ActualsWalk (map written_actual ws)
+  every_actual [] = tt
+  every_actual (w ∷ ws) = (written_actual_walks w, every_actual ws)
+
+  -- ---- statements
+
+  target_mark_walks : (ordinal : Bool) (root : ℕ) (selectors : List TreeSelector) (id : TypeId)
+      → Goes_by (mark (Statements.target_mark ordinal root selectors id))
+  target_mark_walks true root selectors id = search walk
+  target_mark_walks false root selectors id = search walk
+
+  access_walks : (name : Name) (selectors : List Selector) (ws : List Written) → AllWalk ws → (variable : ℕ × TypeId)
+      → Goes_by (access_typing name selectors ws variable)
+  unfolding Expressions.tests_ordinal
+  access_walks name selectors ws laws variable = search (walk, selected_walks, target_mark_walks) depth 12
+
+  target_walks : (name : Name) (selectors : List Selector) (ws : List Written) → AllWalk ws → Goes_by (Statements.target name selectors ws)
+  unfolding Statements.target
+  target_walks name selectors ws laws = then_walks (find_walks name) (λ d. by d (Expressions.as_routine d) selectors)
+    where
+      result_goes : (old : Passed) (variable : ℕ × TypeId) (outcome : Checked (After Statements.Accessed))
+          → Goes (Way true owner depth depth) (with_result variable.0 old) outcome → Goes (IsTold variable.0) (with_result variable.0 old) outcome
+          → Goes (Way true owner depth depth) old (behind_marks [] outcome)
+      result_goes old variable (Ok b) way told = Assigned variable.0 way told
+      result_goes old variable (Err why) way told = tt
+
+      result_walks : (block : ℕ) (old : Passed) (outcome : Checked (After (ℕ × TypeId))) → Statements.function_target name.place block old ≡ outcome
+          → Goes (Way true owner depth depth) old (and_then outcome (λ v. behind_marks v.look (access_typing name selectors ws v.answer v.passed)))
+      result_walks block old (Err why) is = tt
+      result_walks block old (Ok v) is =
+          let assigns = function_target_is name.place block old v is in
+          let variable : ℕ × TypeId = (assigns.root, assigns.type_id) in
+          let start = with_result assigns.root old in
+          subst (λ (u : After (ℕ × TypeId)). Goes (Way true owner depth depth) old (behind_marks u.look (access_typing name selectors ws u.answer u.passed)))
+          assigns.is
+          (result_goes old variable (access_typing name selectors ws variable start) ((access_walks name selectors ws laws variable).walks start)
+          ((access_told name selectors ws variable).walks start))
+
+      by : (d : Denotation) (routine : Option (ℕ × Bool)) (others : List Selector)
+          → Goes_by (Statements.target_of routine others name.place d >>= access_typing name selectors ws)
+      by d None others = then_walks (given_walks _) (access_walks name selectors ws laws)
+      by d (Some routine) (selector ∷ others) = then_walks (given_walks _) (access_walks name selectors ws laws)
+      by d (Some routine) [] = record {
+        walks = λ old. result_walks routine.0 old (Statements.function_target name.place routine.0 old) refl;
+      }
+
+  becomes_walks : (ordinal : Bool) (to : Statements.Accessed) (place : Place) (w : Written) → WrittenWalks w
+      → Goes_by (if ordinal then Statements.assigned to place w else Statements.copied to.type_id place w)
+  unfolding Statements.assigned Statements.copied
+  becomes_walks true to place w law = search (walk, law.typing)
+  becomes_walks false to place w law = search (walk, law.typing)
+
+  assignment_walks : (name : Name) (selectors : List Selector) (ws : List Written) (place : Place) (w : Written) → AllWalk ws → WrittenWalks w
+      → Goes_by (Statements.assignment name selectors ws place w)
+  unfolding Statements.assignment Expressions.tests_ordinal
+  assignment_walks name selectors ws place w laws law = search (walk, target_walks, becomes_walks)
+
+  names_file_walks : (form : layer.Expr-F Expr Actual Link) → Goes_by (Statements.names_file form)
+  names_file_walks (layer.Name name) = search walk
+  names_file_walks other = search walk
+
+  unless_wide_walks : (value : Expr) (width : Option Expr) → Goes_by (Statements.unless_wide value width)
+  unless_wide_walks value None = names_file_walks (out-Expr value)
+  unless_wide_walks value (Some width) = search walk
+
+  written_values_walk : (actuals : List Actual) → Goes_by (Statements.written_values actuals)
+  unfolding Statements.written_values Statements.is_file
+  written_values_walk [] = search walk
+  written_values_walk (first ∷ rest) = then_walks (unless_wide_walks (out-Actual first).value (out-Actual first).width) (λ file. pure_walks _)
+
+  width_walks : (width : Option Written) → WidthWalks width → Goes_by (Statements.width width)
+  unfolding Statements.width
+  width_walks None law = search walk
+  width_walks (Some w) law = search (walk, law.typing)
+
+  -- how a value is written is no entry
+  abbrev IsNoEntry : Mark → Type 0
+  IsNoEntry one = numbers_of one ≡ ([], [], [])
+
+  form_is : (place : Place) (types : List Form) (t : Typed) (form : Mark) → or_mismatch place (Statements.written_as types t) ≡ Ok form → IsNoEntry form
+  form_is place types t form is = by (is_none t.length) (Statements.representation_of types t.type_id) (is_string types t.type_id) is
+    where
+      by : (ordinal : Bool) (representation : Option Representation) (string : Bool)
+          → or_mismatch place (if ordinal then option_map Look.Written representation else (if string then Some Look.WrittenString else None)) ≡ Ok form
+          → IsNoEntry form
+      by true (Some r) string h = let same : Look.Written r ≡ form = cc in subst IsNoEntry same refl
+      by true None string h = absurd cc
+      by false r true h = let same : Look.WrittenString ≡ form = cc in subst IsNoEntry same refl
+      by false r false h = absurd cc
+
+  parameter_walks : (a : WrittenActual) → ActualWalks a → Goes_by (Statements.parameter a)
+  unfolding Statements.parameter
+  parameter_walks a law =
+      tells_then (test_tells IsNoEntry _ (law.value.typing None) (form_is a.value.first)) λ form no_entry.
+      then_walks (mark_walks form no_entry) λ _.
+      width_walks a.width law.width
+
+  parameters_walk : (actuals : List Actual) → Goes_by (each Statements.parameter (map written_actual actuals))
+  parameters_walk [] = search walk
+  parameters_walk (a ∷ actuals) = then_walks (parameter_walks (written_actual a) (written_actual_walks a)) (λ _. parameters_walk actuals)
+
+  write_walks : (name : Name) (actuals : List Actual) (procedure : RequiredProcedure) → Goes_by (Statements.write name actuals procedure)
+  unfolding Statements.write
+  write_walks name actuals procedure = search (walk, written_values_walk, parameters_walk) depth 12
+
+  declared_call_walks : (callee : ℕ) (is_function : Bool) (name : Name) (actuals : List Actual)
+      → Goes_by (Statements.declared_call callee is_function name (map written_actual actuals))
+  unfolding Statements.declared_call
+  declared_call_walks callee true name actuals = search walk
+  declared_call_walks callee false name actuals =
+      then_walks (routine_call_walks false callee name.place (map written_actual actuals) (every_actual actuals)) (λ _. pure_walks tt)
+
+  statement_call_walks : (routine : Option (ℕ × Bool)) (d : Denotation) (name : Name) (actuals : List Actual)
+      → Goes_by (Statements.call_by routine d name actuals)
+  unfolding Statements.required_call
+  statement_call_walks None d name actuals = search (walk, write_walks)
+  statement_call_walks (Some routine) d name actuals = declared_call_walks routine.0 routine.1 name actuals
+
+  procedure_call_walks : (name : Name) (actuals : List Actual) → Goes_by (Statements.procedure_call name actuals)
+  unfolding Statements.procedure_call
+  procedure_call_walks name actuals = search (walk, statement_call_walks)
+
+  abbrev RowWalks : List (Passing (Unit {0})) → Type 0
+  RowWalks statements = Goes_by (each (λ s. s) statements)
+
+  pub compound_walks : (statements : List (Passing (Unit {0}))) → RowWalks statements → Goes_by (Statements.compound statements)
+  unfolding Statements.compound
+  compound_walks statements row =
+      then_walks (enter_walks Look.Compound (λ n. refl)) λ _.
+      then_walks row λ _.
+      mark_walks Look.Ends refl
+
+  condition_walks : (w : Written) → WrittenWalks w → Goes_by (Statements.condition w)
+  unfolding Statements.condition
+  condition_walks w law = search (walk, law.typing)
+
+  abbrev OtherWalks : Option (Passing (Unit {0})) → Type 0
+  OtherWalks None = Unit {0}
+  OtherWalks (Some s) = Goes_by s
+
+  alternative_walks : (other : Option (Passing (Unit {0}))) → OtherWalks other → Goes_by (Statements.alternative other)
+  unfolding Statements.alternative
+  alternative_walks None law = search walk
+  alternative_walks (Some s) law = then_walks (mark_walks Look.Else refl) (λ _. law)
+
+  tested_walks : (place : Place) (w : Written) → WrittenWalks w → Goes_by (Statements.tested place w)
+  unfolding Statements.tested
+  tested_walks place w law = search (walk, condition_walks, law)
+
+  choice_walks : (place : Place) (w : Written) (consequence : Passing (Unit {0})) (other : Option (Passing (Unit {0}))) → WrittenWalks w
+      → Goes_by consequence → OtherWalks other → Goes_by (Statements.choice place w consequence other)
+  unfolding Statements.choice
+  choice_walks place w consequence other law one two =
+      then_walks (tested_walks place w law) λ _.
+      then_walks one λ _.
+      then_walks (alternative_walks other two) λ _.
+      mark_walks Look.Ends refl
+
+  while_walks : (place : Place) (w : Written) (body : Passing (Unit {0})) → WrittenWalks w → Goes_by body → Goes_by (Statements.while_loop place w body)
+  unfolding Statements.while_loop
+  while_walks place w body law one =
+      then_walks (pass_walks place) λ _.
+      then_walks (enter_loop_walks _ (λ n l. refl)) λ _.
+      then_walks (condition_walks w law) λ _.
+      then_walks (mark_walks Look.Do refl) λ _.
+      then_walks one λ _.
+      mark_walks Look.Ends refl
+
+  repeat_walks : (place : Place) (statements : List (Passing (Unit {0}))) (w : Written) → RowWalks statements → WrittenWalks w
+      → Goes_by (Statements.repeat_loop place statements w)
+  unfolding Statements.repeat_loop
+  repeat_walks place statements w row law =
+      then_walks (pass_walks place) λ _.
+      then_walks (enter_loop_walks _ (λ n l. refl)) λ _.
+      then_walks row λ _.
+      then_walks (mark_walks Look.Until refl) λ _.
+      then_walks (condition_walks w law) λ _.
+      mark_walks Look.Ends refl
+
+  bound_walks : (control : ℕ) (type_id : TypeId) (w : Written) → WrittenWalks w → Goes_by (Statements.bound control type_id w)
+  unfolding Statements.bound
+  bound_walks control type_id w law = search (walk, law.typing)
+
+  for_head_walks : (place : Place) (variable : Name) (first : Written) (direction : SyntaxDirection) (last : Written) → WrittenWalks first → WrittenWalks last
+      → Goes_by (Statements.for_head place variable first direction last)
+  unfolding Statements.for_head
+  for_head_walks place variable first direction last one two = search (walk, bound_walks, one, two) depth 16
+
+  for_walks : (place : Place) (variable : Name) (first : Written) (direction : SyntaxDirection) (last : Written) (body : Passing (Unit {0}))
+      → WrittenWalks first → WrittenWalks last → Goes_by body → Goes_by (Statements.for_loop place variable first direction last body)
+  for_walks place variable first direction last body one two three =
+      then_walks (for_head_walks place variable first direction last one two) λ control.
+      for_body_walks control body three
+
+  row_walks : (type_id : TypeId) (before row : List ℤ) (cs : List Constant) → Goes_by (Statements.constant_row type_id before row cs)
+  unfolding Statements.case_constant
+  row_walks type_id before row [] = search walk
+  row_walks type_id before row (c ∷ cs) = then_walks (test_walks _ (ordinal_constant_walks true owner depth c))
+      (λ value. row_walks type_id before (row ++ value ∷ []) cs)
+
+  abbrev ArmsWalk : List (List Constant × Passing (Unit {0})) → Type 0
+  ArmsWalk [] = Unit {0}
+  ArmsWalk (arm ∷ arms) = Goes_by arm.1 × ArmsWalk arms
+
+  arms_walk : (type_id : TypeId) (before : List ℤ) (arms : List (List Constant × Passing (Unit {0}))) → ArmsWalk arms
+      → Goes_by (Statements.case_arms type_id before arms)
+  arms_walk type_id before [] laws = search walk
+  arms_walk type_id before (arm ∷ arms) laws =
+      then_walks (row_walks type_id before [] arm.0) λ row.
+      then_walks (mark_walks (Look.Arm row) refl) λ _.
+      then_walks laws.0 λ _.
+      arms_walk type_id (before ++ row) arms laws.1
+
+  case_walks : (place : Place) (w : Written) (arms : List (List Constant × Passing (Unit {0}))) → WrittenWalks w → ArmsWalk arms
+      → Goes_by (Statements.case_statement place w arms)
+  unfolding Statements.case_head Statements.case_body
+  case_walks place w arms law laws = search (walk, law.typing, arms_walk) depth 12
+
+  -- ---- every statement
+
+  abbrev pub StmtWalks : Stmt → Type 0
+  StmtWalks w = Goes_by (statement w)
+
+  abbrev WithStmt : Type 0
+  WithStmt = (w : Stmt) × StmtWalks w
+
+  abbrev bare_stmt : stmt_layer.Stmt-F WithStmt → stmt_layer.Stmt-F Stmt
+  bare_stmt y = map-Stmt WithStmt Stmt (λ w. w.0) y
+
+  stmt_from_layer : (d : stmt_layer.Stmt-F Stmt) → Goes_by (Statements.statement_step (map-Stmt Stmt (Passing (Unit {0})) statement d))
+      → StmtWalks (roll-Stmt d)
+  stmt_from_layer d law = subst Goes_by (sym (fold-roll-Stmt (Passing (Unit {0})) Statements.statement_step d)) law
+
+  rows_walk : (ys : List WithStmt) → RowWalks (map statement (map (λ (y : WithStmt). y.0) ys))
+  rows_walk [] = search walk
+  rows_walk (y ∷ ys) = then_walks y.1 (λ _. rows_walk ys)
+
+  all_arms : (rows : List (Vec Constant Global)) (ys : List WithStmt) → ArmsWalk (arms_of rows (map statement (map (λ (y : WithStmt). y.0) ys)))
+  all_arms [] ys = tt
+  all_arms (row ∷ rows) [] = tt
+  all_arms (row ∷ rows) (y ∷ ys) = (y.1, all_arms rows ys)
+
+  statement_layer : (y : stmt_layer.Stmt-F WithStmt) → StmtWalks (roll-Stmt (bare_stmt y))
+  statement_layer stmt_layer.Empty = stmt_from_layer stmt_layer.Empty (search walk)
+  statement_layer (stmt_layer.Assign name selectors indexes becomes value) =
+      stmt_from_layer (stmt_layer.Assign name selectors indexes becomes value)
+      (assignment_walks name selectors.items _ becomes _ (indexes_walk indexes.items) (expression_walks value))
+  statement_layer (stmt_layer.Call name actuals) = stmt_from_layer (stmt_layer.Call name actuals) (procedure_call_walks name actuals.items)
+  statement_layer (stmt_layer.Compound statements) =
+      stmt_from_layer (bare_stmt (stmt_layer.Compound statements)) (compound_walks _ (rows_walk statements.items))
+  statement_layer (stmt_layer.If place condition consequence None) =
+      stmt_from_layer (bare_stmt (stmt_layer.If place condition consequence None))
+      (choice_walks place _ _ None (expression_walks condition) consequence.value.1 tt)
+  statement_layer (stmt_layer.If place condition consequence (Some other)) =
+      stmt_from_layer (bare_stmt (stmt_layer.If place condition consequence (Some other)))
+      (choice_walks place _ _ _ (expression_walks condition) consequence.value.1 other.value.1)
+  statement_layer (stmt_layer.While place condition body) =
+      stmt_from_layer (bare_stmt (stmt_layer.While place condition body)) (while_walks place _ _ (expression_walks condition) body.value.1)
+  statement_layer (stmt_layer.Repeat place statements condition) =
+      stmt_from_layer (bare_stmt (stmt_layer.Repeat place statements condition))
+      (repeat_walks place _ _ (rows_walk statements.items) (expression_walks condition))
+  statement_layer (stmt_layer.For place name first d end body) =
+      stmt_from_layer (bare_stmt (stmt_layer.For place name first d end body))
+      (for_walks place name _ d _ _ (expression_walks first) (expression_walks end) body.value.1)
+  statement_layer (stmt_layer.Case place index constants arms semicolon) =
+      stmt_from_layer (bare_stmt (stmt_layer.Case place index constants arms semicolon))
+      (case_walks place _ _ (expression_walks index) (all_arms constants.items arms.items))
+
+  pub statement_walks : (w : Stmt) → StmtWalks w
+  statement_walks = ind-Stmt StmtWalks (λ x y is. subst (λ z. StmtWalks (roll-Stmt z)) is (statement_layer y))
+
+  statements_walk : (ws : List Stmt) → RowWalks (map statement ws)
+  statements_walk [] = search walk
+  statements_walk (w ∷ ws) = then_walks (statement_walks w) (λ _. statements_walk ws)
+
+  -- the compound statement of a block
+  pub body_walks : (ws : List Stmt) → Goes_by (Statements.compound (map statement ws))
+  body_walks ws = compound_walks _ (statements_walk ws)

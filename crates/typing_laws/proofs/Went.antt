@@ -1,0 +1,243 @@
+-- What each way leaves as it is, and what it makes longer.
+use Rattle.std.proofs.Common.{◌≡◌, ℕ, ◌-◌, ◌||◌, if◌then◌else◌, Bool, true, false, nat_eq, List, [], ◌∷◌, ◌++◌, length, take, refl, ap, ap₂, ◌∙◌, arith}
+use Rattle.std.proofs.Common.{length-append}
+use Rattle.std.specs.List.{list_any}
+use Rattle.std.proofs.lemmas.Grind.{flat_map-append}
+use Rattle.types.specs.Forms.{Form}
+use Rattle.typed_tree.specs.Look.{Look, ForEnds, blocks_of_look, mark_blocks}
+use Rattle.typed_tree.specs.declared.tree.Variable.{Variable}
+use Rattle.typed_tree.specs.Ids.{Stands}
+use Rattle.typed_tree.specs.WellFormed.{variables_of}
+use Rattle.typing.specs.Passing.{Headed, Passed}
+use Rattle.typing.specs.Steps.{with_one}
+use Rattle.typing.proofs.Ways.{Owner, Nobody, Of, Step, Entry, Loop, Marked, Site, Threat, Typed, Define, Declare, Heading, Token}
+use Rattle.typing.proofs.Ways.{Way, Stay, One, Then, Controlled, Assigned}
+use Rattle.typing_laws.proofs.Owned.{Fails, others_kept}
+use Rattle.typing_laws.proofs.Reached.{IsLonger, as_long, longer_still, one_longer}
+
+-- ---- what grows
+
+-- what is there is there with one more
+pub kept_with : (roots : List ℕ) (root other : ℕ) → list_any (nat_eq other) roots ≡ true → list_any (nat_eq other) (with_one roots root) ≡ true
+kept_with roots root other is = one (list_any (nat_eq root) roots)
+  where
+    before : (all : List ℕ) → list_any (nat_eq other) all ≡ true → list_any (nat_eq other) (all ++ root ∷ []) ≡ true
+    before [] h = absurd cc
+    before (first ∷ all) h = here_or (nat_eq other first) (before all) h
+      where
+        here_or : (test : Bool) → (list_any (nat_eq other) all ≡ true → list_any (nat_eq other) (all ++ root ∷ []) ≡ true)
+            → (test || list_any (nat_eq other) all) ≡ true → (test || list_any (nat_eq other) (all ++ root ∷ [])) ≡ true
+        here_or true more g = refl
+        here_or false more g = more g
+
+    one : (test : Bool) → list_any (nat_eq other) (if test then roots else roots ++ root ∷ []) ≡ true
+    one true = is
+    one false = before roots is
+
+-- what a way makes longer
+pub record Heap : Type 0 where
+  pub types : List Form
+  pub variables : List Variable
+  pub headings : List Headed
+  pub sites : List Stands
+  pub threatened : List ℕ
+
+abbrev pub heap_of : Passed → Heap
+heap_of s = record {
+  types = s.types;
+  variables = s.variables;
+  headings = s.headings;
+  sites = s.sites;
+  threatened = s.threatened;
+}
+
+-- the types, the variables, the headings and the sites are those before and perhaps more; what is threatened stays so
+pub record IsHigher (old new : Heap) : Type 0 where
+  pub types : IsLonger old.types new.types
+  pub variables : IsLonger old.variables new.variables
+  pub headings : IsLonger old.headings new.headings
+  pub sites : IsLonger old.sites new.sites
+  pub threats : (root : ℕ) → list_any (nat_eq root) old.threatened ≡ true → list_any (nat_eq root) new.threatened ≡ true
+
+abbrev pub Grows : Passed → Passed → Type 0
+Grows old new = IsHigher (heap_of old) (heap_of new)
+
+pub as_high : {one : Heap} → IsHigher one one
+as_high = record {
+  types = as_long;
+  variables = as_long;
+  headings = as_long;
+  sites = as_long;
+  threats = λ root is. is;
+}
+
+pub grow_then : {old now new : Heap} → IsHigher old now → IsHigher now new → IsHigher old new
+grow_then f g = record {
+  types = longer_still f.types g.types;
+  variables = longer_still f.variables g.variables;
+  headings = longer_still f.headings g.headings;
+  sites = longer_still f.sites g.sites;
+  threats = λ root is. g.threats root (f.threats root is);
+}
+
+types_grow : {acts : Bool} {owner : Owner} {from to : ℕ} {look : Look} {old new : Passed} → Step acts owner from to look old new → IsLonger old.types new.types
+types_grow {old = old} (Typed form) = one_longer old.types form
+types_grow other = as_long
+
+variables_grow : {acts : Bool} {owner : Owner} {from to : ℕ} {look : Look} {old new : Passed} → Step acts owner from to look old new
+    → IsLonger old.variables new.variables
+variables_grow {old = old} (Declare variable cells owns) = one_longer old.variables variable
+variables_grow other = as_long
+
+headings_grow : {acts : Bool} {owner : Owner} {from to : ℕ} {look : Look} {old new : Passed} → Step acts owner from to look old new
+    → IsLonger old.headings new.headings
+headings_grow {old = old} (Heading headed) = one_longer old.headings headed
+headings_grow other = as_long
+
+sites_grow : {acts : Bool} {owner : Owner} {from to : ℕ} {look : Look} {old new : Passed} → Step acts owner from to look old new → IsLonger old.sites new.sites
+sites_grow {old = old} (Site kind place few) = one_longer old.sites (kind, place)
+sites_grow other = as_long
+
+threats_grow : {acts : Bool} {owner : Owner} {from to : ℕ} {look : Look} {old new : Passed} → Step acts owner from to look old new → (root : ℕ)
+    → list_any (nat_eq root) old.threatened ≡ true → list_any (nat_eq root) new.threatened ≡ true
+threats_grow {old = old} (Threat one) root is = kept_with old.threatened one root is
+threats_grow other root is = is
+
+pub grows : {acts : Bool} {owner : Owner} {from to : ℕ} {look : Look} {old new : Passed} → Way acts owner from to look old new → Grows old new
+grows Stay = as_high
+grows (One step) = record {
+  types = types_grow step;
+  variables = variables_grow step;
+  headings = headings_grow step;
+  sites = sites_grow step;
+  threats = threats_grow step;
+}
+grows (Then first second) = grow_then (grows first) (grows second)
+grows (Controlled root way) = grows way
+grows (Assigned root way told) = grows way
+
+-- ---- control variables
+
+-- the last one ends
+take_front : (roots : List ℕ) (root : ℕ) → take (length roots) (roots ++ root ∷ []) ≡ roots
+take_front [] root = refl
+take_front (first ∷ roots) root = ap (λ (more : List ℕ). first ∷ more) (take_front roots root)
+
+pub ended_control : (roots : List ℕ) (root : ℕ) → take (length (roots ++ root ∷ []) - 1) (roots ++ root ∷ []) ≡ roots
+ended_control roots root =
+    let counted = length-append roots (root ∷ []) in
+    let one_less : length (roots ++ root ∷ []) - 1 ≡ length roots = omega (arith, counted) in
+    ap (λ (n : ℕ). take n (roots ++ root ∷ [])) one_less ∙ take_front roots root
+
+controls_step : {acts : Bool} {owner : Owner} {from to : ℕ} {look : Look} {old new : Passed} → Step acts owner from to look old new
+    → new.controls ≡ old.controls
+controls_step (Token place) = refl
+controls_step other = refl
+
+-- those of the for statements round a place stay
+pub same_controls : {acts : Bool} {owner : Owner} {from to : ℕ} {look : Look} {old new : Passed} → Way acts owner from to look old new
+    → new.controls ≡ old.controls
+same_controls Stay = refl
+same_controls (One step) = controls_step step
+same_controls (Then first second) = same_controls second ∙ same_controls first
+same_controls (Assigned root way told) = same_controls way
+same_controls {old = old} (Controlled root way) = ap (λ (all : List ℕ). take (length all - 1) all) (same_controls way) ∙ ended_control old.controls root
+
+-- ---- forms that declare nothing
+
+-- they leave the regions, the variables, the headings and the block round the place, and no block ends in them
+pub record IsInner (look : Look) (old new : Passed) : Type 0 where
+  pub regions : new.regions ≡ old.regions
+  pub variables : new.variables ≡ old.variables
+  pub headings : new.headings ≡ old.headings
+  pub enclosing : new.enclosing ≡ old.enclosing
+  pub ends : blocks_of_look look ≡ []
+
+inner_step : {acts : Bool} {from to : ℕ} {look : Look} {old new : Passed} → Step acts Nobody from to look old new → IsInner look old new
+inner_step (Entry one few is) = record { regions = refl; variables = refl; headings = refl; enclosing = refl; ends = ap (λ n. n.2 ++ []) is }
+inner_step (Loop one few is) = record { regions = refl; variables = refl; headings = refl; enclosing = refl; ends = ap (λ n. n.2 ++ []) is }
+inner_step (Marked one none) = record { regions = refl; variables = refl; headings = refl; enclosing = refl; ends = ap (λ n. n.2 ++ []) none }
+inner_step (Define name denotation regions defines is) = absurd defines
+inner_step (Declare variable cells owns) = absurd owns
+inner_step other = record { regions = refl; variables = refl; headings = refl; enclosing = refl; ends = refl }
+
+pub inner : {acts : Bool} {from to : ℕ} {look : Look} {old new : Passed} → Way acts Nobody from to look old new → IsInner look old new
+inner Stay = record { regions = refl; variables = refl; headings = refl; enclosing = refl; ends = refl }
+inner (One step) = inner_step step
+inner (Then {look = look} {more = more} first second) =
+    let f = inner first in
+    let g = inner second in
+    record {
+      regions = g.regions ∙ f.regions;
+      variables = g.variables ∙ f.variables;
+      headings = g.headings ∙ f.headings;
+      enclosing = g.enclosing ∙ f.enclosing;
+      ends = flat_map-append mark_blocks look more ∙ ap₂ (λ a b. a ++ b) f.ends g.ends;
+    }
+inner (Assigned root way told) =
+    let f = inner way in
+    record { regions = f.regions; variables = f.variables; headings = f.headings; enclosing = f.enclosing; ends = f.ends }
+inner (Controlled {look = look} root way) =
+    let f = inner way in
+    record {
+      regions = f.regions;
+      variables = f.variables;
+      headings = f.headings;
+      enclosing = f.enclosing;
+      ends = flat_map-append mark_blocks look (ForEnds ∷ []) ∙ ap (λ l. l ++ []) f.ends;
+    }
+
+-- ---- definitions
+
+pub no_mark : {owner : Owner} {from to : ℕ} {look : Look} {old new : Passed} → Way false owner from to look old new → look ≡ []
+no_mark Stay = refl
+no_mark (One step) = by step
+  where
+    by : {owner : Owner} {from to : ℕ} {look : Look} {old new : Passed} → Step false owner from to look old new → look ≡ []
+    by (Token place) = refl
+    by other = refl
+no_mark (Then first second) = ap₂ (λ a b. a ++ b) (no_mark first) (no_mark second)
+
+-- they leave what is known of statements and of other blocks
+pub record Silent (counted : ℕ) (old new : Passed) : Type 0 where
+  pub sites : new.sites ≡ old.sites
+  pub threatened : new.threatened ≡ old.threatened
+  pub headings : new.headings ≡ old.headings
+  pub enclosing : record (new.enclosing) { cells = 0 } ≡ record (old.enclosing) { cells = 0 }
+  pub others : (block : ℕ) → Fails (nat_eq counted block) → variables_of block new.variables ≡ variables_of block old.variables
+
+silent_step : {counted from to : ℕ} {look : Look} {old new : Passed} → Step false (Of counted) from to look old new → Silent counted old new
+silent_step {old = old} (Declare variable cells owns) = record {
+  sites = refl;
+  threatened = refl;
+  headings = refl;
+  enclosing = refl;
+  others = λ block other. others_kept block old.variables variable (ap (λ n. nat_eq n block) owns ∙ other);
+}
+silent_step other = record {
+  sites = refl;
+  threatened = refl;
+  headings = refl;
+  enclosing = refl;
+  others = λ block other. refl;
+}
+
+pub silent : {counted from to : ℕ} {look : Look} {old new : Passed} → Way false (Of counted) from to look old new → Silent counted old new
+silent Stay = record {
+  sites = refl;
+  threatened = refl;
+  headings = refl;
+  enclosing = refl;
+  others = λ block other. refl;
+}
+silent (One step) = silent_step step
+silent (Then first second) =
+    let f = silent first in
+    let g = silent second in
+    record {
+      sites = g.sites ∙ f.sites;
+      threatened = g.threatened ∙ f.threatened;
+      headings = g.headings ∙ f.headings;
+      enclosing = g.enclosing ∙ f.enclosing;
+      others = λ block other. g.others block other ∙ f.others block other;
+    }
