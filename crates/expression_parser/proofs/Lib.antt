@@ -1,4 +1,5 @@
 pub mod Built
 pub mod Chains
 pub mod Named
+pub mod Parentheses
 pub mod Selectors

@@ -10,11 +10,20 @@ use Rattle.syntax_tree.specs.declared.Selector.{Selector}
 use Rattle.reading.specs.declared.refusal.Refusal.{Refusal}
 use Rattle.reading.specs.declared.refusal.Refusal.TheVariants.{Memory}
 use Rattle.reading.specs.Outline.{Outline}
+use Rattle.reading.specs.Reading.{Outcome, and_then, pure}
 use Rattle.reading.specs.Trees.{expr_outline, link_outline, actual_outline, selector_rows}
+use Rattle.token_cursor.specs.Cursor.{Makes}
+use Rattle.token_cursor.specs.declared.cursor.Cursor.{Cursor}
 
 -- an expression of this outline, unless memory runs out
-abbrev pub Builds : Outline → Result Expr Refusal → Type 0
-Builds outline result = MatchResult result (λ e. expr_outline e ≡ outline) (λ why. why ≡ Memory)
+abbrev pub IsBuilt : Outline → Result Expr Refusal → Type 0
+IsBuilt outline result = MatchResult result (λ e. expr_outline e ≡ outline) (λ why. why ≡ Memory)
+
+-- a form round an expression, whatever made that: it is made as the expression was, and then so built of it
+abbrev pub Builds : (Outline → Outline) → Result Expr Refusal → Result Expr Refusal → Type 0
+Builds build found result =
+    (outcome : Outcome Outline) (at : Cursor) → Makes expr_outline outcome found at
+    → Makes expr_outline (and_then outcome (λ o. pure (build o))) result at
 
 -- the operators of a chain, each with the operand behind it, and the actual parameters of a call
 abbrev pub links_outlines : Vec Link Global → List Outline

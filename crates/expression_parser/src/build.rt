@@ -1,25 +1,25 @@
 ghost use Rattle.reading.specs.Outline as form;
 ghost use Rattle.reading.specs.Trees.{expr_outline};
-ghost use Rattle.expression_parser.specs.Built.{Builds, links_outlines};
+ghost use Rattle.expression_parser.specs.Built.{Builds, IsBuilt, links_outlines};
 
 use place::Place;
 use reading::refusal::Refusal;
 use std::alloc::Global;
 use syntax_tree::{Expr, Link, RelationalOperator, Sign};
+use token_cursor::memory::boxed;
 
-/// A relation.
-#[tactic(auto, using(crate::proofs::Built::built_expressions))]
+/// A relation, by its left operand and what was read behind its operator.
 pub(crate) fn relation<'a>(
     alloc: Global,
     left: Expr<'a>,
     operator: RelationalOperator,
     place: Place,
-    right: Expr<'a>,
+    right: Result<Expr<'a>, Refusal>,
 ) -> Result<Expr<'a>, Refusal>
-    ensures { Builds (form.relation (expr_outline left.entry) operator place (expr_outline right.entry)) result }
+    ensures { Builds (form.relation (expr_outline left.entry) operator place) right.entry result }
 {
+    let right = boxed(alloc, right)?;
     let left = Box::new(alloc, left)?;
-    let right = Box::new(alloc, right)?;
     Ok(Expr::Relation {
         left,
         operator,
@@ -35,7 +35,7 @@ pub(crate) fn chain<'a>(
     first: Expr<'a>,
     rest: Vec<Link<'a>>,
 ) -> Result<Expr<'a>, Refusal>
-    ensures { Builds (form.chain (expr_outline first.entry) (links_outlines rest.entry)) result }
+    ensures { IsBuilt (form.chain (expr_outline first.entry) (links_outlines rest.entry)) result }
 {
     if rest.is_empty() {
         return Ok(first);
@@ -44,42 +44,39 @@ pub(crate) fn chain<'a>(
     Ok(Expr::Chain { first, rest })
 }
 
-/// A term behind a sign.
-#[tactic(auto, using(crate::proofs::Built::built_expressions))]
+/// A sign, and the term that was read behind it.
 pub(crate) fn signed<'a>(
     alloc: Global,
     sign: Sign,
     place: Place,
-    term: Expr<'a>,
+    term: Result<Expr<'a>, Refusal>,
 ) -> Result<Expr<'a>, Refusal>
-    ensures { Builds (form.signed sign place (expr_outline term.entry)) result }
+    ensures { Builds (form.signed sign place) term.entry result }
 {
-    let term = Box::new(alloc, term)?;
+    let term = boxed(alloc, term)?;
     Ok(Expr::Signed { sign, place, term })
 }
 
-/// An operand behind `not`.
-#[tactic(auto, using(crate::proofs::Built::built_expressions))]
+/// `not`, and the operand that was read behind it.
 pub(crate) fn negated<'a>(
     alloc: Global,
     place: Place,
-    operand: Expr<'a>,
+    operand: Result<Expr<'a>, Refusal>,
 ) -> Result<Expr<'a>, Refusal>
-    ensures { Builds (form.negated place (expr_outline operand.entry)) result }
+    ensures { Builds (form.negated place) operand.entry result }
 {
-    let operand = Box::new(alloc, operand)?;
+    let operand = boxed(alloc, operand)?;
     Ok(Expr::Not { place, operand })
 }
 
-/// An expression in parentheses.
-#[tactic(auto, using(crate::proofs::Built::built_expressions))]
+/// Parentheses, and the expression that was read between them.
 pub(crate) fn parenthesized<'a>(
     alloc: Global,
     open: Place,
-    inner: Expr<'a>,
+    inner: Result<Expr<'a>, Refusal>,
 ) -> Result<Expr<'a>, Refusal>
-    ensures { Builds (form.parenthesized «open» (expr_outline inner.entry)) result }
+    ensures { Builds (form.parenthesized «open») inner.entry result }
 {
-    let inner = Box::new(alloc, inner)?;
+    let inner = boxed(alloc, inner)?;
     Ok(Expr::Parenthesized { open, inner })
 }

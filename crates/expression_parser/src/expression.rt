@@ -34,7 +34,7 @@ pub fn expression<'a>(
     let Some((operator, place)) = cursor.take_relational() else {
         return Ok(left);
     };
-    let right = chain(alloc, cursor, levels, Level::Sum)?;
+    let right = chain(alloc, cursor, levels, Level::Sum);
     build::relation(alloc, left, operator, place, right)
 }
 
@@ -116,7 +116,7 @@ fn signed<'a>(alloc: Global, cursor: &mut Cursor<'_, 'a>, levels: u32) -> Result
     let Some((sign, place)) = cursor.take_sign() else {
         return chain(alloc, cursor, levels, Level::Product);
     };
-    let term = chain(alloc, cursor, levels, Level::Product)?;
+    let term = chain(alloc, cursor, levels, Level::Product);
     build::signed(alloc, sign, place, term)
 }
 
@@ -153,7 +153,7 @@ fn negated<'a>(
         cursor.old.rest.now) result cursor.new }
 {
     let levels = inside(levels, cursor.place())?;
-    let operand = factor(alloc, cursor, levels)?;
+    let operand = factor(alloc, cursor, levels);
     build::negated(alloc, place, operand)
 }
 
@@ -298,7 +298,7 @@ fn parenthesized<'a>(
 {
     let open = cursor.expect_symbol(Symbol::OpenParenthesis)?;
     let inner = below(alloc, cursor, levels, Some(open));
-    let inner = cursor.followed_by(inner, Kind::Symbol(Symbol::CloseParenthesis))?;
+    let inner = cursor.followed_by(inner, Kind::Symbol(Symbol::CloseParenthesis));
     build::parenthesized(alloc, open, inner)
 }
 

@@ -1,4 +1,5 @@
 use Rattle.std.proofs.Common.{rules, arith, ◌≡◌, ℕ, ◌<◌, [], ◌∷◌, ◌++◌, length, map, Some, None, Ok, Err, true, false, refl, sym, ap, subst, ◌∙◌}
+use Rattle.lexer.specs.declared.token.Kind.TheVariants as kind
 use Rattle.lexer.specs.declared.token.Symbol.TheVariants as symbol
 use Rattle.reading.specs.declared.refusal.Refusal.TheVariants.{Memory}
 use Rattle.reading.specs.Expressions as spec
@@ -9,7 +10,7 @@ use Rattle.reading.specs.Outline.{Outline, has_items}
 use Rattle.reading.specs.Trees.{actual_outline, expr_outline, selector_rows}
 use Rattle.reading.proofs.Uses.{actual_no_more, below_no_more}
 use Rattle.token_cursor.specs.Cursor.{Makes}
-use Rattle.token_cursor.proofs.Keeping.{not_put, was_put}
+use Rattle.token_cursor.proofs.Keeping.{followed_makes, not_put, was_put}
 use Rattle.token_cursor.proofs.Turns.{list_ends, list_goes, parts_fewer, parts_stop}
 use Rattle.expression_parser.specs.Built.{actuals_outlines, links_turns, selectors_outlines}
 use Rattle.expression_parser.specs.Levels as level_spec
@@ -17,6 +18,7 @@ use Rattle.expression_parser.specs.Selecting.{is_index, Selects, SelectsIndex}
 use Rattle.expression_parser.proofs.Built.{built_call, built_component, built_link, built_name}
 use Rattle.expression_parser.proofs.Chains.{link_fewer, links_end, links_go, links_stop}
 use Rattle.expression_parser.proofs.Named.{alone_named, call_named, component_named, factor_named, empty_items, filled_items, has_mapped, has_rows, no_rows}
+use Rattle.expression_parser.proofs.Parentheses.{parenthesized_is}
 use Rattle.expression_parser.proofs.Selectors.{SelectorsSoFar, selectors_begin, selectors_end, selectors_fewer, selectors_go, selectors_stop}
 use Rattle.expression_parser.proofs.expression.+expression.Goals as goal
 
@@ -28,6 +30,16 @@ factor-returns-in-Some-Identifier t c =
     (sym (factor_named c.args.levels c.args.cursor.now.rest.now c.take_number.new.self.rest.now c.take_string.new.self.rest.now
     c.in_default.ensures c.in_default-take_string.ensures (cc)))
     c.named.ensures
+
+pub parenthesized-returns : goal.parenthesized-returns
+parenthesized-returns t c =
+    subst (λ o. Makes expr_outline o c.parenthesized.result c.followed_by-inner.new.self)
+    (sym (parenthesized_is (expression_below c.args.levels) c.args.cursor.now.rest.now c.expect_symbol.new.self.rest.now c.in_ok-open.open
+    c.in_ok-open.ensures))
+    (c.parenthesized.ensures _ c.followed_by-inner.new.self
+    (followed_makes expr_outline (expression_below c.args.levels (Some c.in_ok-open.open) c.expect_symbol.new.self.rest.now) c.below-inner.result
+    c.followed_by-inner.result (kind.Symbol symbol.CloseParenthesis) c.below-inner.new.cursor c.followed_by-inner.new.self c.below-inner.ensures
+    c.followed_by-inner.ensures))
 
 -- ---- chains
 
