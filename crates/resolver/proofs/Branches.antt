@@ -8,8 +8,7 @@ use Rattle.typed_tree.specs.declared.tree.Expr.{Expr}
 use Rattle.typed_tree.specs.declared.tree.Stmt.{Stmt}
 use Rattle.typed_tree.specs.declared.tree.Stmt.TheVariants as stmt
 use Rattle.typed_tree.specs.Look.{Look, Fits, If, Then, Else, Controls, For, ForEnds, Ends, look_expr, look_stmt}
-use Rattle.typed_tree.proofs.Looks.{look_empty, look_if, look_if_else, look_for}
-use Rattle.typing.proofs.Written.{written_statements}
+use Rattle.typed_tree.proofs.Looks.{look_if, look_if_else, look_for}
 use Rattle.resolver.specs.Made.{look_else}
 
 behind : (number : ℕ) (condition : Expr) (rest : Look)
@@ -41,6 +40,3 @@ look_counted number loop_number place control first first_fits direction last la
     (sym (append_assoc (look_expr first) (Fits control [] first_fits ∷ []) (look_expr last ++ (Fits control [] last_fits ∷ inside)))
     ∙ ap (λ look. one ++ look) (sym (append_assoc (look_expr last) (Fits control [] last_fits ∷ []) inside))
     ∙ sym (append_assoc one two inside))
-
--- how statements are typed, and how those look that stand for no other
-pub ruleset made_statements = (written_statements, look_empty, look_choice)

@@ -21,7 +21,7 @@ use typing::Typer;
 
 /// A statement.
 #[cycle(statements)]
-#[tactic(auto, using(crate::proofs::Branches::made_statements), unfolding(typing::specs::Statements::choice))]
+#[tactic(auto, using(typing::proofs::Written::written_statements), unfolding(typing::specs::Statements::choice))]
 pub(crate) fn statement(typer: &mut Typer, written: &syntax::Stmt) -> Result<Stmt, TypeFault>
     ensures { MakesStmt (spec.statement written.now typer.old) result typer.new }
 {
