@@ -1,5 +1,6 @@
 -- Parts one behind another, as they are read.
-use Rattle.std.proofs.Common.{◌≡◌, ◌<◌, length, Result, Bool, true, false, if◌then◌else◌, List, [], ◌∷◌, ◌++◌, Option, Some, None, Ok, Err, map, refl, sym, ap, subst, append_assoc, append-nil, ◌∙◌}
+use Rattle.std.proofs.Common.{◌≡◌, ◌<◌, length, Result, Bool, true, false, if◌then◌else◌, List, [], ◌∷◌, ◌++◌, Option, Some, None, Ok, Err, map}
+use Rattle.std.proofs.Common.{refl, sym, ap, subst, append_assoc, append-nil, ◌∙◌}
 use Rattle.place.specs.declared.Place.{Place}
 use Rattle.lexer.specs.declared.token.Kind.{Kind}
 use Rattle.lexer.specs.declared.token.Kind.TheVariants as kind
@@ -104,8 +105,8 @@ module _ {A : Type 0} (test : Option Kind → Bool) (part : Reading A) where
 
     -- ---- one or more: an item more, and another one behind it; the last item; one that stops
 
-    pub some_go : {whole : Outcome (List A)} → TakesOne part → Parts whole (map look front) (some tokens) → Puts front read (Ok tt) after → test (next_kind mid.rest.now) ≡ true
-        → Parts whole (map look after) (some mid.rest.now)
+    pub some_go : {whole : Outcome (List A)} → TakesOne part → Parts whole (map look front) (some tokens) → Puts front read (Ok tt) after
+        → test (next_kind mid.rest.now) ≡ true → Parts whole (map look after) (some mid.rest.now)
     some_go {whole} fewer so_far put e =
         let p = made put in
         subst (λ row. Parts whole row (some mid.rest.now)) (looks_so look front after p.made p.behind)
@@ -118,8 +119,8 @@ module _ {A : Type 0} (test : Option Kind → Bool) (part : Reading A) where
               ∙ part_more (map look front) (look p.made) (some mid.rest.now);
         })
 
-    pub some_end : {whole : Outcome (List A)} → Parts whole (map look front) (some tokens) → Puts front read (Ok tt) after → test (next_kind mid.rest.now) ≡ false
-        → whole ≡ Ok (map look after, mid.rest.now)
+    pub some_end : {whole : Outcome (List A)} → Parts whole (map look front) (some tokens) → Puts front read (Ok tt) after
+        → test (next_kind mid.rest.now) ≡ false → whole ≡ Ok (map look after, mid.rest.now)
     some_end {whole} so_far put e =
         let p = made put in
         so_far.are
@@ -127,8 +128,8 @@ module _ {A : Type 0} (test : Option Kind → Bool) (part : Reading A) where
         (some_is tokens mid.rest.now (look p.made) p.read ∙ ap (λ o. and_then o (first_of (look p.made))) (many_ends mid.rest.now e))
         ∙ ap (λ row. Ok (row, mid.rest.now)) (looks_so look front after p.made p.behind)
 
-    pub some_stop : {whole : Outcome (List A)} → Parts whole (map look front) (some tokens) → (why : Refusal) → Puts front read (Err why) after → (¬ (why ≡ Memory))
-        → whole ≡ Err (why, mid.rest.now)
+    pub some_stop : {whole : Outcome (List A)} → Parts whole (map look front) (some tokens) → (why : Refusal)
+        → Puts front read (Err why) after → (¬ (why ≡ Memory)) → whole ≡ Err (why, mid.rest.now)
     some_stop {whole} so_far why put m =
         so_far.are ∙ ap (λ o. and_then o (before (map look front))) (some_stops tokens (why, mid.rest.now) (stopped why put m))
 

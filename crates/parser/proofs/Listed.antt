@@ -27,13 +27,14 @@ pub listed_begins : {T A : Type 0} (look : T → A) (whole : Outcome (List A)) (
 listed_begins look whole front e = subst (λ row. Parts whole (map look row) whole) (sym e) (parts_begin whole)
 
 -- a turn of the loop that reads them: what was read, and put behind the others
-module _ {T A : Type 0} (look : T → A) (s : Symbol) (part : Reading A) (tokens : List Token) (read : Result T Refusal) (mid : Cursor) (front after : List T) (makes : Makes look (part tokens) read mid) where
+module _ {T A : Type 0} (look : T → A) (s : Symbol) (part : Reading A) (tokens : List Token) (read : Result T Refusal) (mid : Cursor)
+    (front after : List T) (makes : Makes look (part tokens) read mid) where
   made : Puts front read (Ok tt) after → WasPut look (part tokens) mid front after
   made put = was_put look (part tokens) read mid front after makes put
 
   -- a part more, and the symbol behind it
-  pub listed_goes : {whole : Outcome (List A)} → NeverMore part → Parts whole (map look front) (separated s part tokens) → Puts front read (Ok tt) after → (place : Place)
-      (rest : List Token) → symbol_taken s mid.rest.now ≡ Ok (Some place, rest) → Parts whole (map look after) (separated s part rest)
+  pub listed_goes : {whole : Outcome (List A)} → NeverMore part → Parts whole (map look front) (separated s part tokens) → Puts front read (Ok tt) after
+      → (place : Place) (rest : List Token) → symbol_taken s mid.rest.now ≡ Ok (Some place, rest) → Parts whole (map look after) (separated s part rest)
   listed_goes {whole} leaves so_far put place rest n =
       let p = made put in
       subst (λ row. Parts whole row (separated s part rest)) (looks_so look front after p.made p.behind)

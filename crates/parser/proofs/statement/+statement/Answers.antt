@@ -68,18 +68,21 @@ statements-returns-in_err-put t c =
 pub statements-loop-statements-smaller : goal.statements-loop-statements-smaller
 statements-loop-statements-smaller t c =
     listed_fewer stmt_outline symbol.Semicolon (spec.statement c.args.levels) c.loop-statements.cursor.rest.now c.statement.result c.statement.new.cursor
-    c.loop-statements.statements.items c.put.new.list.items c.statement.ensures (statement_no_more c.args.levels) c.in_ok-put.ensures c.in-Some.field-0 c.take_symbol.new.self.rest.now c.in-Some.ensures
+    c.loop-statements.statements.items c.put.new.list.items c.statement.ensures (statement_no_more c.args.levels) c.in_ok-put.ensures
+    c.in-Some.field-0 c.take_symbol.new.self.rest.now c.in-Some.ensures
 
 pub statements-loop-statements-preserved : goal.statements-loop-statements-preserved
 statements-loop-statements-preserved t c =
     listed_goes stmt_outline symbol.Semicolon (spec.statement c.args.levels) c.loop-statements.cursor.rest.now c.statement.result c.statement.new.cursor
-    c.loop-statements.statements.items c.put.new.list.items c.statement.ensures (statement_no_more c.args.levels) c.loop-statements.invariant c.in_ok-put.ensures c.in-Some.field-0
+    c.loop-statements.statements.items c.put.new.list.items c.statement.ensures (statement_no_more c.args.levels) c.loop-statements.invariant
+    c.in_ok-put.ensures c.in-Some.field-0
     c.take_symbol.new.self.rest.now c.in-Some.ensures
 
 pub statements-returns-in_default : goal.statements-returns-in_default
 statements-returns-in_default t c =
     listed_ends stmt_outline symbol.Semicolon (spec.statement c.args.levels) c.loop-statements.cursor.rest.now c.statement.result c.statement.new.cursor
-    c.loop-statements.statements.items c.put.new.list.items c.statement.ensures c.loop-statements.invariant c.in_ok-put.ensures c.take_symbol.new.self.rest.now c.in_default.ensures
+    c.loop-statements.statements.items c.put.new.list.items c.statement.ensures c.loop-statements.invariant c.in_ok-put.ensures
+    c.take_symbol.new.self.rest.now c.in_default.ensures
 
 -- ---- the arms of a case
 
@@ -88,7 +91,8 @@ unfolding spec.arm
 arms-returns-in_err-put t c =
     let why = c.in_err-put.field-0.0 in
     let left = c.row.new.cursor in
-    let stops : (¬ (why ≡ Memory)) → spec.parts_to_end (spec.arm c.args.levels (spec.statement c.args.levels)) c.args.cursor.now.rest.now ≡ Err (why, left.rest.now) =
+    let stops : (¬ (why ≡ Memory)) → spec.parts_to_end (spec.arm c.args.levels (spec.statement c.args.levels)) c.args.cursor.now.rest.now
+    ≡ Err (why, left.rest.now) =
     head_stops constants_outlines stmt_outline form.arm spec.row (spec.statement c.args.levels) arms_outlines c.loop-arms.cursor.rest.now
     c.loop-arms.constants.items c.loop-arms.arms.items c.loop-arms.invariant c.row.result left
     c.put.new.list.items c.row.ensures why c.in_err-put.ensures in
@@ -99,7 +103,8 @@ unfolding spec.arm
 arms-returns-in_err-put-2 t c =
     let why = c.in_err-put-2.field-0.0 in
     let left = c.statement.new.cursor in
-    let stops : (¬ (why ≡ Memory)) → spec.parts_to_end (spec.arm c.args.levels (spec.statement c.args.levels)) c.args.cursor.now.rest.now ≡ Err (why, left.rest.now) =
+    let stops : (¬ (why ≡ Memory)) → spec.parts_to_end (spec.arm c.args.levels (spec.statement c.args.levels)) c.args.cursor.now.rest.now
+    ≡ Err (why, left.rest.now) =
     inner_stops constants_outlines stmt_outline form.arm spec.row (spec.statement c.args.levels) arms_outlines c.loop-arms.cursor.rest.now
     c.loop-arms.constants.items c.loop-arms.arms.items c.loop-arms.invariant c.row.result
     c.row.new.cursor c.put.new.list.items c.row.ensures c.in_ok-put.ensures
@@ -111,7 +116,8 @@ unfolding spec.arm
 arms-returns-in_err-semicolon t c =
     let why = c.in_err-semicolon.field-0.0 in
     let left = c.behind_arm.new.cursor in
-    let stops : (¬ (why ≡ Memory)) → spec.parts_to_end (spec.arm c.args.levels (spec.statement c.args.levels)) c.args.cursor.now.rest.now ≡ Err (why, left.rest.now) =
+    let stops : (¬ (why ≡ Memory)) → spec.parts_to_end (spec.arm c.args.levels (spec.statement c.args.levels)) c.args.cursor.now.rest.now
+    ≡ Err (why, left.rest.now) =
     λ m. behind_stops constants_outlines stmt_outline form.arm spec.row (spec.statement c.args.levels) arms_outlines c.loop-arms.cursor.rest.now
     c.loop-arms.constants.items c.loop-arms.arms.items c.loop-arms.invariant c.row.result
     c.row.new.cursor c.put.new.list.items c.row.ensures c.in_ok-put.ensures
