@@ -1,6 +1,6 @@
 -- What begins with a name: a component of a variable, a call, or a name alone.
-use Rattle.std.proofs.Common.{◌≡◌, ℕ, zero, suc, Bool, true, false, if◌then◌else◌, List, [], ◌∷◌, length, map, Option, Some, None, Ok, Err, refl, sym, ap}
-use Rattle.std.proofs.Common.{arith, not, subst, Vec, vec_len, ◌∙◌}
+use Rattle.std.proofs.Common.{◌≡◌, ℕ, zero, suc, Bool, true, false, if◌then◌else◌, List, [], ◌∷◌, length, map, Option, Some, None, Ok, refl, sym, ap}
+use Rattle.std.proofs.Common.{arith, not, Vec, vec_len, ◌∙◌}
 use Rattle.std.specs.Bool.{◌==◌}
 use Rattle.std.proofs.lemmas.Bool.Decides.{nat_tests}
 use Rattle.std.proofs.lemmas.Grind.{common_steps}
@@ -14,7 +14,7 @@ use Rattle.syntax_tree.specs.declared.Selector.TheVariants.{Index, Field}
 use Rattle.reading.specs.Lexemes.{Lexeme}
 use Rattle.reading.specs.Outline as form
 use Rattle.reading.specs.Outline.{Outline, has_items}
-use Rattle.reading.specs.Reading.{Outcome, Reading, and_then, choose, pure, ◌>>=◌, peek, next_kind, is_kind, on, expect_name, number_taken, text_taken}
+use Rattle.reading.specs.Reading.{Reading, and_then, choose, pure, ◌>>=◌, peek, next_kind, is_kind, on, expect_name, number_taken, text_taken}
 use Rattle.reading.specs.Reading.{word_taken}
 use Rattle.reading.specs.Trees.{selector_rows}
 use Rattle.reading.specs.Expressions.{Below, actuals, any_factor, expression_below, factor, factor_below, named, negated, parenthesized, selectors}

@@ -1,5 +1,5 @@
 -- Selectors that were read so far, by the selectors and the index expressions that a tree keeps of them.
-use Rattle.std.proofs.Common.{◌≡◌, ◌<◌, Bool, true, false, List, [], ◌∷◌, ◌++◌, length, map, Option, Some, None, Ok, Err, refl, sym, ap, subst, ◌∙◌}
+use Rattle.std.proofs.Common.{◌≡◌, ◌<◌, Bool, true, false, List, [], ◌∷◌, ◌++◌, length, map, Some, None, Ok, Err, refl, sym, ap, subst, ◌∙◌}
 use Rattle.std.proofs.Common.{append-nil, append_assoc}
 use Rattle.std.proofs.lemmas.List.{map-append}
 use Rattle.place.specs.declared.Place.{Place}
@@ -12,7 +12,7 @@ use Rattle.reading.specs.declared.refusal.Refusal.{Refusal}
 use Rattle.reading.specs.Lexemes.{identifier}
 use Rattle.reading.specs.Outline as form
 use Rattle.reading.specs.Outline.{Outline}
-use Rattle.reading.specs.Reading.{Outcome, Turn, more, ends, loop}
+use Rattle.reading.specs.Reading.{loop}
 use Rattle.reading.specs.Trees.{expr_outline, selector_rows}
 use Rattle.reading.specs.Expressions.{Below, selector, selectors}
 use Rattle.reading.proofs.Uses.{NeverMore, selector_uses}

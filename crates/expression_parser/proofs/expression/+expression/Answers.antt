@@ -1,20 +1,20 @@
-use Rattle.std.proofs.Common.{rules, arith, ◌≡◌, ℕ, ◌<◌, [], ◌∷◌, ◌++◌, length, map, Some, None, Ok, Err, true, false, refl, sym, ap, subst, ◌∙◌}
+use Rattle.std.proofs.Common.{rules, ◌≡◌, [], ◌∷◌, ◌++◌, map, Some, None, Ok, Err, true, false, sym, ap, subst, ◌∙◌}
 use Rattle.lexer.specs.declared.token.Kind.TheVariants as kind
 use Rattle.lexer.specs.declared.token.Symbol.TheVariants as symbol
 use Rattle.reading.specs.declared.refusal.Refusal.TheVariants.{Memory}
 use Rattle.reading.specs.Expressions as spec
 use Rattle.reading.specs.Expressions.{expression_below, factor_below}
 use Rattle.reading.specs.Lexemes.{identifier}
-use Rattle.reading.specs.Reading.{Outcome, separated}
-use Rattle.reading.specs.Outline.{Outline, has_items}
-use Rattle.reading.specs.Trees.{actual_outline, expr_outline, selector_rows}
+use Rattle.reading.specs.Reading.{separated}
+use Rattle.reading.specs.Outline.{has_items}
+use Rattle.reading.specs.Trees.{actual_outline, expr_outline}
 use Rattle.reading.proofs.Uses.{actual_no_more, below_no_more}
 use Rattle.token_cursor.specs.Cursor.{Makes}
 use Rattle.token_cursor.proofs.Keeping.{followed_makes, not_put, was_put}
 use Rattle.token_cursor.proofs.Turns.{list_ends, list_goes, parts_fewer, parts_stop}
-use Rattle.expression_parser.specs.Built.{actuals_outlines, links_turns, selectors_outlines}
+use Rattle.expression_parser.specs.Built.{actuals_outlines, selectors_outlines}
 use Rattle.expression_parser.specs.Levels as level_spec
-use Rattle.expression_parser.specs.Selecting.{is_index, Selects, SelectsIndex}
+use Rattle.expression_parser.specs.Selecting.{is_index, Selects}
 use Rattle.expression_parser.proofs.Built.{built_call, built_component, built_link, built_name}
 use Rattle.expression_parser.proofs.Chains.{link_fewer, links_end, links_go, links_stop}
 use Rattle.expression_parser.proofs.Named.{alone_named, call_named, component_named, factor_named, empty_items, filled_items, has_mapped, has_rows, no_rows}
