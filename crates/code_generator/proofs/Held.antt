@@ -1,10 +1,10 @@
 -- The cells that are held above the variables, in a frame that runs: what is loaded from them and stored into them; and
 -- what the instructions of a for statement do with the two bounds that are held.
-use Rattle.std.proofs.Common.{◌≡◌, ℕ, zero, suc, ◌+◌, ◌<◌, ◌≤◌, List, [], ◌∷◌, ◌++◌, length, Option, Some, None, Ok, inr, refl, sym, ap, ◌∙◌, subst, arith}
+use Rattle.std.proofs.Common.{◌≡◌, ℕ, zero, suc, ◌+◌, ◌<◌, ◌≤◌, List, [], ◌∷◌, ◌++◌, length, Option, Some, None, Ok, refl, sym, ap, ◌∙◌, subst, arith}
 use Rattle.std.proofs.Common.{append-nil}
 use Rattle.std.proofs.Common.{append_assoc, length-append, Bool, true, false}
 use Rattle.std.proofs.lemmas.Bool.{and_parts, eqb-true, false≢true}
-use Rattle.std.specs.Prelude.{◌-◌, nat_eq, slice_get, slice_set, ℤ, pos, int_le, not, ◌&&◌, ◌||◌, if◌then◌else◌}
+use Rattle.std.specs.Prelude.{◌-◌, nat_eq, slice_get, slice_set, ℤ, pos, not, ◌&&◌, ◌||◌, if◌then◌else◌}
 use Rattle.std.specs.Ordering.{int_eq}
 use Rattle.std.proofs.lemmas.Int.{ints}
 use Rattle.std.proofs.lemmas.List.{length-set}
@@ -13,7 +13,6 @@ use Rattle.pcode_assembler.specs.declared.instr.Instr.{Instr}
 use Rattle.pcode_assembler.specs.declared.instr.Instr.TheVariants as instr
 use Rattle.typed_tree.specs.declared.tree.Direction.{Direction}
 use Rattle.typed_tree.specs.declared.tree.Direction.TheVariants as direction
-use Rattle.typed_tree.specs.declared.tree.RangeTest.{RangeTest}
 use Rattle.types.specs.Types.{is_ordinal}
 use Rattle.typed_tree.specs.declared.tree.Variable.{Variable}
 use Rattle.typed_tree.specs.declared.tree.VariableKind.{VariableKind}
@@ -32,15 +31,15 @@ use Rattle.machine_arithmetic.specs.declared.arithmetic.Dyadic.TheVariants as dy
 use Rattle.stack_machine.specs.Frames as frames
 use Rattle.stack_machine.specs.Frames.{is_true, truth, on_two}
 use Rattle.stack_machine.specs.Machine.{State, and_then, with_frames}
-use Rattle.code_scheme.specs.Code.{control_offset, row_code, range_check}
+use Rattle.code_scheme.specs.Code.{control_offset, row_code}
 use Rattle.code_scheme.specs.declared.home.Home.{Home}
 use Rattle.code_scheme.specs.Scopes.{block_level, held_offset, links, links_to, variable_home}
 use Rattle.code_generator.proofs.Accesses.{LeadsTo, frame_found, leads}
 use Rattle.code_generator.proofs.Reach.{Comes, Stands, StandsAt, obeys, comes_on, comes_less, stays_here}
-use Rattle.code_generator.proofs.Numbers.{Fits, same_range}
+use Rattle.code_generator.proofs.Numbers.{Fits}
 use Rattle.code_generator.proofs.Setting.{Setting, Shown, Way, Direct, ByAddress, Reaches, outline, running_at, on, Based, linked, limit_far, Here, acts}
-use Rattle.code_generator.proofs.Setting.{passes, fails, branches_on, jumps, Executes, executes_from}
-use Rattle.code_generator.proofs.Acts.{framed, length_one, pushes, loads, stores, on_two_is, is_in_range}
+use Rattle.code_generator.proofs.Setting.{branches_on, jumps}
+use Rattle.code_generator.proofs.Acts.{framed, length_one, pushes, loads, stores, on_two_is}
 use Rattle.code_generator.proofs.Alike.{LiesIn, Leads, HasFit, alike_set, cell_of, cell_within, keeps_set}
 use Rattle.code_generator.proofs.Parts.{ordinal_part}
 use Rattle.code_generator.proofs.Places.{place_apart}
@@ -409,28 +408,6 @@ module _ (g : Setting) where
         let e : place + 1 + 1 + 1 + 1 + length (row_code g.scope arm row) ≡ place + length (row_code g.scope arm (constant ∷ row)) = omega arith in
         subst (λ p. Comes g.target 0 (on g index place output) (on g index (if is_among (constant ∷ row) n then arm else p) output)) e
         (compares_by row arm place (place + 1 + 1 + 1 + 1) (int_eq constant n) first rest)
-
-  -- the test of a value on top, behind which more comes
-  tests_by : (fits : RangeTest) (below held : List Cell) (n : ℤ) (place end : ℕ) (s : effect.State) (next : Action (Unit {0})) (good : Bool)
-      → (int_le fits.range.first n && int_le n fits.range.last) ≡ good → StandsAt g.target place (range_check fits) (g.target.is_open fits.site)
-      → fits.site < length g.tree.sites.items → g.frame + 4 ≤ length below
-      → Executes g (on g (below ++ Number n ∷ []) (place + 1) s.output) held end next s
-      → Executes g (on g (below ++ Number n ∷ []) place s.output) held end (require good fits.site >>= (λ _. next)) s
-  tests_by fits below held n place end s next true holds stands site in_frame then' =
-      executes_from g 0 _ _ held end next s
-      (passes g (range_check fits) (below ++ Number n ∷ []) place fits.site s.output _ refl refl stands
-      (is_in_range g.frame g.limit g.size below in_frame fits.range.first fits.range.last n ∙ ap Ok holds)) then'
-  tests_by fits below held n place end s next false holds stands site in_frame then' =
-      inr (fails g (range_check fits) (below ++ Number n ∷ []) place fits.site s.output _ refl refl s.turns stands site
-      (is_in_range g.frame g.limit g.size below in_frame fits.range.first fits.range.last n ∙ ap Ok holds))
-
-  pub tests : (fits : RangeTest) (below held : List Cell) (n : ℤ) (place end : ℕ) (s : effect.State) (next : Action (Unit {0})) → Fits n
-      → StandsAt g.target place (range_check fits) (g.target.is_open fits.site) → fits.site < length g.tree.sites.items → g.frame + 4 ≤ length below
-      → Executes g (on g (below ++ Number n ∷ []) (place + 1) s.output) held end next s
-      → Executes g (on g (below ++ Number n ∷ []) place s.output) held end (require (effect.is_in fits.range (value.Number n)) fits.site >>= (λ _. next)) s
-  tests fits below held n place end s next fit stands site in_frame then' =
-      subst (λ test. Executes g (on g (below ++ Number n ∷ []) place s.output) held end (require test fits.site >>= (λ _. next)) s)
-      (sym (same_range fits.range (value.Number n) fit)) (tests_by fits below held n place end s next _ refl stands site in_frame then')
 
 -- ---- the values of a control variable
 
