@@ -24,8 +24,6 @@ use Rattle.meaning.specs.Effect.{Action, ◌>>=◌, number_of, require, store_al
 use Rattle.meaning.specs.Meaning.{accessed, selected, value_of, whole_of}
 use Rattle.stack_machine.specs.declared.cell.Cell.{Cell}
 use Rattle.stack_machine.specs.declared.cell.Cell.TheVariants.{Number}
-use Rattle.stack_machine.specs.Addresses.{store_indirect}
-use Rattle.stack_machine.specs.Frames as frames
 use Rattle.code_scheme.specs.Code.{Reached, At, By, address_code, address_of, expr_code, range_check, reached, selectors_code, store_code, whole_code}
 use Rattle.code_scheme.specs.Depth.{access_depth, expr_depth, store_depth, whole_depth}
 use Rattle.code_scheme.specs.Scopes.{row_length}
@@ -109,7 +107,7 @@ module _ (g : Setting) (known : CallsAt g) where
         (frame_found g level owner base held s based l) (omega arith)
         ∙ ap (λ cs. Ok (frames_of g cs)) (set_front base held (owner + start) (Number n) low) in
         acts g (instr.Store level start) (below ++ Number n ∷ []) (slice_set base (owner + start) (Number n) ++ held) place s.output
-        (frames.store level start (frames_of g (below ++ Number n ∷ []))) here refl does
+        _ here refl does
 
     module _ (target : Access) (indexes : Indexes g) (last : TypeId) (start : Begins g target last (codes g indexes))
         (wells_good : are_well_formed_indexes g indexes ≡ true) (counts : length (expressions g indexes) ≡ index_count target.selectors.items)
@@ -158,7 +156,7 @@ module _ (g : Setting) (known : CallsAt g) where
           let long = length-append base2 held in
           let stored = acts g instr.StoreIndirect ((cells ++ Number (pos d) ∷ []) ++ Number n ∷ []) (slice_set base2 d (Number n) ++ held)
           (from + length value_code)
-          t.output (store_indirect (frames_of g ((cells ++ Number (pos d) ∷ []) ++ Number n ∷ []))) here.0 refl
+          t.output _ here.0 refl
           (stores_indirect g.frame g.limit g.size cells (linked g t base2 held based2) d n (omega arith)
           ∙ ap (λ cs. Ok (frames_of g cs)) (set_front base2 held d (Number n) inside)) in
           subst (λ cs. Executes g (on g (cs ++ Number n ∷ []) (from + length value_code) t.output) held end (effect.store (Some p) w) t)

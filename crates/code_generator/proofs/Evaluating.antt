@@ -1,6 +1,6 @@
 -- What is shown of the code of an expression: it leaves the expression's value on top, or stops as the expression does; and
 -- of a statement: it keeps store and cells alike, or stops as the statement does.
-use Rattle.std.proofs.Common.{◌≡◌, ℕ, ◌+◌, ◌<◌, ◌≤◌, List, [], ◌∷◌, ◌++◌, length, Option, Some, None, refl, sym, append_assoc, Bool, true, inr}
+use Rattle.std.proofs.Common.{subst, ◌≡◌, ℕ, ◌+◌, ◌<◌, ◌≤◌, List, [], ◌∷◌, ◌++◌, length, Option, Some, None, refl, sym, append_assoc, Bool, true, inr}
 use Rattle.std.specs.Prelude.{ℤ}
 use Rattle.pcode_assembler.specs.declared.instr.Instr.{Instr}
 use Rattle.pcode_assembler.specs.declared.instr.Instr.TheVariants as instr
@@ -30,6 +30,12 @@ use Rattle.code_generator.proofs.Acts.{is_in_range}
 use Rattle.code_generator.proofs.Numbers.{same_range}
 use Rattle.code_scheme.specs.Code.{range_check}
 use Rattle.typed_tree.specs.declared.tree.RangeTest.{RangeTest}
+
+-- what is shown of the like is shown of these
+pub same_four : {A B C D : Type 0} (IsShown : A → B → C → D → Type 0) {a a' : A} {b b' : B} {c c' : C} {d d' : D} → a ≡ a' → b ≡ b' → c ≡ c' → d ≡ d'
+    → IsShown a' b' c' d' → IsShown a b c d
+same_four IsShown {a} {a'} {b} {b'} {c} {c'} {d} {d'} p q r s shown =
+    subst (λ x. IsShown x b c d) (sym p) (subst (λ x. IsShown a' x c d) (sym q) (subst (λ x. IsShown a' b' x d) (sym r) (subst (IsShown a' b' c') (sym s) shown)))
 
 module _ (g : Setting) where
   abbrev pub sites : ℕ

@@ -4,7 +4,7 @@ use Rattle.std.proofs.Common.{length-append, append_assoc, append-nil, ◌-◌, 
 use Rattle.std.specs.Prelude.{ℤ, pos, neg_ℤ, ◌+ℤ◌, ◌-ℤ◌, ◌*ℤ◌, int_le, int_lt, int_div, slice_get, unsigned_abs, nat_eq, nat_lt, not, ◌&&◌, ◌||◌, fold}
 use Rattle.std.specs.Int.{w32, cast_signed, int_rem_euclid, int_wrapping_add, int_wrapping_sub, int_wrapping_mul, int_wrapping_div, int_wrapping_neg}
 use Rattle.std.specs.Ordering.{int_eq}
-use Rattle.std.proofs.lemmas.Bool.{eqb-true, false≢true, ltb-true, and_parts}
+use Rattle.std.proofs.lemmas.Bool.{eqb-true, ltb-true, and_parts}
 use Rattle.std.proofs.lemmas.List.{length-map}
 use Rattle.std.proofs.lemmas.Option.{none-some, same_Some}
 use Rattle.pcode_assembler.specs.declared.instr.Instr.{Instr}
@@ -53,14 +53,13 @@ use Rattle.meaning.proofs.Replies.{and_then-and_then}
 use Rattle.meaning.specs.Meaning.{Argument, OfValue, OfRow, OfPlace, Passing, all_passed, calls_of, passing_of}
 use Rattle.meaning.specs.Meaning as meaning
 use Rattle.meaning.specs.Integers.{magnitude, truth}
+use Rattle.stack_machine.specs.Deeds.{Acts, Tests, deed_of}
 use Rattle.stack_machine.specs.declared.cell.Cell.{Cell}
 use Rattle.stack_machine.specs.declared.cell.Cell.TheVariants.{Number}
-use Rattle.stack_machine.specs.Calls as calls
 use Rattle.stack_machine.specs.Frames as frames
 use Rattle.stack_machine.specs.Frames.{Attempt}
 use Rattle.stack_machine.specs.Rows as rows
 use Rattle.machine_arithmetic.specs.Arithmetic.{is_odd}
-use Rattle.stack_machine.specs.Machine.{State, and_then, checked, with_frames}
 use Rattle.code_scheme.specs.Code.{calculation_code, monadic_code, shift_code}
 use Rattle.code_scheme.specs.Code.{joined, dyadic_code, relation_instr, variable_code, width_code, check_positive, expr_code, link_code}
 use Rattle.code_scheme.specs.Code.{address_code, call_code, expr_step, passed_code, passed_step as passed_code_step, range_check}
@@ -72,21 +71,23 @@ use Rattle.typed_tree.specs.WellFormed.{calculation_is_well_formed, shift_is_wel
 use Rattle.typed_tree.specs.WellFormed.{all_hold, monadic_is_well_formed, dyadic_is_well_formed, expr_is_well_formed, link_is_well_formed, is_well_formed_expr}
 use Rattle.typed_tree.specs.WellFormed.{is_well_formed_link, is_well_formed_width, is_well_formed_whole, is_whole, leads_to_ordinal, length_of, whole_indexes}
 use Rattle.typed_tree.specs.WellFormed.{formal_of, heading_of, is_callable, is_passed_to, is_well_formed_call, is_well_formed_passed, is_well_formed_test}
-use Rattle.typed_tree.specs.WellFormed.{leads_to_type, may_call, may_copy, of_one, passed_is_well_formed, passes_value, passes_variable, passes_whole}
+use Rattle.typed_tree.specs.WellFormed.{leads_to_type, may_call, may_copy, passed_is_well_formed, passes_value, passes_variable, passes_whole}
 use Rattle.typed_tree.specs.WellFormed.{placed as placed_for, source_of, takes_value, takes_variable, takes_whole}
 use Rattle.check_remover.specs.Strip.{moved}
 use Rattle.code_scheme.proofs.Pieces.{start_within}
 use Rattle.code_generator.proofs.Alike.{Leads, leads_split}
 use Rattle.code_generator.proofs.Calling.{marks}
 use Rattle.code_generator.proofs.Exact.{exact_link, exact_passed}
+use Rattle.code_generator.proofs.Nesting.{one_there}
 use Rattle.code_generator.proofs.Passing.{AllPass, CallsAt, PassedRuns, Passes, PassesAs, Returns, function_evaluates, links_of}
-use Rattle.code_generator.proofs.Reach.{StandsAt, Stands, obeys, Comes, comes_less, comes_on, stays_here}
+use Rattle.code_generator.proofs.Reach.{StandsAt, Stands, Comes, comes_less, comes_on, stays_here}
 use Rattle.code_generator.proofs.Rows.{cells_of, length-cells_of, compares, numbers_of, same_order, order_fits}
 use Rattle.code_generator.proofs.Setting.{Setting, outline, around, exact_around, on, Based, linked, Here, acts, passes, fails}
 use Rattle.code_generator.proofs.Setting.{as_value}
 use Rattle.code_generator.proofs.Accesses.{Indexes, expressions, wells, as_many_wells, codes, depths, leads, begins, fetch_runs, found as place_found}
 use Rattle.code_generator.proofs.Accesses.{PartAt, address_runs, exact_found, frame_found}
-use Rattle.code_generator.proofs.Evaluating.{sites, frames_of, fetched_at, RunsAs, CombinesAs, ExprRuns, LinkRuns, one_held}
+use Rattle.code_generator.proofs.Evaluating.{same_four}
+use Rattle.code_generator.proofs.Evaluating.{sites, frames_of, RunsAs, CombinesAs, ExprRuns, LinkRuns, one_held}
 use Rattle.code_generator.proofs.Wholes.{copied_cells, few_components, same_type, whole_runs}
 use Rattle.code_generator.proofs.Acts.{length_one, pushes, on_one_is, is_in_range, is_not_zero, squares, sums, differs, multiplies}
 use Rattle.code_generator.proofs.Acts.{on_two_is, divides, leaves}
@@ -152,57 +153,51 @@ module _ (g : Setting) where
       (ltb-true defined (sites g) parts'.1) stands based room)
 
   -- an operation that is never in error: the instruction leaves a number, which is the one that is meant
-  given_runs : (apply : Instr) (place : ℕ) (stack base held : List Cell) (c d : ℤ) (s : effect.State) (attempt : Attempt frames.Frames) → Here g place apply
-      → obeys g.target apply (fetched_at g stack place s.output) ≡ and_then attempt (with_frames (fetched_at g stack place s.output))
-      → attempt ≡ Ok (frames_of g ((base ++ held) ++ Number d ∷ [])) → d ≡ c → Fits c → Based g s base → g.below + length held < g.limit
+  given_runs : (apply : Instr) (place : ℕ) (stack base held : List Cell) (c d : ℤ) (s : effect.State) (act : frames.Frames → Attempt frames.Frames)
+      → Here g place apply → deed_of apply ≡ Acts act → act (frames_of g stack) ≡ Ok (frames_of g ((base ++ held) ++ Number d ∷ [])) → d ≡ c → Fits c → Based g s base → g.below + length held < g.limit
       → Evaluates g (on g stack place s.output) held (place + 1) (give (value.Number c)) s
-  given_runs apply place stack base held c d s attempt here rule does same fit based room =
-      inr (gives g 1 _ base held (place + 1) (value.Number c) s based (acts g apply stack ((base ++ held) ++ Number c ∷ []) place s.output attempt here rule
+  given_runs apply place stack base held c d s act here rule does same fit based room =
+      inr (gives g 1 _ base held (place + 1) (value.Number c) s based (acts g apply stack ((base ++ held) ++ Number c ∷ []) place s.output act here rule
       (does ∙ ap (λ v. Ok
       (frames_of g ((base ++ held) ++ Number v ∷ []))) same)) fit room)
 
   -- a check, behind which more comes where it holds
-  checked_then : (check : Instr) (site place end : ℕ) (stack held : List Cell) (s : effect.State) (next : Action ℤ) (holds : Attempt Bool) (good : Bool)
+  checked_then : (check : Instr) (site place end : ℕ) (stack held : List Cell) (s : effect.State) (next : Action ℤ) (test : frames.Frames → Attempt Bool)
+      (good : Bool)
       → StandsAt g.target place check (g.target.is_open site) → moved g.target.to check ≡ check
-      → obeys g.target check (fetched_at g stack place s.output) ≡ checked g.target.sites site (fetched_at g stack place s.output) holds
-      → holds ≡ Ok good → site < sites g → (good ≡ true → Evaluates g (on g stack (place + 1) s.output) held end (as_value next) s)
+      → deed_of check ≡ Tests site test → test (frames_of g stack) ≡ Ok good → site < sites g → (good ≡ true → Evaluates g (on g stack (place + 1) s.output) held end (as_value next) s)
       → Evaluates g (on g stack place s.output) held end (as_value (require good site >>= (λ _. next))) s
-  checked_then check site place end stack held s next holds true stands same rule e within rest =
-      runs_from g (value_on g held end) 0 _ _ (as_value next) s (passes g check stack place site s.output holds same rule stands e) (rest refl)
-  checked_then check site place end stack held s next holds false stands same rule e within rest =
-      inr (fails g check stack place site s.output holds same rule s.turns stands within e)
+  checked_then check site place end stack held s next test true stands same rule e within rest =
+      runs_from g (value_on g held end) 0 _ _ (as_value next) s (passes g check stack place site s.output test same rule stands e) (rest refl)
+  checked_then check site place end stack held s next test false stands same rule e within rest =
+      inr (fails g check stack place site s.output test same rule s.turns stands within e)
 
   -- an operation behind a check of its result or of its operand
-  checked_runs : (check apply : Instr) (site place : ℕ) (stack base held : List Cell) (c d : ℤ) (s : effect.State) (holds : Attempt Bool)
-      (attempt : Attempt frames.Frames) (good : Bool) → StandsAt g.target place check (g.target.is_open site) → Here g (place + 1) apply
-      → moved g.target.to check ≡ check
-      → obeys g.target check (fetched_at g stack place s.output) ≡ checked g.target.sites site (fetched_at g stack place s.output) holds
-      → obeys g.target apply (fetched_at g stack (place + 1) s.output) ≡ and_then attempt (with_frames (fetched_at g stack (place + 1) s.output))
-      → holds ≡ Ok good
-      → (good ≡ true → (attempt ≡ Ok (frames_of g ((base ++ held) ++ Number d ∷ []))) × (d ≡ c) × Fits c) → site < (sites g) → Based g s base
+  checked_runs : (check apply : Instr) (site place : ℕ) (stack base held : List Cell) (c d : ℤ) (s : effect.State) (test : frames.Frames → Attempt Bool)
+      (act : frames.Frames → Attempt frames.Frames) (good : Bool) → StandsAt g.target place check (g.target.is_open site) → Here g (place + 1) apply
+      → moved g.target.to check ≡ check → deed_of check ≡ Tests site test → deed_of apply ≡ Acts act → test (frames_of g stack) ≡ Ok good
+      → (good ≡ true → (act (frames_of g stack) ≡ Ok (frames_of g ((base ++ held) ++ Number d ∷ []))) × (d ≡ c) × Fits c) → site < (sites g) → Based g s base
       → g.below + length held < g.limit
       → Evaluates g (on g stack place s.output) held (place + 2) (as_value (require good site >>= (λ _. give c))) s
-  checked_runs check apply site place stack base held c d s holds attempt good stands here same rule rule' e does within based room =
-      checked_then check site place (place + 2) stack held s (give c) holds good stands same rule e within
+  checked_runs check apply site place stack base held c d s test act good stands here same rule rule' e does within based room =
+      checked_then check site place (place + 2) stack held s (give c) test good stands same rule e within
       (λ so.
       let d' = does so in
       let p : place + 1 + 1 ≡ place + 2 = omega arith in
       subst (λ q. Evaluates g (on g stack (place + 1) s.output) held q (give (value.Number c)) s) p
-      (given_runs apply (place + 1) stack base held c d s attempt here rule' d'.0 d'.1 d'.2 based room))
+      (given_runs apply (place + 1) stack base held c d s act here rule' d'.0 d'.1 d'.2 based room))
 
   -- a result that is checked to be of type integer
-  result_runs : (check apply : Instr) (overflow place : ℕ) (stack base held : List Cell) (c d : ℤ) (s : effect.State) (holds : Attempt Bool)
-      (attempt : Attempt frames.Frames) → StandsAt g.target place check (g.target.is_open overflow) → Here g (place + 1) apply → moved g.target.to check ≡ check
-      → obeys g.target check (fetched_at g stack place s.output) ≡ checked g.target.sites overflow (fetched_at g stack place s.output) holds
-      → obeys g.target apply (fetched_at g stack (place + 1) s.output) ≡ and_then attempt (with_frames (fetched_at g stack (place + 1) s.output))
-      → holds ≡ Ok (frames.is_integer c)
-      → attempt ≡ Ok (frames_of g ((base ++ held) ++ Number d ∷ [])) → (Fits c → d ≡ c) → overflow < (sites g) → Based g s base
-      → g.below + length held < g.limit
+  result_runs : (check apply : Instr) (overflow place : ℕ) (stack base held : List Cell) (c d : ℤ) (s : effect.State) (test : frames.Frames → Attempt Bool)
+      (act : frames.Frames → Attempt frames.Frames) → StandsAt g.target place check (g.target.is_open overflow) → Here g (place + 1) apply
+      → moved g.target.to check ≡ check → deed_of check ≡ Tests overflow test → deed_of apply ≡ Acts act
+      → test (frames_of g stack) ≡ Ok (frames.is_integer c) → act (frames_of g stack) ≡ Ok (frames_of g ((base ++ held) ++ Number d ∷ []))
+      → (Fits c → d ≡ c) → overflow < (sites g) → Based g s base → g.below + length held < g.limit
       → Evaluates g (on g stack place s.output) held (place + 2) (as_value (unless_overflow (Some overflow) c)) s
-  result_runs check apply overflow place stack base held c d s holds attempt stands here same rule rule' e does is within based room =
+  result_runs check apply overflow place stack base held c d s test act stands here same rule rule' e does is within based room =
       subst (λ t. Evaluates g (on g stack place s.output) held (place + 2) (as_value (require t overflow >>= (λ _. give c))) s)
       (sym (same_test c))
-      (checked_runs check apply overflow place stack base held c d s holds attempt (frames.is_integer c) stands here same rule rule' e
+      (checked_runs check apply overflow place stack base held c d s test act (frames.is_integer c) stands here same rule rule' e
       (λ good. let fit : Fits c = record { is = good } in (does, is fit, fit)) within based room)
 
   -- one number gives way to another
@@ -220,18 +215,13 @@ module _ (g : Setting) where
     below_limit : length cells < g.limit
     below_limit = let full = based.full in omega (arith, length-append base held)
 
-    one_given : (apply : Instr) (f : ℤ → ℤ) (c : ℤ) → Here g place apply
-        → obeys g.target apply (fetched_at g one place s.output) ≡ and_then (frames.on_one f (frames_of g one))
-        (with_frames (fetched_at g one place s.output)) → f n ≡ c → Fits c
+    one_given : (apply : Instr) (f : ℤ → ℤ) (c : ℤ) → Here g place apply → deed_of apply ≡ Acts (frames.on_one f) → f n ≡ c → Fits c
         → Evaluates g (on g one place s.output) held (place + 1) (give (value.Number c)) s
     one_given apply f c here rule same fit' =
-        given_runs apply place one base held c (f n) s (frames.on_one f (frames_of g one)) here rule
-        (on_one_is g.frame g.limit g.size cells within_frame f n below_limit) same fit' based room
+        given_runs apply place one base held c (f n) s _ here rule (on_one_is g.frame g.limit g.size cells within_frame f n below_limit) same fit' based room
 
-    truth_given : (apply : Instr) (test : ℤ → Bool) → Here g place apply
-        → obeys g.target apply (fetched_at g one place s.output) ≡ and_then (frames.on_one (λ v. frames.truth (test v)) (frames_of g one))
-        (with_frames (fetched_at g one place s.output)) → Evaluates g (on g one place s.output) held (place + 1) (give (value.Number (truth
-        (test n)))) s
+    truth_given : (apply : Instr) (test : ℤ → Bool) → Here g place apply → deed_of apply ≡ Acts (frames.on_one (λ v. frames.truth (test v)))
+        → Evaluates g (on g one place s.output) held (place + 1) (give (value.Number (truth (test n)))) s
     truth_given apply test here rule =
         one_given apply (λ v. frames.truth (test v)) (truth (test n)) here rule (same_truth (test n)) (subst Fits (same_truth (test n)) (fits_truth (test n)))
 
@@ -241,7 +231,7 @@ module _ (g : Setting) where
 
     -- a step to the number beside it
     stepped_runs : (step : Instr) (f : ℤ → ℤ → ℤ) (c : ℤ) → Here g place (instr.LoadConstant (pos 1)) → Here g (place + 1) step
-        → ((m : State) → obeys g.target step m ≡ and_then (frames.on_two f m.frames) (with_frames m)) → f n (pos 1) ≡ c → Fits c
+        → deed_of step ≡ Acts (frames.on_two f) → f n (pos 1) ≡ c → Fits c
         → g.below + length held + 2 ≤ g.limit → Evaluates g (on g one place s.output) held (place + 2) (give (value.Number c)) s
     stepped_runs step f c at1 at2 rule same fit' deep =
         let full = based.full in
@@ -251,7 +241,7 @@ module _ (g : Setting) where
         let p : place + 1 + 1 ≡ place + 2 = omega arith in
         subst (λ q. Evaluates g (on g one place s.output) held q (give (value.Number c)) s) p
         (runs_from g (value_on g held (place + 1 + 1)) 1 _ _ (give (value.Number c)) s pushed
-        (given_runs step (place + 1) two base held c (f n (pos 1)) s (frames.on_two f (frames_of g two)) at2 (rule (fetched_at g two (place + 1) s.output))
+        (given_runs step (place + 1) two base held c (f n (pos 1)) s _ at2 rule
         (on_two_is g.frame g.limit g.size cells within_frame n (pos 1) f below_limit) same fit' based room))
 
     -- what is calculated from a number
@@ -287,10 +277,10 @@ module _ (g : Setting) where
         subst (λ p. Evaluates g (on g one place s.output) held p (give (value.Number n)) s) e left_as_it_is
     shift_runs range shift.Next stands well above below deep =
         let f = fits_next n range.last fit (record { is = well }) below in
-        stepped_runs instr.Add (int_wrapping_add w32) (n +ℤ pos 1) stands.0 stands.1.0 (λ m. refl) (sum_is n (pos 1) fit (record { is = refl }) f) f deep
+        stepped_runs instr.Add (int_wrapping_add w32) (n +ℤ pos 1) stands.0 stands.1.0 refl (sum_is n (pos 1) fit (record { is = refl }) f) f deep
     shift_runs range shift.Previous stands well above below deep =
         let f = fits_previous n range.first fit (record { is = well }) above in
-        stepped_runs instr.Subtract (int_wrapping_sub w32) (n -ℤ pos 1) stands.0 stands.1.0 (λ m. refl)
+        stepped_runs instr.Subtract (int_wrapping_sub w32) (n -ℤ pos 1) stands.0 stands.1.0 refl
         (difference_is n (pos 1) fit (record { is = refl }) f) f deep
 
   -- what an operation makes of a number
@@ -351,11 +341,10 @@ module _ (g : Setting) where
     within_limit = let full = based.full in omega (arith, length-append base held)
 
     truths_given : (apply : Instr) (test : ℤ → ℤ → Bool) → Here g place apply
-        → obeys g.target apply (fetched_at g two place s.output) ≡ and_then (frames.on_two (λ x y. frames.truth (test x y)) (frames_of g two))
-        (with_frames (fetched_at g two place s.output)) → Evaluates g (on g two place s.output) held (place + 1) (give (value.Number (truth (test a b)))) s
+        → deed_of apply ≡ Acts (frames.on_two (λ x y. frames.truth (test x y)))
+        → Evaluates g (on g two place s.output) held (place + 1) (give (value.Number (truth (test a b)))) s
     truths_given apply test here rule =
-        given_runs apply place two base held (truth (test a b)) (frames.truth (test a b)) s (frames.on_two (λ x y. frames.truth (test x y)) (frames_of g two))
-        here rule
+        given_runs apply place two base held (truth (test a b)) (frames.truth (test a b)) s _ here rule
         (on_two_is g.frame g.limit g.size (base ++ held) in_frame a b (λ x y. frames.truth (test x y)) within_limit) (same_truth (test a b))
         (subst Fits (same_truth (test a b)) (fits_truth (test a b))) based room
 
@@ -369,15 +358,13 @@ module _ (g : Setting) where
     relation_runs relation.GreaterOrEqual stands = truths_given instr.GreaterOrEqual (λ x y. int_le y x) stands.0 refl
 
     -- a result of type integer of both, checked
-    both_checked : (check apply : Instr) (overflow : ℕ) (c d : ℤ) (holds : Attempt Bool) (attempt : Attempt frames.Frames)
+    both_checked : (check apply : Instr) (overflow : ℕ) (c d : ℤ) (test : frames.Frames → Attempt Bool) (act : frames.Frames → Attempt frames.Frames)
         → StandsAt g.target place check (g.target.is_open overflow) → Here g (place + 1) apply → moved g.target.to check ≡ check
-        → obeys g.target check (fetched_at g two place s.output) ≡ checked g.target.sites overflow (fetched_at g two place s.output) holds
-        → obeys g.target apply (fetched_at g two (place + 1) s.output) ≡ and_then attempt (with_frames (fetched_at g two (place + 1) s.output))
-        → holds ≡ Ok (frames.is_integer c) → attempt ≡ Ok (frames_of g ((base ++ held) ++ Number d ∷ [])) → (Fits c → d ≡ c) → nat_lt overflow (sites g) ≡ true
+        → deed_of check ≡ Tests overflow test → deed_of apply ≡ Acts act → test (frames_of g two) ≡ Ok (frames.is_integer c)
+        → act (frames_of g two) ≡ Ok (frames_of g ((base ++ held) ++ Number d ∷ [])) → (Fits c → d ≡ c) → nat_lt overflow (sites g) ≡ true
         → Evaluates g (on g two place s.output) held (place + 2) (as_value (unless_overflow (Some overflow) c)) s
-    both_checked check apply overflow c d holds attempt stands here same rule rule' e does is well =
-        result_runs check apply overflow place two base held c d s holds attempt stands here same rule rule' e does is (ltb-true overflow
-        (sites g) well) based room
+    both_checked check apply overflow c d test act stands here same rule rule' e does is well =
+        result_runs check apply overflow place two base held c d s test act stands here same rule rule' e does is (ltb-true overflow (sites g) well) based room
 
     combined_runs : (operation : Dyadic) → Stands g.target place (dyadic_code operation) → dyadic_is_well_formed (outline g) g.number operation ≡ true
         → Evaluates g (on g two place s.output) held (place + length (dyadic_code operation)) (as_value (combined operation a b)) s
@@ -537,31 +524,7 @@ module _ (g : Setting) where
       (λ base2 w s2 back based2 fit2 room2.
       links_run links (expr_depth first.0) (place + length c) base2 held w s2 back (and_parts _ _ good).1 based2 deep room2 fit2)
 
-  same_runs : (c c' : List Instr) (d d' : ℕ) (w w' : Bool) (v v' : Evaluation) → c ≡ c' → d ≡ d' → w ≡ w' → v ≡ v' → RunsAs g c' d' w' v' → RunsAs g c d w v
-  same_runs c c' d d' w w' v v' p q r t runs =
-      subst (λ x. RunsAs g x d w v) (sym p) (subst (λ x. RunsAs g c' x w v) (sym q) (subst (λ x. RunsAs g c' d' x v) (sym r) (subst
-      (λ x. RunsAs g c' d' w' x) (sym t)
-      runs)))
-
-  same_combines : (c c' : List Instr) (d d' : ℕ) (w w' : Bool) (v v' : Combination) → c ≡ c' → d ≡ d' → w ≡ w' → v ≡ v' → CombinesAs g c' d' w' v'
-      → CombinesAs g c d w v
-  same_combines c c' d d' w w' v v' p q r t runs =
-      subst (λ x. CombinesAs g x d w v) (sym p) (subst (λ x. CombinesAs g c' x w v) (sym q) (subst (λ x. CombinesAs g c' d' x v) (sym r) (subst
-      (λ x. CombinesAs g c'
-      d' w' x) (sym t) runs)))
-
-  same_passes : (c c' : List Instr) (d d' : PassedDepth) (w w' : ℕ → ℕ → Bool) (v v' : Passing) → c ≡ c' → d ≡ d' → w ≡ w' → v ≡ v' → PassesAs g c' d' w' v'
-      → PassesAs g c d w v
-  same_passes c c' d d' w w' v v' p q r t runs =
-      subst (λ x. PassesAs g x d w v) (sym p) (subst (λ x. PassesAs g c' x w v) (sym q) (subst (λ x. PassesAs g c' d' x v) (sym r) (subst
-      (λ x. PassesAs g c' d' w' x) (sym t) runs)))
-
   -- ---- actual parameters
-
-  -- there is one of which the test holds
-  one_there : {A : Type 0} (test : A → Bool) (o : Option A) → of_one test o ≡ true → (x : A) × (o ≡ Some x) × (test x ≡ true)
-  one_there test None e = absurd (false≢true e)
-  one_there test (Some x) e = (x, refl, e)
 
   value_is_passed : (v : (e : Expr) × ExprRuns g e) (fits : RangeTest)
       → PassesAs g (expr_code g.scope v.0 ++ (range_check fits ∷ [])) (record { depth = expr_depth v.0; cells = 1 })
@@ -705,7 +668,7 @@ module _ (g : Setting) where
       let full = based.full in
       let long = length-append base held in
       subst (λ stack. Comes g.target 1 (on g cells place s.output) (on g stack (place + 1) s.output)) (append_assoc base held (links_of g outer))
-      (acts g (instr.MarkStack level) cells (cells ++ links_of g outer) place s.output (calls.marked level (frames_of g cells)) here refl
+      (acts g (instr.MarkStack level) cells (cells ++ links_of g outer) place s.output _ here refl
       (marks g.frame g.limit g.size cells level outer (omega arith) (frame_found g level outer base held s based l)))
 
   module _ (known : CallsAt g) where
@@ -781,7 +744,7 @@ module _ (g : Setting) where
       (is_well_formed_link (outline g) g.number) x))
       (value_step (map-Expr Expr Passed Link Evaluation Passing Combination value_of passing_of link_of x)) → ExprRuns g (roll-Expr x)
   rolled_expr x =
-      same_runs _ _ _ _ _ _ _ _ (fold-roll-Expr Code Code Code (expr_step g.scope) (passed_code_step g.scope) link_step x)
+      same_four (RunsAs g) (fold-roll-Expr Code Code Code (expr_step g.scope) (passed_code_step g.scope) link_step x)
       (fold-roll-Expr ℕ PassedDepth ℕ expr_depth_step passed_depth_step link_depth_step x)
       (fold-roll-Expr Bool Test Bool is_step is_passed_step is_link_step x)
       (fold-roll-Expr Evaluation Passing Combination value_step meaning.passed_step meaning.link_step x)
@@ -793,7 +756,7 @@ module _ (g : Setting) where
       (is_well_formed_link (outline g) g.number) x))
       (meaning.passed_step (map-Passed Expr Passed Link Evaluation Passing Combination value_of passing_of link_of x)) → PassedRuns g (roll-Passed x)
   rolled_passed x =
-      same_passes _ _ _ _ _ _ _ _ (fold-roll-Passed Code Code Code (expr_step g.scope) (passed_code_step g.scope) link_step x)
+      same_four (PassesAs g) (fold-roll-Passed Code Code Code (expr_step g.scope) (passed_code_step g.scope) link_step x)
       (fold-roll-Passed ℕ PassedDepth ℕ expr_depth_step passed_depth_step link_depth_step x)
       (fold-roll-Passed Bool Test Bool is_step is_passed_step is_link_step x)
       (fold-roll-Passed Evaluation Passing Combination value_step meaning.passed_step meaning.link_step x)
@@ -843,7 +806,7 @@ module _ (g : Setting) where
         let x = plain_link y in
         let meant = fold-roll-Link Evaluation Passing Combination value_step meaning.passed_step meaning.link_step x in
         let exact = (exact_around g).values y.operand.0 in (
-          same_combines _ _ _ _ _ _ _ _ (fold-roll-Link Code Code Code (expr_step g.scope) (passed_code_step g.scope) link_step x)
+          same_four (CombinesAs g) (fold-roll-Link Code Code Code (expr_step g.scope) (passed_code_step g.scope) link_step x)
               (fold-roll-Link ℕ PassedDepth ℕ expr_depth_step passed_depth_step link_depth_step x)
               (fold-roll-Link Bool Test Bool is_step is_passed_step is_link_step x) meant
               (link_runs y.number y.operation (expr_code g.scope y.operand.0) (expr_depth y.operand.0) (is_well_formed_expr (outline g) g.number y.operand.0)

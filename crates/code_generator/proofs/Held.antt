@@ -25,19 +25,19 @@ use Rattle.meaning.specs.Counting.{has_values, next_value}
 use Rattle.meaning.specs.Meaning.{is_among}
 use Rattle.meaning.specs.Effect as effect
 use Rattle.meaning.specs.Effect.{Action, ◌>>=◌, number_of, require}
+use Rattle.stack_machine.specs.Deeds.{Acts, deed_of}
 use Rattle.stack_machine.specs.declared.cell.Cell.{Cell}
 use Rattle.stack_machine.specs.declared.cell.Cell.TheVariants.{Undefined, Number}
 use Rattle.machine_arithmetic.specs.declared.arithmetic.Dyadic.TheVariants as dyadic
 use Rattle.stack_machine.specs.Frames as frames
 use Rattle.stack_machine.specs.Frames.{is_true, truth, on_two}
-use Rattle.stack_machine.specs.Machine.{State, and_then, with_frames}
 use Rattle.code_scheme.specs.Code.{control_offset, row_code}
 use Rattle.code_scheme.specs.declared.home.Home.{Home}
 use Rattle.code_scheme.specs.Scopes.{block_level, held_offset, links, links_to, variable_home}
 use Rattle.code_generator.proofs.Accesses.{LeadsTo, frame_found, leads}
-use Rattle.code_generator.proofs.Reach.{Comes, Stands, StandsAt, obeys, comes_on, comes_less, stays_here}
+use Rattle.code_generator.proofs.Reach.{Comes, Stands, StandsAt, comes_on, comes_less, stays_here}
 use Rattle.code_generator.proofs.Numbers.{Fits}
-use Rattle.code_generator.proofs.Setting.{Setting, Shown, Way, Direct, ByAddress, Reaches, outline, running_at, on, Based, linked, limit_far, Here, acts}
+use Rattle.code_generator.proofs.Setting.{Setting, Shown, Way, Direct, ByAddress, Reaches, outline, on, Based, linked, limit_far, Here, acts}
 use Rattle.code_generator.proofs.Setting.{branches_on, jumps}
 use Rattle.code_generator.proofs.Acts.{framed, length_one, pushes, loads, stores, on_two_is}
 use Rattle.code_generator.proofs.Alike.{LiesIn, Leads, HasFit, alike_set, cell_of, cell_within, keeps_set}
@@ -93,7 +93,7 @@ module _ (g : Setting) where
         let does = stores g.frame g.limit g.size below (linked g s base held based) cell 0 start g.frame refl (omega arith)
         ∙ ap (λ cs. Ok (frames_of cs)) (set_front base held (g.frame + start) cell low) in
         acts g (instr.Store 0 start) cells (slice_set base (g.frame + start) cell ++ held) place output
-        (frames.store 0 start (frames_of cells)) here refl (ap (λ cs. frames.store 0 start (frames_of cs)) is ∙ does)
+        _ here refl (ap (λ cs. frames.store 0 start (frames_of cs)) is ∙ does)
 
   -- what is stored at a place of a scalar that lives is no later activation's
   still_fresh : (p : Place) (cell : ℕ) (new : Option Value) (s : effect.State) (base : List Cell) → LiesIn g.world p cell → Based g s base → (q : Place)
@@ -223,7 +223,7 @@ module _ (g : Setting) where
       (slice_get-above base (held ++ rest) (length held + n) cell (slice_get-above held rest n cell found)) in
       let all : length cells ≡ length base + (length held + length rest) + length more =
       omega (arith, long, length-append base (held ++ rest), length-append held rest) in
-      acts g (instr.Load 0 (held_offset g.scope n)) cells (cells ++ cell ∷ []) place output (frames.load 0 (held_offset g.scope n) (frames_of cells)) here refl
+      acts g (instr.Load 0 (held_offset g.scope n)) cells (cells ++ cell ∷ []) place output _ here refl
       (loads g.frame g.limit g.size cells 0 (held_offset g.scope n) g.frame cell (omega (arith, all, full)) refl (omega (arith, at, all, few))
       there)
 
@@ -242,22 +242,20 @@ module _ (g : Setting) where
       ∙ ap (λ cs. Ok (frames_of cs)) (set_above base (held ++ rest) (length held + n) cell)
       ∙ ap (λ cs. Ok (frames_of (base ++ cs))) (set_above held rest n cell) in
       acts g (instr.Store 0 (held_offset g.scope n)) cells (base ++ (held ++ slice_set rest n cell)) place output
-      (frames.store 0 (held_offset g.scope n) (frames_of cells)) here refl (ap (λ cs. frames.store 0 (held_offset g.scope n) (frames_of cs)) is ∙ does)
+      _ here refl (ap (λ cs. frames.store 0 (held_offset g.scope n) (frames_of cs)) is ∙ does)
 
   -- two numbers on top give way to a third
   pub operates : (i : Instr) (f : ℤ → ℤ → ℤ) (cells : List Cell) (a b : ℤ) (place : ℕ) (output : List ℕ) → Here g place i
-      → ((s : State) → obeys g.target i s ≡ and_then (on_two f s.frames) (with_frames s)) → g.frame + 4 ≤ length cells → length cells < g.limit
+      → deed_of i ≡ Acts (on_two f) → g.frame + 4 ≤ length cells → length cells < g.limit
       → Comes g.target 1 (on g ((cells ++ Number a ∷ []) ++ Number b ∷ []) place output) (on g (cells ++ Number (f a b) ∷ []) (place + 1) output)
   operates i f cells a b place output here rule in_frame room =
-      acts g i ((cells ++ Number a ∷ []) ++ Number b ∷ []) (cells ++ Number (f a b) ∷ []) place output
-      (on_two f (frames_of ((cells ++ Number a ∷ []) ++ Number b ∷ []))) here
-      (rule (running_at g ((cells ++ Number a ∷ []) ++ Number b ∷ []) (g.target.to place + 1) output))
+      acts g i ((cells ++ Number a ∷ []) ++ Number b ∷ []) (cells ++ Number (f a b) ∷ []) place output _ here rule
       (on_two_is g.frame g.limit g.size cells in_frame a b f room)
 
   pub pushes_number : (cells : List Cell) (n : ℤ) (place : ℕ) (output : List ℕ) → Here g place (instr.LoadConstant n) → length cells < g.limit
       → Comes g.target 1 (on g cells place output) (on g (cells ++ Number n ∷ []) (place + 1) output)
   pushes_number cells n place output here room =
-      acts g (instr.LoadConstant n) cells (cells ++ Number n ∷ []) place output (frames.load_constant n (frames_of cells)) here refl
+      acts g (instr.LoadConstant n) cells (cells ++ Number n ∷ []) place output _ here refl
       (pushes g.frame g.limit g.size cells n room)
 
   -- ---- the bounds of a for statement, which are held
@@ -280,7 +278,7 @@ module _ (g : Setting) where
     pub decides : (i : Instr) (f : ℤ → ℤ → ℤ) (holds : Bool) (place out : ℕ)
         → Here g place (instr.Load 0 (held_offset g.scope 0)) → Here g (place + 1) (instr.Load 0 (held_offset g.scope 1)) → Here g (place + 1 + 1) i
         → StandsAt g.target (place + 1 + 1 + 1) (instr.JumpIfFalse out) true
-        → ((s : State) → obeys g.target i s ≡ and_then (on_two f s.frames) (with_frames s)) → f n l ≡ truth holds
+        → deed_of i ≡ Acts (on_two f) → f n l ≡ truth holds
         → Comes g.target 4 (on g here place output) (on g here (if holds then place + 4 else out) output)
     decides i f holds place out at1 at2 at3 at4 rule is =
         let size = long in
@@ -311,7 +309,7 @@ module _ (g : Setting) where
     pub steps : (i : Instr) (f : ℤ → ℤ → ℤ) (next : ℤ) (place head : ℕ) → Here g place (instr.Load 0 (held_offset g.scope 0))
         → Here g (place + 1) (instr.LoadConstant (pos 1)) → Here g (place + 1 + 1) i → Here g (place + 1 + 1 + 1) (instr.Store 0 (held_offset g.scope 0))
         → StandsAt g.target (place + 1 + 1 + 1 + 1) (instr.Jump head) true
-        → ((s : State) → obeys g.target i s ≡ and_then (on_two f s.frames) (with_frames s)) → f n (pos 1) ≡ next
+        → deed_of i ≡ Acts (on_two f) → f n (pos 1) ≡ next
         → Comes g.target 1 (on g here place output) (on g (base ++ (held ++ Number next ∷ Number l ∷ [])) head output)
     steps i f next place head at1 at2 at3 at4 at5 rule is =
         let size = long in
@@ -350,7 +348,7 @@ module _ (g : Setting) where
         let links = linked g s2 base2 held based2 in
         let blank = slice_get-front base2 held (g.bottom + 2) Undefined (based2.keeps.each (g.bottom + 2) Undefined g.blank) in
         let up = links_to g.scope 0 in
-        let d = acts g (instr.Load up 2) cells (cells ++ Undefined ∷ []) (place + 1 + 1) output (frames.load up 2 (frames_of cells)) at3 refl
+        let d = acts g (instr.Load up 2) cells (cells ++ Undefined ∷ []) (place + 1 + 1) output _ at3 refl
         (loads g.frame g.limit g.size cells up 2 g.bottom Undefined (omega arith) (frame_found g up g.bottom base2 held s2 based2 g.chain)
         (slice_get_within cells (g.bottom + 2) Undefined blank) blank) in
         let e = stores_variable control scalar s2 base2 held (cells ++ Undefined ∷ []) Undefined (place + 1 + 1 + 1) output based2 refl at4 in
@@ -380,7 +378,7 @@ module _ (g : Setting) where
         let b = loads_held s base held (Number n ∷ []) (Number constant ∷ []) (index ++ Number constant ∷ []) 0 (Number n) (place + 1) output based high
         refl
         refl (omega arith) at2 in
-        let c = operates instr.NotEqual (frames.of_two dyadic.NotEqual) index constant n (place + 1 + 1) output at3 (λ s. refl) in_frame (omega arith) in
+        let c = operates instr.NotEqual (frames.of_two dyadic.NotEqual) index constant n (place + 1 + 1) output at3 refl in_frame (omega arith) in
         let d = branches_on g arm index differs (place + 1 + 1 + 1) output at4 in_frame in
         let whole = comes_on g.target 1 3 _ _ _ a (comes_on g.target 1 2 _ _ _ b (comes_on g.target 1 1 _ _ _ c d)) in
         comes_less g.target 0 4 _ _ (omega arith)

@@ -11,20 +11,21 @@ use Rattle.meaning.specs.Effect as effect
 use Rattle.meaning.specs.Effect.{Reply, Gives, Action, ◌>>=◌, number_of, require}
 use Rattle.meaning.specs.Laws.{UsesTurnsExactly}
 use Rattle.meaning.proofs.Replies.{and_then-and_then}
+use Rattle.stack_machine.specs.Deeds.{Tests, deed_of}
+use Rattle.code_generator.proofs.Acts.{framed}
 use Rattle.stack_machine.specs.declared.cell.Cell.{Cell}
 use Rattle.stack_machine.specs.declared.cell.Cell.TheVariants.{Number}
-use Rattle.stack_machine.specs.Frames.{Attempt}
-use Rattle.stack_machine.specs.Machine.{State, checked}
+use Rattle.stack_machine.specs.Frames.{Attempt, Frames}
+use Rattle.stack_machine.specs.Machine.{State}
 use Rattle.check_remover.specs.Strip.{moved}
 use Rattle.code_generator.proofs.Exact.{exact_give, exact_then}
 use Rattle.code_generator.proofs.Numbers.{Fits}
-use Rattle.code_generator.proofs.Reach.{Stands, StandsAt, Comes, obeys, comes_on, comes_less, stands_front, stands_back}
-use Rattle.code_generator.proofs.Setting.{Setting, on, running_at, Based, Ends, ends_on, Starves, starves_on, starves_same, starves_first, starves_behind}
+use Rattle.code_generator.proofs.Reach.{Stands, StandsAt, Comes, comes_on, comes_less, stands_front, stands_back}
+use Rattle.code_generator.proofs.Setting.{Setting, on, Based, Ends, ends_on, Starves, starves_on, starves_same, starves_first, starves_behind}
 use Rattle.code_generator.proofs.Setting.{as_value, passes, fails}
 use Rattle.code_generator.proofs.Reach.{stays_here}
-use Rattle.std.specs.Prelude.{if◌then◌else◌}
 use Rattle.stack_machine.specs.Frames.{is_true}
-use Rattle.code_generator.proofs.Setting.{branches_on}
+use Rattle.code_generator.proofs.Setting.{branched}
 
 -- where code is to come with what a piece gives: what holds then, the machine there, and for how many turns more than the
 -- piece used its instructions make up
@@ -137,27 +138,22 @@ module _ (g : Setting) where
 
   -- a check, and what comes behind it where it holds
   pub check_then : {A : Type 0} (aim : Aim A) (check : Instr) (site place : ℕ) (cells : List Cell) (s : effect.State) (next : Action A)
-      (holds : Attempt Bool) (good : Bool) → StandsAt g.target place check (g.target.is_open site) → moved g.target.to check ≡ check
-      → obeys g.target check (running_at g cells (g.target.to place + 1) s.output)
-      ≡ checked g.target.sites site (running_at g cells (g.target.to place + 1) s.output) holds
-      → holds ≡ Ok good → site < length g.tree.sites.items → (good ≡ true → Runs aim (on g cells (place + 1) s.output) next s)
+      (test : Frames → Attempt Bool) (good : Bool) → StandsAt g.target place check (g.target.is_open site) → moved g.target.to check ≡ check
+      → deed_of check ≡ Tests site test → test (framed g.frame g.limit g.size cells) ≡ Ok good → site < length g.tree.sites.items → (good ≡ true → Runs aim (on g cells (place + 1) s.output) next s)
       → Runs aim (on g cells place s.output) (require good site >>= (λ _. next)) s
-  check_then aim check site place cells s next holds true stands same rule e within rest =
-      runs_from aim 0 _ _ next s (passes g check cells place site s.output holds same rule stands e) (rest refl)
-  check_then aim check site place cells s next holds false stands same rule e within rest =
-      inr (fails g check cells place site s.output holds same rule s.turns stands within e)
+  check_then aim check site place cells s next test true stands same rule e within rest =
+      runs_from aim 0 _ _ next s (passes g check cells place site s.output test same rule stands e) (rest refl)
+  check_then aim check site place cells s next test false stands same rule e within rest =
+      inr (fails g check cells place site s.output test same rule s.turns stands within e)
 
   -- a conditional jump behind a number, and what comes at either place
   pub branch_then : {A : Type 0} (aim : Aim A) (target : ℕ) (below : List Cell) (n : ℤ) (place : ℕ) (next : Bool → Action A) (s : effect.State)
       → StandsAt g.target place (instr.JumpIfFalse target) true → g.frame + 4 ≤ length below
       → Runs aim (on g below (place + 1) s.output) (next true) s → Runs aim (on g below target s.output) (next false) s
       → Runs aim (on g (below ++ Number n ∷ []) place s.output) (next (is_true n)) s
-  branch_then aim target below n place next s stands in_frame so not_so = by (is_true n) (branches_on g target below n place s.output stands in_frame)
-    where
-      by : (b : Bool) → Comes g.target 1 (on g (below ++ Number n ∷ []) place s.output) (on g below (if b then place + 1 else target) s.output)
-          → Runs aim (on g (below ++ Number n ∷ []) place s.output) (next b) s
-      by true came = runs_from aim 1 _ _ (next true) s came so
-      by false came = runs_from aim 1 _ _ (next false) s came not_so
+  branch_then aim target below n place next s stands in_frame so not_so =
+      branched g (λ b. Runs aim (on g (below ++ Number n ∷ []) place s.output) (next b) s) target below n place s.output stands in_frame
+      (λ came. runs_from aim 1 _ _ (next true) s came so) (λ came. runs_from aim 1 _ _ (next false) s came not_so)
 
   -- ---- the code of an expression
 

@@ -24,9 +24,9 @@ use Rattle.stack_machine.specs.declared.stop.Stop.{Stop}
 use Rattle.stack_machine.specs.declared.stop.Stop.TheVariants as stop
 use Rattle.stack_machine.specs.declared.cell.Cell.{Cell}
 use Rattle.stack_machine.specs.declared.cell.Cell.TheVariants.{Undefined, Number}
-use Rattle.stack_machine.specs.Deeds.{jumped_if_false}
+use Rattle.stack_machine.specs.Deeds.{Acts, Tests, deed_of, jumped_if_false}
 use Rattle.stack_machine.specs.Frames.{Frames, Attempt, is_true}
-use Rattle.stack_machine.specs.Machine.{State, and_then, checked, with_frames, with_place, error_of}
+use Rattle.stack_machine.specs.Machine.{State, Next, carried_out, and_then, checked, with_frames, with_place, error_of}
 use Rattle.check_remover.specs.Strip.{moved}
 use Rattle.code_scheme.specs.Code.{program_code, routines_of}
 use Rattle.code_scheme.specs.Depth.{block_depth}
@@ -250,12 +250,13 @@ module _ (g : Setting) where
       (comes_by g.target i (on cells place output) (running_at after (g.target.to place + 1) more) here.0 does)
 
   -- an instruction of the store alone
-  pub acts : (i : Instr) (cells after : List Cell) (place : ℕ) (output : List ℕ) (attempt : Attempt Frames) → Here place i
-      → obeys g.target i (running_at cells (g.target.to place + 1) output) ≡ and_then attempt
-      (with_frames (running_at cells (g.target.to place + 1) output)) → attempt ≡ Ok (framed g.frame g.limit g.size after)
-      → Comes g.target 1 (on cells place output) (on after (place + 1) output)
-  acts i cells after place output attempt here rule e =
-      goes_on i cells after place output output here (rule ∙ ap (λ a. and_then a (with_frames (running_at cells (g.target.to place + 1) output))) e)
+  pub acts : (i : Instr) (cells after : List Cell) (place : ℕ) (output : List ℕ) (act : Frames → Attempt Frames) → Here place i → deed_of i ≡ Acts act
+      → act (framed g.frame g.limit g.size cells) ≡ Ok (framed g.frame g.limit g.size after) → Comes g.target 1 (on cells place output)
+      (on after (place + 1) output)
+  acts i cells after place output act here rule e =
+      let m = running_at cells (g.target.to place + 1) output in
+      goes_on i cells after place output output here
+      (ap (λ deed. carried_out g.target.sites (length g.target.code) deed m) rule ∙ ap (λ a. and_then a (with_frames m)) e)
 
   -- a jump goes where its target goes
   pub jumps : (target : ℕ) (cells : List Cell) (place : ℕ) (output : List ℕ) → StandsAt g.target place (instr.Jump target) true
@@ -282,30 +283,47 @@ module _ (g : Setting) where
       branches_by target (below ++ Number n ∷ []) below place output (is_true n) stands
       (branches g.frame g.limit g.size below in_frame (g.target.to target) n)
 
+  -- what is so of either way
+  pub branched : (IsSo : Bool → Type 0) (target : ℕ) (below : List Cell) (n : ℤ) (place : ℕ) (output : List ℕ)
+      → StandsAt g.target place (instr.JumpIfFalse target) true → g.frame + 4 ≤ length below
+      → (Comes g.target 1 (on (below ++ Number n ∷ []) place output) (on below (place + 1) output) → IsSo true)
+      → (Comes g.target 1 (on (below ++ Number n ∷ []) place output) (on below target output) → IsSo false) → IsSo (is_true n)
+  branched IsSo target below n place output stands in_frame so not_so = by (is_true n) (branches_on target below n place output stands in_frame)
+    where
+      by : (b : Bool) → Comes g.target 1 (on (below ++ Number n ∷ []) place output) (on below (if b then place + 1 else target) output) → IsSo b
+      by true came = so came
+      by false came = not_so came
+
   -- a check, which stays or is left out, and what it tests
-  module _ (check : Instr) (cells : List Cell) (place site : ℕ) (output : List ℕ) (holds : Attempt Bool) (same : moved g.target.to check ≡ check)
-      (rule : obeys g.target check (running_at cells (g.target.to place + 1) output) ≡ checked g.target.sites site
-      (running_at cells (g.target.to place + 1) output) holds) where
-    passes_by : (stayed : Bool) → StandsAt g.target place check stayed → holds ≡ Ok true
+  module _ (check : Instr) (cells : List Cell) (place site : ℕ) (output : List ℕ) (test : Frames → Attempt Bool) (same : moved g.target.to check ≡ check)
+      (rule : deed_of check ≡ Tests site test) where
+    abbrev tested_at : Attempt Bool → Next
+    tested_at = checked g.target.sites site (running_at cells (g.target.to place + 1) output)
+
+    tests_it : (holds : Attempt Bool) → test (framed g.frame g.limit g.size cells) ≡ holds
+        → obeys g.target check (running_at cells (g.target.to place + 1) output) ≡ tested_at holds
+    tests_it holds e =
+        ap (λ deed. carried_out g.target.sites (length g.target.code) deed (running_at cells (g.target.to place + 1) output)) rule ∙ ap tested_at e
+
+    passes_by : (stayed : Bool) → StandsAt g.target place check stayed → test (framed g.frame g.limit g.size cells) ≡ Ok true
         → Comes g.target 0 (on cells place output) (on cells (place + 1) output)
     passes_by true stands e =
         comes_less g.target 0 1 _ _ (omega arith)
-        (goes_on check cells cells place output output (stands.0 ∙ ap Some same, stands.1)
-        (rule ∙ ap (checked g.target.sites site (running_at cells (g.target.to place + 1) output)) e))
+        (goes_on check cells cells place output output (stands.0 ∙ ap Some same, stands.1) (tests_it (Ok true) e))
     passes_by false stands e =
         subst (λ index. Comes g.target 0 (on cells place output) (running_at cells index output)) (sym stands) (stays_here g.target (on cells place output))
 
     -- the test holds
-    pub passes : StandsAt g.target place check (g.target.is_open site) → holds ≡ Ok true
+    pub passes : StandsAt g.target place check (g.target.is_open site) → test (framed g.frame g.limit g.size cells) ≡ Ok true
         → Comes g.target 0 (on cells place output) (on cells (place + 1) output)
     passes stands e = passes_by (g.target.is_open site) stands e
 
     fails_by : (turns : ℕ) (stayed : Bool) → g.target.is_open site ≡ stayed → StandsAt g.target place check stayed → site < length g.tree.sites.items
-        → holds ≡ Ok false → Ends turns (on cells place output) (ending.Error site) output
+        → test (framed g.frame g.limit g.size cells) ≡ Ok false → Ends turns (on cells place output) (ending.Error site) output
     fails_by turns true known stands within e =
         let found = found_at in_plain_numbers g.tree.sites.items site within in
         let entry = ap (λ sites. slice_get sites site) g.sites_are ∙ found.2 in
-        let does = rule ∙ ap (checked g.target.sites site (running_at cells (g.target.to place + 1) output)) e ∙ ap (λ o. Err (error_of o)) entry in
+        let does = tests_it (Ok false) e ∙ ap (λ o. Err (error_of o)) entry in
         inl (record {
           why = stop.Error (in_plain_numbers found.0);
           stops = stops_by g.target check (on cells place output) (stop.Error (in_plain_numbers found.0)) (stands.0 ∙ ap Some same) does;
@@ -314,8 +332,8 @@ module _ (g : Setting) where
     fails_by turns false closed stands within e = inr closed
 
     -- the test doesn't hold
-    pub fails : (turns : ℕ) → StandsAt g.target place check (g.target.is_open site) → site < length g.tree.sites.items → holds ≡ Ok false
-        → Ends turns (on cells place output) (ending.Error site) output
+    pub fails : (turns : ℕ) → StandsAt g.target place check (g.target.is_open site) → site < length g.tree.sites.items
+        → test (framed g.frame g.limit g.size cells) ≡ Ok false → Ends turns (on cells place output) (ending.Error site) output
     fails turns stands within e = fails_by turns (g.target.is_open site) refl stands within e
 
   -- ---- a full store

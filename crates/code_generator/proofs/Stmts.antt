@@ -39,6 +39,7 @@ use Rattle.meaning.specs.Effect.{Action, Round, ◌>>=◌, number_of, require, g
 use Rattle.meaning.specs.Meaning.{Execution, is_so, turn_if, while_round, repeat_round, for_round, for_rounds, for_between, is_among, arm_of, whole_of}
 use Rattle.meaning.specs.Meaning.{alternative_of, value_of, width_of, effect_of, effect_step, parameter_of, all_of, line_ended}
 use Rattle.meaning.specs.Meaning.{call_of, passing_of, default_width as default_width_of}
+use Rattle.stack_machine.specs.Deeds.{Writes, deed_of}
 use Rattle.stack_machine.specs.declared.cell.Cell.{Cell}
 use Rattle.stack_machine.specs.declared.cell.Cell.TheVariants.{Undefined, Number}
 use Rattle.machine_arithmetic.specs.declared.arithmetic.Dyadic.TheVariants as dyadic
@@ -56,14 +57,16 @@ use Rattle.code_scheme.specs.Depth.{whole_depth}
 use Rattle.typed_tree.specs.WellFormed.{all_hold, is_well_formed_expr, is_well_formed_width, is_well_formed_parameter, is_well_formed_test, is_well_formed_stmt}
 use Rattle.typed_tree.specs.WellFormed.{fits_target, stmt_is_well_formed, is_control, is_well_formed_call, is_well_formed_passed, is_well_formed_whole}
 use Rattle.typed_tree.specs.WellFormed.{length_of, whole_indexes}
-use Rattle.code_generator.proofs.Reach.{Stands, StandsAt, obeys, stands_front, stands_back, Comes, comes_less, comes_on, stays_here}
+use Rattle.code_generator.proofs.Reach.{Stands, StandsAt, stands_front, stands_back, Comes, comes_less, comes_on, stays_here}
+use Rattle.code_generator.proofs.Setting.{branched}
 use Rattle.code_generator.proofs.Setting.{goes_around}
-use Rattle.code_generator.proofs.Setting.{Setting, outline, around, exact_around, on, Based, later, linked, limit_far, Here, goes_on, jumps, branches_on}
+use Rattle.code_generator.proofs.Setting.{Setting, outline, around, exact_around, on, Based, later, linked, limit_far, Here, goes_on, jumps}
 use Rattle.code_generator.proofs.Setting.{fails}
 use Rattle.code_generator.proofs.Loops.{Rounds, RoundsBehind, RoundRuns, rounds_later, turned, loops, reset, to_reset}
 use Rattle.code_generator.proofs.Loops.{rounds_from_reset, executes_from_reset}
 use Rattle.code_generator.proofs.Accesses.{Indexes, expressions, wells, codes as index_codes}
 use Rattle.code_generator.proofs.Assigns.{told, told_back, assign_runs, copy_runs}
+use Rattle.code_generator.proofs.Evaluating.{same_four}
 use Rattle.code_generator.proofs.Evaluating.{sites, ExecutesAs, fetched_at, frames_of, one_held}
 use Rattle.code_generator.proofs.Exact.{exact_for_round, exact_parameters, exact_repeat_round, exact_statements, exact_while_round}
 use Rattle.code_generator.proofs.Passing.{CallsAt, CallsRun, returns_executes}
@@ -126,12 +129,13 @@ placed_flat code_of scope (x ∷ xs) place = ap (λ rest. code_of scope x ++ res
 
 module _ (g : Setting) (known : CallsAt g) where
   -- a value and its width give way to a text
-  text_runs : (write : Instr) (text : List ℕ) (place : ℕ) (cells after : List Cell) (output : List ℕ) (attempt : Attempt (frames.Frames × List ℕ))
-      → Here g place write → obeys g.target write (fetched_at g cells place output) ≡ machine.and_then attempt
-      (with_text (fetched_at g cells place output))
-      → attempt ≡ Ok (frames_of g after, text) → Comes g.target 1 (on g cells place output) (on g after (place + 1) (output ++ text))
-  text_runs write text place cells after output attempt here rule does =
-      goes_on g write cells after place output (output ++ text) here (rule ∙ ap (λ r. machine.and_then r (with_text (fetched_at g cells place output))) does)
+  text_runs : (write : Instr) (text : List ℕ) (place : ℕ) (cells after : List Cell) (output : List ℕ)
+      (act : frames.Frames → Attempt (frames.Frames × List ℕ)) → Here g place write → deed_of write ≡ Writes act
+      → act (frames_of g cells) ≡ Ok (frames_of g after, text) → Comes g.target 1 (on g cells place output) (on g after (place + 1) (output ++ text))
+  text_runs write text place cells after output act here rule does =
+      let m = fetched_at g cells place output in
+      goes_on g write cells after place output (output ++ text) here
+      (ap (λ deed. machine.carried_out g.target.sites (length g.target.code) deed m) rule ∙ ap (λ r. machine.and_then r (with_text m)) does)
 
   ordinal_writes : (r : Representation) (place : ℕ) (cells : List Cell) (n w : ℤ) (output : List ℕ) → Fits n → Stands g.target place (ordinal_instr r ∷ [])
       → g.frame + 4 ≤ length cells
@@ -428,37 +432,31 @@ while_runs g known number condition body few place base held s stands good based
     let parts = and_parts (is_well_formed_expr (outline g) g.number condition) (is_well_formed_stmt (outline g) g.number body.0) good in
     let hold : Unit {0} → List Cell = λ _. held in
     let round : Round (Unit {0}) = while_round (value_of condition) (effect_of body.0) (around g) in
-    let turns_on : (bound : ℕ) (holds : Bool) (base2 : List Cell) (t : effect.State) → Based g t base2 → t.turns ≤ bound → (m : State)
-    → m.output ≡ t.output → Comes g.target 1 m (on g (base2 ++ held) (if holds then inside else end) t.output)
-    → Rounds g (λ _. Unit {0}) hold place end held 0 bound m (turn_if holds (effect_of body.0 (around g))) t =
-    λ bound holds. elim holds as (λ h. (base2 : List Cell) (t : effect.State) → Based g t base2 → t.turns ≤ bound → (m : State)
-    → m.output ≡ t.output → Comes g.target 1 m (on g (base2 ++ held) (if h then inside else end) t.output)
-    → Rounds g (λ _. Unit {0}) hold place end held 0 bound m (turn_if h (effect_of body.0 (around g))) t) [
-      | true ↦ λ base2 t based2 few' m same came.
-          turned g (λ _. Unit {0}) hold place end held bound t m (λ _. effect_of body.0 (around g) >>= λ _. give (Some tt)) same (λ left is.
-          rounds_later g (λ _. Unit {0}) hold place end held 0 bound t.turns m (on g (base2 ++ held) inside t.output)
-          (effect_of body.0 (around g) >>= λ _. give (Some tt)) (record t { turns = left }) (omega (arith, is))
-          (comes_less g.target (t.turns - left) 1 m _ (omega (arith, is)) came)
-          (then_runs g (kept_on g held (inside + length code)) (round_on g (λ _. Unit {0}) hold place end held 0 bound) _ (effect_of body.0 (around g))
-          (λ _. give (Some tt)) (record t { turns = left }) ((exact_around g).statements body.0)
-          (body.1 g known few inside base2 held (record t { turns = left }) (stands_front g.target inside code back within) parts.1
-          (later g left t base2 (omega (arith, is)) based2) high (omega arith))
-          (λ _ u x fewer. inr (
-            (x.0, x.1, omega (arith, is, fewer), tt),
-            comes_less g.target (u.turns - u.turns + 0) 1 _ _ (omega arith) (jumps g place (x.0 ++ held) (inside + length code) u.output jump.0),
-            omega arith,
-          ))))
-      | false ↦ λ base2 t based2 few' m same came. inr
-          ((base2, based2), comes_less g.target (t.turns - t.turns + 0) 1 m _ (omega arith) came, omega arith)
-    ] in
+    let aim : ℕ → Aim (Option (Unit {0})) = round_on g (λ _. Unit {0}) hold place end held 0 in
+    let does = effect_of body.0 (around g) in
     let runs : RoundRuns g (λ _. Unit {0}) hold place end held round =
     λ start base2 t fits based2.
-    then_runs g (value_on g held (place + length test)) (round_on g (λ _. Unit {0}) hold place end held 0 t.turns) _ (value_of condition (around g))
-    (λ v. turn_if (is_so v) (effect_of body.0 (around g))) t ((exact_around g).values condition)
-    (expr_runs g (known g refl) condition place base2 held t front parts.0 based2 (omega arith))
+    then_runs g (value_on g held (place + length test)) (aim t.turns) _ (value_of condition (around g)) (λ v. turn_if (is_so v) does) t
+    ((exact_around g).values condition) (expr_runs g (known g refl) condition place base2 held t front parts.0 based2 (omega arith))
     (λ v u x fewer.
-    turns_on t.turns (is_so v) x.0 u x.1 fewer _ refl
-    (branches_on g end (x.0 ++ held) (number_of v) (place + length test) u.output here.0 (linked g u x.0 held x.1))) in
+    let tested = on g ((x.0 ++ held) ++ Number (number_of v) ∷ []) (place + length test) u.output in
+    branched g (λ b. Runs g (aim t.turns) tested (turn_if b does) u) end (x.0 ++ held) (number_of v) (place + length test) u.output here.0
+    (linked g u x.0 held x.1)
+    (λ came.
+    turned g (λ _. Unit {0}) hold place end held t.turns u tested (λ _. does >>= λ _. give (Some tt)) refl
+    (λ left is.
+    let u' = record u { turns = left } in
+    rounds_later g (λ _. Unit {0}) hold place end held 0 t.turns u.turns tested (on g (x.0 ++ held) inside u.output) (does >>= λ _. give (Some tt)) u'
+    (omega (arith, is)) (comes_less g.target (u.turns - left) 1 tested _ (omega (arith, is)) came)
+    (then_runs g (kept_on g held (inside + length code)) (aim t.turns) _ does (λ _. give (Some tt)) u' ((exact_around g).statements body.0)
+    (body.1 g known few inside x.0 held u' (stands_front g.target inside code back within) parts.1 (later g left u x.0 (omega (arith, is)) x.1) high
+    (omega arith))
+    (λ _ w y fewest. inr (
+      (y.0, y.1, omega (arith, is, fewer, fewest), tt),
+      comes_less g.target (w.turns - w.turns + 0) 1 _ _ (omega arith) (jumps g place (y.0 ++ held) (inside + length code) w.output jump.0),
+      omega arith,
+    )))))
+    (λ came. inr ((x.0, x.1), comes_less g.target (u.turns - u.turns + 0) 1 tested _ (omega arith) came, omega arith))) in
     let goes = (goes_around g).whiles condition body.0 in
     subst (λ p. Executes g (on g (base ++ held) place s.output) held p (effect.looped round tt) s1) e
     (loops g (λ _. Unit {0}) hold place end held round goes (λ start. exact_while_round (around g) (exact_around g) condition body.0) runs tt base s1 tt based)
@@ -489,30 +487,28 @@ repeat_runs g known number condition ss few place base held s stands good based 
     let round : Round (Unit {0}) = repeat_round statements (value_of condition) (around g) in
     let until : Value → Action (Option (Unit {0})) = λ v. give (if is_so v then None else Some tt) in
     let rest : Action (Option (Unit {0})) = statements (around g) >>= λ _. value_of condition (around g) >>= until in
-    let decides : (bound : ℕ) (n : ℤ) (base2 : List Cell) (t : effect.State) → Based h t base2 → t.turns < bound
-    → Rounds h (λ _. Unit {0}) hold place end held 1 bound (on g ((base2 ++ held) ++ Number n ∷ []) (last + length test) t.output)
-    (give (if frames.is_true n then None else Some tt)) t =
-    λ bound n base2 t based2 fewer.
-    (elim (frames.is_true n) as (λ b. Comes g.target 1 (on g ((base2 ++ held) ++ Number n ∷ []) (last + length test) t.output)
-    (on g (base2 ++ held) (if b then last + length test + 1 else place) t.output) → Rounds h (λ _. Unit {0}) hold place end held 1 bound
-    (on g ((base2 ++ held) ++ Number n ∷ []) (last + length test) t.output) (give (if b then None else Some tt)) t) [
-      | true ↦ λ came. inr ((base2, based2), comes_less g.target (t.turns - t.turns + 1) 1 _ _ (omega arith) came, omega arith)
-      | false ↦ λ came. inr ((base2, based2, fewer, tt), comes_less g.target (t.turns - t.turns + 1) 1 _ _ (omega arith) came, omega arith)
-    ]) (branches_on g place (base2 ++ held) n (last + length test) t.output jump.0 (linked h t base2 held based2)) in
+    let aim : ℕ → Aim (Option (Unit {0})) = round_on h (λ _. Unit {0}) hold place end held 1 in
     let inside : (left : ℕ) (base2 : List Cell) (t : effect.State) → t.turns ≡ left → Based h t base2
     → Rounds h (λ _. Unit {0}) hold place end held 1 (suc left) (on g (base2 ++ held) place t.output) rest t =
     λ left base2 t is based2.
-    then_runs h (kept_on h held last) (round_on h (λ _. Unit {0}) hold place end held 1 (suc left)) _ (statements (around g))
-    (λ _. value_of condition (around g) >>= until) t
+    then_runs h (kept_on h held last) (aim (suc left)) _ (statements (around g)) (λ _. value_of condition (around g) >>= until) t
     (exact_statements (around g) (exact_around g) (map (λ x. x.0) ss))
     (all_run h known_there stmt_code stmt_depth (is_well_formed_stmt (outline g) g.number) effect_of ((exact_around g).statements)
     (map (λ x. x.0) ss)
     (each_statement h known ss 0 (omega arith)) 0 place base2 held t (stands_front g.target place code (test ++ back) stands) parts.0 based2 high (omega arith))
     (λ _ u x fewer.
-    then_runs h (value_on h held (last + length test)) (round_on h (λ _. Unit {0}) hold place end held 1 (suc left)) _ (value_of condition (around g)) until u
-    ((exact_around g).values condition)
+    then_runs h (value_on h held (last + length test)) (aim (suc left)) _ (value_of condition (around g)) until u ((exact_around g).values condition)
     (expr_runs h known_there condition last x.0 held u (stands_front g.target last test back behind) parts.1 x.1 (omega arith))
-    (λ v w y fewest. decides (suc left) (number_of v) y.0 w y.1 (omega (arith, is, fewer, fewest)))) in
+    (λ v w y fewest.
+    let tested = on g ((y.0 ++ held) ++ Number (number_of v) ∷ []) (last + length test) w.output in
+    branched g (λ b. Runs h (aim (suc left)) tested (give (if b then None else Some tt)) w) place (y.0 ++ held) (number_of v) (last + length test) w.output
+    jump.0 (linked h w y.0 held y.1)
+    (λ came. inr ((y.0, y.1), comes_less g.target (w.turns - w.turns + 1) 1 tested _ (omega arith) came, omega arith))
+    (λ came. inr (
+      (y.0, y.1, omega (arith, is, fewer, fewest), tt),
+      comes_less g.target (w.turns - w.turns + 1) 1 tested _ (omega arith) came,
+      omega arith,
+    )))) in
     let runs : RoundRuns g (λ _. Unit {0}) hold place end held round =
     λ start base2 t fits based2.
     turned g (λ _. Unit {0}) hold place end held t.turns t _ (λ _. rest) refl (λ left is.
@@ -538,10 +534,10 @@ ordered : (g : Setting) (s : effect.State) (base held : List Cell) (n l : ℤ) (
     (on g (base ++ (held ++ Number n ∷ Number l ∷ [])) (if has_values way n l then place + 4 else out) output)
 ordered g s base held n l output direction.To place out based high room at1 at2 at3 at4 =
     decides g s base held n l output based high room instr.LessOrEqual (frames.of_two dyadic.LessOrEqual) (int_le n l) place out at1 at2 at3 at4
-    (λ s. refl) refl
+    refl refl
 ordered g s base held n l output direction.DownTo place out based high room at1 at2 at3 at4 =
     decides g s base held n l output based high room instr.GreaterOrEqual (frames.of_two dyadic.GreaterOrEqual) (int_le l n) place out at1 at2 at3 at4
-    (λ s. refl) refl
+    refl refl
 
 -- the next value is held, and the next round begins
 stepped : (g : Setting) (s : effect.State) (base held : List Cell) (n l : ℤ) (output : List ℕ) (way : Direction) (place head : ℕ) → Based g s base
@@ -552,10 +548,10 @@ stepped : (g : Setting) (s : effect.State) (base held : List Cell) (n l : ℤ) (
     → Comes g.target 1 (on g (base ++ (held ++ Number n ∷ Number l ∷ [])) place output)
     (on g (base ++ (held ++ Number (next_value way n) ∷ Number l ∷ [])) head output)
 stepped g s base held n l output direction.To place head based high room fit fit' at1 at2 at3 at4 at5 =
-    steps g s base held n l output based high room instr.Add (frames.of_two dyadic.Add) (n +ℤ pos 1) place head at1 at2 at3 at4 at5 (λ s. refl)
+    steps g s base held n l output based high room instr.Add (frames.of_two dyadic.Add) (n +ℤ pos 1) place head at1 at2 at3 at4 at5 refl
     (sum_is n (pos 1) fit one_fits fit')
 stepped g s base held n l output direction.DownTo place head based high room fit fit' at1 at2 at3 at4 at5 =
-    steps g s base held n l output based high room instr.Subtract (frames.of_two dyadic.Subtract) (n -ℤ pos 1) place head at1 at2 at3 at4 at5 (λ s. refl)
+    steps g s base held n l output based high room instr.Subtract (frames.of_two dyadic.Subtract) (n -ℤ pos 1) place head at1 at2 at3 at4 at5 refl
     (difference_is n (pos 1) fit one_fits fit')
 
 module _ (g : Setting) (known : CallsRun g.depth) (control : ℕ) (scalar : IsScalar g control) (way : Direction) (body : (s : Stmt) × StmtRuns s)
@@ -635,7 +631,7 @@ module _ (g : Setting) (known : CallsRun g.depth) (control : ℕ) (scalar : IsSc
       (λ _ u x fewer.
       turns_back n x.0 u s.turns (int_eq n l) refl fits (omega (arith, is, fewer)) x.1 next
       (decides g u x.0 held n l u.output x.1 high enough instr.NotEqual (frames.of_two dyadic.NotEqual) (not (int_eq n l)) behind out
-      next.0 next.1.0 next.1.1.0 next.1.1.1.0 (λ s. refl) refl))))
+      next.0 next.1.0 next.1.1.0 next.1.1.1.0 refl refl))))
 
   goes : GoesRoundByRound round
   goes = (goes_around g).fors control way l body.0
@@ -785,11 +781,9 @@ for_runs g known number control first first_fits way last last_fits body few pla
 popped_there : (g : Setting) (below : List Cell) (n : ℤ) (place : ℕ) (output : List ℕ) → StandsAt g.target place (instr.JumpIfFalse (place + 1)) true
     → g.frame + 4 ≤ length below → Comes g.target 0 (on g (below ++ Number n ∷ []) place output) (on g below (place + 1) output)
 popped_there g below n place output stands in_frame =
-    let both : (b : Bool) → Comes g.target 1 (on g (below ++ Number n ∷ []) place output) (on g below (if b then place + 1 else place + 1) output)
-    → Comes g.target 1 (on g (below ++ Number n ∷ []) place output) (on g below (place + 1) output) =
-    λ b. elim b as (λ b. Comes g.target 1 (on g (below ++ Number n ∷ []) place output) (on g below (if b then place + 1 else place + 1) output)
-    → Comes g.target 1 (on g (below ++ Number n ∷ []) place output) (on g below (place + 1) output)) [ true ↦ λ c. c | false ↦ λ c. c ] in
-    comes_less g.target 0 1 _ _ (omega arith) (both (frames.is_true n) (branches_on g (place + 1) below n place output stands in_frame))
+    comes_less g.target 0 1 _ _ (omega arith)
+    (branched g (λ _. Comes g.target 1 (on g (below ++ Number n ∷ []) place output) (on g below (place + 1) output)) (place + 1) below n place output stands
+    in_frame (λ came. came) (λ came. came))
 
 -- where the jumps out go changes no length
 length-arms : (scope : Scope) (rows : List (Vec ℤ)) (arms : List Placed) (out out' place : ℕ)
@@ -825,7 +819,7 @@ module _ (g : Setting) (known : CallsRun g.depth) (site : ℕ) (within : site < 
 
   no_arm : (place : ℕ) (base : List Cell) (s : effect.State) → Stands g.target place (instr.Fail site ∷ behind)
       → Executes g (on g (base ++ index) place s.output) index out (effect.stop (ending.Error site)) s
-  no_arm place base s stands = inr (fails g (instr.Fail site) (base ++ index) place site s.output (Ok false) refl refl s.turns stands.0 within refl)
+  no_arm place base s stands = inr (fails g (instr.Fail site) (base ++ index) place site s.output _ refl refl s.turns stands.0 within refl)
 
   arms_run : (rows : List (Vec ℤ)) (arms : List ((s : Stmt) × StmtRuns s)) (before place : ℕ) (base : List Cell) (s : effect.State)
       → fold max before (map repeats (map (λ x. x.0) arms)) ≤ g.slack
@@ -914,12 +908,6 @@ case_runs g known number site index rows arms well few place base held s stands 
     subst (λ cells. Comes g.target 0 (on g cells out u.output) (on g (base3 ++ held) (out + 1) u.output)) (sym (one_held g base3 held n))
     (popped_there g (base3 ++ held) n out u.output popping (linked g u base3 held based3))))))
 
-same_executes : (g : Setting) (c c' : Placed) (d d' : ℕ) (w w' : Bool) (v v' : Execution) → c ≡ c' → d ≡ d' → w ≡ w' → v ≡ v' → ExecutesAs g c' d' w' v'
-    → ExecutesAs g c d w v
-same_executes g c c' d d' w w' v v' p q r t runs =
-    subst (λ x. ExecutesAs g x d w v) (sym p) (subst (λ x. ExecutesAs g c' x w v) (sym q) (subst (λ x. ExecutesAs g c' d' x v) (sym r) (subst (λ x. ExecutesAs
-    g c' d' w' x) (sym t) runs)))
-
 module _ (x : Stmt-F Stmt) where
   abbrev is_step : Setting → Stmt-F Bool → Bool
   is_step g = stmt_is_well_formed (outline g) g.number
@@ -929,7 +917,7 @@ module _ (x : Stmt-F Stmt) where
       (stmt_depth_step (map-Stmt Stmt ℕ stmt_depth x))
       (is_step g (map-Stmt Stmt Bool (fold-Stmt Bool (is_step g)) x)) (effect_step (map-Stmt Stmt Execution effect_of x))) → StmtRuns (roll-Stmt x)
   rolled_stmt runs g known few =
-      same_executes g _ _ _ _ _ _ _ _ (fold-roll-Stmt Placed stmt_step x) (fold-roll-Stmt ℕ stmt_depth_step x) (fold-roll-Stmt Bool (is_step g) x)
+      same_four (ExecutesAs g) (fold-roll-Stmt Placed stmt_step x) (fold-roll-Stmt ℕ stmt_depth_step x) (fold-roll-Stmt Bool (is_step g) x)
       (fold-roll-Stmt Execution effect_step x) (runs g known (subst (λ n. n ≤ g.slack) (fold-roll-Stmt ℕ repeats_step x) few))
 
 stmt_layer : (y : Stmt-F ((s : Stmt) × StmtRuns s)) → StmtRuns (roll-Stmt (map-Stmt ((s : Stmt) × StmtRuns s) Stmt (λ s. s.0) y))
