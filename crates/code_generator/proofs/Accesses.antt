@@ -42,9 +42,9 @@ use Rattle.code_scheme.specs.Depth.{access_depth, expr_depth}
 use Rattle.code_scheme.specs.Scopes.{offset, row_length, access_offset, behind_fields, fields_offset, links_to, variable_home}
 use Rattle.check_remover.specs.Strip.{stays}
 use Rattle.code_scheme.proofs.Pieces.{start_within}
-use Rattle.code_generator.proofs.Acts.{length_one, loads}
+use Rattle.code_generator.proofs.Acts.{loads}
 use Rattle.code_generator.proofs.Addressing.{loads_address, increases, indexes as element_indexed, loads_indirect}
-use Rattle.code_generator.proofs.Alike.{LiesIn, Leads, cell_of, cell_within, alike_above, base_is, keeps_above, slice_get-front}
+use Rattle.code_generator.proofs.Alike.{LiesIn, Leads, cell_of, cell_within, alike_above, base_is, keeps_above}
 use Rattle.code_generator.proofs.Evaluating.{ExprRuns, fetched_runs, frames_of, one_held, sites}
 use Rattle.code_generator.proofs.Numbers.{Fits, same_range}
 use Rattle.code_generator.proofs.Parts.{inner, IsPart, element_part, field_part, is_element, is_field_of, led_on, ordinal_part, part_later, part_up_to}
@@ -54,6 +54,7 @@ use Rattle.code_generator.proofs.Setting.{Setting, Shown, Way, Direct, ByAddress
 use Rattle.code_generator.proofs.Running.{Aim, Arrives, Evaluates, Runs, instr_then, runs_from, then_code, value_on, value_then}
 use Rattle.code_generator.proofs.Setting.{entered}
 use Rattle.code_generator.proofs.Evaluating.{range_then}
+use Rattle.code_generator.proofs.Lists.{slice_get-front, length_one}
 
 -- how far a number lies above another
 counted : (z : ℤ) → pos 0 ≤ℤ z → (n : ℕ) × (pos n ≡ z)

@@ -31,13 +31,13 @@ use Rattle.code_scheme.proofs.Pieces.{start_within}
 use Rattle.code_generator.proofs.Accesses.{Indexes, Addresses, Begins, IsReached, expressions, wells, codes, depths, are_well_formed_indexes, PartAt}
 use Rattle.code_generator.proofs.Accesses.{address_is, address_runs, begins, exact_found, frame_found, found as place_found}
 use Rattle.code_generator.proofs.Accesses.{leads, pushed_runs, scalar_there}
-use Rattle.code_generator.proofs.Acts.{length_one, stores}
+use Rattle.code_generator.proofs.Acts.{stores}
 use Rattle.code_generator.proofs.Addressing.{stores_indirect}
 use Rattle.code_generator.proofs.Alike.{Leads, LiesIn, cell_within}
 use Rattle.code_generator.proofs.Passing.{CallsAt}
 use Rattle.code_generator.proofs.Evaluating.{sites, ExecutesAs, frames_of, one_held}
 use Rattle.code_generator.proofs.Exprs.{expr_runs}
-use Rattle.code_generator.proofs.Held.{set_front, scalar_kept}
+use Rattle.code_generator.proofs.Held.{scalar_kept}
 use Rattle.code_generator.proofs.Numbers.{Fits}
 use Rattle.code_generator.proofs.Parts.{ordinal_part}
 use Rattle.code_generator.proofs.Reach.{Comes, Stands}
@@ -51,6 +51,7 @@ use Rattle.code_generator.proofs.Setting.{entered}
 use Rattle.code_generator.proofs.Exprs.{expr_then}
 use Rattle.code_generator.proofs.Evaluating.{range_then}
 use Rattle.code_generator.proofs.Wholes.{row_then}
+use Rattle.code_generator.proofs.Lists.{set_front, length_one}
 
 module _ (g : Setting) (known : CallsAt g) where
   -- index expressions with what is shown of them

@@ -246,14 +246,17 @@ module _ (g : Setting) (depth : ℕ) (known : CallsRun depth) (depth_is : g.dept
     abbrev behind_body : ℕ
     behind_body = inside + length (stmt_code block.body its.scope inside)
 
+    -- where the instruction stands that goes back
+    abbrev back : ℕ
+    back = back_place g number block block_is callable outer way base held cells arguments s based return depth depth_is room laid fits is_function behind_body
+
     ending_stands : Stands g.target behind_body (return_code its.scope block.heading.result)
     ending_stands =
         let whole = stands_back g.target inside (stmt_code block.body its.scope inside) (end_code its.scope number block.heading.result) code_stands.1 in
         subst (Stands g.target behind_body) (ap (λ n. end_code its.scope n block.heading.result) callable.number_is) whole
 
     body_runs : (base2 : List Cell) (t : effect.State) → Based its t base2
-        → Returns its (on its base2 inside t.output) [] (back_place g number block block_is callable outer way base held cells arguments s based return depth
-        depth_is room laid fits is_function behind_body) is_function
+        → Returns its (on its base2 inside t.output) [] back is_function
         (effect_of block.body (around its) >>= λ _. result_of block.heading.result its.environment) t
     body_runs base2 t after =
         let body_stands = stands_front g.target inside (stmt_code block.body its.scope inside) (end_code its.scope number block.heading.result) code_stands.1 in
@@ -261,23 +264,20 @@ module _ (g : Setting) (depth : ℕ) (known : CallsRun depth) (depth_is : g.dept
         let runs = stmt_runs block.body its known (omega arith) inside base2 [] t body_stands (well_block g.tree g.well number block block_is).body after refl
         (omega arith) in
         let ran = subst (λ cs. Executes its (on its cs inside t.output) [] behind_body (effect_of block.body (around its)) t) none runs in
-        then_runs its (kept_on its [] behind_body) (return_on its [] is_function (back_place g number block block_is callable outer way base held cells
-        arguments s based return depth depth_is room laid fits is_function behind_body)) (on its base2 inside t.output) (effect_of block.body (around its))
+        then_runs its (kept_on its [] behind_body) (return_on its [] is_function back) (on its base2 inside t.output) (effect_of block.body (around its))
         (λ _. result_of block.heading.result its.environment) t ((exact_around its).statements block.body) ran
         (λ _ u x le.
         (finish g number block block_is callable outer way base held cells arguments s based return depth depth_is room laid fits is_function kind_and_count.0
         behind_body x.0 u x.1 ending_stands (omega arith)).0)
 
     return_stands : (last : List Cell) (u : effect.State) → Based its u last
-        → StandsAt its.target (back_place g number block block_is callable outer way base held cells arguments s based return depth
-        depth_is room laid fits is_function behind_body) (instr.Return (count_of is_function)) true
+        → StandsAt its.target back (instr.Return (count_of is_function)) true
     return_stands last u after =
         (finish g number block block_is callable outer way base held cells arguments s based return depth depth_is room laid fits is_function kind_and_count.0
         behind_body last u after ending_stands (omega arith)).1
 
     -- the whole block: what was passed is assigned first
-    block_runs : Returns its arrived [] (back_place g number block block_is callable outer way base held cells arguments s based return depth
-        depth_is room laid fits is_function behind_body) is_function body_does s1
+    block_runs : Returns its arrived [] back is_function body_does s1
     block_runs =
         let w = well_block g.tree g.well number block block_is in
         let a = assigned g number block block_is callable outer way base held cells arguments s based return depth depth_is room laid fits 0
@@ -289,8 +289,7 @@ module _ (g : Setting) (depth : ℕ) (known : CallsRun depth) (depth_is : g.dept
         ap (λ roots. assign_all g.tree its.environment roots arguments s1) w.parameters_are ∙ a.1 in
         let after : Based its (record s1 { store = a.0 }) entry_cells =
         subst (Based its (record s1 { store = a.0 })) (append_assoc front links (cells ++ undefined)) a.2 in
-        let aim = return_on its [] is_function (back_place g number block block_is callable outer way base held cells arguments s based return depth
-        depth_is room laid fits is_function behind_body) in
+        let aim = return_on its [] is_function back in
         let next : Unit {0} → Action Value = λ _. effect_of block.body (around its) >>= λ _. result_of block.heading.result its.environment in
         runs_from its aim 1 _ _ body_does s1 enters_frame
         (gives_then its aim _ (assign_all g.tree its.environment block.heading.parameters.items arguments) next s1 (record s1 { store = a.0 }) tt
@@ -319,15 +318,12 @@ module _ (g : Setting) (depth : ℕ) (known : CallsRun depth) (depth_is : g.dept
     abbrev call_place : State
     call_place = on g ((base ++ (held ++ links_of g outer)) ++ cells) place s.output
 
-    returned : (r : Reply Value) → Arrives its (return_on its [] is_function (back_place g number block block_is callable outer way base held cells
-        arguments s based return depth depth_is room laid fits is_function behind_body)) left arrived r
+    returned : (r : Reply Value) → Arrives its (return_on its [] is_function back) left arrived r
         → Arrives g (return_on g held is_function (place + 1)) s.turns call_place (effect.and_then r ends_so)
     returned (Gives v t) e =
         let last = e.0.0 in
         let after = e.0.1 in
         let n = number_of v in
-        let back = back_place g number block block_is callable outer way base held cells arguments s based return depth depth_is room laid fits is_function
-        behind_body in
         let came = subst (λ l. Comes g.target (left - t.turns + 0) arrived (on its (l ++ left_by its is_function n) back t.output)) (append-nil last) e.1 in
         let home = back_comes g number block block_is callable outer way base held cells arguments s based return depth depth_is room laid fits t last after
         is_function n back (place + 1) (return_stands last t after) (sym stands.1) return_within in (
@@ -349,8 +345,7 @@ module _ (g : Setting) (depth : ℕ) (known : CallsRun depth) (depth_is : g.dept
     call_runs : Starves g call_place whole_does s1 ⊎ Arrives g (return_on g held is_function (place + 1)) s.turns call_place (whole_does s1)
     call_runs = by block_runs
       where
-        by : Returns its arrived [] (back_place g number block block_is callable outer way base held cells arguments s based return depth
-            depth_is room laid fits is_function behind_body) is_function body_does s1
+        by : Returns its arrived [] back is_function body_does s1
             → Starves g call_place whole_does s1 ⊎ Arrives g (return_on g held is_function (place + 1)) s.turns call_place (whole_does s1)
         by (inl x) =
             let y = starves_first its arrived body_does ends_so s1 x in

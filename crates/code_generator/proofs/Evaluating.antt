@@ -35,7 +35,8 @@ use Rattle.typed_tree.specs.declared.tree.RangeTest.{RangeTest}
 pub same_four : {A B C D : Type 0} (IsShown : A → B → C → D → Type 0) {a a' : A} {b b' : B} {c c' : C} {d d' : D} → a ≡ a' → b ≡ b' → c ≡ c' → d ≡ d'
     → IsShown a' b' c' d' → IsShown a b c d
 same_four IsShown {a} {a'} {b} {b'} {c} {c'} {d} {d'} p q r s shown =
-    subst (λ x. IsShown x b c d) (sym p) (subst (λ x. IsShown a' x c d) (sym q) (subst (λ x. IsShown a' b' x d) (sym r) (subst (IsShown a' b' c') (sym s) shown)))
+    subst (λ x. IsShown x b c d) (sym p) (subst (λ x. IsShown a' x c d) (sym q)
+    (subst (λ x. IsShown a' b' x d) (sym r) (subst (IsShown a' b' c') (sym s) shown)))
 
 module _ (g : Setting) where
   abbrev pub sites : ℕ

@@ -89,7 +89,7 @@ use Rattle.code_generator.proofs.Accesses.{PartAt, address_runs, exact_found, fr
 use Rattle.code_generator.proofs.Evaluating.{same_four}
 use Rattle.code_generator.proofs.Evaluating.{sites, frames_of, RunsAs, CombinesAs, ExprRuns, LinkRuns, one_held}
 use Rattle.code_generator.proofs.Wholes.{copied_cells, few_components, same_type, whole_runs}
-use Rattle.code_generator.proofs.Acts.{length_one, pushes, on_one_is, is_in_range, is_not_zero, squares, sums, differs, multiplies}
+use Rattle.code_generator.proofs.Acts.{pushes, on_one_is, is_in_range, is_not_zero, squares, sums, differs, multiplies}
 use Rattle.code_generator.proofs.Acts.{on_two_is, divides, leaves}
 use Rattle.code_generator.proofs.Numbers.{Fits, sum_is, difference_is, product_is, fits_negated, negated_is, fits_magnitude, magnitude_is, fits_quotient}
 use Rattle.code_generator.proofs.Numbers.{quotient_is, fits_remainder, fits_truth, same_truth, same_test, same_positive, fits_next, fits_previous, same_range}
@@ -99,6 +99,7 @@ use Rattle.code_generator.proofs.Passing.{all_on, passed_on, passes_it, return_o
 use Rattle.code_generator.proofs.Setting.{entered}
 use Rattle.code_generator.proofs.Evaluating.{range_then}
 use Rattle.code_generator.proofs.Wholes.{row_on, row_then}
+use Rattle.code_generator.proofs.Lists.{length_one}
 
 -- a heading of a table is that of a block
 heading_there : (blocks : List Block) (number : ℕ) (heading : Heading) → slice_get (map heading_of blocks) number ≡ Some heading
@@ -154,18 +155,17 @@ module _ (g : Setting) where
 
   -- an operation that is never in error: the instruction leaves a number, which is the one that is meant
   given_runs : (apply : Instr) (place : ℕ) (stack base held : List Cell) (c d : ℤ) (s : effect.State) (act : frames.Frames → Attempt frames.Frames)
-      → Here g place apply → deed_of apply ≡ Acts act → act (frames_of g stack) ≡ Ok (frames_of g ((base ++ held) ++ Number d ∷ [])) → d ≡ c → Fits c → Based g s base → g.below + length held < g.limit
+      → Here g place apply → deed_of apply ≡ Acts act → act (frames_of g stack) ≡ Ok (frames_of g ((base ++ held) ++ Number d ∷ [])) → d ≡ c
+      → Fits c → Based g s base → g.below + length held < g.limit
       → Evaluates g (on g stack place s.output) held (place + 1) (give (value.Number c)) s
   given_runs apply place stack base held c d s act here rule does same fit based room =
       inr (gives g 1 _ base held (place + 1) (value.Number c) s based (acts g apply stack ((base ++ held) ++ Number c ∷ []) place s.output act here rule
-      (does ∙ ap (λ v. Ok
-      (frames_of g ((base ++ held) ++ Number v ∷ []))) same)) fit room)
+      (does ∙ ap (λ v. Ok (frames_of g ((base ++ held) ++ Number v ∷ []))) same)) fit room)
 
   -- a check, behind which more comes where it holds
   checked_then : (check : Instr) (site place end : ℕ) (stack held : List Cell) (s : effect.State) (next : Action ℤ) (test : frames.Frames → Attempt Bool)
-      (good : Bool)
-      → StandsAt g.target place check (g.target.is_open site) → moved g.target.to check ≡ check
-      → deed_of check ≡ Tests site test → test (frames_of g stack) ≡ Ok good → site < sites g → (good ≡ true → Evaluates g (on g stack (place + 1) s.output) held end (as_value next) s)
+      (good : Bool) → StandsAt g.target place check (g.target.is_open site) → moved g.target.to check ≡ check → deed_of check ≡ Tests site test
+      → test (frames_of g stack) ≡ Ok good → site < sites g → (good ≡ true → Evaluates g (on g stack (place + 1) s.output) held end (as_value next) s)
       → Evaluates g (on g stack place s.output) held end (as_value (require good site >>= (λ _. next))) s
   checked_then check site place end stack held s next test true stands same rule e within rest =
       runs_from g (value_on g held end) 0 _ _ (as_value next) s (passes g check stack place site s.output test same rule stands e) (rest refl)

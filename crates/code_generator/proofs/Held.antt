@@ -39,34 +39,11 @@ use Rattle.code_generator.proofs.Reach.{Comes, Stands, StandsAt, comes_on, comes
 use Rattle.code_generator.proofs.Numbers.{Fits}
 use Rattle.code_generator.proofs.Setting.{Setting, Shown, Way, Direct, ByAddress, Reaches, outline, on, Based, linked, limit_far, Here, acts}
 use Rattle.code_generator.proofs.Setting.{branches_on, jumps}
-use Rattle.code_generator.proofs.Acts.{framed, length_one, pushes, loads, stores, on_two_is}
+use Rattle.code_generator.proofs.Acts.{framed, pushes, loads, stores, on_two_is}
 use Rattle.code_generator.proofs.Alike.{LiesIn, Leads, HasFit, alike_set, cell_of, cell_within, keeps_set}
 use Rattle.code_generator.proofs.Parts.{ordinal_part}
 use Rattle.code_generator.proofs.Places.{place_apart}
-use Rattle.code_generator.proofs.Alike.{slice_get-front}
-
--- cells above others
-slice_get-above : {A : Type 0} (xs ys : List A) (i : ℕ) (a : A) → slice_get ys i ≡ Some a → slice_get (xs ++ ys) (length xs + i) ≡ Some a
-slice_get-above [] ys i a e = let z : 0 + i ≡ i = omega arith in ap (slice_get ys) z ∙ e
-slice_get-above (x ∷ xs) ys i a e =
-    let z : length (x ∷ xs) + i ≡ suc (length xs + i) = omega arith in ap (slice_get (x ∷ (xs ++ ys))) z ∙ slice_get-above xs ys i a e
-
-set_above : {A : Type 0} (xs ys : List A) (i : ℕ) (a : A) → slice_set (xs ++ ys) (length xs + i) a ≡ xs ++ slice_set ys i a
-set_above [] ys i a = let z : 0 + i ≡ i = omega arith in ap (λ n. slice_set ys n a) z
-set_above (x ∷ xs) ys i a =
-    let z : length (x ∷ xs) + i ≡ suc (length xs + i) = omega arith in
-    ap (λ n. slice_set (x ∷ (xs ++ ys)) n a) z ∙ ap (λ l. x ∷ l) (set_above xs ys i a)
-
--- an element that is set below others
-pub set_front : {A : Type 0} (xs ys : List A) (i : ℕ) (a : A) → i < length xs → slice_set (xs ++ ys) i a ≡ slice_set xs i a ++ ys
-set_front [] ys i a h = absurd (omega arith)
-set_front (x ∷ xs) ys zero a h = refl
-set_front (x ∷ xs) ys (suc i) a h = ap (λ l. x ∷ l) (set_front xs ys i a (omega arith))
-
-set_twice : {A : Type 0} (xs : List A) (i : ℕ) (a b : A) → slice_set (slice_set xs i a) i b ≡ slice_set xs i b
-set_twice [] i a b = refl
-set_twice (x ∷ xs) zero a b = refl
-set_twice (x ∷ xs) (suc i) a b = ap (λ l. x ∷ l) (set_twice xs i a b)
+use Rattle.code_generator.proofs.Lists.{slice_behind, slice_get-front, set_twice, set_front, set_above, length_one}
 
 true_truth : (b : Bool) → is_true (truth b) ≡ b
 true_truth true = refl
@@ -220,7 +197,7 @@ module _ (g : Setting) where
       let there : slice_get cells (g.frame + held_offset g.scope n) ≡ Some cell =
       ap (slice_get cells) at ∙ ap (λ cs. slice_get cs (length base + (length held + n))) is
       ∙ slice_get-front (base ++ (held ++ rest)) more (length base + (length held + n)) cell
-      (slice_get-above base (held ++ rest) (length held + n) cell (slice_get-above held rest n cell found)) in
+      (slice_behind base (held ++ rest) (length held + n) (length base + (length held + n)) refl ∙ slice_behind held rest n (length held + n) refl ∙ found) in
       let all : length cells ≡ length base + (length held + length rest) + length more =
       omega (arith, long, length-append base (held ++ rest), length-append held rest) in
       acts g (instr.Load 0 (held_offset g.scope n)) cells (cells ++ cell ∷ []) place output _ here refl

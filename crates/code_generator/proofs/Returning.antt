@@ -28,7 +28,7 @@ use Rattle.code_scheme.specs.Code.{return_code}
 use Rattle.code_scheme.specs.Depth.{block_depth, result_depth}
 use Rattle.code_scheme.specs.Scopes.{called_routine, links_to, other_cells, parameter_cells, variable_home}
 use Rattle.code_generator.proofs.Acts.{framed, loads}
-use Rattle.code_generator.proofs.Alike.{Fixed, Keeps, Leads, LiesIn, alike_above, cell_of, cell_within, slice_get-front}
+use Rattle.code_generator.proofs.Alike.{Fixed, Keeps, Leads, LiesIn, alike_above, cell_of, cell_within}
 use Rattle.code_generator.proofs.Callee.{link_at, outer_fixed, own_part, seen}
 use Rattle.code_generator.proofs.Calling.{leaves}
 use Rattle.code_generator.proofs.Evaluating.{fetched_runs, sites}
@@ -40,6 +40,7 @@ use Rattle.code_generator.proofs.Reach.{Comes, Stands, StandsAt, comes_by, comes
 use Rattle.code_generator.proofs.Setting.{Setting, Based, outline, on, running_at, acts}
 use Rattle.code_generator.proofs.Starting.{h}
 use Rattle.code_generator.proofs.Running.{runs_from, value_on}
+use Rattle.code_generator.proofs.Lists.{slice_get-front, get_take}
 
 -- ---- what a caller held is as it was
 
@@ -62,12 +63,6 @@ take_kept (y ∷ f) held more (c ∷ cells) keeps few =
     let e : length (y ∷ f) + length held ≡ suc (length f + length held) = omega arith in
     ap (λ n. take n (c ∷ cells)) e
     ∙ ap (λ l. c ∷ l) (take_kept f held more cells (record { each = λ i cell at. keeps.each (suc i) cell at }) (omega arith))
-
-get_take : {A : Type 0} (xs : List A) (n i : ℕ) → i < n → slice_get (take n xs) i ≡ slice_get xs i
-get_take xs zero i less = absurd (omega arith)
-get_take [] (suc n) i less = refl
-get_take (x ∷ xs) (suc n) zero less = refl
-get_take (x ∷ xs) (suc n) (suc i) less = get_take xs n i (omega arith)
 
 -- how many cells a function leaves
 abbrev pub count_of : Bool → ℕ

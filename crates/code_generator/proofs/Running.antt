@@ -139,7 +139,8 @@ module _ (g : Setting) where
   -- a check, and what comes behind it where it holds
   pub check_then : {A : Type 0} (aim : Aim A) (check : Instr) (site place : ℕ) (cells : List Cell) (s : effect.State) (next : Action A)
       (test : Frames → Attempt Bool) (good : Bool) → StandsAt g.target place check (g.target.is_open site) → moved g.target.to check ≡ check
-      → deed_of check ≡ Tests site test → test (framed g.frame g.limit g.size cells) ≡ Ok good → site < length g.tree.sites.items → (good ≡ true → Runs aim (on g cells (place + 1) s.output) next s)
+      → deed_of check ≡ Tests site test → test (framed g.frame g.limit g.size cells) ≡ Ok good → site < length g.tree.sites.items
+      → (good ≡ true → Runs aim (on g cells (place + 1) s.output) next s)
       → Runs aim (on g cells place s.output) (require good site >>= (λ _. next)) s
   check_then aim check site place cells s next test true stands same rule e within rest =
       runs_from aim 0 _ _ next s (passes g check cells place site s.output test same rule stands e) (rest refl)

@@ -41,6 +41,7 @@ use Rattle.code_generator.proofs.Acts.{framed, branches}
 use Rattle.code_generator.proofs.Alike.{World, Lives, Fixed, IsApart, Alike, Keeps, Leads, Activation}
 use Rattle.code_generator.proofs.Parts.{IsPart}
 use Rattle.code_generator.proofs.Repeats.{repeats}
+use Rattle.code_generator.proofs.Lists.{slice_map, slice_there}
 
 -- how code reaches a variable: it lies in a frame, or its address does
 pub data Way : Type 0 where
@@ -124,12 +125,6 @@ pub record Setting : Type 0 where
   pub bottom : ℕ
   pub chain : Leads fixed (links_to scope 0) frame bottom
   pub blank : slice_get fixed (bottom + 2) ≡ Some (Some Undefined)
-
--- an element of a table, and of the table that was made from it
-found_at : {A B : Type 0} (f : A → B) (xs : List A) (i : ℕ) → i < length xs → (x : A) × (slice_get xs i ≡ Some x) × (slice_get (map f xs) i ≡ Some (f x))
-found_at f [] i h = absurd (omega arith)
-found_at f (x ∷ xs) zero h = (x, refl, refl)
-found_at f (x ∷ xs) (suc i) h = found_at f xs i (omega arith)
 
 -- what gives a number, where a value is wanted
 abbrev pub as_value : Action ℤ → Action Value
@@ -321,8 +316,8 @@ module _ (g : Setting) where
     fails_by : (turns : ℕ) (stayed : Bool) → g.target.is_open site ≡ stayed → StandsAt g.target place check stayed → site < length g.tree.sites.items
         → test (framed g.frame g.limit g.size cells) ≡ Ok false → Ends turns (on cells place output) (ending.Error site) output
     fails_by turns true known stands within e =
-        let found = found_at in_plain_numbers g.tree.sites.items site within in
-        let entry = ap (λ sites. slice_get sites site) g.sites_are ∙ found.2 in
+        let found = slice_there g.tree.sites.items site within in
+        let entry = ap (λ sites. slice_get sites site) g.sites_are ∙ slice_map in_plain_numbers g.tree.sites.items site found.0 found.1 in
         let does = tests_it (Ok false) e ∙ ap (λ o. Err (error_of o)) entry in
         inl (record {
           why = stop.Error (in_plain_numbers found.0);

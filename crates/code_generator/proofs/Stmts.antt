@@ -76,7 +76,7 @@ use Rattle.code_generator.proofs.Held.{slot, IsScalar, is_scalar, variable_kept,
 use Rattle.code_generator.proofs.Held.{begins, steps, leaves}
 use Rattle.code_generator.proofs.Held.{compares_row, last_is, next_fits, one_fits}
 use Rattle.code_scheme.proofs.Pieces.{length-For, start_within}
-use Rattle.code_generator.proofs.Acts.{length_one, writes}
+use Rattle.code_generator.proofs.Acts.{writes}
 use Rattle.code_generator.proofs.Numbers.{Fits, fits_by_abs, sum_is, difference_is}
 use Rattle.code_generator.proofs.Rows.{cells_of, length-cells_of, numbers_of, same_byte, writes_string}
 use Rattle.code_generator.proofs.Exprs.{call_runs, expr_runs, width_runs}
@@ -87,6 +87,7 @@ use Rattle.code_generator.proofs.Exprs.{expr_then}
 use Rattle.code_generator.proofs.Evaluating.{range_then}
 use Rattle.code_generator.proofs.Loops.{round_on}
 use Rattle.code_generator.proofs.Wholes.{row_then}
+use Rattle.code_generator.proofs.Lists.{length_one}
 
 -- what the machine writes in a width is what the program writes
 same_integer_text : (n width : ℤ) → texts.integer_text n width ≡ effect.integer_text n width

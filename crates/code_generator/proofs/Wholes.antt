@@ -40,11 +40,11 @@ use Rattle.code_scheme.proofs.Pieces.{start_within}
 use Rattle.code_generator.proofs.Accesses.{Indexes, expressions, wells, codes, depths, PartAt, leads, begins}
 use Rattle.code_generator.proofs.Accesses.{found as place_found, exact_found}
 use Rattle.code_generator.proofs.Accesses.{address_runs}
-use Rattle.code_generator.proofs.Acts.{framed, length_one, pushes}
+use Rattle.code_generator.proofs.Acts.{framed, pushes}
 use Rattle.code_generator.proofs.Addressing.{loads_many, all_defined, row_place_is, stores_at}
 use Rattle.stack_machine.specs.Addresses.{store_many}
 use Rattle.code_generator.proofs.Evaluating.{sites}
-use Rattle.code_generator.proofs.Held.{set_front, scalar_kept}
+use Rattle.code_generator.proofs.Held.{scalar_kept}
 use Rattle.code_generator.proofs.Reach.{Stands, StandsAt, Comes, comes_less, comes_on, stays_here}
 use Rattle.code_generator.proofs.Setting.{Setting, outline, around, on, Based, linked, acts, passes, fails}
 use Rattle.code_generator.proofs.Alike.{LiesIn, cell_of, HasFit, alike_above}
@@ -54,6 +54,7 @@ use Rattle.code_generator.proofs.Rows.{cells_of as value_cells, length-cells_of,
 use Rattle.code_generator.proofs.Running.{Aim, Arrives, Runs, runs_from, then_code}
 use Rattle.code_generator.proofs.Accesses.{address_then}
 use Rattle.code_generator.proofs.Setting.{entered}
+use Rattle.code_generator.proofs.Lists.{set_front, take_drop, take_set, drop_set, row_at, length_one}
 
 -- values whose numbers are of type integer
 abbrev pub AllFit : List Value → Type 0
@@ -68,21 +69,6 @@ fitting_bytes (v ∷ vs) fit =
     ∙ ap (λ bs. integers.byte_of (number_of v) ∷ bs) (fitting_bytes vs fit.1)
 
 -- ---- rows in a list of cells
-
-drop_at : {A : Type 0} (xs : List A) (d : ℕ) (x : A) → slice_get xs d ≡ Some x → drop d xs ≡ x ∷ drop (suc d) xs
-drop_at [] d x e = absurd (none-some x e)
-drop_at (y ∷ xs) zero x e = ap (λ z. z ∷ xs) (same_Some y x e)
-drop_at (y ∷ xs) (suc d) x e = drop_at xs d x e
-
--- the elements from a place on, each of which is known
-pub row_at : {A B : Type 0} (f : A → B) (xs : List A) (cells : List B) (d : ℕ)
-    → ((k : ℕ) (x : A) → slice_get xs k ≡ Some x → slice_get cells (d + k) ≡ Some (f x)) → take (length xs) (drop d cells) ≡ map f xs
-row_at f [] cells d each = refl
-row_at f (x ∷ xs) cells d each =
-    let here : d + 0 ≡ d = omega arith in
-    let rest = row_at f xs cells (suc d)
-    (λ k y at. let e : d + suc k ≡ suc d + k = omega arith in ap (slice_get cells) (sym e) ∙ each (suc k) y at) in
-    ap (take (suc (length xs))) (drop_at cells d (f x) (ap (slice_get cells) (sym here) ∙ each 0 x refl)) ∙ ap (λ l. f x ∷ l) rest
 
 -- what a row of scalars gives, all of which are components of one place
 module _ (store : meant.Store) (p : Place) where
@@ -152,23 +138,6 @@ set_row cells d (c ∷ row) = set_row (slice_set cells d c) (d + 1) row
 pub length-set_row : (cells : List Cell) (d : ℕ) (row : List Cell) → length (set_row cells d row) ≡ length cells
 length-set_row cells d [] = refl
 length-set_row cells d (c ∷ row) = length-set_row (slice_set cells d c) (d + 1) row ∙ length-set cells d c
-
-take_drop : {A : Type 0} (xs : List A) (d : ℕ) → xs ≡ take d xs ++ drop d xs
-take_drop xs zero = refl
-take_drop [] (suc d) = refl
-take_drop (x ∷ xs) (suc d) = ap (λ l. x ∷ l) (take_drop xs d)
-
-take_set : {A : Type 0} (xs : List A) (d : ℕ) (a : A) → d < length xs → take (suc d) (slice_set xs d a) ≡ take d xs ++ a ∷ []
-take_set [] d a h = absurd (omega arith)
-take_set (x ∷ xs) zero a h = refl
-take_set (x ∷ xs) (suc d) a h = ap (λ l. x ∷ l) (take_set xs d a (omega arith))
-
-drop_set : {A : Type 0} (xs : List A) (d more : ℕ) (a : A) → drop (suc (d + more)) (slice_set xs d a) ≡ drop (suc (d + more)) xs
-drop_set [] d more a = refl
-drop_set (x ∷ xs) zero more a = refl
-drop_set (x ∷ xs) (suc d) more a =
-    let e : suc d + more ≡ suc (d + more) = omega arith in
-    ap (λ n. drop n (slice_set xs d a)) e ∙ drop_set xs d more a ∙ ap (λ n. drop n xs) (sym e)
 
 -- a row in one piece
 pub set_row_is : (cells : List Cell) (d : ℕ) (row : List Cell) → d + length row ≤ length cells
