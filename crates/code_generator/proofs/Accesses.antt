@@ -1,7 +1,7 @@
 -- The code of an access: it leaves the address of the part that selectors lead to on top, or stops as an index does.
 use Rattle.std.proofs.Common.{◌≡◌, ℕ, zero, suc, ◌+◌, ◌-◌, ◌*◌, ◌<◌, ◌≤◌, max, List, [], ◌∷◌, ◌++◌, length, map, Option, Some, None, Ok, refl, sym, ap, ◌∙◌}
-use Rattle.std.proofs.Common.{subst}
-use Rattle.std.proofs.Common.{arith, length-append, Bool, true, false, ◌⊎◌, inl, inr, if◌then◌else◌}
+use Rattle.std.proofs.Common.{subst, append_assoc}
+use Rattle.std.proofs.Common.{arith, length-append, Bool, true, inr, if◌then◌else◌}
 use Rattle.std.specs.Prelude.{ℤ, pos, negsuc, ◌-ℤ◌, ◌≤ℤ◌, int_le, ◌&&◌, fold, nat_lt, slice_get}
 use Rattle.std.specs.List.{list_all}
 use Rattle.std.specs.Option.{option_and_then}
@@ -42,17 +42,19 @@ use Rattle.code_scheme.specs.Depth.{access_depth, expr_depth}
 use Rattle.code_scheme.specs.Scopes.{offset, row_length, access_offset, behind_fields, fields_offset, links_to, variable_home}
 use Rattle.check_remover.specs.Strip.{stays}
 use Rattle.code_scheme.proofs.Pieces.{start_within}
-use Rattle.code_generator.proofs.Acts.{length_one, is_in_range, loads}
+use Rattle.code_generator.proofs.Acts.{loads}
 use Rattle.code_generator.proofs.Addressing.{loads_address, increases, indexes as element_indexed, loads_indirect}
-use Rattle.code_generator.proofs.Alike.{LiesIn, Leads, cell_of, cell_within, alike_above, base_is, keeps_above, slice_get-front}
+use Rattle.code_generator.proofs.Alike.{LiesIn, Leads, cell_of, cell_within, alike_above, base_is, keeps_above}
 use Rattle.code_generator.proofs.Evaluating.{ExprRuns, fetched_runs, frames_of, one_held, sites}
 use Rattle.code_generator.proofs.Numbers.{Fits, same_range}
 use Rattle.code_generator.proofs.Parts.{inner, IsPart, element_part, field_part, is_element, is_field_of, led_on, ordinal_part, part_later, part_up_to}
-use Rattle.code_generator.proofs.Reach.{Stands, StandsAt, stands_front, stands_back, Comes, comes_less, comes_on, stays_here}
+use Rattle.code_generator.proofs.Reach.{Stands, StandsAt, stands_front, stands_back, Comes, comes_less, stays_here}
 use Rattle.code_generator.proofs.Exact.{exact_selected}
 use Rattle.code_generator.proofs.Setting.{Setting, Shown, Way, Direct, ByAddress, Reaches, outline, around, exact_around, on, Based, linked, limit_far, acts}
-use Rattle.code_generator.proofs.Setting.{passes, fails, Ends, ends_on, Starves, starves_on, starves_first, starves_behind, Valued, Evaluates}
-use Rattle.code_generator.proofs.Setting.{evaluates_from, evaluates_behind, Executed, Executes, executes_behind}
+use Rattle.code_generator.proofs.Running.{Aim, Arrives, Evaluates, Runs, instr_then, runs_from, then_code, value_on, value_then}
+use Rattle.code_generator.proofs.Setting.{entered}
+use Rattle.code_generator.proofs.Evaluating.{range_then}
+use Rattle.code_generator.proofs.Lists.{slice_get-front, length_one}
 
 -- how far a number lies above another
 counted : (z : ℤ) → pos 0 ≤ℤ z → (n : ℕ) × (pos n ≡ z)
@@ -80,96 +82,47 @@ module _ (g : Setting) where
   pub as_many_wells : (indexes : Indexes) → length (wells indexes) ≡ length (expressions indexes)
   as_many_wells indexes = length-map (expressions indexes) (is_well_formed_expr (outline g) g.number)
 
-  -- what the code of an address does, with so many turns left here: the address of a part of a place comes on top of what
-  -- is held, over cells alike to the store; or an index ends the run
-  abbrev pub Addressed : ℕ → State → List Cell → ℕ → TypeId → Reply (Option Place) → Type 0
-  Addressed turns m held place t (Gives None s) = ⊥
-  Addressed turns m held place t (Gives (Some p) s) =
-      (base : List Cell) × Based g s base × (d : ℕ) × PartAt p t d
-      × Comes g.target (turns - s.turns) m (on g ((base ++ held) ++ Number (pos d) ∷ []) place s.output) × (g.below + length held < g.limit) × (s.turns ≤ turns)
-  Addressed turns m held place t (effect.Stops end s) = Ends g turns m end s.output
+  -- the address of a part of a place comes on top of what is held, over cells alike to the store
+  abbrev pub Addressed : List Cell → TypeId → Option Place → effect.State → Type 0
+  Addressed held t None s = ⊥
+  Addressed held t (Some p) s = (base : List Cell) × Based g s base × (d : ℕ) × PartAt p t d × (g.below + length held < g.limit)
 
-  -- or the store is full
+  abbrev pub addressed_there : (held : List Cell) (place : ℕ) (t : TypeId) (q : Option Place) (s : effect.State) → Addressed held t q s → State
+  addressed_there held place t None s h = absurd h
+  addressed_there held place t (Some p) s h = on g ((h.0 ++ held) ++ Number (pos h.2) ∷ []) place s.output
+
+  abbrev pub address_on : List Cell → TypeId → ℕ → Aim (Option Place)
+  address_on held t place = record { Holds = Addressed held t; there = addressed_there held place t; gain = 0 }
+
   abbrev pub Addresses : State → List Cell → ℕ → TypeId → Action (Option Place) → effect.State → Type 0
-  Addresses m held place t action s = Starves g m action s ⊎ Addressed s.turns m held place t (action s)
+  Addresses m held place t action s = Runs g (address_on held t place) m action s
 
   -- an address that is there after some instructions
   pub addresses : (least : ℕ) (m : State) (base held : List Cell) (place d : ℕ) (p : Place) (t : TypeId) (s : effect.State) → Based g s base
       → PartAt p t d → Comes g.target least m (on g ((base ++ held) ++ Number (pos d) ∷ []) place s.output) → g.below + length held < g.limit
-      → Addressed s.turns m held place t (Gives (Some p) s)
+      → Arrives g (address_on held t place) s.turns m (Gives (Some p) s)
   addresses least m base held place d p t s based part l room =
-      (base, based, d, part, comes_less g.target (s.turns - s.turns) least m _ (omega arith) l, room, omega arith)
+      ((base, based, d, part, room), comes_less g.target (s.turns - s.turns + 0) least m _ (omega arith) l, omega arith)
 
-  addressed_on : (turns left : ℕ) (a b : State) (held : List Cell) (place : ℕ) (t : TypeId) (r : Reply (Option Place)) → left ≤ turns
-      → Comes g.target (turns - left) a b → Addressed left b held place t r → Addressed turns a held place t r
-  addressed_on turns left a b held place t (Gives None s) le l e = e
-  addressed_on turns left a b held place t (Gives (Some p) s) le l e = (
-    e.0,
-    e.1,
-    e.2,
-    e.3,
-    comes_less g.target (turns - s.turns) (turns - left + (left - s.turns)) a _ (omega arith)
-        (comes_on g.target (turns - left) (left - s.turns) a b _ l e.4),
-    e.5,
-    omega (arith, e.6),
-  )
-  addressed_on turns left a b held place t (effect.Stops end s) le l e = ends_on g turns left a b end s.output l e
-
-  -- where no turn is used
-  pub addresses_from : (least : ℕ) (a b : State) (held : List Cell) (place : ℕ) (t : TypeId) (action : Action (Option Place)) (s : effect.State)
-      → Comes g.target least a b → Addresses b held place t action s → Addresses a held place t action s
-  addresses_from least a b held place t action s l (inl x) = inl (starves_on g least a b action s l x)
-  addresses_from least a b held place t action s l (inr e) =
-      inr (addressed_on s.turns s.turns a b held place t (action s) (omega arith) (comes_less g.target (s.turns - s.turns) least a b (omega arith) l) e)
-
-  -- an address behind an index
-  index_addresses : (m : State) (held held' : List Cell) (place place' : ℕ) (t : TypeId) (first : Action Value) (next : Value → Action (Option Place))
-      (s : effect.State) → UsesTurnsExactly first → Evaluates g m held place first s
-      → ((base : List Cell) (v : Value) (u : effect.State) → Based g u base → Fits (number_of v) → g.below + length held < g.limit
-      → Addresses (on g ((base ++ held) ++ Number (number_of v) ∷ []) place u.output) held' place' t (next v) u)
-      → Addresses m held' place' t (first >>= next) s
-  index_addresses m held held' place place' t first next s exact (inl x) h = inl (starves_first g m first next s x)
-  index_addresses m held held' place place' t first next s exact (inr e) h = by (first s) refl e
-    where
-      behind : (u : effect.State) (v : Value) (there : State) → first s ≡ Gives v u → u.turns ≤ s.turns → Comes g.target (s.turns - u.turns) m there
-          → Addresses there held' place' t (next v) u → Starves g m (first >>= next) s ⊎ Addressed s.turns m held' place' t (next v u)
-      behind u v there is le l (inl x) = inl (starves_behind g (s.turns - u.turns) m there first next s u v exact is l x)
-      behind u v there is le l (inr d) = inr (addressed_on s.turns u.turns m there held' place' t (next v u) le l d)
-
-      by : (r : Reply Value) → first s ≡ r → Valued g s.turns m held place r
-          → Starves g m (first >>= next) s ⊎ Addressed s.turns m held' place' t (effect.and_then r next)
-      by (Gives v u) is e = behind u v _ is e.5 e.2 (h e.0 v u e.1 e.3 e.4)
-      by (effect.Stops end u) is e = inr e
-
-  -- a value behind an address
-  pub address_evaluates : (m : State) (held held' : List Cell) (place place' : ℕ) (t : TypeId) (first : Action (Option Place))
-      (next : Option Place → Action Value) (s : effect.State) → UsesTurnsExactly first → Addresses m held place t first s
+  -- what comes at an address
+  pub at_address : {A : Type 0} (aim : Aim A) (held : List Cell) (place : ℕ) (t : TypeId) (next : Option Place → Action A)
       → ((base : List Cell) (d : ℕ) (p : Place) (u : effect.State) → Based g u base → PartAt p t d → g.below + length held < g.limit
-      → Evaluates g (on g ((base ++ held) ++ Number (pos d) ∷ []) place u.output) held' place' (next (Some p)) u)
-      → Evaluates g m held' place' (first >>= next) s
-  address_evaluates m held held' place place' t first next s exact (inl x) h = inl (starves_first g m first next s x)
-  address_evaluates m held held' place place' t first next s exact (inr e) h = by (first s) refl e
-    where
-      by : (r : Reply (Option Place)) → first s ≡ r → Addressed s.turns m held place t r
-          → Starves g m (first >>= next) s ⊎ Valued g s.turns m held' place' (effect.and_then r next)
-      by (Gives None u) is e = absurd e
-      by (Gives (Some p) u) is e = evaluates_behind g m _ held' place' first next s u (Some p) exact is e.6 e.4 (h e.0 e.2 p u e.1 e.3 e.5)
-      by (effect.Stops end u) is e = inr e
+      → Runs g aim (on g ((base ++ held) ++ Number (pos d) ∷ []) place u.output) (next (Some p)) u)
+      → (q : Option Place) (u : effect.State) (x : Addressed held t q u) → Runs g aim (addressed_there held place t q u x) (next q) u
+  at_address aim held place t next h None u x = absurd x
+  at_address aim held place t next h (Some p) u x = h x.0 x.2 p u x.1 x.3 x.4
 
-  -- a statement behind an address
-  pub address_executes : (m : State) (held held' : List Cell) (place place' : ℕ) (t : TypeId) (first : Action (Option Place))
-      (next : Option Place → Action (Unit {0})) (s : effect.State) → UsesTurnsExactly first → Addresses m held place t first s
-      → ((base : List Cell) (d : ℕ) (p : Place) (u : effect.State) → Based g u base → PartAt p t d → g.below + length held < g.limit
-      → Executes g (on g ((base ++ held) ++ Number (pos d) ∷ []) place u.output) held' place' (next (Some p)) u)
-      → Executes g m held' place' (first >>= next) s
-  address_executes m held held' place place' t first next s exact (inl x) h = inl (starves_first g m first next s x)
-  address_executes m held held' place place' t first next s exact (inr e) h = by (first s) refl e
-    where
-      by : (r : Reply (Option Place)) → first s ≡ r → Addressed s.turns m held place t r
-          → Starves g m (first >>= next) s ⊎ Executed g s.turns m held' place' (effect.and_then r next)
-      by (Gives None u) is e = absurd e
-      by (Gives (Some p) u) is e = executes_behind g m _ held' place' first next s u (Some p) exact is e.6 e.4 (h e.0 e.2 p u e.1 e.3 e.5)
-      by (effect.Stops end u) is e = inr e
+  -- an address, and the code behind it
+  pub address_then : {A : Type 0} (aim : ℕ → Aim A) (c c' : List Instr) (place : ℕ) (m : State) (held : List Cell) (t : TypeId)
+      (first : Action (Option Place)) (next : Option Place → Action A) (s : effect.State) → UsesTurnsExactly first → Stands g.target place (c ++ c')
+      → (Stands g.target place c → Addresses m held (place + length c) t first s)
+      → ((base : List Cell) (d : ℕ) (p : Place) (u : effect.State) → Stands g.target (place + length c) c' → Based g u base → PartAt p t d
+      → g.below + length held < g.limit
+      → Runs g (aim (place + length c + length c')) (on g ((base ++ held) ++ Number (pos d) ∷ []) (place + length c) u.output) (next (Some p)) u)
+      → Runs g (aim (place + length (c ++ c'))) m (first >>= next) s
+  address_then aim c c' place m held t first next s exact stands runs h =
+      then_code g (address_on held t) aim c c' place m first next s exact stands runs
+      (λ q u x rest. at_address (aim (place + length c + length c')) held (place + length c) t next (λ base d p v. h base d p v rest) q u x)
 
   -- ---- selectors
 
@@ -246,26 +199,23 @@ module _ (g : Setting) where
       → Addresses (on g ((base ++ held) ++ Number (pos d) ∷ []) place s.output) held (place + length (selectors_code selectors (codes indexes))) last
       (selected selectors (map value_of (expressions indexes)) (around g) (Some p)) s
 
-  -- an index that was evaluated: its test, the address of the element, and what is selected from there
-  indexed_by : (good : Bool) (fits : RangeTest) (cells : ℕ) (selectors : List Selector) (indexes : Indexes) (depth place d : ℕ) (base held : List Cell) (n : ℤ)
-      (p : Place) (t part last : TypeId) (s : effect.State) → (int_le fits.range.first n && int_le n fits.range.last) ≡ good → SelectorsRun selectors indexes
-      → Stands g.target place (range_check fits ∷ instr.IndexAddress fits.range.first (row_length cells) ∷ selectors_code selectors (codes indexes))
-      → are_well_formed_indexes indexes ≡ true → is_well_formed_test (outline g) g.number fits ≡ true → are_selectors selectors ≡ true
+  -- an index in the range of its test: the address of the element, and what is selected from there
+  indexed_by : (fits : RangeTest) (cells : ℕ) (selectors : List Selector) (indexes : Indexes) (depth place d : ℕ) (base held : List Cell) (n : ℤ)
+      (p : Place) (t part last : TypeId) (s : effect.State) → (int_le fits.range.first n && int_le n fits.range.last) ≡ true → SelectorsRun selectors indexes
+      → Stands g.target place (instr.IndexAddress fits.range.first (row_length cells) ∷ selectors_code selectors (codes indexes))
+      → are_well_formed_indexes indexes ≡ true → is_whole fits.range.first ≡ true → are_selectors selectors ≡ true
       → length (expressions indexes) ≡ index_count selectors → chosen g.tree.types (Element fits cells) t ≡ Some part
       → led g.tree.types selectors part ≡ Some last
       → PartAt p t d → Based g s base → g.below + length held + fold max depth (map (λ i. i + 1) (depths indexes)) ≤ g.limit
       → g.below + length held < g.limit → Fits n
       → Addresses (on g (((base ++ held) ++ Number (pos d) ∷ []) ++ Number n ∷ []) place s.output) held
-      (place + 1 + 1 + length (selectors_code selectors (codes indexes))) last
-      (require good fits.site >>= (λ _. selected selectors (map value_of (expressions indexes)) (around g)
-      (Some (inner p (step.Element n ∷ []))))) s
-  indexed_by true fits cells selectors indexes depth place d base held n p t part last s holds runs stands wells test well counts is ends whole based deep
+      (place + length (instr.IndexAddress fits.range.first (row_length cells) ∷ selectors_code selectors (codes indexes))) last
+      (selected selectors (map value_of (expressions indexes)) (around g) (Some (inner p (step.Element n ∷ [])))) s
+  indexed_by fits cells selectors indexes depth place d base held n p t part last s holds runs stands wells whole_bound well counts is ends whole based deep
       room fit =
       let below = base ++ held in
       let one = below ++ Number (pos d) ∷ [] in
       let both = and_parts (int_le fits.range.first n) (int_le n fits.range.last) holds in
-      let bounds = and_parts (is_whole fits.range.first) (is_whole fits.range.last)
-      (and_parts (nat_lt fits.site (sites g)) (is_whole fits.range.first && is_whole fits.range.last) test).1 in
       let low : fits.range.first ≤ℤ n = omega (arith, ints, both.0) in
       let high : n ≤ℤ fits.range.last = omega (arith, ints, both.1) in
       let far = counted (n -ℤ fits.range.first) (omega (arith, ints, low)) in
@@ -276,28 +226,15 @@ module _ (g : Setting) where
       let full = based.full in
       let limit = limit_far g in
       let long = length-append base held in
-      let in_frame = linked g s base held based in
-      let passed = passes g (range_check fits) (one ++ Number n ∷ []) place fits.site s.output _ refl refl stands.0
-      (is_in_range g.frame g.limit g.size one (omega (arith, length_one below (Number (pos d)))) fits.range.first fits.range.last n ∙ ap Ok holds) in
       let there = below ++ Number (pos (d + far.0 * cells)) ∷ [] in
-      let reached = acts g (instr.IndexAddress fits.range.first (row_length cells)) (one ++ Number n ∷ []) there (place + 1) s.output _ stands.1.0 refl
+      let reached = acts g (instr.IndexAddress fits.range.first (row_length cells)) (one ++ Number n ∷ []) there place s.output _ stands.0 refl
       (ap (λ size. on_two (element fits.range.first size) (frames_of g (one ++ Number n ∷ []))) same
-      ∙ element_indexed g.frame g.limit g.size below in_frame fits.range.first n cells d far.0 (omega arith) (record { is = bounds.0 }) fit far.1 small
-      (omega arith)) in
-      let rest = runs depth (place + 1 + 1) (d + far.0 * cells) base held (inner p (step.Element n ∷ [])) part last s stands.1.1 wells well counts ends
-      lies.0 based
-      deep room in
-      addresses_from 1 _ _ held (place + 1 + 1 + length (selectors_code selectors (codes indexes))) last
-      (selected selectors (map value_of (expressions indexes)) (around g) (Some (inner p (step.Element n ∷ [])))) s
-      (comes_on g.target 0 1 _ _ _ passed reached) rest
-  indexed_by false fits cells selectors indexes depth place d base held n p t part last s holds runs stands wells test well counts is ends whole based deep
-      room fit =
-      let one = (base ++ held) ++ Number (pos d) ∷ [] in
-      let in_frame = linked g s base held based in
-      inr (fails g (range_check fits) (one ++ Number n ∷ []) place fits.site s.output _ refl refl s.turns stands.0 (ltb-true fits.site (sites g) (and_parts
-      (nat_lt fits.site (sites g)) (is_whole fits.range.first && is_whole fits.range.last) test).0)
-      (is_in_range g.frame g.limit g.size one (omega (arith, length_one (base ++ held) (Number (pos d)))) fits.range.first fits.range.last n
-      ∙ ap Ok holds))
+      ∙ element_indexed g.frame g.limit g.size below (linked g s base held based) fits.range.first n cells d far.0 (omega arith)
+      (record { is = whole_bound }) fit far.1 small (omega arith)) in
+      instr_then g (address_on held last) 1 (instr.IndexAddress fits.range.first (row_length cells)) (selectors_code selectors (codes indexes)) place _ _
+      (selected selectors (map value_of (expressions indexes)) (around g) (Some (inner p (step.Element n ∷ [])))) s reached
+      (runs depth (place + 1) (d + far.0 * cells) base held (inner p (step.Element n ∷ [])) part last s stands.1 wells well counts ends lies.0 based
+      deep room)
 
   pub selectors_run : (selectors : List Selector) (indexes : Indexes) → SelectorsRun selectors indexes
   selectors_run [] indexes depth place d base held p t last s stands wells well counts ends whole based deep room =
@@ -315,47 +252,51 @@ module _ (g : Setting) where
       let rest = selectors_code selectors (codes indexes) in
       let q = inner p (step.Field position ∷ []) in
       let e : place + length c + length rest ≡ place + length (c ++ rest) = omega (arith, length-append c rest) in
-      let stepped = field_steps before place d base held s (stands_front g.target place c rest stands) based room (omega arith) in
-      let runs = selectors_run selectors indexes depth (place + length c) (d + before) base held q on_led.0 last s
-      (stands_back g.target place c rest stands) wells
-      well counts on_led.2 inside based deep room in
       subst (λ there. Addresses (on g ((base ++ held) ++ Number (pos d) ∷ []) place s.output) held there last
       (selected selectors (map value_of (expressions indexes)) (around g) (Some q)) s) e
-      (addresses_from 0 _ _ held (place + length c + length rest) last (selected selectors (map value_of (expressions indexes)) (around g) (Some q)) s stepped
-      runs)
+      (runs_from g (address_on held last (place + length c + length rest)) 0 _ _
+      (selected selectors (map value_of (expressions indexes)) (around g) (Some q)) s
+      (field_steps before place d base held s (stands_front g.target place c rest stands) based room (omega arith))
+      (selectors_run selectors indexes depth (place + length c) (d + before) base held q on_led.0 last s (stands_back g.target place c rest stands) wells
+      well counts on_led.2 inside based deep room))
   selectors_run (Element fits cells ∷ selectors) [] depth place d base held p t last s stands wells well counts ends whole based deep room =
       absurd (omega arith)
   selectors_run (Element fits cells ∷ selectors) (index ∷ indexes) depth place d base held p t last s stands wells well counts ends whole based deep room =
       let on_led = led_on g.tree.types (Element fits cells) selectors t last ends in
       let c = expr_code g.scope index.0 in
-      let rest = range_check fits ∷ instr.IndexAddress fits.range.first (row_length cells) ∷ selectors_code selectors (codes indexes) in
+      let indexing = instr.IndexAddress fits.range.first (row_length cells) ∷ selectors_code selectors (codes indexes) in
       let more = start_within (max depth (expr_depth index.0 + 1)) (map (λ i. i + 1) (depths indexes)) in
       let parts : (is_well_formed_expr (outline g) g.number index.0 ≡ true) × (are_well_formed_indexes indexes ≡ true) =
       and_parts _ _ wells in
       let selector_parts : (is_well_formed_test (outline g) g.number fits ≡ true) × (are_selectors selectors ≡ true) =
       and_parts _ _ well in
+      let test_parts = and_parts (nat_lt fits.site (sites g)) (is_whole fits.range.first && is_whole fits.range.last) selector_parts.0 in
+      let whole_bound = (and_parts (is_whole fits.range.first) (is_whole fits.range.last) test_parts.1).0 in
       let above = held ++ Number (pos d) ∷ [] in
       let high = length_one held (Number (pos d)) in
-      let end = place + length c + 1 + 1 + length (selectors_code selectors (codes indexes)) in
-      let e : end ≡ place + length (c ++ rest) = omega (arith, length-append c rest) in
-      let next : Value → Action (Option Place) = λ v. require (effect.is_in fits.range v) fits.site >>= λ _.
+      let chosen_by : Value → Action (Option Place) = λ v.
       selected selectors (map value_of (expressions indexes)) (around g) (Some (inner p (step.Element (number_of v) ∷ []))) in
-      let evaluated = index.1 place base above s (stands_front g.target place c rest stands) parts.0 based (omega arith) in
-      subst (λ there. Addresses (on g ((base ++ held) ++ Number (pos d) ∷ []) place s.output) held there last (value_of index.0 (around g) >>= next) s) e
-      (subst (λ cells. Addresses (on g cells place s.output) held end last (value_of index.0 (around g) >>= next) s)
+      let next : Value → Action (Option Place) = λ v. require (effect.is_in fits.range v) fits.site >>= λ _. chosen_by v in
+      let end = place + length (c ++ (range_check fits ∷ indexing)) in
+      subst (λ cells. Addresses (on g cells place s.output) held end last (value_of index.0 (around g) >>= next) s)
       (one_held g base held (pos d))
-      (index_addresses _ above held (place + length c) end last (value_of index.0 (around g)) next s ((exact_around g).values index.0) evaluated
-      (λ base2 v s2 based2 fit2 room2.
+      (value_then g (address_on held last) c (range_check fits ∷ indexing) place _ above (value_of index.0 (around g)) next s
+      ((exact_around g).values index.0) stands (λ front. index.1 place base above s front parts.0 based (omega arith))
+      (λ base2 v s2 rest based2 fit2 room2.
       let n = number_of v in
-      subst (λ cs. Addresses (on g (cs ++ Number n ∷ []) (place + length c) s2.output) held end last (next v) s2)
+      let from = place + length c in
+      let one = (base2 ++ held) ++ Number (pos d) ∷ [] in
+      let in_frame = linked g s2 base2 held based2 in
+      let e : from + 1 + length indexing ≡ from + length (range_check fits ∷ indexing) = omega arith in
+      subst (λ cs. Addresses (on g (cs ++ Number n ∷ []) from s2.output) held (from + length (range_check fits ∷ indexing)) last (next v) s2)
       (sym (one_held g base2 held (pos d)))
-      (subst (λ test. Addresses (on g (((base2 ++ held) ++ Number (pos d) ∷ []) ++ Number n ∷ []) (place + length c) s2.output) held end last
-      (require test fits.site >>= (λ _. selected selectors (map value_of (expressions indexes)) (around g)
-      (Some (inner p (step.Element n ∷ []))))) s2) (sym (same_range fits.range v fit2))
-      (indexed_by _ fits cells selectors indexes (max depth (expr_depth index.0 + 1)) (place + length c) d base2 held n p t on_led.0 last s2 refl
-      (selectors_run selectors indexes) (stands_back g.target place c rest stands) parts.1 selector_parts.0 selector_parts.1
-      (omega arith) on_led.1 on_led.2 whole
-      based2 deep (omega arith) fit2)))))
+      (subst (λ there. Addresses (on g (one ++ Number n ∷ []) from s2.output) held there last (next v) s2) e
+      (range_then g (address_on held last (from + 1 + length indexing)) fits v one from s2 (chosen_by v) rest.0
+      (ltb-true fits.site (sites g) test_parts.0) (omega (arith, in_frame, length_one (base2 ++ held) (Number (pos d)))) fit2
+      (λ holds.
+      indexed_by fits cells selectors indexes (max depth (expr_depth index.0 + 1)) (from + 1) d base2 held n p t on_led.0 last s2
+      (sym (same_range fits.range v fit2) ∙ holds) (selectors_run selectors indexes) rest.1 parts.1 whole_bound selector_parts.1 (omega arith)
+      on_led.1 on_led.2 whole based2 deep (omega arith) fit2)))))
 
   -- ---- an access
 
@@ -443,10 +384,6 @@ module _ (g : Setting) where
         meant = rest.meant;
       }
 
-  -- the state behind an entry
-  abbrev pub entered : ℕ → effect.State → effect.State
-  entered number s = record s { visited = s.visited ++ record { number = number; environment = g.environment; store = s.store } ∷ [] }
-
   -- an instruction pushes the address of a cell
   abbrev pub PushesAddress : Instr → ℕ → Type 0
   PushesAddress i d =
@@ -472,7 +409,7 @@ module _ (g : Setting) where
     pub counts : index_count rest ≡ index_count access.selectors.items
     pub well : are_selectors rest ≡ true
     pub meant : (evaluations : List Evaluation) → meaning.accessed access evaluations (around g)
-        ≡ (λ s. selected rest evaluations (around g) (Some there) (entered access.number s))
+        ≡ (λ s. selected rest evaluations (around g) (Some there) (entered g access.number s))
     pub first : Instr
     pub pushes : PushesAddress first cell
     pub way : Reached
@@ -530,9 +467,9 @@ module _ (g : Setting) where
       shown = g.shows access.root l.variable l.declared l.visible
 
       entry_meant : (evaluations : List Evaluation) → meaning.accessed access evaluations (around g)
-          ≡ (λ s. selected selectors evaluations (around g) (Some shown.place) (entered access.number s))
+          ≡ (λ s. selected selectors evaluations (around g) (Some shown.place) (entered g access.number s))
       entry_meant evaluations = ap {B = Action (Option Place)} (λ (o : Option Place) (s : effect.State). selected selectors evaluations (around g) o
-          (entered access.number s)) shown.place_is
+          (entered g access.number s)) shown.place_is
 
       begins_by : (way : Way) → Reaches g.tree g.world g.fixed g.below shown.place l.variable (shown.owner + home.start) home.refers way
           → Begins access l.last indexes
@@ -558,7 +495,7 @@ module _ (g : Setting) where
             counts = all.counts;
             well = all.well;
             meant = λ evaluations. entry_meant evaluations
-                ∙ ap {B = Action (Option Place)} (λ (action : Action (Option Place)) (s : effect.State). action (entered access.number s))
+                ∙ ap {B = Action (Option Place)} (λ (action : Action (Option Place)) (s : effect.State). action (entered g access.number s))
                 (all.meant evaluations);
             first = instr.LoadAddress level (access_offset g.scope access);
             pushes = address_pushed level (access_offset g.scope access) shown.owner shown.leads (omega arith);
@@ -606,12 +543,10 @@ module _ (g : Setting) where
     pushed_runs place base held s stands based deep =
         let cells = base ++ held in
         let more = start_within 1 (map (λ i. i + 1) (depths indexes)) in
-        let e : place + 1 + length rest_code ≡ place + length (start.first ∷ rest_code) = omega arith in
-        let loaded = start.pushes place base held s stands.0 based (omega arith) in
-        let runs = selectors_run start.rest indexes 1 (place + 1) start.cell base held start.there start.its last s stands.1 good start.well
-        (counts ∙ sym start.counts) start.ends start.part based deep (omega arith) in
-        subst (λ q. Addresses (on g cells place s.output) held q last found s) e
-        (addresses_from 1 _ _ held (place + 1 + length rest_code) last found s loaded runs)
+        instr_then g (address_on held last) 1 start.first rest_code place (on g cells place s.output) _ found s
+        (start.pushes place base held s stands.0 based (omega arith))
+        (selectors_run start.rest indexes 1 (place + 1) start.cell base held start.there start.its last s stands.1 good start.well
+        (counts ∙ sym start.counts) start.ends start.part based deep (omega arith))
 
     -- the code of the address of what is reached
     address_by : (way : Reached) → IsReached way start.cell start.first start.rest (codes indexes) → address_of way ≡ start.first ∷ rest_code
@@ -638,7 +573,7 @@ module _ (g : Setting) where
     loaded_runs defined place cells base held p d s within lies stands based room does =
         let above = alike_above g.world s.store base held based.alike in
         let loaded = does (cell_of (stored s.store p)) (cell_within g.world s.store (base ++ held) p d above lies) (above.scalars p d lies) in
-        evaluates_from g 1 _ _ held (place + 1 + 1) (fetch (Some p) defined) s loaded
+        runs_from g (value_on g held (place + 1 + 1)) 1 _ _ (fetch (Some p) defined) s loaded
         (fetched_runs g (place + 1) defined base held s (stored s.store p) stands within based room (above.fits p d lies))
 
     module _ (ordinal : is_ordinal g.tree.types last ≡ true) where
@@ -672,27 +607,24 @@ module _ (g : Setting) where
       fetch_by (By code) is r defined place base held s within stands based deep =
           let check = instr.CheckDefined defined 1 ∷ [] in
           let load = instr.LoadIndirect 0 ∷ [] in
-          let loading = stands_front g.target place (code ++ load) check stands in
-          let checking = stands_back g.target place (code ++ load) check stands in
-          let at : place + length (code ++ load) ≡ place + length code + 1 = omega (arith, length-append code load) in
-          let e : place + length code + 1 + 1 ≡ place + length ((code ++ load) ++ check) =
-          omega (arith, length-append code load, length-append (code ++ load) check) in
-          let here = stands_back g.target place code load loading in
-          let tested = subst (λ q. Stands g.target q check) at checking in
-          let next : Option Place → Action Value = λ q. fetch q defined in
+          let split = append_assoc code load check in
           let far = limit_far g in
-          let addressed = subst (λ c. Addresses (on g (base ++ held) place s.output) held (place + length c) last found s) (sym r)
-          (pushed_runs place base held s (subst (Stands g.target place) r (stands_front g.target place code load loading)) based deep) in
-          subst (λ q. Evaluates g (on g (base ++ held) place s.output) held q (found >>= next) s) e
-          (address_evaluates _ held held (place + length code) (place + length code + 1 + 1) last found next s exact_found addressed
-          (λ base2 d p s2 based2 part2 room2.
+          subst (λ c. Evaluates g (on g (base ++ held) place s.output) held (place + length c) (found >>= λ q. fetch q defined) s) (sym split)
+          (address_then (value_on g held) code (load ++ check) place _ held last found (λ q. fetch q defined) s exact_found
+          (subst (Stands g.target place) split stands)
+          (λ front. subst (λ c. Addresses (on g (base ++ held) place s.output) held (place + length c) last found s) (sym r)
+          (pushed_runs place base held s (subst (Stands g.target place) r front) based deep))
+          (λ base2 d p s2 rest based2 part2 room2.
           let full = based2.full in
           let long = length-append base2 held in
-          loaded_runs defined (place + length code) ((base2 ++ held) ++ Number (pos d) ∷ []) base2 held p d s2 within
-          (ordinal_part g.tree.types g.world g.below g.known p last d ordinal part2) tested.0 based2 room2
+          let from = place + length code in
+          let e : from + 1 + 1 ≡ from + 2 = omega arith in
+          subst (λ q. Evaluates g (on g ((base2 ++ held) ++ Number (pos d) ∷ []) from s2.output) held q (fetch (Some p) defined) s2) e
+          (loaded_runs defined from ((base2 ++ held) ++ Number (pos d) ∷ []) base2 held p d s2 within
+          (ordinal_part g.tree.types g.world g.below g.known p last d ordinal part2) rest.1.0 based2 room2
           (λ cell inside at'.
-          acts g (instr.LoadIndirect 0) ((base2 ++ held) ++ Number (pos d) ∷ []) ((base2 ++ held) ++ cell ∷ []) (place + length code) s2.output _ here.0 refl
-          (loads_indirect g.frame g.limit g.size (base2 ++ held) (linked g s2 base2 held based2) d cell (omega arith) (omega arith) inside at'))))
+          acts g (instr.LoadIndirect 0) ((base2 ++ held) ++ Number (pos d) ∷ []) ((base2 ++ held) ++ cell ∷ []) from s2.output _ rest.0 refl
+          (loads_indirect g.frame g.limit g.size (base2 ++ held) (linked g s2 base2 held based2) d cell (omega arith) (omega arith) inside at')))))
 
       -- the code of the value of an ordinal that is accessed, checked
       pub fetch_runs : (defined place : ℕ) (base held : List Cell) (s : effect.State) → defined < sites g

@@ -15,19 +15,7 @@ use Rattle.stack_machine.specs.Frames.{Frames, Attempt, ◌>>=◌, unless_fault,
 use Rattle.stack_machine.specs.Frames.{cell_at, load_constant, load, store, two_numbers, on_one, operands, on_two, divide, modulo, top_two, is_integer, is_true}
 use Rattle.stack_machine.specs.Frames.{is_defined, top_is_in_range, top_is_not_zero, top_is_defined, sum_is_integer, difference_is_integer, product_is_integer}
 use Rattle.stack_machine.specs.Frames.{square_is_integer}
-
--- the element behind the first ones
-pub slice_get_seam : {A : Type 0} (below : List A) (a : A) (above : List A) → slice_get (below ++ a ∷ above) (length below) ≡ Some a
-slice_get_seam below a above =
-    let within : length below < length (below ++ a ∷ above) = omega (arith, length-append below (a ∷ above)) in
-    slice_get-get_or (below ++ a ∷ above) (length below) a within ∙ ap Some (get_or-append_seam below a above a)
-
--- two more elements
-pub length_two : {A : Type 0} (below : List A) (a b : A) → length ((below ++ a ∷ []) ++ b ∷ []) ≡ length below + 2
-length_two below a b = omega (arith, length-append below (a ∷ []), length-append (below ++ a ∷ []) (b ∷ []))
-
-pub length_one : {A : Type 0} (below : List A) (a : A) → length (below ++ a ∷ []) ≡ length below + 1
-length_one below a = omega (arith, length-append below (a ∷ []))
+use Rattle.code_generator.proofs.Lists.{slice_get_seam, length_two, length_one}
 
 module _ (frame limit size : ℕ) where
   -- the store in this frame with these cells

@@ -17,12 +17,12 @@ use Rattle.stack_machine.specs.Frames.{Frames, Attempt, ◌>>=◌, unless_fault,
 use Rattle.stack_machine.specs.Frames.{popped, pushed}
 use Rattle.stack_machine.specs.Frames.{is_defined, top_is_defined, on_one, on_two}
 use Rattle.stack_machine.specs.Rows.{row}
-use Rattle.code_generator.proofs.Acts.{framed, length_one, has_some, has_room, in_use_is, top_at, one_popped, has_one, on_one_is, on_two_is}
-use Rattle.code_generator.proofs.Acts.{left_at, has_two, slice_get_seam}
+use Rattle.code_generator.proofs.Acts.{framed, has_some, has_room, in_use_is, top_at, one_popped, has_one, on_one_is, on_two_is}
+use Rattle.code_generator.proofs.Acts.{left_at, has_two}
 use Rattle.code_generator.proofs.Acts.{two_popped, right_at}
-use Rattle.code_generator.proofs.Alike.{slice_get-front}
 use Rattle.code_generator.proofs.Rows.{popped_is, top_row_is}
 use Rattle.code_generator.proofs.Numbers.{Fits, fits_by_abs, sum_is, fits_signed}
+use Rattle.code_generator.proofs.Lists.{slice_get_seam, slice_get-front, length_one}
 
 -- an address is a number of type integer
 pub address_fits : (n : ℕ) → n ≤ 2147483647 → Fits (pos n)

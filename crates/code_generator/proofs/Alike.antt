@@ -15,6 +15,7 @@ use Rattle.stack_machine.specs.declared.cell.Cell.TheVariants.{Undefined, Number
 use Rattle.stack_machine.specs.declared.stop.MachineFault.TheVariants.{OutOfBounds}
 use Rattle.stack_machine.specs.Frames.{◌>>=◌, number, address_of, base}
 use Rattle.code_generator.proofs.Numbers.{Fits}
+use Rattle.code_generator.proofs.Lists.{slice_get-front, set_same, set_other}
 
 -- what a cell holds for a scalar
 abbrev pub cell_of : Option Value → Cell
@@ -86,25 +87,6 @@ pub record Alike (world : World) (store : Store) (cells : List Cell) : Type 0 wh
 -- the cells hold what is fixed
 pub record Keeps (fixed : Fixed) (cells : List Cell) : Type 0 where
   pub each : (i : ℕ) (cell : Cell) → slice_get fixed i ≡ Some (Some cell) → slice_get cells i ≡ Some cell
-
--- cells that were there before others came above them
-pub slice_get-front : {A : Type 0} (xs ys : List A) (i : ℕ) (x : A) → slice_get xs i ≡ Some x → slice_get (xs ++ ys) i ≡ Some x
-slice_get-front [] ys i x e = cc
-slice_get-front (z ∷ xs) ys zero x e = e
-slice_get-front (z ∷ xs) ys (suc i) x e = slice_get-front xs ys i x e
-
--- the element that was written, and another one
-set_same : {A : Type 0} (xs : List A) (i : ℕ) (a : A) → i < length xs → slice_get (slice_set xs i a) i ≡ Some a
-set_same [] i a h = absurd (omega arith)
-set_same (x ∷ xs) zero a h = refl
-set_same (x ∷ xs) (suc i) a h = set_same xs i a (omega arith)
-
-set_other : {A : Type 0} (xs : List A) (i j : ℕ) (a : A) → (i ≡ j → ⊥) → slice_get (slice_set xs i a) j ≡ slice_get xs j
-set_other [] i j a h = refl
-set_other (x ∷ xs) zero zero a h = absurd (h refl)
-set_other (x ∷ xs) zero (suc j) a h = refl
-set_other (x ∷ xs) (suc i) zero a h = refl
-set_other (x ∷ xs) (suc i) (suc j) a h = set_other xs i j a (λ e. h (ap suc e))
 
 -- the cell of a scalar is one of the cells
 pub cell_within : (world : World) (store : Store) (cells : List Cell) (p : Place) (c : ℕ) → Alike world store cells → LiesIn world p c → c < length cells

@@ -1,8 +1,8 @@
 -- The code of an assignment, to an ordinal or of a whole value: the target is accessed first, then comes the value, and the
 -- components of the target get it; or it stops as the assignment does.
 use Rattle.std.proofs.Common.{◌≡◌, ℕ, ◌+◌, ◌<◌, ◌≤◌, max, List, [], ◌∷◌, ◌++◌, length, map, Option, Some, Ok, inr, refl, sym, ap, ◌∙◌, subst, arith}
-use Rattle.std.proofs.Common.{length-append, Bool, true, false}
-use Rattle.std.specs.Prelude.{slice_set, ℤ, pos, int_le, nat_lt, not, ◌&&◌}
+use Rattle.std.proofs.Common.{length-append, append_assoc, Bool, true}
+use Rattle.std.specs.Prelude.{slice_set, ℤ, pos, nat_lt, not, ◌&&◌}
 use Rattle.std.proofs.lemmas.Bool.{and_parts, ltb-true}
 use Rattle.pcode_assembler.specs.declared.instr.Instr.{Instr}
 use Rattle.pcode_assembler.specs.declared.instr.Instr.TheVariants as instr
@@ -24,30 +24,34 @@ use Rattle.meaning.specs.Effect.{Action, ◌>>=◌, number_of, require, store_al
 use Rattle.meaning.specs.Meaning.{accessed, selected, value_of, whole_of}
 use Rattle.stack_machine.specs.declared.cell.Cell.{Cell}
 use Rattle.stack_machine.specs.declared.cell.Cell.TheVariants.{Number}
-use Rattle.stack_machine.specs.Addresses.{store_indirect}
-use Rattle.stack_machine.specs.Frames as frames
 use Rattle.code_scheme.specs.Code.{Reached, At, By, address_code, address_of, expr_code, range_check, reached, selectors_code, store_code, whole_code}
 use Rattle.code_scheme.specs.Depth.{access_depth, expr_depth, store_depth, whole_depth}
 use Rattle.code_scheme.specs.Scopes.{row_length}
 use Rattle.code_scheme.proofs.Pieces.{start_within}
 use Rattle.code_generator.proofs.Accesses.{Indexes, Addresses, Begins, IsReached, expressions, wells, codes, depths, are_well_formed_indexes, PartAt}
-use Rattle.code_generator.proofs.Accesses.{address_executes, address_is, address_runs, begins, entered, exact_found, frame_found, found as place_found}
+use Rattle.code_generator.proofs.Accesses.{address_is, address_runs, begins, exact_found, frame_found, found as place_found}
 use Rattle.code_generator.proofs.Accesses.{leads, pushed_runs, scalar_there}
-use Rattle.code_generator.proofs.Acts.{length_one, is_in_range, stores}
+use Rattle.code_generator.proofs.Acts.{stores}
 use Rattle.code_generator.proofs.Addressing.{stores_indirect}
 use Rattle.code_generator.proofs.Alike.{Leads, LiesIn, cell_within}
 use Rattle.code_generator.proofs.Passing.{CallsAt}
 use Rattle.code_generator.proofs.Evaluating.{sites, ExecutesAs, frames_of, one_held}
 use Rattle.code_generator.proofs.Exprs.{expr_runs}
-use Rattle.code_generator.proofs.Held.{set_front, scalar_kept}
-use Rattle.code_generator.proofs.Numbers.{Fits, same_range}
+use Rattle.code_generator.proofs.Held.{scalar_kept}
+use Rattle.code_generator.proofs.Numbers.{Fits}
 use Rattle.code_generator.proofs.Parts.{ordinal_part}
-use Rattle.code_generator.proofs.Reach.{Comes, Stands, stands_front, stands_back}
+use Rattle.code_generator.proofs.Reach.{Comes, Stands}
 use Rattle.code_generator.proofs.Rows.{cells_of as value_cells, length-cells_of}
-use Rattle.code_generator.proofs.Setting.{Setting, outline, around, exact_around, on, Based, linked, Here, acts, passes, fails, Executes, Executed}
-use Rattle.code_generator.proofs.Setting.{executes_from, done, after_value}
-use Rattle.code_generator.proofs.Wholes.{set_row, set_row_front, stores_many, stored_all, store_all_is, row_kept, row_executes, whole_runs}
+use Rattle.code_generator.proofs.Setting.{Setting, outline, around, exact_around, on, Based, linked, Here, acts}
+use Rattle.code_generator.proofs.Wholes.{set_row, set_row_front, stores_many, stored_all, store_all_is, row_kept, whole_runs}
 use Rattle.code_generator.proofs.Wholes.{copied_cells, few_components, same_type, AllFit}
+use Rattle.code_generator.proofs.Running.{Aim, Arrives, Executes, Runs, done, kept_on}
+use Rattle.code_generator.proofs.Accesses.{address_then}
+use Rattle.code_generator.proofs.Setting.{entered}
+use Rattle.code_generator.proofs.Exprs.{expr_then}
+use Rattle.code_generator.proofs.Evaluating.{range_then}
+use Rattle.code_generator.proofs.Wholes.{row_then}
+use Rattle.code_generator.proofs.Lists.{set_front, length_one}
 
 module _ (g : Setting) (known : CallsAt g) where
   -- index expressions with what is shown of them
@@ -58,20 +62,6 @@ module _ (g : Setting) (known : CallsAt g) where
   told_back [] = refl
   told_back (e ∷ es) = ap (λ rest. e ∷ rest) (told_back es)
 
-  -- a value that is tested
-  tested_by : (good : Bool) (fits : RangeTest) (place end : ℕ) (below held : List Cell) (n : ℤ) (s : effect.State) (next : Action (Unit {0}))
-      → (int_le fits.range.first n && int_le n fits.range.last) ≡ good → Stands g.target place (range_check fits ∷ []) → fits.site < sites g
-      → g.frame + 4 ≤ length below
-      → Executes g (on g (below ++ Number n ∷ []) (place + 1) s.output) held end next s
-      → Executes g (on g (below ++ Number n ∷ []) place s.output) held end (require good fits.site >>= (λ _. next)) s
-  tested_by true fits place end below held n s next holds stands within in_frame rest =
-      executes_from g 0 _ _ held end next s
-      (passes g (range_check fits) (below ++ Number n ∷ []) place fits.site s.output _ refl refl stands.0
-      (is_in_range g.frame g.limit g.size below in_frame fits.range.first fits.range.last n ∙ ap Ok holds)) rest
-  tested_by false fits place end below held n s next holds stands within in_frame rest =
-      inr (fails g (range_check fits) (below ++ Number n ∷ []) place fits.site s.output _ refl refl s.turns stands.0 within
-      (is_in_range g.frame g.limit g.size below in_frame fits.range.first fits.range.last n ∙ ap Ok holds))
-
   module _ (v : Expr) (fits : RangeTest) (good : is_well_formed_expr (outline g) g.number v ≡ true)
       (site_within : fits.site < sites g) where
     abbrev value_code : List Instr
@@ -81,26 +71,29 @@ module _ (g : Setting) (known : CallsAt g) where
     abbrev tested : (Value → Action (Unit {0})) → Value → Action (Unit {0})
     tested next w = require (effect.is_in fits.range w) fits.site >>= λ _. next w
 
-    -- a value, its test, and what comes then
-    value_stored : (place end : ℕ) (base held held' : List Cell) (s : effect.State) (next : Value → Action (Unit {0})) → Stands g.target place value_code
-        → Based g s base → g.below + length held + expr_depth v ≤ g.limit
-        → ((base2 : List Cell) (w : Value) (t : effect.State) → Based g t base2 → Fits (number_of w)
-        → Executes g (on g ((base2 ++ held) ++ Number (number_of w) ∷ []) (place + length value_code) t.output) held' end (next w) t)
-        → Executes g (on g (base ++ held) place s.output) held' end (value_of v (around g) >>= (tested next)) s
-    value_stored place end base held held' s next stands based deep stored =
-        let c = expr_code g.scope v in
+    -- a value, its test, and the code behind them
+    value_stored : (aim : ℕ → Aim (Unit {0})) (c : List Instr) (place : ℕ) (base held : List Cell) (s : effect.State) (next : Value → Action (Unit {0}))
+        → Stands g.target place (value_code ++ c) → Based g s base → g.below + length held + expr_depth v ≤ g.limit
+        → ((base2 : List Cell) (w : Value) (t : effect.State) → Stands g.target (place + length value_code) c → Based g t base2 → Fits (number_of w)
+        → Runs g (aim (place + length value_code + length c)) (on g ((base2 ++ held) ++ Number (number_of w) ∷ []) (place + length value_code) t.output)
+        (next w) t)
+        → Runs g (aim (place + length (value_code ++ c))) (on g (base ++ held) place s.output) (value_of v (around g) >>= (tested next)) s
+    value_stored aim c place base held s next stands based deep stored =
+        let value = expr_code g.scope v in
         let check = range_check fits ∷ [] in
-        let e : place + length (c ++ check) ≡ place + length c + 1 = omega (arith, length-append c check) in
-        after_value g _ held held' (place + length c) end (value_of v (around g)) (tested next) s ((exact_around g).values v)
-        (expr_runs g known v place base held s (stands_front g.target place c check stands) good based deep)
-        (λ base2 w t based2 fit.
+        let split = append_assoc value check c in
+        let e : place + length value_code ≡ place + length value + 1 = omega (arith, length-append value check) in
+        subst (λ code. Runs g (aim (place + length code)) (on g (base ++ held) place s.output) (value_of v (around g) >>= (tested next)) s) (sym split)
+        (expr_then g known aim v (range_check fits ∷ c) place base held (tested next) s (subst (Stands g.target place) split stands) good based deep
+        (λ base2 w t rest based2 fit room.
+        let from = place + length value in
         let n = number_of w in
-        subst (λ test. Executes g (on g ((base2 ++ held) ++ Number n ∷ []) (place + length c) t.output) held' end
-        (require test fits.site >>= (λ _. next w)) t) (sym (same_range fits.range w fit))
-        (tested_by _ fits (place + length c) end (base2 ++ held) held' n t (next w) refl (stands_back g.target place c check stands) site_within
-        (linked g t base2 held based2)
-        (subst (λ p. Executes g (on g ((base2 ++ held) ++ Number n ∷ []) p t.output) held' end (next w) t) e
-        (stored base2 w t based2 fit))))
+        let e' : from + 1 + length c ≡ from + length (range_check fits ∷ c) = omega arith in
+        subst (λ end. Runs g (aim end) (on g ((base2 ++ held) ++ Number n ∷ []) from t.output) (tested next w) t) e'
+        (range_then g (aim (from + 1 + length c)) fits w (base2 ++ held) from t (next w) rest.0 site_within (linked g t base2 held based2) fit
+        (λ _.
+        subst (λ p. Runs g (aim (p + length c)) (on g ((base2 ++ held) ++ Number n ∷ []) p t.output) (next w) t) e
+        (stored base2 w t (subst (λ p. Stands g.target p c) (sym e) rest.1) based2 fit)))))
 
     -- a number on top is stored into a scalar in a frame
     stores_there : (level start owner : ℕ) (p : Place) (place : ℕ) (base held : List Cell) (n : ℤ) (s : effect.State) → Leads g.fixed level g.frame owner
@@ -115,7 +108,7 @@ module _ (g : Setting) (known : CallsAt g) where
         (frame_found g level owner base held s based l) (omega arith)
         ∙ ap (λ cs. Ok (frames_of g cs)) (set_front base held (owner + start) (Number n) low) in
         acts g (instr.Store level start) (below ++ Number n ∷ []) (slice_set base (owner + start) (Number n) ++ held) place s.output
-        (frames.store level start (frames_of g (below ++ Number n ∷ []))) here refl does
+        _ here refl does
 
     module _ (target : Access) (indexes : Indexes g) (last : TypeId) (start : Begins g target last (codes g indexes))
         (wells_good : are_well_formed_indexes g indexes ≡ true) (counts : length (expressions g indexes) ≡ index_count target.selectors.items)
@@ -135,50 +128,42 @@ module _ (g : Setting) (known : CallsAt g) where
       store_by (At level first) r address place base held s stands based deep =
           let lies = subst (LiesIn g.world start.there) r.2 (scalar_there g target indexes last start wells_good counts ordinal r.3) in
           let store = instr.Store level first ∷ [] in
-          let e : place + length value_code + 1 ≡ place + length (value_code ++ store) = omega (arith, length-append value_code store) in
-          let here = stands_back g.target place value_code store stands in
           subst (λ rest. Executes g (on g (base ++ held) place s.output) held (place + length (value_code ++ store))
           (selected rest (map value_of (expressions g indexes)) (around g) (Some start.there) >>= next) s) (sym r.3)
-          (subst (λ q. Executes g (on g (base ++ held) place s.output) held q (next (Some start.there)) s) e
-          (value_stored place (place + length value_code + 1) base held held s (effect.store (Some start.there))
-          (stands_front g.target place value_code store stands) based (omega arith)
-          (λ base2 w t based2 fit.
+          (value_stored (kept_on g held) store place base held s (effect.store (Some start.there)) stands based (omega arith)
+          (λ base2 w t here based2 fit.
           let n = number_of w in
           inr (done g 1 _ (slice_set base2 (r.0 + first) (Number n)) held (place + length value_code + 1)
           (record t { store = kept t.store (Some start.there) w }) (scalar_kept g start.there (r.0 + first) t base2 w lies based2 fit)
-          (stores_there level first r.0 start.there (place + length value_code) base2 held n t r.1 lies here.0 based2)))))
+          (stores_there level first r.0 start.there (place + length value_code) base2 held n t r.1 lies here.0 based2))))
       store_by (By c) r address place base held s stands based deep =
           let store = instr.StoreIndirect ∷ [] in
-          let behind = stands_back g.target place c (value_code ++ store) stands in
           let from = place + length c in
-          let end = from + length value_code + 1 in
-          let e : end ≡ place + length (c ++ (value_code ++ store)) = omega (arith, length-append c (value_code ++ store), length-append value_code store) in
-          let here = stands_back g.target from value_code store behind in
-          let addressed = subst (λ code. Addresses g (on g (base ++ held) place s.output) held (place + length code) last target_found s) (sym address)
-          (pushed_runs g target indexes last start wells_good counts place base held s
-          (subst (Stands g.target place) address (stands_front g.target place c (value_code ++ store) stands)) based (omega arith)) in
-          subst (λ q. Executes g (on g (base ++ held) place s.output) held q (target_found >>= next) s) e
-          (address_executes g _ held held from end last target_found next s (exact_found g target indexes last start wells_good counts) addressed
-          (λ base1 d p s1 based1 part1 room1.
+          address_then g (kept_on g held) c (value_code ++ store) place _ held last target_found next s
+          (exact_found g target indexes last start wells_good counts) stands
+          (λ front. subst (λ code. Addresses g (on g (base ++ held) place s.output) held (place + length code) last target_found s) (sym address)
+          (pushed_runs g target indexes last start wells_good counts place base held s (subst (Stands g.target place) address front) based (omega arith)))
+          (λ base1 d p s1 rest based1 part1 room1.
           let lies = ordinal_part g.tree.types g.world g.below g.known p last d ordinal part1 in
           let above = held ++ Number (pos d) ∷ [] in
           let high = length_one held (Number (pos d)) in
-          subst (λ cells. Executes g (on g cells from s1.output) held end (next (Some p)) s1) (one_held g base1 held (pos d))
-          (value_stored from end base1 above held s1 (effect.store (Some p)) (stands_front g.target from value_code store behind) based1 (omega arith)
-          (λ base2 w t based2 fit.
+          let end = from + length value_code + 1 in
+          subst (λ cells. Executes g (on g cells from s1.output) held (from + length (value_code ++ store)) (next (Some p)) s1) (one_held g base1 held (pos d))
+          (value_stored (kept_on g held) store from base1 above s1 (effect.store (Some p)) rest based1 (omega arith)
+          (λ base2 w t here based2 fit.
           let n = number_of w in
           let cells = base2 ++ held in
           let inside = cell_within g.world t.store base2 p d based2.alike lies in
           let long = length-append base2 held in
           let stored = acts g instr.StoreIndirect ((cells ++ Number (pos d) ∷ []) ++ Number n ∷ []) (slice_set base2 d (Number n) ++ held)
           (from + length value_code)
-          t.output (store_indirect (frames_of g ((cells ++ Number (pos d) ∷ []) ++ Number n ∷ []))) here.0 refl
+          t.output _ here.0 refl
           (stores_indirect g.frame g.limit g.size cells (linked g t base2 held based2) d n (omega arith)
           ∙ ap (λ cs. Ok (frames_of g cs)) (set_front base2 held d (Number n) inside)) in
           subst (λ cs. Executes g (on g (cs ++ Number n ∷ []) (from + length value_code) t.output) held end (effect.store (Some p) w) t)
           (sym (one_held g base2 held (pos d)))
           (inr (done g 1 _ (slice_set base2 d (Number n)) held end (record t { store = kept t.store (Some p) w })
-          (scalar_kept g p d t base2 w lies based2 fit) stored))))))
+          (scalar_kept g p d t base2 w lies based2 fit) stored)))))
 
       store_runs : (place : ℕ) (base held : List Cell) (s : effect.State)
           → Stands g.target place (store_code value_code (reached g.scope target (codes g indexes))) → Based g s base
@@ -250,7 +235,7 @@ module _ (g : Setting) (known : CallsAt g) where
       let stored = acts g (instr.StoreMany count) ((below ++ Number (pos d) ∷ []) ++ row) (set_row base d row ++ held) place s.output _ stands.0 refl
       (stores_many g.frame g.limit g.size below (linked g s base held based) row count d (omega arith) (omega arith)
       ∙ ap (λ cs. Ok (frames_of g cs)) (set_row_front base held d row (omega arith))) in
-      inr (subst (λ r. Executed g s.turns (on g ((below ++ Number (pos d) ∷ []) ++ row) place s.output) held (place + 1) r)
+      inr (subst (Arrives g (kept_on g held (place + 1)) s.turns (on g ((below ++ Number (pos d) ∷ []) ++ row) place s.output))
       (sym (store_all_is p components vs s))
       (done g 1 _ (set_row base d row) held (place + 1) (record s { store = stored_all s.store p components vs }) kept_base stored))
 
@@ -296,11 +281,8 @@ module _ (g : Setting) (known : CallsAt g) where
         let c = address_code g.scope target (codes g indexes) in
         let d = whole_code g.scope v (codes g value_indexes) in
         let store = instr.StoreMany (row_length n) ∷ [] in
-        let behind = stands_back g.target place c (d ++ store) stands in
         let from = place + length c in
         let there = from + length d in
-        let storing = subst (λ k. Stands g.target there (instr.StoreMany k ∷ [])) (sym same) (stands_back g.target from d store behind) in
-        let e : there + 1 ≡ place + length (c ++ (d ++ store)) = omega (arith, length-append c (d ++ store), length-append d store) in
         let s2 = entered g target.number (entered g number s) in
         let from_there = place_found g target indexes led_to.last start one.0 led_to.counts in
         let next : List Form → Option Place → Action (Unit {0}) = λ types q.
@@ -309,24 +291,23 @@ module _ (g : Setting) (known : CallsAt g) where
         (entered g number s)) (sym (start.meant (map value_of (expressions g indexes))))
         (subst (λ types. Executes g (on g (base ++ held) place s.output) held (place + length (c ++ (d ++ store))) (from_there >>= next types) s2)
         (sym g.types_are)
-        (subst (λ q. Executes g (on g (base ++ held) place s.output) held q (from_there >>= next g.tree.types) s2) e
-        (address_executes g _ held held from (there + 1) led_to.last from_there (next g.tree.types) s2
-        (exact_found g target indexes led_to.last start one.0 led_to.counts)
-        (address_runs g target indexes led_to.last start one.0 led_to.counts place base held s2 (stands_front g.target place c (d ++ store) stands)
-        based (omega arith))
-        (λ base1 a p s1 based1 part1 room1.
+        (address_then g (kept_on g held) c (d ++ store) place _ held led_to.last from_there (next g.tree.types) s2
+        (exact_found g target indexes led_to.last start one.0 led_to.counts) stands
+        (λ front. address_runs g target indexes led_to.last start one.0 led_to.counts place base held s2 front based (omega arith))
+        (λ base1 a p s1 rest based1 part1 room1.
         let above = held ++ Number (pos a) ∷ [] in
         let taller = length_one held (Number (pos a)) in
         let part = subst (λ t. PartAt g p t a) its part1 in
-        subst (λ cs. Executes g (on g cs from s1.output) held (there + 1) (next g.tree.types (Some p)) s1) (one_held g base1 held (pos a))
-        (row_executes g _ above held there (there + 1) n (whole_of v (map value_of (expressions g value_indexes)) (around g))
-        (λ values. store_all (Some p) (components_of g.tree.types type_id) values) s1 ((exact_around g).wholes v (expressions g value_indexes))
-        (whole_runs g v value_indexes from base1 above s1 (stands_front g.target from d store behind) four.0 four.1 based1 (omega arith))
-        (λ base2 values t based2 long fit.
-        subst (λ cs. Executes g (on g (cs ++ value_cells values) there t.output) held (there + 1)
-        (store_all (Some p) (components_of g.tree.types type_id) values) t)
+        let stored : List Value → Action (Unit {0}) = λ values. store_all (Some p) (components_of g.tree.types type_id) values in
+        subst (λ cs. Executes g (on g cs from s1.output) held (from + length (d ++ store)) (next g.tree.types (Some p)) s1) (one_held g base1 held (pos a))
+        (row_then g (kept_on g held) d store from _ above n (whole_of v (map value_of (expressions g value_indexes)) (around g)) stored s1
+        ((exact_around g).wholes v (expressions g value_indexes)) rest
+        (λ front. whole_runs g v value_indexes from base1 above s1 front four.0 four.1 based1 (omega arith))
+        (λ base2 values t storing based2 long fit.
+        subst (λ cs. Executes g (on g (cs ++ value_cells values) there t.output) held (there + 1) (stored values) t)
         (sym (one_held g base2 held (pos a)))
-        (row_stored p type_id a n there base2 held values t part cells long fit storing based2)))))))
+        (row_stored p type_id a n there base2 held values t part cells long fit
+        (subst (λ k. Stands g.target there (instr.StoreMany k ∷ [])) (sym same) storing) based2))))))
 
     pub copy_runs : (es vs : List Expr) → CopyRuns es vs
     copy_runs es vs =

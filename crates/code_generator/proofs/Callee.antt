@@ -33,7 +33,6 @@ use Rattle.code_scheme.specs.Scopes.{links_to, offset, other_cells, parameter_ce
 use Rattle.code_scheme.proofs.Depths.{block_within}
 use Rattle.code_scheme.proofs.Routines.{block_stands}
 use Rattle.code_generator.proofs.Alike.{Activation, World, Lives, Fixed, Lies, LiesIn, IsApart, Leads, leads_above, leads_once, leads_split, leads_within}
-use Rattle.code_generator.proofs.Alike.{slice_get-front}
 use Rattle.code_generator.proofs.Cells.{Owned, home_is, lies_inside, other_ends, others_few, own_scalars, owned, owned_back, owned_in, parameter_ends}
 use Rattle.code_generator.proofs.Cells.{slot_of, small_block, start_near, starts_as_other, starts_as_parameter, variable_ends}
 use Rattle.code_generator.proofs.Laying.{Laid, fitted_length, found, marked, marked_long, no_reference}
@@ -43,43 +42,8 @@ use Rattle.code_generator.proofs.Passing.{Fitted}
 use Rattle.code_generator.proofs.Places.{place_apart}
 use Rattle.code_generator.proofs.Repeats.{repeats}
 use Rattle.code_generator.proofs.Setting.{Setting, Shown, Way, Direct, ByAddress, Reaches}
-
--- an element behind others
-pub slice_behind : {A : Type 0} (xs ys : List A) (i n : ℕ) → n ≡ length xs + i → slice_get (xs ++ ys) n ≡ slice_get ys i
-slice_behind [] ys i n e = let z : n ≡ i = omega (arith, e) in ap (slice_get ys) z
-slice_behind (x ∷ xs) ys i n e =
-    let z : n ≡ suc (length xs + i) = omega (arith, e) in
-    ap (slice_get (x ∷ (xs ++ ys))) z ∙ slice_behind xs ys i (length xs + i) refl
-
--- and one before
-pub slice_before : {A : Type 0} (xs ys : List A) (i : ℕ) → i < length xs → slice_get (xs ++ ys) i ≡ slice_get xs i
-slice_before [] ys i h = absurd (omega arith)
-slice_before (x ∷ xs) ys zero h = refl
-slice_before (x ∷ xs) ys (suc i) h = slice_before xs ys i (omega arith)
-
-pub slice_map : {A B : Type 0} (f : A → B) (xs : List A) (i : ℕ) (x : A) → slice_get xs i ≡ Some x → slice_get (map f xs) i ≡ Some (f x)
-slice_map f [] i x e = absurd (none-some x e)
-slice_map f (y ∷ xs) zero x e = ap (λ z. Some (f z)) (same_Some y x e)
-slice_map f (y ∷ xs) (suc i) x e = slice_map f xs i x e
-
-pub slice_there : {A : Type 0} (xs : List A) (i : ℕ) → i < length xs → (x : A) × (slice_get xs i ≡ Some x)
-slice_there [] i h = absurd (omega arith)
-slice_there (x ∷ xs) zero h = (x, refl)
-slice_there (x ∷ xs) (suc i) h = slice_there xs i (omega arith)
-
-pub slice_replicate : {A : Type 0} (n i : ℕ) (x : A) → i < n → slice_get (replicate n x) i ≡ Some x
-slice_replicate zero i x h = absurd (omega arith)
-slice_replicate (suc n) zero x h = refl
-slice_replicate (suc n) (suc i) x h = slice_replicate n i x (omega arith)
-
-pub length_replicate : {A : Type 0} (n : ℕ) (x : A) → length (replicate n x) ≡ n
-length_replicate zero x = refl
-length_replicate (suc n) x = ap suc (length_replicate n x)
-
-pub all_at : {A : Type 0} (test : A → Bool) (xs : List A) (i : ℕ) (x : A) → list_all test xs ≡ true → slice_get xs i ≡ Some x → test x ≡ true
-all_at test [] i x all at = absurd (none-some x at)
-all_at test (y ∷ xs) zero x all at = ap test (sym (same_Some y x at)) ∙ (and_parts (test y) (list_all test xs) all).0
-all_at test (y ∷ xs) (suc i) x all at = all_at test xs i x (and_parts (test y) (list_all test xs) all).1 at
+use Rattle.code_generator.proofs.Lists.{slice_before, slice_behind, slice_get-front, slice_map, slice_there, slice_replicate, all_at}
+use Rattle.std.proofs.lemmas.List.{length-replicate}
 
 -- what is told of the cells of a parameter: the address in that of a variable parameter is fixed
 abbrev pub fixed_mark : Variable → Cell → Option Cell
@@ -157,7 +121,7 @@ module _ (g : Setting) (number : ℕ) (block : Block) (block_is : slice_get g.tr
         length-append under (map Some new_links ++ inside),
         length-append shape (replicate others None),
         shape_long,
-        length_replicate {A = Option Cell} others None,
+        length-replicate {A = Option Cell} others None,
       )
 
   -- what is fixed at a place in the frame

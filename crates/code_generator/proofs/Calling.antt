@@ -14,20 +14,13 @@ use Rattle.stack_machine.specs.declared.store.calls.Caller.{Caller}
 use Rattle.stack_machine.specs.Calls.{back_in, begun_at, called, caller, index_number, left, link_below, links, marked, not_outside}
 use Rattle.stack_machine.specs.Frames.{Attempt, ◌>>=◌, base, entered, unless_fault}
 use Rattle.code_generator.proofs.Acts.{framed, has_some}
+use Rattle.code_generator.proofs.Lists.{set_third}
 
 -- an index of an instruction is a number of 32 bits
 pub index_is : (place : ℕ) → place ≤ 1000000 → index_number place ≡ pos place
 index_is place few =
     ap (cast_signed w32) (mod-eq_of_lt (omega (arith, few)))
     ∙ to_z_pos w32 place (omega (arith, few))
-
--- the third of some cells behind others
-set_third : {A : Type 0} (front : List A) (a b c d : A) (behind : List A)
-    → slice_set (front ++ (a ∷ b ∷ c ∷ behind)) (length front + 2) d ≡ front ++ (a ∷ b ∷ d ∷ behind)
-set_third [] a b c d behind = refl
-set_third (x ∷ front) a b c d behind =
-    let e : length (x ∷ front) + 2 ≡ suc (length front + 2) = omega arith in
-    ap (λ n. slice_set (x ∷ (front ++ (a ∷ b ∷ c ∷ behind))) n d) e ∙ ap (λ l. x ∷ l) (set_third front a b c d behind)
 
 module _ (frame limit size : ℕ) where
   -- the links of a new frame

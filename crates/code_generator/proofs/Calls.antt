@@ -35,14 +35,15 @@ use Rattle.code_generator.proofs.Calling.{begins_frame, enters, full, index_is}
 use Rattle.code_generator.proofs.Cells.{small_block}
 use Rattle.code_generator.proofs.Laying.{Laid, laid_cells, laid_from}
 use Rattle.code_generator.proofs.Nesting.{Callable, callable as may_be_called, heading_at, well_block}
-use Rattle.code_generator.proofs.Passing.{AllFitted, CallsRun, Returned, Returns, executed_returns, left_by, links_of, returns_behind}
-use Rattle.code_generator.proofs.Passing.{returns_from}
+use Rattle.code_generator.proofs.Passing.{AllFitted, CallsRun, Returns, left_by, links_of}
 use Rattle.code_generator.proofs.Reach.{Comes, Stands, StandsAt, Stops, comes_at_rate, comes_by, comes_less, comes_on, stands_back, stands_front, stays_here}
 use Rattle.code_generator.proofs.Reach.{stops_by, stops_on}
 use Rattle.code_generator.proofs.Returning.{back_based, back_comes, back_place, count_of, finish, restored}
-use Rattle.code_generator.proofs.Setting.{exact_around, Setting, Based, Ends, Executes, Starves, around, on, outline, running_at, starves_first}
+use Rattle.code_generator.proofs.Setting.{exact_around, Setting, Based, Ends, Starves, around, on, outline, running_at, starves_first}
 use Rattle.code_generator.proofs.Starting.{assigned, begun_state, h, started}
 use Rattle.code_generator.proofs.Stmts.{stmt_runs}
+use Rattle.code_generator.proofs.Running.{Arrives, Executes, gives_then, kept_on, runs_from, then_runs}
+use Rattle.code_generator.proofs.Passing.{return_on}
 
 module _ (g : Setting) (depth : ℕ) (known : CallsRun depth) (depth_is : g.depth ≡ suc depth) (is_function : Bool) (number : ℕ) (block : Block)
     (outer place : ℕ) (base held cells : List Cell) (arguments : List Argument) (s : effect.State)
@@ -245,14 +246,17 @@ module _ (g : Setting) (depth : ℕ) (known : CallsRun depth) (depth_is : g.dept
     abbrev behind_body : ℕ
     behind_body = inside + length (stmt_code block.body its.scope inside)
 
+    -- where the instruction stands that goes back
+    abbrev back : ℕ
+    back = back_place g number block block_is callable outer way base held cells arguments s based return depth depth_is room laid fits is_function behind_body
+
     ending_stands : Stands g.target behind_body (return_code its.scope block.heading.result)
     ending_stands =
         let whole = stands_back g.target inside (stmt_code block.body its.scope inside) (end_code its.scope number block.heading.result) code_stands.1 in
         subst (Stands g.target behind_body) (ap (λ n. end_code its.scope n block.heading.result) callable.number_is) whole
 
     body_runs : (base2 : List Cell) (t : effect.State) → Based its t base2
-        → Returns its (on its base2 inside t.output) [] (back_place g number block block_is callable outer way base held cells arguments s based return depth
-        depth_is room laid fits is_function behind_body) is_function
+        → Returns its (on its base2 inside t.output) [] back is_function
         (effect_of block.body (around its) >>= λ _. result_of block.heading.result its.environment) t
     body_runs base2 t after =
         let body_stands = stands_front g.target inside (stmt_code block.body its.scope inside) (end_code its.scope number block.heading.result) code_stands.1 in
@@ -260,22 +264,20 @@ module _ (g : Setting) (depth : ℕ) (known : CallsRun depth) (depth_is : g.dept
         let runs = stmt_runs block.body its known (omega arith) inside base2 [] t body_stands (well_block g.tree g.well number block block_is).body after refl
         (omega arith) in
         let ran = subst (λ cs. Executes its (on its cs inside t.output) [] behind_body (effect_of block.body (around its)) t) none runs in
-        executed_returns its (on its base2 inside t.output) [] [] behind_body _ is_function (effect_of block.body (around its))
+        then_runs its (kept_on its [] behind_body) (return_on its [] is_function back) (on its base2 inside t.output) (effect_of block.body (around its))
         (λ _. result_of block.heading.result its.environment) t ((exact_around its).statements block.body) ran
-        (λ last u after2.
+        (λ _ u x le.
         (finish g number block block_is callable outer way base held cells arguments s based return depth depth_is room laid fits is_function kind_and_count.0
-        behind_body last u after2 ending_stands (omega arith)).0)
+        behind_body x.0 u x.1 ending_stands (omega arith)).0)
 
     return_stands : (last : List Cell) (u : effect.State) → Based its u last
-        → StandsAt its.target (back_place g number block block_is callable outer way base held cells arguments s based return depth
-        depth_is room laid fits is_function behind_body) (instr.Return (count_of is_function)) true
+        → StandsAt its.target back (instr.Return (count_of is_function)) true
     return_stands last u after =
         (finish g number block block_is callable outer way base held cells arguments s based return depth depth_is room laid fits is_function kind_and_count.0
         behind_body last u after ending_stands (omega arith)).1
 
     -- the whole block: what was passed is assigned first
-    block_runs : Returns its arrived [] (back_place g number block block_is callable outer way base held cells arguments s based return depth
-        depth_is room laid fits is_function behind_body) is_function body_does s1
+    block_runs : Returns its arrived [] back is_function body_does s1
     block_runs =
         let w = well_block g.tree g.well number block block_is in
         let a = assigned g number block block_is callable outer way base held cells arguments s based return depth depth_is room laid fits 0
@@ -287,12 +289,11 @@ module _ (g : Setting) (depth : ℕ) (known : CallsRun depth) (depth_is : g.dept
         ap (λ roots. assign_all g.tree its.environment roots arguments s1) w.parameters_are ∙ a.1 in
         let after : Based its (record s1 { store = a.0 }) entry_cells =
         subst (Based its (record s1 { store = a.0 })) (append_assoc front links (cells ++ undefined)) a.2 in
-        returns_from its 1 _ _ [] _ is_function body_does s1 enters_frame
-        (returns_behind its (on its entry_cells inside s1.output) (on its entry_cells inside s1.output) [] _ is_function
-        (assign_all g.tree its.environment block.heading.parameters.items arguments)
-        (λ _. effect_of block.body (around its) >>= λ _. result_of block.heading.result its.environment) s1 (record s1 { store = a.0 }) tt
-        ((exact_around its).assigned g.tree block.heading.parameters.items arguments) assigning (omega arith)
-        (comes_less g.target (s1.turns - s1.turns) 0 _ _ (omega arith) (stays_here g.target _))
+        let aim = return_on its [] is_function back in
+        let next : Unit {0} → Action Value = λ _. effect_of block.body (around its) >>= λ _. result_of block.heading.result its.environment in
+        runs_from its aim 1 _ _ body_does s1 enters_frame
+        (gives_then its aim _ (assign_all g.tree its.environment block.heading.parameters.items arguments) next s1 (record s1 { store = a.0 }) tt
+        ((exact_around its).assigned g.tree block.heading.parameters.items arguments) assigning refl
         (body_runs entry_cells (record s1 { store = a.0 }) after))
 
     -- ---- back at the call
@@ -317,24 +318,23 @@ module _ (g : Setting) (depth : ℕ) (known : CallsRun depth) (depth_is : g.dept
     abbrev call_place : State
     call_place = on g ((base ++ (held ++ links_of g outer)) ++ cells) place s.output
 
-    returned : (r : Reply Value) → Returned its left arrived [] (back_place g number block block_is callable outer way base held cells arguments s based return
-        depth
-        depth_is room laid fits is_function behind_body) is_function r
-        → Returned g s.turns call_place held (place + 1) is_function (effect.and_then r ends_so)
+    returned : (r : Reply Value) → Arrives its (return_on its [] is_function back) left arrived r
+        → Arrives g (return_on g held is_function (place + 1)) s.turns call_place (effect.and_then r ends_so)
     returned (Gives v t) e =
-        let last = e.0 in
+        let last = e.0.0 in
+        let after = e.0.1 in
         let n = number_of v in
-        let back = back_place g number block block_is callable outer way base held cells arguments s based return depth depth_is room laid fits is_function
-        behind_body in
-        let came = subst (λ l. Comes g.target (left - t.turns) arrived (on its (l ++ left_by its is_function n) back t.output)) (append-nil last) e.2 in
-        let home = back_comes g number block block_is callable outer way base held cells arguments s based return depth depth_is room laid fits t last e.1
-        is_function n back (place + 1) (return_stands last t e.1) (sym stands.1) return_within in (
-          restored g number block block_is callable outer way base held cells arguments s based return depth depth_is room laid fits t last e.1,
-          back_based g number block block_is callable outer way base held cells arguments s based return depth depth_is room laid fits t last e.1,
-          comes_less g.target (s.turns - t.turns) (g.target.rate + (left - t.turns + 1)) _ _ (omega (arith, turns_are))
-              (comes_on g.target g.target.rate (left - t.turns + 1) _ _ _ jump_comes (comes_on g.target (left - t.turns) 1 _ _ _ came home)),
-          e.3,
-          omega (arith, turns_are, e.4),
+        let came = subst (λ l. Comes g.target (left - t.turns + 0) arrived (on its (l ++ left_by its is_function n) back t.output)) (append-nil last) e.1 in
+        let home = back_comes g number block block_is callable outer way base held cells arguments s based return depth depth_is room laid fits t last after
+        is_function n back (place + 1) (return_stands last t after) (sym stands.1) return_within in (
+          (
+            restored g number block block_is callable outer way base held cells arguments s based return depth depth_is room laid fits t last after,
+            back_based g number block block_is callable outer way base held cells arguments s based return depth depth_is room laid fits t last after,
+            e.0.2,
+          ),
+          comes_less g.target (s.turns - t.turns + 0) (g.target.rate + (left - t.turns + 0 + 1)) _ _ (omega (arith, turns_are))
+              (comes_on g.target g.target.rate (left - t.turns + 0 + 1) _ _ _ jump_comes (comes_on g.target (left - t.turns + 0) 1 _ _ _ came home)),
+          omega (arith, turns_are, e.2),
         )
     returned (effect.Stops end t) e = ends_here end t.output e
 
@@ -342,12 +342,11 @@ module _ (g : Setting) (depth : ℕ) (known : CallsRun depth) (depth_is : g.dept
     whole_does = body_does >>= ends_so
 
     -- the call with so many turns, of which the activation takes one
-    call_runs : Starves g call_place whole_does s1 ⊎ Returned g s.turns call_place held (place + 1) is_function (whole_does s1)
+    call_runs : Starves g call_place whole_does s1 ⊎ Arrives g (return_on g held is_function (place + 1)) s.turns call_place (whole_does s1)
     call_runs = by block_runs
       where
-        by : Returns its arrived [] (back_place g number block block_is callable outer way base held cells arguments s based return depth
-            depth_is room laid fits is_function behind_body) is_function body_does s1
-            → Starves g call_place whole_does s1 ⊎ Returned g s.turns call_place held (place + 1) is_function (whole_does s1)
+        by : Returns its arrived [] back is_function body_does s1
+            → Starves g call_place whole_does s1 ⊎ Arrives g (return_on g held is_function (place + 1)) s.turns call_place (whole_does s1)
         by (inl x) =
             let y = starves_first its arrived body_does ends_so s1 x in
             inl (y.0, y.1, y.2, stops_on g.target g.target.rate _ arrived _ jump_comes y.3, y.4, y.5)
@@ -380,7 +379,7 @@ module _ (g : Setting) (depth : ℕ) (known : CallsRun depth) (depth_is : g.dept
     where
       with_turn : (left : ℕ) → s.turns ≡ suc left → (g.size < g.below + length held + frame_need) ⊎ (g.below + length held + frame_need ≤ g.size)
           → Starves g at_call begun_action s
-          ⊎ Returned g s.turns at_call held (place + 1) is_function (effect.and_then (effect.begin_with (suc left) number s) behind_begin)
+          ⊎ Arrives g (return_on g held is_function (place + 1)) s.turns at_call (effect.and_then (effect.begin_with (suc left) number s) behind_begin)
       with_turn left is (inl large) =
           inl (
             0,
@@ -393,15 +392,15 @@ module _ (g : Setting) (depth : ℕ) (known : CallsRun depth) (depth_is : g.dept
       with_turn left is (inr fits) = lifted (call_runs fits left is)
         where
           lifted : Starves g at_call (body_does >>= ends_so) (record s { turns = left; activations = suc s.activations; living = number ∷ s.living })
-              ⊎ Returned g s.turns at_call held (place + 1) is_function
+              ⊎ Arrives g (return_on g held is_function (place + 1)) s.turns at_call
               ((body_does >>= ends_so) (record s { turns = left; activations = suc s.activations; living = number ∷ s.living }))
               → Starves g at_call begun_action s
-              ⊎ Returned g s.turns at_call held (place + 1) is_function (effect.and_then (effect.begin_with (suc left) number s) behind_begin)
+              ⊎ Arrives g (return_on g held is_function (place + 1)) s.turns at_call (effect.and_then (effect.begin_with (suc left) number s) behind_begin)
           lifted (inl x) = inl (suc x.0, x.1, x.2, x.3, x.4, omega (arith, is, x.5))
           lifted (inr e) = inr e
 
       by : (turns : ℕ) → s.turns ≡ turns → Starves g at_call begun_action s
-          ⊎ Returned g s.turns at_call held (place + 1) is_function (effect.and_then (effect.begin_with turns number s) behind_begin)
+          ⊎ Arrives g (return_on g held is_function (place + 1)) s.turns at_call (effect.and_then (effect.begin_with turns number s) behind_begin)
       by zero is = inr (at_call, comes_less g.target (s.turns - g.slack) 0 _ _ (omega (arith, is)) (stays_here g.target at_call), refl)
       by (suc left) is = with_turn left is (cases_lt g.size (g.below + length held + frame_need))
 

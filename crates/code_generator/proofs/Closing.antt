@@ -15,8 +15,8 @@ use Rattle.code_scheme.specs.declared.routine.Routine.{Routine}
 use Rattle.code_scheme.specs.Code.{block_code, blocks_code, end_code, program_code, return_code, routines_of, stmt_code}
 use Rattle.code_scheme.specs.Depth.{block_depth}
 use Rattle.code_scheme.specs.Scopes.{Scope, block_scope, count, other_cells}
-use Rattle.code_generator.proofs.Callee.{slice_behind}
 use Rattle.code_generator.proofs.Repeats.{repeats}
+use Rattle.code_generator.proofs.Lists.{slice_behind}
 
 -- an instruction behind which none need follow
 abbrev pub Closes : Instr → Type 0

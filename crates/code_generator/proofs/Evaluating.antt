@@ -1,6 +1,6 @@
 -- What is shown of the code of an expression: it leaves the expression's value on top, or stops as the expression does; and
 -- of a statement: it keeps store and cells alike, or stops as the statement does.
-use Rattle.std.proofs.Common.{◌≡◌, ℕ, ◌+◌, ◌<◌, ◌≤◌, List, [], ◌∷◌, ◌++◌, length, Option, Some, None, refl, sym, append_assoc, Bool, true, inr}
+use Rattle.std.proofs.Common.{subst, ◌≡◌, ℕ, ◌+◌, ◌<◌, ◌≤◌, List, [], ◌∷◌, ◌++◌, length, Option, Some, None, refl, sym, append_assoc, Bool, true, inr}
 use Rattle.std.specs.Prelude.{ℤ}
 use Rattle.pcode_assembler.specs.declared.instr.Instr.{Instr}
 use Rattle.pcode_assembler.specs.declared.instr.Instr.TheVariants as instr
@@ -22,7 +22,21 @@ use Rattle.code_generator.proofs.Acts.{framed, defines}
 use Rattle.code_generator.proofs.Alike.{cell_of, HasFit}
 use Rattle.code_generator.proofs.Numbers.{Fits}
 use Rattle.code_generator.proofs.Reach.{StandsAt, Stands}
-use Rattle.code_generator.proofs.Setting.{Setting, outline, around, on, Based, linked, passes, fails, Evaluates, gives, Executes}
+use Rattle.code_generator.proofs.Setting.{Setting, outline, around, on, Based, linked, passes, fails}
+use Rattle.code_generator.proofs.Running.{Aim, Evaluates, Executes, Runs, check_then, gives}
+use Rattle.std.proofs.Common.{ap, ◌∙◌, Ok}
+use Rattle.meaning.specs.Effect.{Action, ◌>>=◌, require}
+use Rattle.code_generator.proofs.Acts.{is_in_range}
+use Rattle.code_generator.proofs.Numbers.{same_range}
+use Rattle.code_scheme.specs.Code.{range_check}
+use Rattle.typed_tree.specs.declared.tree.RangeTest.{RangeTest}
+
+-- what is shown of the like is shown of these
+pub same_four : {A B C D : Type 0} (IsShown : A → B → C → D → Type 0) {a a' : A} {b b' : B} {c c' : C} {d d' : D} → a ≡ a' → b ≡ b' → c ≡ c' → d ≡ d'
+    → IsShown a' b' c' d' → IsShown a b c d
+same_four IsShown {a} {a'} {b} {b'} {c} {c'} {d} {d'} p q r s shown =
+    subst (λ x. IsShown x b c d) (sym p) (subst (λ x. IsShown a' x c d) (sym q)
+    (subst (λ x. IsShown a' b' x d) (sym r) (subst (IsShown a' b' c') (sym s) shown)))
 
 module _ (g : Setting) where
   abbrev pub sites : ℕ
@@ -69,6 +83,16 @@ module _ (g : Setting) where
   -- what is held with one number more on top, over the same cells
   pub one_held : (base held : List Cell) (a : ℤ) → base ++ (held ++ Number a ∷ []) ≡ (base ++ held) ++ Number a ∷ []
   one_held base held a = sym (append_assoc base held (Number a ∷ []))
+
+  -- the test of a value on top, and what comes behind it
+  pub range_then : {A : Type 0} (aim : Aim A) (fits : RangeTest) (v : Value) (below : List Cell) (place : ℕ) (s : effect.State) (next : Action A)
+      → StandsAt g.target place (range_check fits) (g.target.is_open fits.site) → fits.site < sites → g.frame + 4 ≤ length below → Fits (number_of v)
+      → (effect.is_in fits.range v ≡ true → Runs g aim (on g (below ++ Number (number_of v) ∷ []) (place + 1) s.output) next s)
+      → Runs g aim (on g (below ++ Number (number_of v) ∷ []) place s.output) (require (effect.is_in fits.range v) fits.site >>= (λ _. next)) s
+  range_then aim fits v below place s next stands within in_frame fit rest =
+      check_then g aim (range_check fits) fits.site place (below ++ Number (number_of v) ∷ []) s next _ (effect.is_in fits.range v) stands refl refl
+      (is_in_range g.frame g.limit g.size below in_frame fits.range.first fits.range.last (number_of v) ∙ ap Ok (sym (same_range fits.range v fit)))
+      within rest
 
   -- what a variable holds, on top, and its check
   pub fetched_runs : (place defined : ℕ) (base held : List Cell) (s : effect.State) (found : Option Value)

@@ -4,7 +4,7 @@ use Rattle.std.proofs.Common.{length-append, append_assoc, append-nil, ◌-◌, 
 use Rattle.std.specs.Prelude.{ℤ, pos, neg_ℤ, ◌+ℤ◌, ◌-ℤ◌, ◌*ℤ◌, int_le, int_lt, int_div, slice_get, unsigned_abs, nat_eq, nat_lt, not, ◌&&◌, ◌||◌, fold}
 use Rattle.std.specs.Int.{w32, cast_signed, int_rem_euclid, int_wrapping_add, int_wrapping_sub, int_wrapping_mul, int_wrapping_div, int_wrapping_neg}
 use Rattle.std.specs.Ordering.{int_eq}
-use Rattle.std.proofs.lemmas.Bool.{eqb-true, false≢true, ltb-true, and_parts}
+use Rattle.std.proofs.lemmas.Bool.{eqb-true, ltb-true, and_parts}
 use Rattle.std.proofs.lemmas.List.{length-map}
 use Rattle.std.proofs.lemmas.Option.{none-some, same_Some}
 use Rattle.pcode_assembler.specs.declared.instr.Instr.{Instr}
@@ -53,14 +53,13 @@ use Rattle.meaning.proofs.Replies.{and_then-and_then}
 use Rattle.meaning.specs.Meaning.{Argument, OfValue, OfRow, OfPlace, Passing, all_passed, calls_of, passing_of}
 use Rattle.meaning.specs.Meaning as meaning
 use Rattle.meaning.specs.Integers.{magnitude, truth}
+use Rattle.stack_machine.specs.Deeds.{Acts, Tests, deed_of}
 use Rattle.stack_machine.specs.declared.cell.Cell.{Cell}
 use Rattle.stack_machine.specs.declared.cell.Cell.TheVariants.{Number}
-use Rattle.stack_machine.specs.Calls as calls
 use Rattle.stack_machine.specs.Frames as frames
 use Rattle.stack_machine.specs.Frames.{Attempt}
 use Rattle.stack_machine.specs.Rows as rows
 use Rattle.machine_arithmetic.specs.Arithmetic.{is_odd}
-use Rattle.stack_machine.specs.Machine.{State, and_then, checked, with_frames}
 use Rattle.code_scheme.specs.Code.{calculation_code, monadic_code, shift_code}
 use Rattle.code_scheme.specs.Code.{joined, dyadic_code, relation_instr, variable_code, width_code, check_positive, expr_code, link_code}
 use Rattle.code_scheme.specs.Code.{address_code, call_code, expr_step, passed_code, passed_step as passed_code_step, range_check}
@@ -72,27 +71,35 @@ use Rattle.typed_tree.specs.WellFormed.{calculation_is_well_formed, shift_is_wel
 use Rattle.typed_tree.specs.WellFormed.{all_hold, monadic_is_well_formed, dyadic_is_well_formed, expr_is_well_formed, link_is_well_formed, is_well_formed_expr}
 use Rattle.typed_tree.specs.WellFormed.{is_well_formed_link, is_well_formed_width, is_well_formed_whole, is_whole, leads_to_ordinal, length_of, whole_indexes}
 use Rattle.typed_tree.specs.WellFormed.{formal_of, heading_of, is_callable, is_passed_to, is_well_formed_call, is_well_formed_passed, is_well_formed_test}
-use Rattle.typed_tree.specs.WellFormed.{leads_to_type, may_call, may_copy, of_one, passed_is_well_formed, passes_value, passes_variable, passes_whole}
+use Rattle.typed_tree.specs.WellFormed.{leads_to_type, may_call, may_copy, passed_is_well_formed, passes_value, passes_variable, passes_whole}
 use Rattle.typed_tree.specs.WellFormed.{placed as placed_for, source_of, takes_value, takes_variable, takes_whole}
 use Rattle.check_remover.specs.Strip.{moved}
 use Rattle.code_scheme.proofs.Pieces.{start_within}
 use Rattle.code_generator.proofs.Alike.{Leads, leads_split}
 use Rattle.code_generator.proofs.Calling.{marks}
 use Rattle.code_generator.proofs.Exact.{exact_link, exact_passed}
-use Rattle.code_generator.proofs.Passing.{AllPass, CallsAt, PassedRuns, Passes, PassesAs, Returns, address_passes, function_evaluates, links_of, passed_then}
-use Rattle.code_generator.proofs.Passing.{returns_from, row_passes, then_pass, then_returns, value_passes}
-use Rattle.code_generator.proofs.Reach.{StandsAt, Stands, obeys, stands_front, stands_back, Comes, comes_less, comes_on, stays_here}
+use Rattle.code_generator.proofs.Nesting.{one_there}
+use Rattle.code_generator.proofs.Passing.{AllPass, CallsAt, PassedRuns, Passes, PassesAs, Returns, function_evaluates, links_of}
+use Rattle.code_generator.proofs.Reach.{StandsAt, Stands, Comes, comes_less, comes_on, stays_here}
 use Rattle.code_generator.proofs.Rows.{cells_of, length-cells_of, compares, numbers_of, same_order, order_fits}
-use Rattle.code_generator.proofs.Setting.{Setting, outline, around, exact_around, on, Based, linked, Here, acts, passes, fails, Evaluates, gives}
-use Rattle.code_generator.proofs.Setting.{as_value, evaluates_from, evaluates_same, then_evaluates}
-use Rattle.code_generator.proofs.Accesses.{Indexes, expressions, wells, as_many_wells, codes, depths, leads, begins, entered, fetch_runs, found as place_found}
+use Rattle.code_generator.proofs.Setting.{Setting, outline, around, exact_around, on, Based, linked, Here, acts, passes, fails}
+use Rattle.code_generator.proofs.Setting.{as_value}
+use Rattle.code_generator.proofs.Accesses.{Indexes, expressions, wells, as_many_wells, codes, depths, leads, begins, fetch_runs, found as place_found}
 use Rattle.code_generator.proofs.Accesses.{PartAt, address_runs, exact_found, frame_found}
-use Rattle.code_generator.proofs.Evaluating.{sites, frames_of, fetched_at, RunsAs, CombinesAs, ExprRuns, LinkRuns, one_held}
-use Rattle.code_generator.proofs.Wholes.{copied_cells, few_components, row_evaluates, same_type, whole_runs}
-use Rattle.code_generator.proofs.Acts.{length_one, pushes, on_one_is, is_in_range, is_not_zero, squares, sums, differs, multiplies}
+use Rattle.code_generator.proofs.Evaluating.{same_four}
+use Rattle.code_generator.proofs.Evaluating.{sites, frames_of, RunsAs, CombinesAs, ExprRuns, LinkRuns, one_held}
+use Rattle.code_generator.proofs.Wholes.{copied_cells, few_components, same_type, whole_runs}
+use Rattle.code_generator.proofs.Acts.{pushes, on_one_is, is_in_range, is_not_zero, squares, sums, differs, multiplies}
 use Rattle.code_generator.proofs.Acts.{on_two_is, divides, leaves}
 use Rattle.code_generator.proofs.Numbers.{Fits, sum_is, difference_is, product_is, fits_negated, negated_is, fits_magnitude, magnitude_is, fits_quotient}
 use Rattle.code_generator.proofs.Numbers.{quotient_is, fits_remainder, fits_truth, same_truth, same_test, same_positive, fits_next, fits_previous, same_range}
+use Rattle.code_generator.proofs.Running.{Aim, Evaluates, Runs, gives, instr_then, runs_from, runs_same, then_code, then_runs, value_on, value_then}
+use Rattle.code_generator.proofs.Accesses.{address_on, at_address}
+use Rattle.code_generator.proofs.Passing.{all_on, passed_on, passes_it, return_on}
+use Rattle.code_generator.proofs.Setting.{entered}
+use Rattle.code_generator.proofs.Evaluating.{range_then}
+use Rattle.code_generator.proofs.Wholes.{row_on, row_then}
+use Rattle.code_generator.proofs.Lists.{length_one}
 
 -- a heading of a table is that of a block
 heading_there : (blocks : List Block) (number : ℕ) (heading : Heading) → slice_get (map heading_of blocks) number ≡ Some heading
@@ -127,8 +134,7 @@ module _ (g : Setting) where
   constant_runs : (number : ℕ) (n : ℤ) → RunsAs g (expr_step g.scope (Constant number n)) (expr_depth_step (Constant number n))
       (expr_is_well_formed (outline g) g.number (Constant number n)) (value_step (Constant number n))
   constant_runs number n place base held s stands well based room =
-      number_runs n place base held (record s { visited = s.visited ++ record { number = number; environment = g.environment; store = s.store } ∷ [] })
-      stands.0 (record { is = well }) based room
+      number_runs n place base held (entered g number s) stands.0 (record { is = well }) based room
 
   -- what a variable or a component holds
   variable_runs : (access : Access) (indexes : Indexes g) (defined : ℕ)
@@ -148,57 +154,50 @@ module _ (g : Setting) where
       (ltb-true defined (sites g) parts'.1) stands based room)
 
   -- an operation that is never in error: the instruction leaves a number, which is the one that is meant
-  given_runs : (apply : Instr) (place : ℕ) (stack base held : List Cell) (c d : ℤ) (s : effect.State) (attempt : Attempt frames.Frames) → Here g place apply
-      → obeys g.target apply (fetched_at g stack place s.output) ≡ and_then attempt (with_frames (fetched_at g stack place s.output))
-      → attempt ≡ Ok (frames_of g ((base ++ held) ++ Number d ∷ [])) → d ≡ c → Fits c → Based g s base → g.below + length held < g.limit
+  given_runs : (apply : Instr) (place : ℕ) (stack base held : List Cell) (c d : ℤ) (s : effect.State) (act : frames.Frames → Attempt frames.Frames)
+      → Here g place apply → deed_of apply ≡ Acts act → act (frames_of g stack) ≡ Ok (frames_of g ((base ++ held) ++ Number d ∷ [])) → d ≡ c
+      → Fits c → Based g s base → g.below + length held < g.limit
       → Evaluates g (on g stack place s.output) held (place + 1) (give (value.Number c)) s
-  given_runs apply place stack base held c d s attempt here rule does same fit based room =
-      inr (gives g 1 _ base held (place + 1) (value.Number c) s based (acts g apply stack ((base ++ held) ++ Number c ∷ []) place s.output attempt here rule
-      (does ∙ ap (λ v. Ok
-      (frames_of g ((base ++ held) ++ Number v ∷ []))) same)) fit room)
+  given_runs apply place stack base held c d s act here rule does same fit based room =
+      inr (gives g 1 _ base held (place + 1) (value.Number c) s based (acts g apply stack ((base ++ held) ++ Number c ∷ []) place s.output act here rule
+      (does ∙ ap (λ v. Ok (frames_of g ((base ++ held) ++ Number v ∷ []))) same)) fit room)
 
   -- a check, behind which more comes where it holds
-  checked_then : (check : Instr) (site place end : ℕ) (stack held : List Cell) (s : effect.State) (next : Action ℤ) (holds : Attempt Bool) (good : Bool)
-      → StandsAt g.target place check (g.target.is_open site) → moved g.target.to check ≡ check
-      → obeys g.target check (fetched_at g stack place s.output) ≡ checked g.target.sites site (fetched_at g stack place s.output) holds
-      → holds ≡ Ok good → site < sites g → (good ≡ true → Evaluates g (on g stack (place + 1) s.output) held end (as_value next) s)
+  checked_then : (check : Instr) (site place end : ℕ) (stack held : List Cell) (s : effect.State) (next : Action ℤ) (test : frames.Frames → Attempt Bool)
+      (good : Bool) → StandsAt g.target place check (g.target.is_open site) → moved g.target.to check ≡ check → deed_of check ≡ Tests site test
+      → test (frames_of g stack) ≡ Ok good → site < sites g → (good ≡ true → Evaluates g (on g stack (place + 1) s.output) held end (as_value next) s)
       → Evaluates g (on g stack place s.output) held end (as_value (require good site >>= (λ _. next))) s
-  checked_then check site place end stack held s next holds true stands same rule e within rest =
-      evaluates_from g 0 _ _ held end (as_value next) s (passes g check stack place site s.output holds same rule stands e) (rest refl)
-  checked_then check site place end stack held s next holds false stands same rule e within rest =
-      inr (fails g check stack place site s.output holds same rule s.turns stands within e)
+  checked_then check site place end stack held s next test true stands same rule e within rest =
+      runs_from g (value_on g held end) 0 _ _ (as_value next) s (passes g check stack place site s.output test same rule stands e) (rest refl)
+  checked_then check site place end stack held s next test false stands same rule e within rest =
+      inr (fails g check stack place site s.output test same rule s.turns stands within e)
 
   -- an operation behind a check of its result or of its operand
-  checked_runs : (check apply : Instr) (site place : ℕ) (stack base held : List Cell) (c d : ℤ) (s : effect.State) (holds : Attempt Bool)
-      (attempt : Attempt frames.Frames) (good : Bool) → StandsAt g.target place check (g.target.is_open site) → Here g (place + 1) apply
-      → moved g.target.to check ≡ check
-      → obeys g.target check (fetched_at g stack place s.output) ≡ checked g.target.sites site (fetched_at g stack place s.output) holds
-      → obeys g.target apply (fetched_at g stack (place + 1) s.output) ≡ and_then attempt (with_frames (fetched_at g stack (place + 1) s.output))
-      → holds ≡ Ok good
-      → (good ≡ true → (attempt ≡ Ok (frames_of g ((base ++ held) ++ Number d ∷ []))) × (d ≡ c) × Fits c) → site < (sites g) → Based g s base
+  checked_runs : (check apply : Instr) (site place : ℕ) (stack base held : List Cell) (c d : ℤ) (s : effect.State) (test : frames.Frames → Attempt Bool)
+      (act : frames.Frames → Attempt frames.Frames) (good : Bool) → StandsAt g.target place check (g.target.is_open site) → Here g (place + 1) apply
+      → moved g.target.to check ≡ check → deed_of check ≡ Tests site test → deed_of apply ≡ Acts act → test (frames_of g stack) ≡ Ok good
+      → (good ≡ true → (act (frames_of g stack) ≡ Ok (frames_of g ((base ++ held) ++ Number d ∷ []))) × (d ≡ c) × Fits c) → site < (sites g) → Based g s base
       → g.below + length held < g.limit
       → Evaluates g (on g stack place s.output) held (place + 2) (as_value (require good site >>= (λ _. give c))) s
-  checked_runs check apply site place stack base held c d s holds attempt good stands here same rule rule' e does within based room =
-      checked_then check site place (place + 2) stack held s (give c) holds good stands same rule e within
+  checked_runs check apply site place stack base held c d s test act good stands here same rule rule' e does within based room =
+      checked_then check site place (place + 2) stack held s (give c) test good stands same rule e within
       (λ so.
       let d' = does so in
       let p : place + 1 + 1 ≡ place + 2 = omega arith in
       subst (λ q. Evaluates g (on g stack (place + 1) s.output) held q (give (value.Number c)) s) p
-      (given_runs apply (place + 1) stack base held c d s attempt here rule' d'.0 d'.1 d'.2 based room))
+      (given_runs apply (place + 1) stack base held c d s act here rule' d'.0 d'.1 d'.2 based room))
 
   -- a result that is checked to be of type integer
-  result_runs : (check apply : Instr) (overflow place : ℕ) (stack base held : List Cell) (c d : ℤ) (s : effect.State) (holds : Attempt Bool)
-      (attempt : Attempt frames.Frames) → StandsAt g.target place check (g.target.is_open overflow) → Here g (place + 1) apply → moved g.target.to check ≡ check
-      → obeys g.target check (fetched_at g stack place s.output) ≡ checked g.target.sites overflow (fetched_at g stack place s.output) holds
-      → obeys g.target apply (fetched_at g stack (place + 1) s.output) ≡ and_then attempt (with_frames (fetched_at g stack (place + 1) s.output))
-      → holds ≡ Ok (frames.is_integer c)
-      → attempt ≡ Ok (frames_of g ((base ++ held) ++ Number d ∷ [])) → (Fits c → d ≡ c) → overflow < (sites g) → Based g s base
-      → g.below + length held < g.limit
+  result_runs : (check apply : Instr) (overflow place : ℕ) (stack base held : List Cell) (c d : ℤ) (s : effect.State) (test : frames.Frames → Attempt Bool)
+      (act : frames.Frames → Attempt frames.Frames) → StandsAt g.target place check (g.target.is_open overflow) → Here g (place + 1) apply
+      → moved g.target.to check ≡ check → deed_of check ≡ Tests overflow test → deed_of apply ≡ Acts act
+      → test (frames_of g stack) ≡ Ok (frames.is_integer c) → act (frames_of g stack) ≡ Ok (frames_of g ((base ++ held) ++ Number d ∷ []))
+      → (Fits c → d ≡ c) → overflow < (sites g) → Based g s base → g.below + length held < g.limit
       → Evaluates g (on g stack place s.output) held (place + 2) (as_value (unless_overflow (Some overflow) c)) s
-  result_runs check apply overflow place stack base held c d s holds attempt stands here same rule rule' e does is within based room =
+  result_runs check apply overflow place stack base held c d s test act stands here same rule rule' e does is within based room =
       subst (λ t. Evaluates g (on g stack place s.output) held (place + 2) (as_value (require t overflow >>= (λ _. give c))) s)
       (sym (same_test c))
-      (checked_runs check apply overflow place stack base held c d s holds attempt (frames.is_integer c) stands here same rule rule' e
+      (checked_runs check apply overflow place stack base held c d s test act (frames.is_integer c) stands here same rule rule' e
       (λ good. let fit : Fits c = record { is = good } in (does, is fit, fit)) within based room)
 
   -- one number gives way to another
@@ -216,18 +215,13 @@ module _ (g : Setting) where
     below_limit : length cells < g.limit
     below_limit = let full = based.full in omega (arith, length-append base held)
 
-    one_given : (apply : Instr) (f : ℤ → ℤ) (c : ℤ) → Here g place apply
-        → obeys g.target apply (fetched_at g one place s.output) ≡ and_then (frames.on_one f (frames_of g one))
-        (with_frames (fetched_at g one place s.output)) → f n ≡ c → Fits c
+    one_given : (apply : Instr) (f : ℤ → ℤ) (c : ℤ) → Here g place apply → deed_of apply ≡ Acts (frames.on_one f) → f n ≡ c → Fits c
         → Evaluates g (on g one place s.output) held (place + 1) (give (value.Number c)) s
     one_given apply f c here rule same fit' =
-        given_runs apply place one base held c (f n) s (frames.on_one f (frames_of g one)) here rule
-        (on_one_is g.frame g.limit g.size cells within_frame f n below_limit) same fit' based room
+        given_runs apply place one base held c (f n) s _ here rule (on_one_is g.frame g.limit g.size cells within_frame f n below_limit) same fit' based room
 
-    truth_given : (apply : Instr) (test : ℤ → Bool) → Here g place apply
-        → obeys g.target apply (fetched_at g one place s.output) ≡ and_then (frames.on_one (λ v. frames.truth (test v)) (frames_of g one))
-        (with_frames (fetched_at g one place s.output)) → Evaluates g (on g one place s.output) held (place + 1) (give (value.Number (truth
-        (test n)))) s
+    truth_given : (apply : Instr) (test : ℤ → Bool) → Here g place apply → deed_of apply ≡ Acts (frames.on_one (λ v. frames.truth (test v)))
+        → Evaluates g (on g one place s.output) held (place + 1) (give (value.Number (truth (test n)))) s
     truth_given apply test here rule =
         one_given apply (λ v. frames.truth (test v)) (truth (test n)) here rule (same_truth (test n)) (subst Fits (same_truth (test n)) (fits_truth (test n)))
 
@@ -237,7 +231,7 @@ module _ (g : Setting) where
 
     -- a step to the number beside it
     stepped_runs : (step : Instr) (f : ℤ → ℤ → ℤ) (c : ℤ) → Here g place (instr.LoadConstant (pos 1)) → Here g (place + 1) step
-        → ((m : State) → obeys g.target step m ≡ and_then (frames.on_two f m.frames) (with_frames m)) → f n (pos 1) ≡ c → Fits c
+        → deed_of step ≡ Acts (frames.on_two f) → f n (pos 1) ≡ c → Fits c
         → g.below + length held + 2 ≤ g.limit → Evaluates g (on g one place s.output) held (place + 2) (give (value.Number c)) s
     stepped_runs step f c at1 at2 rule same fit' deep =
         let full = based.full in
@@ -246,8 +240,8 @@ module _ (g : Setting) where
         (pushes g.frame g.limit g.size one (pos 1) (omega (arith, length_one cells (Number n), length-append base held))) in
         let p : place + 1 + 1 ≡ place + 2 = omega arith in
         subst (λ q. Evaluates g (on g one place s.output) held q (give (value.Number c)) s) p
-        (evaluates_from g 1 _ _ held (place + 1 + 1) (give (value.Number c)) s pushed
-        (given_runs step (place + 1) two base held c (f n (pos 1)) s (frames.on_two f (frames_of g two)) at2 (rule (fetched_at g two (place + 1) s.output))
+        (runs_from g (value_on g held (place + 1 + 1)) 1 _ _ (give (value.Number c)) s pushed
+        (given_runs step (place + 1) two base held c (f n (pos 1)) s _ at2 rule
         (on_two_is g.frame g.limit g.size cells within_frame n (pos 1) f below_limit) same fit' based room))
 
     -- what is calculated from a number
@@ -283,10 +277,10 @@ module _ (g : Setting) where
         subst (λ p. Evaluates g (on g one place s.output) held p (give (value.Number n)) s) e left_as_it_is
     shift_runs range shift.Next stands well above below deep =
         let f = fits_next n range.last fit (record { is = well }) below in
-        stepped_runs instr.Add (int_wrapping_add w32) (n +ℤ pos 1) stands.0 stands.1.0 (λ m. refl) (sum_is n (pos 1) fit (record { is = refl }) f) f deep
+        stepped_runs instr.Add (int_wrapping_add w32) (n +ℤ pos 1) stands.0 stands.1.0 refl (sum_is n (pos 1) fit (record { is = refl }) f) f deep
     shift_runs range shift.Previous stands well above below deep =
         let f = fits_previous n range.first fit (record { is = well }) above in
-        stepped_runs instr.Subtract (int_wrapping_sub w32) (n -ℤ pos 1) stands.0 stands.1.0 (λ m. refl)
+        stepped_runs instr.Subtract (int_wrapping_sub w32) (n -ℤ pos 1) stands.0 stands.1.0 refl
         (difference_is n (pos 1) fit (record { is = refl }) f) f deep
 
   -- what an operation makes of a number
@@ -298,20 +292,19 @@ module _ (g : Setting) where
   operated_runs place base held n s based room fit (monadic.Plain does) stands well deep =
       calculation_runs place base held n s based room fit does stands well
   operated_runs place base held n s based room fit (monadic.Tested fits does) stands well deep =
-      let cells = base ++ held in
       let range = fits.range in
       let parts = and_parts (is_well_formed_test (outline g) g.number fits) (shift_is_well_formed (outline g) g.number range does) well in
       let within = and_parts (nat_lt fits.site (sites g)) (is_whole range.first && is_whole range.last) parts.0 in
-      let same = same_range range (value.Number n) fit in
       let end = place + 1 + length (shift_code does) in
       let e : end ≡ place + length (monadic_code (monadic.Tested fits does)) = omega arith in
-      subst (λ p. Evaluates g (on g (cells ++ Number n ∷ []) place s.output) held p (as_value (operated (monadic.Tested fits does) n)) s) e
-      (checked_then (range_check fits) fits.site place end (cells ++ Number n ∷ []) held s (give (shifted does n)) _
+      subst (λ p. Evaluates g (on g ((base ++ held) ++ Number n ∷ []) place s.output) held p (as_value (operated (monadic.Tested fits does) n)) s) e
+      (checked_then (range_check fits) fits.site place end ((base ++ held) ++ Number n ∷ []) held s (give (shifted does n)) _
       (effect.is_in range (value.Number n)) stands.0 refl refl
-      (is_in_range g.frame g.limit g.size cells (linked g s base held based) range.first range.last n ∙ ap Ok (sym same))
+      (is_in_range g.frame g.limit g.size (base ++ held) (linked g s base held based) range.first range.last n
+      ∙ ap Ok (sym (same_range range (value.Number n) fit)))
       (ltb-true fits.site (sites g) within.0)
       (λ so.
-      let both = and_parts (int_le range.first n) (int_le n range.last) (sym same ∙ so) in
+      let both = and_parts (int_le range.first n) (int_le n range.last) (sym (same_range range (value.Number n) fit) ∙ so) in
       shift_runs (place + 1) base held n s based room fit range does stands.1 parts.1 both.0 both.1 deep))
 
   -- an operation on one operand
@@ -321,16 +314,12 @@ module _ (g : Setting) where
       (monadic_is_well_formed (outline g) g.number operation && well)
       (λ e. effect.enter number e.visible >>= λ _. v e >>= λ w. as_value (operated operation (number_of w)))
   monadic_runs number operation c depth well v exact runs place base held s stands good based room =
-      let s' : effect.State = record s { visited = s.visited ++ record { number = number; environment = g.environment; store = s.store } ∷ [] } in
       let parts = and_parts (monadic_is_well_formed (outline g) g.number operation) well good in
-      let e : place + length c + length (monadic_code operation) ≡ place + length (c ++ monadic_code operation) = omega
-      (arith, length-append c (monadic_code operation)) in
-      let rest = stands_back g.target place c (monadic_code operation) stands in
       let next : Value → Action Value = λ w. as_value (operated operation (number_of w)) in
-      subst (λ p. Evaluates g (on g (base ++ held) place s.output) held p (v (around g) >>= next) s') e
-      (then_evaluates g _ held held (place + length c) (place + length c + length (monadic_code operation)) (v (around g)) next s' exact
-      (runs place base held s' (stands_front g.target place c (monadic_code operation) stands) parts.1 based (omega arith))
-      (λ base2 w s2 based2 fit2 room2. operated_runs (place + length c) base2 held (number_of w) s2 based2 room2 fit2 operation rest parts.0 (omega arith)))
+      value_then g (value_on g held) c (monadic_code operation) place _ held (v (around g)) next (entered g number s) exact stands
+      (λ front. runs place base held (entered g number s) front parts.1 based (omega arith))
+      (λ base2 w t rest based2 fit2 room2.
+      operated_runs (place + length c) base2 held (number_of w) t based2 room2 fit2 operation rest parts.0 (omega arith))
 
   -- two numbers give way to a third
   module _ (place : ℕ) (base held : List Cell) (a b : ℤ) (s : effect.State) (based : Based g s base) (room : g.below + length held < g.limit)
@@ -352,11 +341,10 @@ module _ (g : Setting) where
     within_limit = let full = based.full in omega (arith, length-append base held)
 
     truths_given : (apply : Instr) (test : ℤ → ℤ → Bool) → Here g place apply
-        → obeys g.target apply (fetched_at g two place s.output) ≡ and_then (frames.on_two (λ x y. frames.truth (test x y)) (frames_of g two))
-        (with_frames (fetched_at g two place s.output)) → Evaluates g (on g two place s.output) held (place + 1) (give (value.Number (truth (test a b)))) s
+        → deed_of apply ≡ Acts (frames.on_two (λ x y. frames.truth (test x y)))
+        → Evaluates g (on g two place s.output) held (place + 1) (give (value.Number (truth (test a b)))) s
     truths_given apply test here rule =
-        given_runs apply place two base held (truth (test a b)) (frames.truth (test a b)) s (frames.on_two (λ x y. frames.truth (test x y)) (frames_of g two))
-        here rule
+        given_runs apply place two base held (truth (test a b)) (frames.truth (test a b)) s _ here rule
         (on_two_is g.frame g.limit g.size (base ++ held) in_frame a b (λ x y. frames.truth (test x y)) within_limit) (same_truth (test a b))
         (subst Fits (same_truth (test a b)) (fits_truth (test a b))) based room
 
@@ -370,15 +358,13 @@ module _ (g : Setting) where
     relation_runs relation.GreaterOrEqual stands = truths_given instr.GreaterOrEqual (λ x y. int_le y x) stands.0 refl
 
     -- a result of type integer of both, checked
-    both_checked : (check apply : Instr) (overflow : ℕ) (c d : ℤ) (holds : Attempt Bool) (attempt : Attempt frames.Frames)
+    both_checked : (check apply : Instr) (overflow : ℕ) (c d : ℤ) (test : frames.Frames → Attempt Bool) (act : frames.Frames → Attempt frames.Frames)
         → StandsAt g.target place check (g.target.is_open overflow) → Here g (place + 1) apply → moved g.target.to check ≡ check
-        → obeys g.target check (fetched_at g two place s.output) ≡ checked g.target.sites overflow (fetched_at g two place s.output) holds
-        → obeys g.target apply (fetched_at g two (place + 1) s.output) ≡ and_then attempt (with_frames (fetched_at g two (place + 1) s.output))
-        → holds ≡ Ok (frames.is_integer c) → attempt ≡ Ok (frames_of g ((base ++ held) ++ Number d ∷ [])) → (Fits c → d ≡ c) → nat_lt overflow (sites g) ≡ true
+        → deed_of check ≡ Tests overflow test → deed_of apply ≡ Acts act → test (frames_of g two) ≡ Ok (frames.is_integer c)
+        → act (frames_of g two) ≡ Ok (frames_of g ((base ++ held) ++ Number d ∷ [])) → (Fits c → d ≡ c) → nat_lt overflow (sites g) ≡ true
         → Evaluates g (on g two place s.output) held (place + 2) (as_value (unless_overflow (Some overflow) c)) s
-    both_checked check apply overflow c d holds attempt stands here same rule rule' e does is well =
-        result_runs check apply overflow place two base held c d s holds attempt stands here same rule rule' e does is (ltb-true overflow
-        (sites g) well) based room
+    both_checked check apply overflow c d test act stands here same rule rule' e does is well =
+        result_runs check apply overflow place two base held c d s test act stands here same rule rule' e does is (ltb-true overflow (sites g) well) based room
 
     combined_runs : (operation : Dyadic) → Stands g.target place (dyadic_code operation) → dyadic_is_well_formed (outline g) g.number operation ≡ true
         → Evaluates g (on g two place s.output) held (place + length (dyadic_code operation)) (as_value (combined operation a b)) s
@@ -432,7 +418,7 @@ module _ (g : Setting) where
       (pushes g.frame g.limit g.size ordered (pos 0) (omega (arith, length_one cells (Number order)))) in
       let fit : Fits order = subst Fits (sym is_order) (order_fits left right) in
       let related = relation_runs (place + 1 + 1) base held order (pos 0) s based (omega arith) fit (record { is = refl }) r stands.1.1 in
-      let whole = evaluates_from g 2 _ _ held (place + 1 + 1 + 1) (give (value.Number (truth (relates r order (pos 0))))) s
+      let whole = runs_from g (value_on g held (place + 1 + 1 + 1)) 2 _ _ (give (value.Number (truth (relates r order (pos 0))))) s
       (comes_on g.target 1 1 _ _ _ compared zero) related in
       let e : place + 1 + 1 + 1 ≡ place + 3 = omega arith in
       subst (λ p. Evaluates g (on g both place s.output) held p (give (value.Number (meaning.compared r vs ws))) s) e
@@ -462,47 +448,25 @@ module _ (g : Setting) where
       let left_well = subst (λ k. is_well_formed_whole (outline g) g.number left k ≡ true) (as_many_wells g left_indexes) two.0 in
       let right_well = subst (λ k. is_well_formed_whole (outline g) g.number right k ≡ true) (as_many_wells g right_indexes) four.0 in
       let same : n ≡ row_length n = few_components g left (length (expressions g left_indexes)) left_well in
-      let behind = stands_back g.target place c (d ++ last) stands in
       let there = place + length c in
-      let end = there + length d + 3 in
-      let e : end ≡ place + length (c ++ (d ++ last)) = omega (arith, length-append c (d ++ last), length-append d last) in
+      let meant = meaning.whole_of right (map value_of (expressions g right_indexes)) (around g) in
       let next' : List Value → List Value → Action Value = λ vs ws. give (value.Number (meaning.compared r vs ws)) in
-      let next : List Value → Action Value = λ vs. effect.enter number g.environment >>= λ _.
-      meaning.whole_of right (map value_of (expressions g right_indexes)) (around g) >>= next' vs in
-      subst (λ p. Evaluates g (on g (base ++ held) place s.output) held p
-      (meaning.whole_of left (map value_of (expressions g left_indexes)) (around g) >>= next) s) e
-      (row_evaluates g _ held held there end n (meaning.whole_of left (map value_of (expressions g left_indexes)) (around g)) next s
-      ((exact_around g).wholes left (expressions g left_indexes))
-      (whole_runs g left left_indexes place base held s (stands_front g.target place c (d ++ last) stands) one.0 left_well based (omega arith))
-      (λ base2 vs s2 based2 long fits.
+      let next : List Value → Action Value = λ vs. effect.enter number g.environment >>= λ _. meant >>= next' vs in
+      row_then g (value_on g held) c (d ++ last) place _ held n (meaning.whole_of left (map value_of (expressions g left_indexes)) (around g)) next s
+      ((exact_around g).wholes left (expressions g left_indexes)) stands
+      (λ front. whole_runs g left left_indexes place base held s front one.0 left_well based (omega arith))
+      (λ base2 vs s2 rest based2 long fits.
       let above = held ++ cells_of vs in
       let high = length-append held (cells_of vs) in
-      let s3 = entered g number s2 in
       let wide = length-cells_of vs in
-      subst (λ cells. Evaluates g (on g cells there s2.output) held end (next vs) s2) (sym (append_assoc base2 held (cells_of vs)))
-      (row_evaluates g _ above held (there + length d) end (length_of right) (meaning.whole_of right (map value_of (expressions g right_indexes)) (around g))
-      (next' vs) s3 ((exact_around g).wholes right (expressions g right_indexes))
-      (whole_runs g right right_indexes there base2 above s3 (stands_front g.target there d last behind) three.0 right_well
-      based2 (omega arith))
-      (λ base3 ws s4 based4 long' fits'.
-      subst (λ cells. Evaluates g (on g (cells ++ cells_of ws) (there + length d) s4.output) held end (next' vs ws) s4) (append_assoc base3 held
-      (cells_of vs))
-      (ordered_runs r (row_length n) (there + length d) base3 held vs ws s4 (long ∙ same) (long' ∙ sym as_long ∙ same)
-      (stands_back g.target there d last behind)
-      based4 (omega arith))))))
-
-  -- a value above what is held and one number more
-  above_one : (m : State) (held : List Cell) (a : ℤ) (held' : List Cell) (place place' : ℕ) (first : Action Value) (next : Value → Action Value)
-      (s : effect.State) → UsesTurnsExactly first → Evaluates g m (held ++ Number a ∷ []) place first s
-      → ((base : List Cell) (v : Value) (t : effect.State) → Based g t base → Fits (number_of v) → g.below + length held < g.limit
-      → Evaluates g (on g (((base ++ held) ++ Number a ∷ []) ++ Number (number_of v) ∷ []) place t.output) held' place' (next v) t)
-      → Evaluates g m held' place' (first >>= next) s
-  above_one m held a held' place place' first next s exact e h =
-      then_evaluates g m (held ++ Number a ∷ []) held' place place' first next s exact e
-      (λ base v t based fit room.
-      let one = length_one held (Number a) in
-      subst (λ cells. Evaluates g (on g (cells ++ Number (number_of v) ∷ []) place t.output) held' place' (next v) t) (sym (one_held g base held a))
-      (h base v t based fit (omega arith)))
+      subst (λ cells. Evaluates g (on g cells there s2.output) held (there + length (d ++ last)) (next vs) s2) (sym (append_assoc base2 held (cells_of vs)))
+      (row_then g (value_on g held) d last there _ above (length_of right) meant (next' vs) (entered g number s2)
+      ((exact_around g).wholes right (expressions g right_indexes)) rest
+      (λ front. whole_runs g right right_indexes there base2 above (entered g number s2) front three.0 right_well based2 (omega arith))
+      (λ base3 ws s4 ordering based4 long' fits'.
+      subst (λ cells. Evaluates g (on g (cells ++ cells_of ws) (there + length d) s4.output) held (there + length d + 3) (next' vs ws) s4)
+      (append_assoc base3 held (cells_of vs))
+      (ordered_runs r (row_length n) (there + length d) base3 held vs ws s4 (long ∙ same) (long' ∙ sym as_long ∙ same) ordering based4 (omega arith)))))
 
   -- an operator and its right operand
   link_runs : (number : ℕ) (operation : Dyadic) (c : List Instr) (depth : ℕ) (well : Bool) (v : Evaluation) → UsesTurnsExactly (v (around g))
@@ -511,20 +475,20 @@ module _ (g : Setting) where
       (meaning.link_step (record { number = number; operation = operation; operand = v }))
   link_runs number operation c depth well v exact runs place base held left s stands good based room fit =
       let a = number_of left in
-      let s' : effect.State = record s { visited = s.visited ++ record { number = number; environment = g.environment; store = s.store } ∷ [] } in
+      let s' = entered g number s in
       let parts = and_parts (dyadic_is_well_formed (outline g) g.number operation) well good in
+      let above = held ++ Number a ∷ [] in
       let one = length_one held (Number a) in
-      let e : place + length c + length (dyadic_code operation) ≡ place + length (c ++ dyadic_code operation) = omega
-      (arith, length-append c (dyadic_code operation)) in
-      let rest = stands_back g.target place c (dyadic_code operation) stands in
       let next : Value → Action Value = λ w. as_value (combined operation a (number_of w)) in
-      let operand = runs place base (held ++ Number a ∷ []) s' (stands_front g.target place c (dyadic_code operation) stands) parts.1 based (omega arith) in
-      subst (λ p. Evaluates g (on g ((base ++ held) ++ Number a ∷ []) place s.output) held p (v (around g) >>= next) s') e
-      (subst (λ cells. Evaluates g (on g cells place s.output) held (place + length c + length (dyadic_code operation)) (v (around g) >>= next) s')
+      subst (λ cells. Evaluates g (on g cells place s.output) held (place + length (c ++ dyadic_code operation)) (v (around g) >>= next) s')
       (one_held g base held a)
-      (above_one _ held a held (place + length c) (place + length c + length (dyadic_code operation)) (v (around g)) next s' exact operand
-      (λ base2 w s2 based2 fit2 room2.
-      combined_runs (place + length c) base2 held a (number_of w) s2 based2 room2 fit fit2 operation rest parts.0)))
+      (value_then g (value_on g held) c (dyadic_code operation) place _ above (v (around g)) next s' exact stands
+      (λ front. runs place base above s' front parts.1 based (omega arith))
+      (λ base2 w s2 rest based2 fit2 room2.
+      let b = number_of w in
+      subst (λ cells. Evaluates g (on g (cells ++ Number b ∷ []) (place + length c) s2.output) held (place + length c + length (dyadic_code operation))
+      (next w) s2) (sym (one_held g base2 held a))
+      (combined_runs (place + length c) base2 held a b s2 based2 (omega arith) fit fit2 operation rest parts.0)))
 
   -- the operators of a chain, from left to right
   links_run : (links : List ((l : Link) × LinkRuns g l)) (depth place : ℕ) (base held : List Cell) (left : Value) (s : effect.State)
@@ -541,13 +505,10 @@ module _ (g : Setting) where
       let c = link_code g.scope l.0 in
       let rest = joined (map (link_code g.scope) (map (λ k. k.0) links)) in
       let d = start_within (max depth (link_depth l.0)) (map link_depth (map (λ k. k.0) links)) in
-      let e : place + length c + length rest ≡ place + length (c ++ rest) = omega (arith, length-append c rest) in
-      let next : Value → Action Value = λ w. in_turn (map link_of (map (λ k. k.0) links)) (around g) w in
-      subst (λ p. Evaluates g (on g ((base ++ held) ++ Number (number_of left) ∷ []) place s.output) held p (link_of l.0 (around g) left >>= next) s) e
-      (then_evaluates g _ held held (place + length c) (place + length c + length rest) (link_of l.0 (around g) left) next s (l.1.1 left)
-      (l.1.0 place base held left s (stands_front g.target place c rest stands) (and_parts _ _ good).0 based (omega arith) fit)
-      (λ base2 w s2 based2 fit2 room2. links_run links (max depth (link_depth l.0)) (place + length c) base2 held w s2
-      (stands_back g.target place c rest stands) (and_parts _ _ good).1 based2 deep room2 fit2))
+      value_then g (value_on g held) c rest place _ held (link_of l.0 (around g) left) (in_turn (map link_of (map (λ k. k.0) links)) (around g)) s
+      (l.1.1 left) stands (λ front. l.1.0 place base held left s front (and_parts _ _ good).0 based (omega arith) fit)
+      (λ base2 w s2 back based2 fit2 room2.
+      links_run links (max depth (link_depth l.0)) (place + length c) base2 held w s2 back (and_parts _ _ good).1 based2 deep room2 fit2)
 
   chain_runs : (first : (e : Expr) × ExprRuns g e) (links : List ((l : Link) × LinkRuns g l))
       → RunsAs g (expr_code g.scope first.0 ++ joined (map (link_code g.scope) (map (λ l. l.0) links)))
@@ -558,69 +519,12 @@ module _ (g : Setting) where
       let c = expr_code g.scope first.0 in
       let rest = joined (map (link_code g.scope) (map (λ k. k.0) links)) in
       let d = start_within (expr_depth first.0) (map link_depth (map (λ k. k.0) links)) in
-      let e : place + length c + length rest ≡ place + length (c ++ rest) = omega (arith, length-append c rest) in
-      let next : Value → Action Value = λ w. in_turn (map link_of (map (λ k. k.0) links)) (around g) w in
-      subst (λ p. Evaluates g (on g (base ++ held) place s.output) held p (value_of first.0 (around g) >>= next) s) e
-      (then_evaluates g _ held held (place + length c) (place + length c + length rest) (value_of first.0 (around g)) next s
-      ((exact_around g).values first.0)
-      (first.1 place base held s (stands_front g.target place c rest stands) (and_parts _ _ good).0 based (omega arith))
-      (λ base2 w s2 based2 fit2 room2. links_run links (expr_depth first.0) (place + length c) base2 held w s2 (stands_back g.target place c rest stands)
-      (and_parts _ _ good).1 based2 deep room2 fit2))
-
-  same_runs : (c c' : List Instr) (d d' : ℕ) (w w' : Bool) (v v' : Evaluation) → c ≡ c' → d ≡ d' → w ≡ w' → v ≡ v' → RunsAs g c' d' w' v' → RunsAs g c d w v
-  same_runs c c' d d' w w' v v' p q r t runs =
-      subst (λ x. RunsAs g x d w v) (sym p) (subst (λ x. RunsAs g c' x w v) (sym q) (subst (λ x. RunsAs g c' d' x v) (sym r) (subst
-      (λ x. RunsAs g c' d' w' x) (sym t)
-      runs)))
-
-  same_combines : (c c' : List Instr) (d d' : ℕ) (w w' : Bool) (v v' : Combination) → c ≡ c' → d ≡ d' → w ≡ w' → v ≡ v' → CombinesAs g c' d' w' v'
-      → CombinesAs g c d w v
-  same_combines c c' d d' w w' v v' p q r t runs =
-      subst (λ x. CombinesAs g x d w v) (sym p) (subst (λ x. CombinesAs g c' x w v) (sym q) (subst (λ x. CombinesAs g c' d' x v) (sym r) (subst
-      (λ x. CombinesAs g c'
-      d' w' x) (sym t) runs)))
-
-  same_passes : (c c' : List Instr) (d d' : PassedDepth) (w w' : ℕ → ℕ → Bool) (v v' : Passing) → c ≡ c' → d ≡ d' → w ≡ w' → v ≡ v' → PassesAs g c' d' w' v'
-      → PassesAs g c d w v
-  same_passes c c' d d' w w' v v' p q r t runs =
-      subst (λ x. PassesAs g x d w v) (sym p) (subst (λ x. PassesAs g c' x w v) (sym q) (subst (λ x. PassesAs g c' d' x v) (sym r) (subst
-      (λ x. PassesAs g c' d' w' x) (sym t) runs)))
+      value_then g (value_on g held) c rest place _ held (value_of first.0 (around g)) (in_turn (map link_of (map (λ k. k.0) links)) (around g)) s
+      ((exact_around g).values first.0) stands (λ front. first.1 place base held s front (and_parts _ _ good).0 based (omega arith))
+      (λ base2 w s2 back based2 fit2 room2.
+      links_run links (expr_depth first.0) (place + length c) base2 held w s2 back (and_parts _ _ good).1 based2 deep room2 fit2)
 
   -- ---- actual parameters
-
-  -- there is one of which the test holds
-  one_there : {A : Type 0} (test : A → Bool) (o : Option A) → of_one test o ≡ true → (x : A) × (o ≡ Some x) × (test x ≡ true)
-  one_there test None e = absurd (false≢true e)
-  one_there test (Some x) e = (x, refl, e)
-
-  -- a value that is passed, on top, and its test
-  tested_passes : (good : Bool) (fits : RangeTest) (callee position place : ℕ) (base held : List Cell) (w : Value) (s : effect.State)
-      (formal : DeclaredVariable) → (int_le fits.range.first (number_of w) && int_le (number_of w) fits.range.last) ≡ good
-      → StandsAt g.target place (range_check fits) (g.target.is_open fits.site) → fits.site < sites g
-      → formal_of (outline g) callee position ≡ Some formal → takes_value (outline g) fits formal ≡ true → Based g s base → Fits (number_of w)
-      → Passes g (on g ((base ++ held) ++ Number (number_of w) ∷ []) place s.output) held (place + 1) 1 callee position
-      (require good fits.site >>= λ _. give (OfValue w)) s
-  tested_passes true fits callee position place base held w s formal holds stands within is takes based fit =
-      let n = number_of w in
-      let parts = and_parts _ _ takes in
-      let parts' = and_parts _ _ parts.1 in
-      let passed = passes g (range_check fits) ((base ++ held) ++ Number n ∷ []) place fits.site s.output _ refl refl stands
-      (is_in_range g.frame g.limit g.size (base ++ held) (linked g s base held based) fits.range.first fits.range.last n ∙ ap Ok holds) in
-      inr (
-        base,
-        based,
-        Number n ∷ [],
-        formal,
-        is,
-        (parts.0, parts'.0, fit, refl),
-        refl,
-        comes_less g.target (s.turns - s.turns) 0 _ _ (omega arith) passed,
-        omega arith,
-      )
-  tested_passes false fits callee position place base held w s formal holds stands within is takes based fit =
-      let n = number_of w in
-      inr (fails g (range_check fits) ((base ++ held) ++ Number n ∷ []) place fits.site s.output _ refl refl s.turns stands within
-      (is_in_range g.frame g.limit g.size (base ++ held) (linked g s base held based) fits.range.first fits.range.last n ∙ ap Ok holds))
 
   value_is_passed : (v : (e : Expr) × ExprRuns g e) (fits : RangeTest)
       → PassesAs g (expr_code g.scope v.0 ++ (range_check fits ∷ [])) (record { depth = expr_depth v.0; cells = 1 })
@@ -634,16 +538,15 @@ module _ (g : Setting) where
       parts.1 in
       let within = ltb-true fits.site (sites g) (and_parts (nat_lt fits.site (sites g)) (is_whole fits.range.first && is_whole fits.range.last) tests.0).0 in
       let formal = one_there (takes_value (outline g) fits) (formal_of (outline g) callee position) tests.1 in
-      let e : place + length c + 1 ≡ place + length (c ++ check) = omega (arith, length-append c check) in
+      let takes = and_parts _ _ formal.2 in
       let next : Value → Action Argument = λ w. require (effect.is_in fits.range w) fits.site >>= λ _. give (OfValue w) in
-      subst (λ p. Passes g (on g (base ++ held) place s.output) held p 1 callee position (value_of v.0 (around g) >>= next) s) e
-      (value_passes g _ held held (place + length c) (place + length c + 1) 1 callee position (value_of v.0 (around g)) next s
-      ((exact_around g).values v.0) (v.1 place base held s (stands_front g.target place c check stands) parts.0 based deep)
-      (λ base2 w t based2 fit.
-      subst (λ test. Passes g (on g ((base2 ++ held) ++ Number (number_of w) ∷ []) (place + length c) t.output) held (place + length c + 1) 1 callee position
-      (require test fits.site >>= λ _. give (OfValue w)) t) (sym (same_range fits.range w fit))
-      (tested_passes _ fits callee position (place + length c) base2 held w t formal.0 refl (stands_back g.target place c check stands).0 within formal.1
-      formal.2 based2 fit)))
+      value_then g (passed_on g held 1 callee position) c check place _ held (value_of v.0 (around g)) next s ((exact_around g).values v.0) stands
+      (λ front. v.1 place base held s front parts.0 based deep)
+      (λ base2 w t rest based2 fit room.
+      range_then g (passed_on g held 1 callee position (place + length c + 1)) fits w (base2 ++ held) (place + length c) t (give (OfValue w)) rest.0 within
+      (linked g t base2 held based2) fit
+      (λ so. inr (passes_it g 0 _ base2 held (Number (number_of w) ∷ []) (place + length c + 1) callee position (OfValue w) formal.0 t based2 formal.1
+      (takes.0, (and_parts _ _ takes.1).0, fit, refl) (stays_here g.target _))))
 
   whole_is_passed : (type_id : TypeId) (v : Whole) (indexes : Indexes g)
       → PassesAs g (whole_code g.scope v (codes g indexes)) (record { depth = whole_depth v (depths g indexes); cells = length_of v })
@@ -663,21 +566,15 @@ module _ (g : Setting) where
       let takes = and_parts _ _ formal.2 in
       let many : type_cells types formal.0.type_id ≡ n =
       ap (λ (id : TypeId). type_cells types id) (sym (same_type g type_id formal.0.type_id takes.1)) ∙ copied_cells g type_id (source_of v) n copied.0 in
-      row_passes g _ held held (place + length c) (place + length c) n n callee position (meaning.whole_of v (map value_of (expressions g indexes)) (around g))
-      (λ vs. give (OfRow vs)) s ((exact_around g).wholes v (expressions g indexes))
+      then_runs g (row_on g held n (place + length c)) (passed_on g held n callee position (place + length c)) _
+      (meaning.whole_of v (map value_of (expressions g indexes)) (around g)) (λ vs. give (OfRow vs)) s ((exact_around g).wholes v (expressions g indexes))
       (whole_runs g v indexes place base held s stands one.0 well based deep)
-      (λ base2 vs t based2 long fits.
-      inr (
-        base2,
-        based2,
-        cells_of vs,
-        formal.0,
-        formal.1,
-        (takes.0, long ∙ sym many, fits, refl),
-        length-cells_of vs ∙ long,
-        comes_less g.target (t.turns - t.turns) 0 _ _ (omega arith) (stays_here g.target _),
-        omega arith,
-      ))
+      (λ vs t x le.
+      let cells = cells_of vs in
+      let long : length cells ≡ n = length-cells_of vs ∙ x.2 in
+      subst (λ k. Passes g (on g ((x.0 ++ held) ++ cells) (place + length c) t.output) held (place + length c) k callee position (give (OfRow vs)) t) long
+      (inr (passes_it g 0 _ x.0 held cells (place + length c) callee position (OfRow vs) formal.0 t x.1 formal.1 (takes.0, x.2 ∙ sym many, x.3, refl)
+      (stays_here g.target _))))
 
   reference_is_passed : (type_id : TypeId) (access : Access) (indexes : Indexes g)
       → PassesAs g (address_code g.scope access (codes g indexes)) (record { depth = access_depth (depths g indexes); cells = 1 })
@@ -700,21 +597,14 @@ module _ (g : Setting) where
       let next : Option Place → Action Argument = λ q. give (OfPlace q) in
       subst (λ action. Passes g (on g (base ++ held) place s.output) held (place + length c) 1 callee position (action >>= next) s)
       (sym (start.meant (map value_of (expressions g indexes))))
-      (address_passes g _ held held (place + length c) (place + length c) led_to.last 1 callee position found next (entered g access.number s)
-      (exact_found g access indexes led_to.last start one.0 led_to.counts)
+      (then_runs g (address_on g held led_to.last (place + length c)) (passed_on g held 1 callee position (place + length c)) _ found next
+      (entered g access.number s) (exact_found g access indexes led_to.last start one.0 led_to.counts)
       (address_runs g access indexes led_to.last start one.0 led_to.counts place base held (entered g access.number s) stands based deep)
-      (λ base2 d p t based2 part.
-      inr (
-        base2,
-        based2,
-        Number (pos d) ∷ [],
-        formal.0,
-        formal.1,
-        (d, takes.0, subst (λ u. PartAt g p u d) its part, refl),
-        refl,
-        comes_less g.target (t.turns - t.turns) 0 _ _ (omega arith) (stays_here g.target _),
-        omega arith,
-      )))
+      (λ q u x le.
+      at_address g (passed_on g held 1 callee position (place + length c)) held (place + length c) led_to.last next
+      (λ base2 d p t based2 part room.
+      inr (passes_it g 0 _ base2 held (Number (pos d) ∷ []) (place + length c) callee position (OfPlace (Some p)) formal.0 t based2 formal.1
+      (d, takes.0, subst (λ u. PartAt g p u d) its part, refl) (stays_here g.target _))) q u x))
 
   -- ---- a call
 
@@ -735,44 +625,39 @@ module _ (g : Setting) where
       let comes = subst (λ q. Comes g.target 0 (on g (base ++ held) place s.output) (on g ((base ++ held) ++ []) q s.output)) here
       (subst (λ cells. Comes g.target 0 (on g (base ++ held) place s.output) (on g cells place s.output)) (sym (append-nil (base ++ held)))
       (stays_here g.target _)) in
-      inr (base, based, [], refl, omega (arith, high), refl, comes_less g.target (s.turns - s.turns) 0 _ _ (omega arith) comes, omega arith)
+      inr ((base, based, [], refl, omega (arith, high), refl), comes_less g.target (s.turns - s.turns + 0) 0 _ _ (omega arith) comes, omega arith)
   actuals_pass (one ∷ actuals) callee position below height place base held s high stands good based deep =
       let c = passed_code g.scope one.0 in
       let rest = actuals_code actuals in
       let d = passed_depth one.0 in
-      let end = place + length c + length rest in
-      let e : end ≡ place + length (c ++ rest) = omega (arith, length-append c rest) in
       let parts = and_parts (is_well_formed_passed (outline g) g.number one.0 callee position)
       (all_hold (placed_for callee (suc position) (map (is_well_formed_passed (outline g) g.number) (bare actuals)))) good in
-      let next : Argument → Action (List Argument) = λ argument. all_passed (map passing_of (bare actuals)) (around g) >>= λ arguments.
-      give (argument ∷ arguments) in
-      subst (λ p. AllPass g (on g (base ++ held) place s.output) held p callee position (suc (length actuals)) (passing_of one.0 (around g) >>= next) s) e
-      (then_pass g _ held held (place + length c) end d.cells callee position position (suc (length actuals)) (passing_of one.0 (around g)) next s
-      ((exact_around g).actuals one.0)
-      (one.1 callee position place base held s (stands_front g.target place c rest stands) parts.0 based (omega (arith, high)))
-      (λ base2 argument cells formal t based2 is fitted long.
+      let others = all_passed (map passing_of (bare actuals)) (around g) in
+      let total = suc (length actuals) in
+      let next : Argument → Action (List Argument) = λ argument. others >>= λ arguments. give (argument ∷ arguments) in
+      then_code g (passed_on g held d.cells callee position) (all_on g held callee position total) c rest place _ (passing_of one.0 (around g)) next s
+      ((exact_around g).actuals one.0) stands
+      (λ front. one.1 callee position place base held s front parts.0 based (omega (arith, high)))
+      (λ argument t x back.
+      let cells = x.2 in
+      let long = x.6 in
       let above = held ++ cells in
       let taller = length-append held cells in
-      subst (λ stack. AllPass g (on g stack (place + length c) t.output) held end callee position (suc (length actuals)) (next argument) t)
-      (sym (append_assoc base2 held cells))
-      (passed_then g _ above held end callee (suc position) position (length actuals) (suc (length actuals))
-      (all_passed (map passing_of (bare actuals)) (around g)) (λ arguments. give (argument ∷ arguments)) t
-      (exact_passed (around g) (exact_around g) (bare actuals))
-      (actuals_pass actuals callee (suc position) below (height + d.cells) (place + length c) base2 above t (omega (arith, high, taller, long))
-      (stands_back g.target place c rest stands) parts.1 based2 (omega arith))
-      (λ base3 arguments cells3 u based3 fitted3 room many.
+      let end = place + length c + length rest in
+      subst (λ stack. AllPass g (on g stack (place + length c) t.output) held end callee position total (next argument) t) (sym (append_assoc x.0 held cells))
+      (then_runs g (all_on g above callee (suc position) (length actuals) end) (all_on g held callee position total end) _ others
+      (λ arguments. give (argument ∷ arguments)) t (exact_passed (around g) (exact_around g) (bare actuals))
+      (actuals_pass actuals callee (suc position) below (height + d.cells) (place + length c) x.0 above t (omega (arith, high, taller, long)) back parts.1 x.1
+      (omega arith))
+      (λ arguments u y le.
+      let room = y.4 in
       inr (
-        base3,
-        based3,
-        cells ++ cells3,
-        (formal, is, cells, cells3, refl, fitted, fitted3),
-        omega (arith, room, taller, length-append cells cells3),
-        ap suc many,
-        subst (λ stack. Comes g.target (u.turns - u.turns) (on g ((base3 ++ above) ++ cells3) end u.output) (on g stack end u.output))
-            (ap (λ l. l ++ cells3) (sym (append_assoc base3 held cells)) ∙ append_assoc (base3 ++ held) cells cells3)
-            (comes_less g.target (u.turns - u.turns) 0 _ _ (omega arith) (stays_here g.target _)),
+        (y.0, y.1, cells ++ y.2, (x.3, x.4, cells, y.2, refl, x.5, y.3), omega (arith, room, taller, length-append cells y.2), ap suc y.5),
+        subst (λ stack. Comes g.target (u.turns - u.turns + 0) (on g ((y.0 ++ above) ++ y.2) end u.output) (on g stack end u.output))
+            (ap (λ l. l ++ y.2) (sym (append_assoc y.0 held cells)) ∙ append_assoc (y.0 ++ held) cells y.2)
+            (comes_less g.target (u.turns - u.turns + 0) 0 _ _ (omega arith) (stays_here g.target _)),
         omega arith,
-      )))))
+      ))))
 
   -- the mark of a new frame, whose static link leads to this frame
   marked_runs : (level outer place : ℕ) (base held : List Cell) (s : effect.State) → Leads g.fixed level g.frame outer → Here g place (instr.MarkStack level)
@@ -783,7 +668,7 @@ module _ (g : Setting) where
       let full = based.full in
       let long = length-append base held in
       subst (λ stack. Comes g.target 1 (on g cells place s.output) (on g stack (place + 1) s.output)) (append_assoc base held (links_of g outer))
-      (acts g (instr.MarkStack level) cells (cells ++ links_of g outer) place s.output (calls.marked level (frames_of g cells)) here refl
+      (acts g (instr.MarkStack level) cells (cells ++ links_of g outer) place s.output _ here refl
       (marks g.frame g.limit g.size cells level outer (omega arith) (frame_found g level outer base held s based l)))
 
   module _ (known : CallsAt g) where
@@ -811,23 +696,19 @@ module _ (g : Setting) where
         let s1 = entered g call.number s in
         let more = actuals_deep 4 (map passed_depth (bare actuals)) in
         let marked = marked_runs level outer place base held s way.1 stands.0 based (omega arith) in
-        let argument_code = stands_front g.target (place + 1) c jump stands.1 in
-        let jumping = stands_back g.target (place + 1) c jump stands.1 in
-        let end = place + 1 + length c + 1 in
-        let e : end ≡ place + length (call_code g.scope call (map (passed_code g.scope) (bare actuals))) = omega (arith, length-append c jump) in
         let next : List Argument → Action Value = λ arguments. calls_of g.tree g.depth call.block arguments g.environment in
         let many : length wf ≡ length actuals = length-map (bare actuals) (is_well_formed_passed (outline g) g.number) ∙ length-map actuals (λ p. p.0) in
-        subst (λ p. Returns g (on g (base ++ held) place s.output) held p is_function
-        (all_passed (map passing_of (bare actuals)) (around g) >>= next) s1) e
-        (returns_from g 1 _ _ held end is_function (all_passed (map passing_of (bare actuals)) (around g) >>= next) s1 marked
-        (then_returns g _ above held (place + 1 + length c) end call.block 0 (length actuals) is_function
-        (all_passed (map passing_of (bare actuals)) (around g)) next s1 (exact_passed (around g) (exact_around g) (bare actuals))
-        (actuals_pass actuals call.block 0 (length held) 4 (place + 1) base above s1 taller argument_code parts.1 based deep)
-        (λ base2 arguments cells t based2 fitted room counted.
-        known is_function call.block block.0 outer (place + 1 + length c) base2 held cells arguments t block.1
-        (subst (λ n. is_callable (outline g) g.number is_function n (heading_of block.0) ≡ true) (many ∙ sym counted)
+        instr_then g (return_on g held is_function) 1 (instr.MarkStack level) (c ++ jump) place _ _
+        (all_passed (map passing_of (bare actuals)) (around g) >>= next) s1 marked
+        (then_code g (all_on g above call.block 0 (length actuals)) (return_on g held is_function) c jump (place + 1) _
+        (all_passed (map passing_of (bare actuals)) (around g)) next s1 (exact_passed (around g) (exact_around g) (bare actuals)) stands.1
+        (λ front. actuals_pass actuals call.block 0 (length held) 4 (place + 1) base above s1 taller front parts.1 based deep)
+        (λ arguments t x jumping.
+        let room = x.4 in
+        known is_function call.block block.0 outer (place + 1 + length c) x.0 held x.2 arguments t block.1
+        (subst (λ n. is_callable (outline g) g.number is_function n (heading_of block.0) ≡ true) (many ∙ sym x.5)
         (ap (is_callable (outline g) g.number is_function (length wf)) block.2 ∙ callee.2))
-        way.1 jumping.0 jumping.2 based2 fitted (omega (arith, room, taller)))))
+        way.1 jumping.0 jumping.2 x.1 x.3 (omega (arith, room, taller))))
 
     call_evaluates : (call : Call) (actuals : List ((p : Passed) × PassedRuns g p))
         → RunsAs g (call_code g.scope call (map (passed_code g.scope) (bare actuals))) (call_depth (map passed_depth (bare actuals)))
@@ -863,7 +744,7 @@ module _ (g : Setting) where
       (is_well_formed_link (outline g) g.number) x))
       (value_step (map-Expr Expr Passed Link Evaluation Passing Combination value_of passing_of link_of x)) → ExprRuns g (roll-Expr x)
   rolled_expr x =
-      same_runs _ _ _ _ _ _ _ _ (fold-roll-Expr Code Code Code (expr_step g.scope) (passed_code_step g.scope) link_step x)
+      same_four (RunsAs g) (fold-roll-Expr Code Code Code (expr_step g.scope) (passed_code_step g.scope) link_step x)
       (fold-roll-Expr ℕ PassedDepth ℕ expr_depth_step passed_depth_step link_depth_step x)
       (fold-roll-Expr Bool Test Bool is_step is_passed_step is_link_step x)
       (fold-roll-Expr Evaluation Passing Combination value_step meaning.passed_step meaning.link_step x)
@@ -875,7 +756,7 @@ module _ (g : Setting) where
       (is_well_formed_link (outline g) g.number) x))
       (meaning.passed_step (map-Passed Expr Passed Link Evaluation Passing Combination value_of passing_of link_of x)) → PassedRuns g (roll-Passed x)
   rolled_passed x =
-      same_passes _ _ _ _ _ _ _ _ (fold-roll-Passed Code Code Code (expr_step g.scope) (passed_code_step g.scope) link_step x)
+      same_four (PassesAs g) (fold-roll-Passed Code Code Code (expr_step g.scope) (passed_code_step g.scope) link_step x)
       (fold-roll-Passed ℕ PassedDepth ℕ expr_depth_step passed_depth_step link_depth_step x)
       (fold-roll-Passed Bool Test Bool is_step is_passed_step is_link_step x)
       (fold-roll-Passed Evaluation Passing Combination value_step meaning.passed_step meaning.link_step x)
@@ -925,7 +806,7 @@ module _ (g : Setting) where
         let x = plain_link y in
         let meant = fold-roll-Link Evaluation Passing Combination value_step meaning.passed_step meaning.link_step x in
         let exact = (exact_around g).values y.operand.0 in (
-          same_combines _ _ _ _ _ _ _ _ (fold-roll-Link Code Code Code (expr_step g.scope) (passed_code_step g.scope) link_step x)
+          same_four (CombinesAs g) (fold-roll-Link Code Code Code (expr_step g.scope) (passed_code_step g.scope) link_step x)
               (fold-roll-Link ℕ PassedDepth ℕ expr_depth_step passed_depth_step link_depth_step x)
               (fold-roll-Link Bool Test Bool is_step is_passed_step is_link_step x) meant
               (link_runs y.number y.operation (expr_code g.scope y.operand.0) (expr_depth y.operand.0) (is_well_formed_expr (outline g) g.number y.operand.0)
@@ -967,6 +848,19 @@ module _ (g : Setting) where
         → Returns g (on g (base ++ held) place s.output) held (place + length (call_code g.scope call (map (passed_code g.scope) all))) is_function
         (meaning.call_of call (map passing_of all) (around g)) s) (bare_told actuals) (call_returns known is_function call (told_actuals actuals))
 
+    -- an expression, and the code behind it
+    pub expr_then : {A : Type 0} (aim : ℕ → Aim A) (e : Expr) (c : List Instr) (place : ℕ) (base held : List Cell) (next : Value → Action A)
+        (s : effect.State) → Stands g.target place (expr_code g.scope e ++ c) → is_well_formed_expr (outline g) g.number e ≡ true → Based g s base
+        → g.below + length held + expr_depth e ≤ g.limit
+        → ((base2 : List Cell) (v : Value) (t : effect.State) → Stands g.target (place + length (expr_code g.scope e)) c → Based g t base2
+        → Fits (number_of v) → g.below + length held < g.limit
+        → Runs g (aim (place + length (expr_code g.scope e) + length c))
+        (on g ((base2 ++ held) ++ Number (number_of v) ∷ []) (place + length (expr_code g.scope e)) t.output) (next v) t)
+        → Runs g (aim (place + length (expr_code g.scope e ++ c))) (on g (base ++ held) place s.output) (value_of e (around g) >>= next) s
+    expr_then aim e c place base held next s stands good based room h =
+        value_then g aim (expr_code g.scope e) c place _ held (value_of e (around g)) next s ((exact_around g).values e) stands
+        (λ front. expr_runs e place base held s front good based room) h
+
     -- the code of a width leaves it on top, or stops as the width does; a value has this one where none is given
     pub width_runs : (width : Option Width) (v : Written) (default : ℤ) → default_width v ≡ instr.LoadConstant default → Fits default
         → RunsAs g (width_code g.scope width v) (width_depth width) (is_well_formed_width (outline g) g.number width)
@@ -977,20 +871,16 @@ module _ (g : Setting) where
         let c = expr_code g.scope width.value in
         let check = check_positive width.site in
         let parts = and_parts (nat_lt width.site (sites g)) (is_well_formed_expr (outline g) g.number width.value) good in
-        let e : place + length c + 1 ≡ place + length (c ++ check ∷ []) = omega (arith, length-append c (check ∷ [])) in
         let next : Value → Action ℤ = λ w. require (effect.is_positive (number_of w)) width.site >>= λ _. give (number_of w) in
         let width_then : Value → Action Value = λ w. as_value (next w) in
-        evaluates_same g _ held (place + length (c ++ check ∷ [])) (as_value (value_of width.value (around g) >>= next))
+        runs_same g (value_on g held (place + length (c ++ check ∷ []))) _ (as_value (value_of width.value (around g) >>= next))
         (value_of width.value (around g) >>= width_then) s
         (λ t. and_then-and_then (value_of width.value (around g) t) next (λ n. give (value.Number n)))
-        (subst (λ p. Evaluates g (on g (base ++ held) place s.output) held p (value_of width.value (around g) >>= width_then) s) e
-        (then_evaluates g _ held held (place + length c) (place + length c + 1) (value_of width.value (around g)) width_then s
-        ((exact_around g).values width.value)
-        (expr_runs width.value place base held s (stands_front g.target place c (check ∷ []) stands) parts.1 based room)
-        (λ base2 w s2 based2 fit room2.
+        (expr_then (value_on g held) width.value (check ∷ []) place base held width_then s stands parts.1 based room
+        (λ base2 w s2 rest based2 fit room2.
         let n = number_of w in
         checked_then check width.site (place + length c) (place + length c + 1) ((base2 ++ held) ++ Number n ∷ []) held s2 (give n) _ (int_le (pos 1) n)
-        (stands_back g.target place c (check ∷ []) stands).0 refl refl
+        rest.0 refl refl
         (is_in_range g.frame g.limit g.size (base2 ++ held) (linked g s2 base2 held based2) (pos 1) (pos 2147483647) n
         ∙ ap Ok (same_positive n fit)) (ltb-true width.site (sites g) parts.0)
-        (λ _. left_as_it_is (place + length c + 1) base2 held n s2 based2 room2 fit))))
+        (λ _. left_as_it_is (place + length c + 1) base2 held n s2 based2 room2 fit)))

@@ -1,10 +1,10 @@
 -- The cells that are held above the variables, in a frame that runs: what is loaded from them and stored into them; and
 -- what the instructions of a for statement do with the two bounds that are held.
-use Rattle.std.proofs.Common.{◌≡◌, ℕ, zero, suc, ◌+◌, ◌<◌, ◌≤◌, List, [], ◌∷◌, ◌++◌, length, Option, Some, None, Ok, inr, refl, sym, ap, ◌∙◌, subst, arith}
+use Rattle.std.proofs.Common.{◌≡◌, ℕ, zero, suc, ◌+◌, ◌<◌, ◌≤◌, List, [], ◌∷◌, ◌++◌, length, Option, Some, None, Ok, refl, sym, ap, ◌∙◌, subst, arith}
 use Rattle.std.proofs.Common.{append-nil}
 use Rattle.std.proofs.Common.{append_assoc, length-append, Bool, true, false}
 use Rattle.std.proofs.lemmas.Bool.{and_parts, eqb-true, false≢true}
-use Rattle.std.specs.Prelude.{◌-◌, nat_eq, slice_get, slice_set, ℤ, pos, int_le, not, ◌&&◌, ◌||◌, if◌then◌else◌}
+use Rattle.std.specs.Prelude.{◌-◌, nat_eq, slice_get, slice_set, ℤ, pos, not, ◌&&◌, ◌||◌, if◌then◌else◌}
 use Rattle.std.specs.Ordering.{int_eq}
 use Rattle.std.proofs.lemmas.Int.{ints}
 use Rattle.std.proofs.lemmas.List.{length-set}
@@ -13,7 +13,6 @@ use Rattle.pcode_assembler.specs.declared.instr.Instr.{Instr}
 use Rattle.pcode_assembler.specs.declared.instr.Instr.TheVariants as instr
 use Rattle.typed_tree.specs.declared.tree.Direction.{Direction}
 use Rattle.typed_tree.specs.declared.tree.Direction.TheVariants as direction
-use Rattle.typed_tree.specs.declared.tree.RangeTest.{RangeTest}
 use Rattle.types.specs.Types.{is_ordinal}
 use Rattle.typed_tree.specs.declared.tree.Variable.{Variable}
 use Rattle.typed_tree.specs.declared.tree.VariableKind.{VariableKind}
@@ -26,48 +25,25 @@ use Rattle.meaning.specs.Counting.{has_values, next_value}
 use Rattle.meaning.specs.Meaning.{is_among}
 use Rattle.meaning.specs.Effect as effect
 use Rattle.meaning.specs.Effect.{Action, ◌>>=◌, number_of, require}
+use Rattle.stack_machine.specs.Deeds.{Acts, deed_of}
 use Rattle.stack_machine.specs.declared.cell.Cell.{Cell}
 use Rattle.stack_machine.specs.declared.cell.Cell.TheVariants.{Undefined, Number}
 use Rattle.machine_arithmetic.specs.declared.arithmetic.Dyadic.TheVariants as dyadic
 use Rattle.stack_machine.specs.Frames as frames
 use Rattle.stack_machine.specs.Frames.{is_true, truth, on_two}
-use Rattle.stack_machine.specs.Machine.{State, and_then, with_frames}
-use Rattle.code_scheme.specs.Code.{control_offset, row_code, range_check}
+use Rattle.code_scheme.specs.Code.{control_offset, row_code}
 use Rattle.code_scheme.specs.declared.home.Home.{Home}
 use Rattle.code_scheme.specs.Scopes.{block_level, held_offset, links, links_to, variable_home}
 use Rattle.code_generator.proofs.Accesses.{LeadsTo, frame_found, leads}
-use Rattle.code_generator.proofs.Reach.{Comes, Stands, StandsAt, obeys, comes_on, comes_less, stays_here}
-use Rattle.code_generator.proofs.Numbers.{Fits, same_range}
-use Rattle.code_generator.proofs.Setting.{Setting, Shown, Way, Direct, ByAddress, Reaches, outline, running_at, on, Based, linked, limit_far, Here, acts}
-use Rattle.code_generator.proofs.Setting.{passes, fails, branches_on, jumps, Executes, executes_from}
-use Rattle.code_generator.proofs.Acts.{framed, length_one, pushes, loads, stores, on_two_is, is_in_range}
+use Rattle.code_generator.proofs.Reach.{Comes, Stands, StandsAt, comes_on, comes_less, stays_here}
+use Rattle.code_generator.proofs.Numbers.{Fits}
+use Rattle.code_generator.proofs.Setting.{Setting, Shown, Way, Direct, ByAddress, Reaches, outline, on, Based, linked, limit_far, Here, acts}
+use Rattle.code_generator.proofs.Setting.{branches_on, jumps}
+use Rattle.code_generator.proofs.Acts.{framed, pushes, loads, stores, on_two_is}
 use Rattle.code_generator.proofs.Alike.{LiesIn, Leads, HasFit, alike_set, cell_of, cell_within, keeps_set}
 use Rattle.code_generator.proofs.Parts.{ordinal_part}
 use Rattle.code_generator.proofs.Places.{place_apart}
-use Rattle.code_generator.proofs.Alike.{slice_get-front}
-
--- cells above others
-slice_get-above : {A : Type 0} (xs ys : List A) (i : ℕ) (a : A) → slice_get ys i ≡ Some a → slice_get (xs ++ ys) (length xs + i) ≡ Some a
-slice_get-above [] ys i a e = let z : 0 + i ≡ i = omega arith in ap (slice_get ys) z ∙ e
-slice_get-above (x ∷ xs) ys i a e =
-    let z : length (x ∷ xs) + i ≡ suc (length xs + i) = omega arith in ap (slice_get (x ∷ (xs ++ ys))) z ∙ slice_get-above xs ys i a e
-
-set_above : {A : Type 0} (xs ys : List A) (i : ℕ) (a : A) → slice_set (xs ++ ys) (length xs + i) a ≡ xs ++ slice_set ys i a
-set_above [] ys i a = let z : 0 + i ≡ i = omega arith in ap (λ n. slice_set ys n a) z
-set_above (x ∷ xs) ys i a =
-    let z : length (x ∷ xs) + i ≡ suc (length xs + i) = omega arith in
-    ap (λ n. slice_set (x ∷ (xs ++ ys)) n a) z ∙ ap (λ l. x ∷ l) (set_above xs ys i a)
-
--- an element that is set below others
-pub set_front : {A : Type 0} (xs ys : List A) (i : ℕ) (a : A) → i < length xs → slice_set (xs ++ ys) i a ≡ slice_set xs i a ++ ys
-set_front [] ys i a h = absurd (omega arith)
-set_front (x ∷ xs) ys zero a h = refl
-set_front (x ∷ xs) ys (suc i) a h = ap (λ l. x ∷ l) (set_front xs ys i a (omega arith))
-
-set_twice : {A : Type 0} (xs : List A) (i : ℕ) (a b : A) → slice_set (slice_set xs i a) i b ≡ slice_set xs i b
-set_twice [] i a b = refl
-set_twice (x ∷ xs) zero a b = refl
-set_twice (x ∷ xs) (suc i) a b = ap (λ l. x ∷ l) (set_twice xs i a b)
+use Rattle.code_generator.proofs.Lists.{slice_behind, slice_get-front, set_twice, set_front, set_above, length_one}
 
 true_truth : (b : Bool) → is_true (truth b) ≡ b
 true_truth true = refl
@@ -94,7 +70,7 @@ module _ (g : Setting) where
         let does = stores g.frame g.limit g.size below (linked g s base held based) cell 0 start g.frame refl (omega arith)
         ∙ ap (λ cs. Ok (frames_of cs)) (set_front base held (g.frame + start) cell low) in
         acts g (instr.Store 0 start) cells (slice_set base (g.frame + start) cell ++ held) place output
-        (frames.store 0 start (frames_of cells)) here refl (ap (λ cs. frames.store 0 start (frames_of cs)) is ∙ does)
+        _ here refl (ap (λ cs. frames.store 0 start (frames_of cs)) is ∙ does)
 
   -- what is stored at a place of a scalar that lives is no later activation's
   still_fresh : (p : Place) (cell : ℕ) (new : Option Value) (s : effect.State) (base : List Cell) → LiesIn g.world p cell → Based g s base → (q : Place)
@@ -221,10 +197,10 @@ module _ (g : Setting) where
       let there : slice_get cells (g.frame + held_offset g.scope n) ≡ Some cell =
       ap (slice_get cells) at ∙ ap (λ cs. slice_get cs (length base + (length held + n))) is
       ∙ slice_get-front (base ++ (held ++ rest)) more (length base + (length held + n)) cell
-      (slice_get-above base (held ++ rest) (length held + n) cell (slice_get-above held rest n cell found)) in
+      (slice_behind base (held ++ rest) (length held + n) (length base + (length held + n)) refl ∙ slice_behind held rest n (length held + n) refl ∙ found) in
       let all : length cells ≡ length base + (length held + length rest) + length more =
       omega (arith, long, length-append base (held ++ rest), length-append held rest) in
-      acts g (instr.Load 0 (held_offset g.scope n)) cells (cells ++ cell ∷ []) place output (frames.load 0 (held_offset g.scope n) (frames_of cells)) here refl
+      acts g (instr.Load 0 (held_offset g.scope n)) cells (cells ++ cell ∷ []) place output _ here refl
       (loads g.frame g.limit g.size cells 0 (held_offset g.scope n) g.frame cell (omega (arith, all, full)) refl (omega (arith, at, all, few))
       there)
 
@@ -243,22 +219,20 @@ module _ (g : Setting) where
       ∙ ap (λ cs. Ok (frames_of cs)) (set_above base (held ++ rest) (length held + n) cell)
       ∙ ap (λ cs. Ok (frames_of (base ++ cs))) (set_above held rest n cell) in
       acts g (instr.Store 0 (held_offset g.scope n)) cells (base ++ (held ++ slice_set rest n cell)) place output
-      (frames.store 0 (held_offset g.scope n) (frames_of cells)) here refl (ap (λ cs. frames.store 0 (held_offset g.scope n) (frames_of cs)) is ∙ does)
+      _ here refl (ap (λ cs. frames.store 0 (held_offset g.scope n) (frames_of cs)) is ∙ does)
 
   -- two numbers on top give way to a third
   pub operates : (i : Instr) (f : ℤ → ℤ → ℤ) (cells : List Cell) (a b : ℤ) (place : ℕ) (output : List ℕ) → Here g place i
-      → ((s : State) → obeys g.target i s ≡ and_then (on_two f s.frames) (with_frames s)) → g.frame + 4 ≤ length cells → length cells < g.limit
+      → deed_of i ≡ Acts (on_two f) → g.frame + 4 ≤ length cells → length cells < g.limit
       → Comes g.target 1 (on g ((cells ++ Number a ∷ []) ++ Number b ∷ []) place output) (on g (cells ++ Number (f a b) ∷ []) (place + 1) output)
   operates i f cells a b place output here rule in_frame room =
-      acts g i ((cells ++ Number a ∷ []) ++ Number b ∷ []) (cells ++ Number (f a b) ∷ []) place output
-      (on_two f (frames_of ((cells ++ Number a ∷ []) ++ Number b ∷ []))) here
-      (rule (running_at g ((cells ++ Number a ∷ []) ++ Number b ∷ []) (g.target.to place + 1) output))
+      acts g i ((cells ++ Number a ∷ []) ++ Number b ∷ []) (cells ++ Number (f a b) ∷ []) place output _ here rule
       (on_two_is g.frame g.limit g.size cells in_frame a b f room)
 
   pub pushes_number : (cells : List Cell) (n : ℤ) (place : ℕ) (output : List ℕ) → Here g place (instr.LoadConstant n) → length cells < g.limit
       → Comes g.target 1 (on g cells place output) (on g (cells ++ Number n ∷ []) (place + 1) output)
   pushes_number cells n place output here room =
-      acts g (instr.LoadConstant n) cells (cells ++ Number n ∷ []) place output (frames.load_constant n (frames_of cells)) here refl
+      acts g (instr.LoadConstant n) cells (cells ++ Number n ∷ []) place output _ here refl
       (pushes g.frame g.limit g.size cells n room)
 
   -- ---- the bounds of a for statement, which are held
@@ -281,7 +255,7 @@ module _ (g : Setting) where
     pub decides : (i : Instr) (f : ℤ → ℤ → ℤ) (holds : Bool) (place out : ℕ)
         → Here g place (instr.Load 0 (held_offset g.scope 0)) → Here g (place + 1) (instr.Load 0 (held_offset g.scope 1)) → Here g (place + 1 + 1) i
         → StandsAt g.target (place + 1 + 1 + 1) (instr.JumpIfFalse out) true
-        → ((s : State) → obeys g.target i s ≡ and_then (on_two f s.frames) (with_frames s)) → f n l ≡ truth holds
+        → deed_of i ≡ Acts (on_two f) → f n l ≡ truth holds
         → Comes g.target 4 (on g here place output) (on g here (if holds then place + 4 else out) output)
     decides i f holds place out at1 at2 at3 at4 rule is =
         let size = long in
@@ -312,7 +286,7 @@ module _ (g : Setting) where
     pub steps : (i : Instr) (f : ℤ → ℤ → ℤ) (next : ℤ) (place head : ℕ) → Here g place (instr.Load 0 (held_offset g.scope 0))
         → Here g (place + 1) (instr.LoadConstant (pos 1)) → Here g (place + 1 + 1) i → Here g (place + 1 + 1 + 1) (instr.Store 0 (held_offset g.scope 0))
         → StandsAt g.target (place + 1 + 1 + 1 + 1) (instr.Jump head) true
-        → ((s : State) → obeys g.target i s ≡ and_then (on_two f s.frames) (with_frames s)) → f n (pos 1) ≡ next
+        → deed_of i ≡ Acts (on_two f) → f n (pos 1) ≡ next
         → Comes g.target 1 (on g here place output) (on g (base ++ (held ++ Number next ∷ Number l ∷ [])) head output)
     steps i f next place head at1 at2 at3 at4 at5 rule is =
         let size = long in
@@ -351,7 +325,7 @@ module _ (g : Setting) where
         let links = linked g s2 base2 held based2 in
         let blank = slice_get-front base2 held (g.bottom + 2) Undefined (based2.keeps.each (g.bottom + 2) Undefined g.blank) in
         let up = links_to g.scope 0 in
-        let d = acts g (instr.Load up 2) cells (cells ++ Undefined ∷ []) (place + 1 + 1) output (frames.load up 2 (frames_of cells)) at3 refl
+        let d = acts g (instr.Load up 2) cells (cells ++ Undefined ∷ []) (place + 1 + 1) output _ at3 refl
         (loads g.frame g.limit g.size cells up 2 g.bottom Undefined (omega arith) (frame_found g up g.bottom base2 held s2 based2 g.chain)
         (slice_get_within cells (g.bottom + 2) Undefined blank) blank) in
         let e = stores_variable control scalar s2 base2 held (cells ++ Undefined ∷ []) Undefined (place + 1 + 1 + 1) output based2 refl at4 in
@@ -381,7 +355,7 @@ module _ (g : Setting) where
         let b = loads_held s base held (Number n ∷ []) (Number constant ∷ []) (index ++ Number constant ∷ []) 0 (Number n) (place + 1) output based high
         refl
         refl (omega arith) at2 in
-        let c = operates instr.NotEqual (frames.of_two dyadic.NotEqual) index constant n (place + 1 + 1) output at3 (λ s. refl) in_frame (omega arith) in
+        let c = operates instr.NotEqual (frames.of_two dyadic.NotEqual) index constant n (place + 1 + 1) output at3 refl in_frame (omega arith) in
         let d = branches_on g arm index differs (place + 1 + 1 + 1) output at4 in_frame in
         let whole = comes_on g.target 1 3 _ _ _ a (comes_on g.target 1 2 _ _ _ b (comes_on g.target 1 1 _ _ _ c d)) in
         comes_less g.target 0 4 _ _ (omega arith)
@@ -409,28 +383,6 @@ module _ (g : Setting) where
         let e : place + 1 + 1 + 1 + 1 + length (row_code g.scope arm row) ≡ place + length (row_code g.scope arm (constant ∷ row)) = omega arith in
         subst (λ p. Comes g.target 0 (on g index place output) (on g index (if is_among (constant ∷ row) n then arm else p) output)) e
         (compares_by row arm place (place + 1 + 1 + 1 + 1) (int_eq constant n) first rest)
-
-  -- the test of a value on top, behind which more comes
-  tests_by : (fits : RangeTest) (below held : List Cell) (n : ℤ) (place end : ℕ) (s : effect.State) (next : Action (Unit {0})) (good : Bool)
-      → (int_le fits.range.first n && int_le n fits.range.last) ≡ good → StandsAt g.target place (range_check fits) (g.target.is_open fits.site)
-      → fits.site < length g.tree.sites.items → g.frame + 4 ≤ length below
-      → Executes g (on g (below ++ Number n ∷ []) (place + 1) s.output) held end next s
-      → Executes g (on g (below ++ Number n ∷ []) place s.output) held end (require good fits.site >>= (λ _. next)) s
-  tests_by fits below held n place end s next true holds stands site in_frame then' =
-      executes_from g 0 _ _ held end next s
-      (passes g (range_check fits) (below ++ Number n ∷ []) place fits.site s.output _ refl refl stands
-      (is_in_range g.frame g.limit g.size below in_frame fits.range.first fits.range.last n ∙ ap Ok holds)) then'
-  tests_by fits below held n place end s next false holds stands site in_frame then' =
-      inr (fails g (range_check fits) (below ++ Number n ∷ []) place fits.site s.output _ refl refl s.turns stands site
-      (is_in_range g.frame g.limit g.size below in_frame fits.range.first fits.range.last n ∙ ap Ok holds))
-
-  pub tests : (fits : RangeTest) (below held : List Cell) (n : ℤ) (place end : ℕ) (s : effect.State) (next : Action (Unit {0})) → Fits n
-      → StandsAt g.target place (range_check fits) (g.target.is_open fits.site) → fits.site < length g.tree.sites.items → g.frame + 4 ≤ length below
-      → Executes g (on g (below ++ Number n ∷ []) (place + 1) s.output) held end next s
-      → Executes g (on g (below ++ Number n ∷ []) place s.output) held end (require (effect.is_in fits.range (value.Number n)) fits.site >>= (λ _. next)) s
-  tests fits below held n place end s next fit stands site in_frame then' =
-      subst (λ test. Executes g (on g (below ++ Number n ∷ []) place s.output) held end (require test fits.site >>= (λ _. next)) s)
-      (sym (same_range fits.range (value.Number n) fit)) (tests_by fits below held n place end s next _ refl stands site in_frame then')
 
 -- ---- the values of a control variable
 

@@ -1,102 +1,44 @@
 -- Loops: a head where each round begins, and a round that comes back to it or leaves the loop. Each round behind which
 -- another follows uses a turn, so a run with as many turns as a bound takes no more rounds than that.
-use Rattle.std.proofs.Common.{◌≡◌, ℕ, zero, suc, ◌+◌, ◌-◌, ◌<◌, ◌≤◌, ◌⊎◌, List, ◌++◌, [], ◌∷◌, Option, Some, None, inl, inr, refl, arith}
+use Rattle.std.proofs.Common.{◌≡◌, ℕ, zero, suc, ◌+◌, ◌-◌, ◌<◌, ◌≤◌, ◌⊎◌, List, ◌++◌, Option, Some, None, inl, inr, refl, arith}
 use Rattle.meaning.specs.declared.outcome.Ending.{Ending}
 use Rattle.meaning.specs.declared.outcome.Ending.TheVariants as ending
-use Rattle.meaning.specs.declared.store.Value.{Value}
 use Rattle.meaning.specs.Effect as effect
 use Rattle.meaning.specs.Effect.{Reply, Gives, Action, Round, ◌>>=◌, number_of, use_turn}
 use Rattle.meaning.specs.Laws.{GoesRoundByRound, UsesTurnsExactly}
 use Rattle.stack_machine.specs.declared.cell.Cell.{Cell}
-use Rattle.stack_machine.specs.declared.cell.Cell.TheVariants.{Number}
 use Rattle.stack_machine.specs.Machine.{State}
-use Rattle.code_generator.proofs.Reach.{Comes, comes_on, comes_less, stays_here}
-use Rattle.code_generator.proofs.Numbers.{Fits}
-use Rattle.code_generator.proofs.Setting.{Setting, on, Based, Halts, Ends, ends_on, Starves, starves_on, starves_first, starves_behind, Valued, Evaluates}
-use Rattle.code_generator.proofs.Setting.{Executed}
-use Rattle.code_generator.proofs.Setting.{Executes, executes_behind, executes_same}
+use Rattle.code_generator.proofs.Reach.{Comes, comes_less, stays_here}
+use Rattle.code_generator.proofs.Setting.{Setting, on, Based, Halts, Ends, Starves, starves_on}
+use Rattle.code_generator.proofs.Running.{Aim, Arrives, Executes, Runs, arrives_on, done, kept_on, runs_same, then_runs}
 
 -- in a setting, a loop with what is held at its head where a round begins with this, its head and its end, and what is
 -- held there
 module _ (g : Setting) {A : Type 0} (fit : A → Type 0) (hold : A → List Cell) (head end : ℕ) (held : List Cell) where
-  -- What the code of a part of a round does, with so many turns left here, by instructions for so many turns more: it comes
-  -- to the end, or to the head with fewer turns than a bound; or the loop ends.
-  abbrev pub Rounded : ℕ → ℕ → ℕ → State → Reply (Option A) → Type 0
-  Rounded gain bound turns m (Gives None s) =
-      (base : List Cell) × Based g s base × Comes g.target (turns - s.turns + gain) m (on g (base ++ held) end s.output) × (s.turns ≤ turns)
-  Rounded gain bound turns m (Gives (Some a) s) =
-      (base : List Cell) × Based g s base × Comes g.target (turns - s.turns + gain) m (on g (base ++ hold a) head s.output) × (s.turns < bound) × fit a
-      × (s.turns ≤ turns)
-  Rounded gain bound turns m (effect.Stops why s) = Ends g turns m why s.output
+  -- The code of a part of a round comes, by instructions for so many turns more, to the end; or to the head with fewer
+  -- turns than a bound.
+  abbrev pub IsRound : ℕ → Option A → effect.State → Type 0
+  IsRound bound None s = (base : List Cell) × Based g s base
+  IsRound bound (Some a) s = (base : List Cell) × Based g s base × (s.turns < bound) × fit a
 
-  -- or the store is full
+  abbrev pub round_there : (bound : ℕ) (more : Option A) (s : effect.State) → IsRound bound more s → State
+  round_there bound None s h = on g (h.0 ++ held) end s.output
+  round_there bound (Some a) s h = on g (h.0 ++ hold a) head s.output
+
+  abbrev pub round_on : ℕ → ℕ → Aim (Option A)
+  round_on gain bound = record { Holds = IsRound bound; there = round_there bound; gain = gain }
+
   abbrev pub Rounds : ℕ → ℕ → State → Action (Option A) → effect.State → Type 0
-  Rounds gain bound m action s = Starves g m action s ⊎ Rounded gain bound s.turns m (action s)
-
-  pub rounded_on : (gain bound turns left : ℕ) (a b : State) (r : Reply (Option A)) → left ≤ turns → Comes g.target (turns - left) a b
-      → Rounded gain bound left b r → Rounded gain bound turns a r
-  rounded_on gain bound turns left a b (Gives None s) le l e = (
-    e.0,
-    e.1,
-    comes_less g.target (turns - s.turns + gain) (turns - left + (left - s.turns + gain)) a _ (omega arith)
-        (comes_on g.target (turns - left) (left - s.turns + gain) a b _ l e.2),
-    omega (arith, e.3),
-  )
-  rounded_on gain bound turns left a b (Gives (Some x) s) le l e = (
-    e.0,
-    e.1,
-    comes_less g.target (turns - s.turns + gain) (turns - left + (left - s.turns + gain)) a _ (omega arith)
-        (comes_on g.target (turns - left) (left - s.turns + gain) a b _ l e.2),
-    e.3,
-    e.4,
-    omega (arith, e.5),
-  )
-  rounded_on gain bound turns left a b (effect.Stops why s) le l e = ends_on g turns left a b why s.output l e
-
-  -- behind a piece that gave something
-  rounds_behind : {B : Type 0} (gain bound : ℕ) (m there : State) (first : Action B) (next : B → Action (Option A)) (s t : effect.State) (v : B)
-      → UsesTurnsExactly first → first s ≡ Gives v t → t.turns ≤ s.turns → Comes g.target (s.turns - t.turns) m there
-      → Rounds gain bound there (next v) t → Starves g m (first >>= next) s ⊎ Rounded gain bound s.turns m (next v t)
-  rounds_behind gain bound m there first next s t v exact is le l (inl x) =
-      inl (starves_behind g (s.turns - t.turns) m there first next s t v exact is l x)
-  rounds_behind gain bound m there first next s t v exact is le l (inr e) =
-      inr (rounded_on gain bound s.turns t.turns m there (next v t) le l e)
-
-  -- what comes behind a statement
-  pub then_rounds : (gain bound : ℕ) (m : State) (here : List Cell) (place : ℕ) (first : Action (Unit {0})) (next : Unit {0} → Action (Option A))
-      (s : effect.State) → UsesTurnsExactly first → Executes g m here place first s
-      → ((base : List Cell) (t : effect.State) → Based g t base → t.turns ≤ s.turns → Rounds gain bound (on g (base ++ here) place t.output) (next tt) t)
-      → Rounds gain bound m (first >>= next) s
-  then_rounds gain bound m here place first next s exact (inl x) h = inl (starves_first g m first next s x)
-  then_rounds gain bound m here place first next s exact (inr e) h = by (first s) refl e
-    where
-      by : (r : Reply (Unit {0})) → first s ≡ r → Executed g s.turns m here place r
-          → Starves g m (first >>= next) s ⊎ Rounded gain bound s.turns m (effect.and_then r next)
-      by (Gives done t) is e = rounds_behind gain bound m _ first next s t tt exact is e.3 e.2 (h e.0 t e.1 e.3)
-      by (effect.Stops why t) is e = inr e
-
-  -- what comes behind a value
-  pub value_rounds : (gain bound : ℕ) (m : State) (here : List Cell) (place : ℕ) (first : Action Value) (next : Value → Action (Option A))
-      (s : effect.State) → UsesTurnsExactly first → Evaluates g m here place first s
-      → ((base : List Cell) (v : Value) (t : effect.State) → Based g t base → Fits (number_of v) → t.turns ≤ s.turns
-      → Rounds gain bound (on g ((base ++ here) ++ Number (number_of v) ∷ []) place t.output) (next v) t)
-      → Rounds gain bound m (first >>= next) s
-  value_rounds gain bound m here place first next s exact (inl x) h = inl (starves_first g m first next s x)
-  value_rounds gain bound m here place first next s exact (inr e) h = by (first s) refl e
-    where
-      by : (r : Reply Value) → first s ≡ r → Valued g s.turns m here place r
-          → Starves g m (first >>= next) s ⊎ Rounded gain bound s.turns m (effect.and_then r next)
-      by (Gives v t) is e = rounds_behind gain bound m _ first next s t v exact is e.5 e.2 (h e.0 v t e.1 e.3 e.5)
-      by (effect.Stops why t) is e = inr e
+  Rounds gain bound m action s = Runs g (round_on gain bound) m action s
 
   -- what a piece does behind a turn that was used before it
   abbrev pub RoundsBehind : ℕ → ℕ → ℕ → State → Action (Option A) → effect.State → Type 0
-  RoundsBehind gain bound turns m action s = Starves g m action s ⊎ Rounded gain bound turns m (action s)
+  RoundsBehind gain bound turns m action s = Starves g m action s ⊎ Arrives g (round_on gain bound) turns m (action s)
 
   pub rounds_later : (gain bound turns : ℕ) (a b : State) (action : Action (Option A)) (s : effect.State) → s.turns ≤ turns
       → Comes g.target (turns - s.turns) a b → Rounds gain bound b action s → RoundsBehind gain bound turns a action s
   rounds_later gain bound turns a b action s le l (inl x) = inl (starves_on g (turns - s.turns) a b action s l x)
-  rounds_later gain bound turns a b action s le l (inr e) = inr (rounded_on gain bound turns s.turns a b (action s) le l e)
+  rounds_later gain bound turns a b action s le l (inr e) = inr (arrives_on g (round_on gain bound) turns s.turns a b (action s) le l e)
 
   -- a turn, behind which an instruction came or comes
   pub turned : (bound : ℕ) (s : effect.State) (m : State) (next : Unit {0} → Action (Option A)) → m.output ≡ s.output
@@ -105,11 +47,12 @@ module _ (g : Setting) {A : Type 0} (fit : A → Type 0) (hold : A → List Cell
   turned bound s m next same h = by s.turns refl
     where
       behind : (left : ℕ) → s.turns ≡ suc left → RoundsBehind 0 bound s.turns m (next tt) (record s { turns = left })
-          → Starves g m (use_turn >>= next) s ⊎ Rounded 0 bound s.turns m (next tt (record s { turns = left }))
+          → Starves g m (use_turn >>= next) s ⊎ Arrives g (round_on 0 bound) s.turns m (next tt (record s { turns = left }))
       behind left is (inl x) = inl (suc x.0, x.1, x.2, x.3, x.4, omega (arith, is, x.5))
       behind left is (inr e) = inr e
 
-      by : (k : ℕ) → s.turns ≡ k → Starves g m (use_turn >>= next) s ⊎ Rounded 0 bound s.turns m (effect.and_then (effect.take_turn k s) next)
+      by : (k : ℕ) → s.turns ≡ k
+          → Starves g m (use_turn >>= next) s ⊎ Arrives g (round_on 0 bound) s.turns m (effect.and_then (effect.take_turn k s) next)
       by zero is = inr (m, comes_less g.target (s.turns - g.slack) 0 m m (omega (arith, is)) (stays_here g.target m), same)
       by (suc left) is = behind left is (h left is)
 
@@ -119,18 +62,13 @@ module _ (g : Setting) {A : Type 0} (fit : A → Type 0) (hold : A → List Cell
       → ((a : A) (base : List Cell) (t : effect.State) → t.turns < s.turns → fit a → Based g t base
       → Executes g (on g (base ++ hold a) head t.output) held end (next a) t)
       → Executes g m held end (first >>= λ more. effect.another more next) s
-  round_then m first next s exact (inl x) h = inl (starves_first g m first (λ more. effect.another more next) s x)
-  round_then m first next s exact (inr e) h = by (first s) refl e
+  round_then m first next s exact e h =
+      then_runs g (round_on 0 s.turns) (kept_on g held end) m first (λ more. effect.another more next) s exact e by
     where
-      by : (r : Reply (Option A)) → first s ≡ r → Rounded 0 s.turns s.turns m r
-          → Starves g m (first >>= λ more. effect.another more next) s
-          ⊎ Executed g s.turns m held end (effect.and_then r (λ more. effect.another more next))
-      by (Gives None t) is e =
-          inr (e.0, e.1, comes_less g.target (s.turns - t.turns) (s.turns - t.turns + 0) m _ (omega arith) e.2, e.3)
-      by (Gives (Some a) t) is e =
-          executes_behind g m _ held end first (λ more. effect.another more next) s t (Some a) exact is e.5
-          (comes_less g.target (s.turns - t.turns) (s.turns - t.turns + 0) m _ (omega arith) e.2) (h a e.0 t e.3 e.4 e.1)
-      by (effect.Stops why t) is e = inr e
+      by : (more : Option A) (t : effect.State) (x : IsRound s.turns more t) → t.turns ≤ s.turns
+          → Executes g (round_there s.turns more t x) held end (effect.another more next) t
+      by None t x le = inr (done g 0 _ x.0 held end t x.1 (stays_here g.target _))
+      by (Some a) t x le = h a x.0 t x.2 x.3 x.1
 
   -- what is shown of each round
   abbrev pub RoundRuns : Round A → Type 0
@@ -141,10 +79,10 @@ module _ (g : Setting) {A : Type 0} (fit : A → Type 0) (hold : A → List Cell
     loops_within : (bound : ℕ) (a : A) (base : List Cell) (s : effect.State) → s.turns ≤ bound → fit a → Based g s base
         → Executes g (on g (base ++ hold a) head s.output) held end (effect.looped round a) s
     loops_within zero a base s few fits based =
-        executes_same g _ held end (effect.looped round a) (round a >>= λ more. effect.another more (effect.looped round)) s (goes a)
+        runs_same g (kept_on g held end) _ (effect.looped round a) (round a >>= λ more. effect.another more (effect.looped round)) s (goes a)
         (round_then _ (round a) (effect.looped round) s (exact a) (runs a base s fits based) (λ b base2 t fewer fits2 based2. absurd (omega arith)))
     loops_within (suc bound) a base s few fits based =
-        executes_same g _ held end (effect.looped round a) (round a >>= λ more. effect.another more (effect.looped round)) s (goes a)
+        runs_same g (kept_on g held end) _ (effect.looped round a) (round a >>= λ more. effect.another more (effect.looped round)) s (goes a)
         (round_then _ (round a) (effect.looped round) s (exact a) (runs a base s fits based)
         (λ b base2 t fewer fits2 based2. loops_within bound b base2 t (omega arith) fits2 based2))
 
@@ -210,8 +148,9 @@ module _ (g : Setting) (slack height : ℕ) where
   executes_from_reset m held place action s same (inl x) = inl x
   executes_from_reset m held place action s same (inr e) = inr (by (action s) e)
     where
-      by : (r : Reply (Unit {0})) → Executed (reset g slack height) s.turns m held place r → Executed g s.turns m held place r
-      by (Gives done t) e = (e.0, from_reset t e.0 e.1, e.2, e.3)
+      by : (r : Reply (Unit {0})) → Arrives (reset g slack height) (kept_on (reset g slack height) held place) s.turns m r
+          → Arrives g (kept_on g held place) s.turns m r
+      by (Gives done t) e = ((e.0.0, from_reset t e.0.0 e.0.1), e.1, e.2)
       by (effect.Stops why t) e = ends_from_reset s.turns s.turns m why t.output (omega arith) e
 
   -- a round with less slack, behind its turn
@@ -222,20 +161,17 @@ module _ (g : Setting) (slack height : ℕ) where
   rounds_from_reset fit hold head end held left m action s le is (inl x) = inl x
   rounds_from_reset {A} fit hold head end held left m action s le is (inr e) = inr (by (action s) e)
     where
-      by : (r : Reply (Option A)) → Rounded (reset g slack height) fit hold head end held 1 (suc left) s.turns m r
-          → Rounded g fit hold head end held 0 (suc left) (suc left) m r
+      by : (r : Reply (Option A))
+          → Arrives (reset g slack height) (round_on (reset g slack height) fit hold head end held 1 (suc left)) s.turns m r
+          → Arrives g (round_on g fit hold head end held 0 (suc left)) (suc left) m r
       by (Gives None t) e = (
-        e.0,
-        from_reset t e.0 e.1,
-        comes_less g.target (suc left - t.turns + 0) (s.turns - t.turns + 1) m _ (omega arith) e.2,
-        omega (arith, e.3),
+        (e.0.0, from_reset t e.0.0 e.0.1),
+        comes_less g.target (suc left - t.turns + 0) (s.turns - t.turns + 1) m _ (omega arith) e.1,
+        omega (arith, e.2),
       )
       by (Gives (Some a) t) e = (
-        e.0,
-        from_reset t e.0 e.1,
-        comes_less g.target (suc left - t.turns + 0) (s.turns - t.turns + 1) m _ (omega arith) e.2,
-        e.3,
-        e.4,
-        omega (arith, e.5),
+        (e.0.0, from_reset t e.0.0 e.0.1, e.0.2, e.0.3),
+        comes_less g.target (suc left - t.turns + 0) (s.turns - t.turns + 1) m _ (omega arith) e.1,
+        omega (arith, e.2),
       )
       by (effect.Stops why t) e = ends_from_reset (suc left) s.turns m why t.output (omega arith) e

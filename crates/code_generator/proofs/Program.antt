@@ -52,8 +52,10 @@ use Rattle.code_generator.proofs.ProgramStart as started
 use Rattle.code_generator.proofs.Reach.{Target, StandsAt, Stands, stands_front, stands_back, Comes, IsOver, Stops, comes_by, comes_on, comes_less}
 use Rattle.code_generator.proofs.Reach.{WritesOn, begins_itself, stops_on, stops_by}
 use Rattle.code_generator.proofs.Repeats.{repeats}
-use Rattle.code_generator.proofs.Setting.{Setting, on, around, Halts, Ends, Executed, Executes, Starves}
+use Rattle.code_generator.proofs.Running as running
+use Rattle.code_generator.proofs.Setting.{Setting, on, around, Halts, Ends, Starves}
 use Rattle.code_generator.proofs.Stmts.{stmt_runs}
+use Rattle.code_generator.proofs.Running.{Executes, kept_on}
 
 -- a program whose code stands in the machine's code, with the checks of some sites left out at which it never errs
 module _ (known : Known) (tree : Tree) (well : IsWellFormed tree) (short : is_too_large tree ≡ false) (target : Target)
@@ -192,13 +194,13 @@ module _ (known : Known) (tree : Tree) (well : IsWellFormed tree) (short : is_to
             ))
 
         -- the end of the body is the end of the run
-        finishes : (r : Reply (Unit {0})) → Executed setting turns inside [] (1 + length body) r
+        finishes : (r : Reply (Unit {0})) → running.Arrives setting (kept_on setting [] (1 + length body)) turns inside r
             → ((site : ℕ) → (ended r).ending ≡ ending.Error site → target.is_open site ≡ false → ⊥) → Arrives turns (ended r)
         finishes (Gives tt s) e open_alone =
-            let last = on setting (e.0 ++ []) (1 + length body) s.output in
+            let last = on setting (e.0.0 ++ []) (1 + length body) s.output in
             let at_end = stands_back target 1 body (instr.Stop ∷ []) own_stands.1 in
             let t = stops_by target instr.Stop last stop.Finished at_end.0.0 refl in
-            let u = stops_on target 1 start inside _ comes_in (stops_on target (turns - s.turns) inside last _ e.2 t) in
+            let u = stops_on target 1 start inside _ comes_in (stops_on target (turns - s.turns + 0) inside last _ e.1 t) in
             inl (u.budget, (ap (λ o. o.output) u.so, ap (λ o. o.stop) u.so))
         finishes (effect.Stops end s) e open_alone = arrives_at inside end s.output comes_in e open_alone
 

@@ -28,7 +28,6 @@ use Rattle.code_generator.specs.Known.{Known}
 use Rattle.code_generator.specs.Large.{is_too_large}
 use Rattle.code_generator.specs.Tables.{site_table}
 use Rattle.code_generator.proofs.Alike.{Activation, World, Fixed, Lies, LiesIn, IsApart, Leads}
-use Rattle.code_generator.proofs.Callee.{all_at, length_replicate, slice_behind, slice_replicate, slice_there}
 use Rattle.code_generator.proofs.Cells.{home_is, lies_inside, others_few, own_scalars, owned_back, owned_in, slot_of, small_block, start_near}
 use Rattle.code_generator.proofs.Cells.{other_ends, starts_as_other, where_cons}
 use Rattle.code_generator.proofs.Nesting.{heading_at, nothing_round_program, same_numbers, well_block}
@@ -37,6 +36,8 @@ use Rattle.code_generator.proofs.Reach.{Target, Stands}
 use Rattle.code_generator.proofs.Repeats.{repeats}
 use Rattle.code_generator.proofs.Setting.{Setting, Based, Shown, Direct}
 use Rattle.code_generator.proofs.Starting.{keeps_join, keeps_none, keeps_some}
+use Rattle.code_generator.proofs.Lists.{slice_behind, slice_there, slice_replicate, all_at}
+use Rattle.std.proofs.lemmas.List.{length-replicate}
 
 -- no variables are there of which a test holds
 none_is : (test : Variable → Bool) (root : ℕ) (vs : List Variable) (i : ℕ) (v : Variable) → roots_where test root vs ≡ [] → slice_get vs i ≡ Some v
@@ -120,10 +121,10 @@ module _ (known : Known) (tree : Tree) (well : IsWellFormed tree) (short : is_to
   cells = first_links ++ replicate others Undefined
 
   pub fixed_long : length fixed ≡ below
-  fixed_long = omega (arith, none_here tree well block block_is, length_replicate {A = Option Cell} others None)
+  fixed_long = omega (arith, none_here tree well block block_is, length-replicate {A = Option Cell} others None)
 
   cells_long : length cells ≡ below
-  cells_long = omega (arith, none_here tree well block block_is, length_replicate {A = Cell} others Undefined)
+  cells_long = omega (arith, none_here tree well block block_is, length-replicate {A = Cell} others Undefined)
 
   lies : (p : Place) (c : ℕ) → LiesIn world p c → Lies activation p c
   lies p c l = ⊎_elim (λ (is : l.owner ≡ activation). subst (λ a. Lies a p c) is l.lies) (λ no. absurd no) l.lives

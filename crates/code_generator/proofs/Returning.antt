@@ -28,7 +28,7 @@ use Rattle.code_scheme.specs.Code.{return_code}
 use Rattle.code_scheme.specs.Depth.{block_depth, result_depth}
 use Rattle.code_scheme.specs.Scopes.{called_routine, links_to, other_cells, parameter_cells, variable_home}
 use Rattle.code_generator.proofs.Acts.{framed, loads}
-use Rattle.code_generator.proofs.Alike.{Fixed, Keeps, Leads, LiesIn, alike_above, cell_of, cell_within, slice_get-front}
+use Rattle.code_generator.proofs.Alike.{Fixed, Keeps, Leads, LiesIn, alike_above, cell_of, cell_within}
 use Rattle.code_generator.proofs.Callee.{link_at, outer_fixed, own_part, seen}
 use Rattle.code_generator.proofs.Calling.{leaves}
 use Rattle.code_generator.proofs.Evaluating.{fetched_runs, sites}
@@ -37,8 +37,10 @@ use Rattle.code_generator.proofs.Nesting.{Callable, well_block}
 use Rattle.code_generator.proofs.Parts.{ordinal_part}
 use Rattle.code_generator.proofs.Passing.{Returns, evaluated_returns, left_by}
 use Rattle.code_generator.proofs.Reach.{Comes, Stands, StandsAt, comes_by, comes_less, stays_here}
-use Rattle.code_generator.proofs.Setting.{Setting, Based, outline, on, running_at, evaluates_from, acts}
+use Rattle.code_generator.proofs.Setting.{Setting, Based, outline, on, running_at, acts}
 use Rattle.code_generator.proofs.Starting.{h}
+use Rattle.code_generator.proofs.Running.{runs_from, value_on}
+use Rattle.code_generator.proofs.Lists.{slice_get-front, get_take}
 
 -- ---- what a caller held is as it was
 
@@ -61,12 +63,6 @@ take_kept (y ∷ f) held more (c ∷ cells) keeps few =
     let e : length (y ∷ f) + length held ≡ suc (length f + length held) = omega arith in
     ap (λ n. take n (c ∷ cells)) e
     ∙ ap (λ l. c ∷ l) (take_kept f held more cells (record { each = λ i cell at. keeps.each (suc i) cell at }) (omega arith))
-
-get_take : {A : Type 0} (xs : List A) (n i : ℕ) → i < n → slice_get (take n xs) i ≡ slice_get xs i
-get_take xs zero i less = absurd (omega arith)
-get_take [] (suc n) i less = refl
-get_take (x ∷ xs) (suc n) zero less = refl
-get_take (x ∷ xs) (suc n) (suc i) less = get_take xs n i (omega arith)
 
 -- how many cells a function leaves
 abbrev pub count_of : Bool → ℕ
@@ -287,7 +283,7 @@ module _ (g : Setting) (number : ℕ) (block : Block) (block_is : slice_get g.tr
         (cell_within its.world t.store stack p d above lies) (above.scalars p d lies)) in
         subst (λ o. Returns its (on its stack place t.output) [] (place + 1 + 1) true (fetch o result.defined) t) (sym place_is)
         (evaluated_returns its _ [] (place + 1 + 1) (fetch (Some p) result.defined) t
-        (evaluates_from its 1 _ _ [] (place + 1 + 1) (fetch (Some p) result.defined) t loaded
+        (runs_from its (value_on its [] (place + 1 + 1)) 1 _ _ (fetch (Some p) result.defined) t loaded
         (fetched_runs its (place + 1) result.defined last [] t (stored t.store p) stands.1.0 (ltb-true result.defined (sites g) good.0) after
         (omega (arith, full, space)) (above.fits p d lies))))
 
@@ -298,10 +294,10 @@ module _ (g : Setting) (number : ℕ) (block : Block) (block_is : slice_get g.tr
       → Returns its (on its (last ++ []) place t.output) [] (back_place is_function place) is_function (result_of result its.environment) t
       × StandsAt its.target (back_place is_function place) (instr.Return (count_of is_function)) true
   finishes None false is kind place last t after stands deep =
-      let none = comes_less g.target (t.turns - t.turns) 0 _ _ (omega arith)
+      let none = comes_less g.target (t.turns - t.turns + 0) 0 _ _ (omega arith)
       (subst (λ cs. Comes g.target 0 (on its (last ++ []) place t.output) (on its cs place t.output)) (sym (append-nil (last ++ [])))
       (stays_here g.target _)) in
-      (inr (last, after, none, record { is = refl }, omega arith), stands.0)
+      (inr ((last, after, record { is = refl }), none, omega arith), stands.0)
   finishes None true is kind place last t after stands deep = absurd (false≢true kind)
   finishes (Some result) false is kind place last t after stands deep = absurd (false≢true kind)
   finishes (Some result) true is kind place last t after stands deep =

@@ -20,14 +20,13 @@ use Rattle.meaning.specs.Effect as effect
 use Rattle.meaning.specs.Effect.{Reply, Gives, Action, ◌>>=◌, number_of}
 use Rattle.meaning.specs.Laws.{AllGoRoundByRound, AllUseTurnsExactly, UsesTurnsExactly}
 use Rattle.meaning.specs.Meaning.{Surroundings, calls_of}
-use Rattle.meaning.proofs.Replies.{and_then-and_then}
 use Rattle.stack_machine.specs.declared.stop.Stop.{Stop}
 use Rattle.stack_machine.specs.declared.stop.Stop.TheVariants as stop
 use Rattle.stack_machine.specs.declared.cell.Cell.{Cell}
 use Rattle.stack_machine.specs.declared.cell.Cell.TheVariants.{Undefined, Number}
-use Rattle.stack_machine.specs.Deeds.{jumped_if_false}
+use Rattle.stack_machine.specs.Deeds.{Acts, Tests, deed_of, jumped_if_false}
 use Rattle.stack_machine.specs.Frames.{Frames, Attempt, is_true}
-use Rattle.stack_machine.specs.Machine.{State, and_then, checked, with_frames, with_place, error_of}
+use Rattle.stack_machine.specs.Machine.{State, Next, carried_out, and_then, checked, with_frames, with_place, error_of}
 use Rattle.check_remover.specs.Strip.{moved}
 use Rattle.code_scheme.specs.Code.{program_code, routines_of}
 use Rattle.code_scheme.specs.Depth.{block_depth}
@@ -39,11 +38,10 @@ use Rattle.code_generator.specs.Large.{is_too_large}
 use Rattle.code_generator.specs.Tables.{site_table, in_plain_numbers}
 use Rattle.code_generator.proofs.Reach.{Target, Stands, StandsAt, Comes, obeys, Stops, comes_on, comes_less, stays_here, comes_by, stops_on, stops_by}
 use Rattle.code_generator.proofs.Acts.{framed, branches}
-use Rattle.code_generator.proofs.Exact.{exact_give, exact_then}
 use Rattle.code_generator.proofs.Alike.{World, Lives, Fixed, IsApart, Alike, Keeps, Leads, Activation}
-use Rattle.code_generator.proofs.Numbers.{Fits}
 use Rattle.code_generator.proofs.Parts.{IsPart}
 use Rattle.code_generator.proofs.Repeats.{repeats}
+use Rattle.code_generator.proofs.Lists.{slice_map, slice_there}
 
 -- how code reaches a variable: it lies in a frame, or its address does
 pub data Way : Type 0 where
@@ -128,12 +126,6 @@ pub record Setting : Type 0 where
   pub chain : Leads fixed (links_to scope 0) frame bottom
   pub blank : slice_get fixed (bottom + 2) ≡ Some (Some Undefined)
 
--- an element of a table, and of the table that was made from it
-found_at : {A B : Type 0} (f : A → B) (xs : List A) (i : ℕ) → i < length xs → (x : A) × (slice_get xs i ≡ Some x) × (slice_get (map f xs) i ≡ Some (f x))
-found_at f [] i h = absurd (omega arith)
-found_at f (x ∷ xs) zero h = (x, refl, refl)
-found_at f (x ∷ xs) (suc i) h = found_at f xs i (omega arith)
-
 -- what gives a number, where a value is wanted
 abbrev pub as_value : Action ℤ → Action Value
 as_value action = action >>= λ n. effect.give (value.Number n)
@@ -153,6 +145,10 @@ module _ (g : Setting) where
 
   pub goes_around : AllGoRoundByRound around
   goes_around = g.known.rounds g.tree g.depth g.environment
+
+  -- the state behind an entry
+  abbrev pub entered : ℕ → effect.State → effect.State
+  entered number s = record s { visited = s.visited ++ record { number = number; environment = g.environment; store = s.store } ∷ [] }
 
   -- the machine in the running frame, at an instruction of its code
   abbrev pub running_at : List Cell → ℕ → List ℕ → State
@@ -249,12 +245,13 @@ module _ (g : Setting) where
       (comes_by g.target i (on cells place output) (running_at after (g.target.to place + 1) more) here.0 does)
 
   -- an instruction of the store alone
-  pub acts : (i : Instr) (cells after : List Cell) (place : ℕ) (output : List ℕ) (attempt : Attempt Frames) → Here place i
-      → obeys g.target i (running_at cells (g.target.to place + 1) output) ≡ and_then attempt
-      (with_frames (running_at cells (g.target.to place + 1) output)) → attempt ≡ Ok (framed g.frame g.limit g.size after)
-      → Comes g.target 1 (on cells place output) (on after (place + 1) output)
-  acts i cells after place output attempt here rule e =
-      goes_on i cells after place output output here (rule ∙ ap (λ a. and_then a (with_frames (running_at cells (g.target.to place + 1) output))) e)
+  pub acts : (i : Instr) (cells after : List Cell) (place : ℕ) (output : List ℕ) (act : Frames → Attempt Frames) → Here place i → deed_of i ≡ Acts act
+      → act (framed g.frame g.limit g.size cells) ≡ Ok (framed g.frame g.limit g.size after) → Comes g.target 1 (on cells place output)
+      (on after (place + 1) output)
+  acts i cells after place output act here rule e =
+      let m = running_at cells (g.target.to place + 1) output in
+      goes_on i cells after place output output here
+      (ap (λ deed. carried_out g.target.sites (length g.target.code) deed m) rule ∙ ap (λ a. and_then a (with_frames m)) e)
 
   -- a jump goes where its target goes
   pub jumps : (target : ℕ) (cells : List Cell) (place : ℕ) (output : List ℕ) → StandsAt g.target place (instr.Jump target) true
@@ -281,30 +278,47 @@ module _ (g : Setting) where
       branches_by target (below ++ Number n ∷ []) below place output (is_true n) stands
       (branches g.frame g.limit g.size below in_frame (g.target.to target) n)
 
+  -- what is so of either way
+  pub branched : (IsSo : Bool → Type 0) (target : ℕ) (below : List Cell) (n : ℤ) (place : ℕ) (output : List ℕ)
+      → StandsAt g.target place (instr.JumpIfFalse target) true → g.frame + 4 ≤ length below
+      → (Comes g.target 1 (on (below ++ Number n ∷ []) place output) (on below (place + 1) output) → IsSo true)
+      → (Comes g.target 1 (on (below ++ Number n ∷ []) place output) (on below target output) → IsSo false) → IsSo (is_true n)
+  branched IsSo target below n place output stands in_frame so not_so = by (is_true n) (branches_on target below n place output stands in_frame)
+    where
+      by : (b : Bool) → Comes g.target 1 (on (below ++ Number n ∷ []) place output) (on below (if b then place + 1 else target) output) → IsSo b
+      by true came = so came
+      by false came = not_so came
+
   -- a check, which stays or is left out, and what it tests
-  module _ (check : Instr) (cells : List Cell) (place site : ℕ) (output : List ℕ) (holds : Attempt Bool) (same : moved g.target.to check ≡ check)
-      (rule : obeys g.target check (running_at cells (g.target.to place + 1) output) ≡ checked g.target.sites site
-      (running_at cells (g.target.to place + 1) output) holds) where
-    passes_by : (stayed : Bool) → StandsAt g.target place check stayed → holds ≡ Ok true
+  module _ (check : Instr) (cells : List Cell) (place site : ℕ) (output : List ℕ) (test : Frames → Attempt Bool) (same : moved g.target.to check ≡ check)
+      (rule : deed_of check ≡ Tests site test) where
+    abbrev tested_at : Attempt Bool → Next
+    tested_at = checked g.target.sites site (running_at cells (g.target.to place + 1) output)
+
+    tests_it : (holds : Attempt Bool) → test (framed g.frame g.limit g.size cells) ≡ holds
+        → obeys g.target check (running_at cells (g.target.to place + 1) output) ≡ tested_at holds
+    tests_it holds e =
+        ap (λ deed. carried_out g.target.sites (length g.target.code) deed (running_at cells (g.target.to place + 1) output)) rule ∙ ap tested_at e
+
+    passes_by : (stayed : Bool) → StandsAt g.target place check stayed → test (framed g.frame g.limit g.size cells) ≡ Ok true
         → Comes g.target 0 (on cells place output) (on cells (place + 1) output)
     passes_by true stands e =
         comes_less g.target 0 1 _ _ (omega arith)
-        (goes_on check cells cells place output output (stands.0 ∙ ap Some same, stands.1)
-        (rule ∙ ap (checked g.target.sites site (running_at cells (g.target.to place + 1) output)) e))
+        (goes_on check cells cells place output output (stands.0 ∙ ap Some same, stands.1) (tests_it (Ok true) e))
     passes_by false stands e =
         subst (λ index. Comes g.target 0 (on cells place output) (running_at cells index output)) (sym stands) (stays_here g.target (on cells place output))
 
     -- the test holds
-    pub passes : StandsAt g.target place check (g.target.is_open site) → holds ≡ Ok true
+    pub passes : StandsAt g.target place check (g.target.is_open site) → test (framed g.frame g.limit g.size cells) ≡ Ok true
         → Comes g.target 0 (on cells place output) (on cells (place + 1) output)
     passes stands e = passes_by (g.target.is_open site) stands e
 
     fails_by : (turns : ℕ) (stayed : Bool) → g.target.is_open site ≡ stayed → StandsAt g.target place check stayed → site < length g.tree.sites.items
-        → holds ≡ Ok false → Ends turns (on cells place output) (ending.Error site) output
+        → test (framed g.frame g.limit g.size cells) ≡ Ok false → Ends turns (on cells place output) (ending.Error site) output
     fails_by turns true known stands within e =
-        let found = found_at in_plain_numbers g.tree.sites.items site within in
-        let entry = ap (λ sites. slice_get sites site) g.sites_are ∙ found.2 in
-        let does = rule ∙ ap (checked g.target.sites site (running_at cells (g.target.to place + 1) output)) e ∙ ap (λ o. Err (error_of o)) entry in
+        let found = slice_there g.tree.sites.items site within in
+        let entry = ap (λ sites. slice_get sites site) g.sites_are ∙ slice_map in_plain_numbers g.tree.sites.items site found.0 found.1 in
+        let does = tests_it (Ok false) e ∙ ap (λ o. Err (error_of o)) entry in
         inl (record {
           why = stop.Error (in_plain_numbers found.0);
           stops = stops_by g.target check (on cells place output) (stop.Error (in_plain_numbers found.0)) (stands.0 ∙ ap Some same) does;
@@ -313,8 +327,8 @@ module _ (g : Setting) where
     fails_by turns false closed stands within e = inr closed
 
     -- the test doesn't hold
-    pub fails : (turns : ℕ) → StandsAt g.target place check (g.target.is_open site) → site < length g.tree.sites.items → holds ≡ Ok false
-        → Ends turns (on cells place output) (ending.Error site) output
+    pub fails : (turns : ℕ) → StandsAt g.target place check (g.target.is_open site) → site < length g.tree.sites.items
+        → test (framed g.frame g.limit g.size cells) ≡ Ok false → Ends turns (on cells place output) (ending.Error site) output
     fails turns stands within e = fails_by turns (g.target.is_open site) refl stands within e
 
   -- ---- a full store
@@ -331,7 +345,7 @@ module _ (g : Setting) where
   starves_on least a b action s l x = (x.0, x.1, x.2, stops_on g.target least a b _ l x.3, x.4, x.5)
 
   -- the same action
-  starves_same : {A : Type 0} (m : State) (action other : Action A) (s : effect.State) → ((t : effect.State) → action t ≡ other t) → Starves m other s
+  pub starves_same : {A : Type 0} (m : State) (action other : Action A) (s : effect.State) → ((t : effect.State) → action t ≡ other t) → Starves m other s
       → Starves m action s
   starves_same m action other s same x = (x.0, x.1, same (record s { turns = x.0 }) ∙ x.2, x.3, x.4, x.5)
 
@@ -352,179 +366,3 @@ module _ (g : Setting) where
         x.4,
         omega (arith, from.1, x.5),
       )
-
-  -- ---- the code of an expression
-
-  -- what the code of an expression does, with so many turns left here: its value comes on top of what is held, over
-  -- cells alike to the store; or the expression ends
-  abbrev pub Valued : ℕ → State → List Cell → ℕ → Reply Value → Type 0
-  Valued turns m held place (Gives v s) =
-      (base : List Cell) × Based s base × Comes g.target (turns - s.turns) m (on ((base ++ held) ++ Number (number_of v) ∷ []) place s.output)
-      × Fits (number_of v) × (g.below + length held < g.limit) × (s.turns ≤ turns)
-  Valued turns m held place (effect.Stops end s) = Ends turns m end s.output
-
-  -- or the store is full
-  abbrev pub Evaluates : State → List Cell → ℕ → Action Value → effect.State → Type 0
-  Evaluates m held place action s = Starves m action s ⊎ Valued s.turns m held place (action s)
-
-  -- a value that is there after some instructions
-  pub gives : (least : ℕ) (m : State) (base held : List Cell) (place : ℕ) (v : Value) (s : effect.State) → Based s base
-      → Comes g.target least m (on ((base ++ held) ++ Number (number_of v) ∷ []) place s.output) → Fits (number_of v) → g.below + length held < g.limit
-      → Valued s.turns m held place (Gives v s)
-  gives least m base held place v s based l fit room =
-      (base, based, comes_less g.target (s.turns - s.turns) least m _ (omega arith) l, fit, room, omega arith)
-
-  valued_on : (turns left : ℕ) (a b : State) (held : List Cell) (place : ℕ) (r : Reply Value) → left ≤ turns → Comes g.target (turns - left) a b
-      → Valued left b held place r → Valued turns a held place r
-  valued_on turns left a b held place (Gives v s) le l e = (
-    e.0,
-    e.1,
-    comes_less g.target (turns - s.turns) (turns - left + (left - s.turns)) a _ (omega arith)
-        (comes_on g.target (turns - left) (left - s.turns) a b _ l e.2),
-    e.3,
-    e.4,
-    omega (arith, e.5),
-  )
-  valued_on turns left a b held place (effect.Stops end s) le l e = ends_on turns left a b end s.output l e
-
-  -- where no turn is used
-  pub evaluates_from : (least : ℕ) (a b : State) (held : List Cell) (place : ℕ) (action : Action Value) (s : effect.State) → Comes g.target least a b
-      → Evaluates b held place action s → Evaluates a held place action s
-  evaluates_from least a b held place action s l (inl x) = inl (starves_on least a b action s l x)
-  evaluates_from least a b held place action s l (inr e) =
-      inr (valued_on s.turns s.turns a b held place (action s) (omega arith) (comes_less g.target (s.turns - s.turns) least a b (omega arith) l) e)
-
-  -- the same action
-  pub evaluates_same : (m : State) (held : List Cell) (place : ℕ) (action other : Action Value) (s : effect.State)
-      → ((t : effect.State) → action t ≡ other t) → Evaluates m held place other s → Evaluates m held place action s
-  evaluates_same m held place action other s same (inl x) = inl (starves_same m action other s same x)
-  evaluates_same m held place action other s same (inr e) = inr (subst (Valued s.turns m held place) (sym (same s)) e)
-
-  -- behind a piece that gave something
-  pub evaluates_behind : {A : Type 0} (m there : State) (held : List Cell) (place : ℕ) (first : Action A) (next : A → Action Value) (s t : effect.State)
-      (v : A) → UsesTurnsExactly first → first s ≡ Gives v t → t.turns ≤ s.turns → Comes g.target (s.turns - t.turns) m there
-      → Evaluates there held place (next v) t → Starves m (first >>= next) s ⊎ Valued s.turns m held place (next v t)
-  evaluates_behind m there held place first next s t v exact is le l (inl x) =
-      inl (starves_behind (s.turns - t.turns) m there first next s t v exact is l x)
-  evaluates_behind m there held place first next s t v exact is le l (inr e) = inr (valued_on s.turns t.turns m there held place (next v t) le l e)
-
-  -- one after another
-  pub then_evaluates : (m : State) (held held' : List Cell) (place place' : ℕ) (first : Action Value) (next : Value → Action Value) (s : effect.State)
-      → UsesTurnsExactly first → Evaluates m held place first s
-      → ((base : List Cell) (v : Value) (t : effect.State) → Based t base → Fits (number_of v) → g.below + length held < g.limit
-      → Evaluates (on ((base ++ held) ++ Number (number_of v) ∷ []) place t.output) held' place' (next v) t)
-      → Evaluates m held' place' (first >>= next) s
-  then_evaluates m held held' place place' first next s exact (inl x) h = inl (starves_first m first next s x)
-  then_evaluates m held held' place place' first next s exact (inr e) h = by (first s) refl e
-    where
-      by : (r : Reply Value) → first s ≡ r → Valued s.turns m held place r
-          → Starves m (first >>= next) s ⊎ Valued s.turns m held' place' (effect.and_then r next)
-      by (Gives v t) is e = evaluates_behind m _ held' place' first next s t v exact is e.5 e.2 (h e.0 v t e.1 e.3 e.4)
-      by (effect.Stops end t) is e = inr e
-
-  -- ---- the code of a statement
-
-  -- what the code of a statement does, with so many turns left here: what is held stays, over cells alike to the store;
-  -- or the statement ends
-  abbrev pub Executed : ℕ → State → List Cell → ℕ → Reply (Unit {0}) → Type 0
-  Executed turns m held place (Gives done s) =
-      (base : List Cell) × Based s base × Comes g.target (turns - s.turns) m (on (base ++ held) place s.output) × (s.turns ≤ turns)
-  Executed turns m held place (effect.Stops end s) = Ends turns m end s.output
-
-  -- or the store is full
-  abbrev pub Executes : State → List Cell → ℕ → Action (Unit {0}) → effect.State → Type 0
-  Executes m held place action s = Starves m action s ⊎ Executed s.turns m held place (action s)
-
-  -- a state that is there after some instructions
-  pub done : (least : ℕ) (m : State) (base held : List Cell) (place : ℕ) (s : effect.State) → Based s base
-      → Comes g.target least m (on (base ++ held) place s.output) → Executed s.turns m held place (Gives tt s)
-  done least m base held place s based l = (base, based, comes_less g.target (s.turns - s.turns) least m _ (omega arith) l, omega arith)
-
-  executed_on : (turns left : ℕ) (a b : State) (held : List Cell) (place : ℕ) (r : Reply (Unit {0})) → left ≤ turns → Comes g.target (turns - left) a b
-      → Executed left b held place r → Executed turns a held place r
-  executed_on turns left a b held place (Gives done s) le l e = (
-    e.0,
-    e.1,
-    comes_less g.target (turns - s.turns) (turns - left + (left - s.turns)) a _ (omega arith)
-        (comes_on g.target (turns - left) (left - s.turns) a b _ l e.2),
-    omega (arith, e.3),
-  )
-  executed_on turns left a b held place (effect.Stops end s) le l e = ends_on turns left a b end s.output l e
-
-  -- where no turn is used
-  pub executes_from : (least : ℕ) (a b : State) (held : List Cell) (place : ℕ) (action : Action (Unit {0})) (s : effect.State) → Comes g.target least a b
-      → Executes b held place action s → Executes a held place action s
-  executes_from least a b held place action s l (inl x) = inl (starves_on least a b action s l x)
-  executes_from least a b held place action s l (inr e) =
-      inr (executed_on s.turns s.turns a b held place (action s) (omega arith) (comes_less g.target (s.turns - s.turns) least a b (omega arith) l) e)
-
-  -- the same action
-  pub executes_same : (m : State) (held : List Cell) (place : ℕ) (action other : Action (Unit {0})) (s : effect.State)
-      → ((t : effect.State) → action t ≡ other t) → Executes m held place other s → Executes m held place action s
-  executes_same m held place action other s same (inl x) = inl (starves_same m action other s same x)
-  executes_same m held place action other s same (inr e) = inr (subst (Executed s.turns m held place) (sym (same s)) e)
-
-  -- behind a piece that gave something
-  pub executes_behind : {A : Type 0} (m there : State) (held : List Cell) (place : ℕ) (first : Action A) (next : A → Action (Unit {0}))
-      (s t : effect.State) (v : A) → UsesTurnsExactly first → first s ≡ Gives v t → t.turns ≤ s.turns → Comes g.target (s.turns - t.turns) m there
-      → Executes there held place (next v) t → Starves m (first >>= next) s ⊎ Executed s.turns m held place (next v t)
-  executes_behind m there held place first next s t v exact is le l (inl x) =
-      inl (starves_behind (s.turns - t.turns) m there first next s t v exact is l x)
-  executes_behind m there held place first next s t v exact is le l (inr e) = inr (executed_on s.turns t.turns m there held place (next v t) le l e)
-
-  -- one after another, where other cells may be held behind the second
-  pub then_executes : (m : State) (held held' : List Cell) (place place' : ℕ) (first : Action (Unit {0})) (next : Unit {0} → Action (Unit {0}))
-      (s : effect.State) → UsesTurnsExactly first → Executes m held place first s
-      → ((base : List Cell) (t : effect.State) → Based t base → Executes (on (base ++ held) place t.output) held' place' (next tt) t)
-      → Executes m held' place' (first >>= next) s
-  then_executes m held held' place place' first next s exact (inl x) h = inl (starves_first m first next s x)
-  then_executes m held held' place place' first next s exact (inr e) h = by (first s) refl e
-    where
-      by : (r : Reply (Unit {0})) → first s ≡ r → Executed s.turns m held place r
-          → Starves m (first >>= next) s ⊎ Executed s.turns m held' place' (effect.and_then r next)
-      by (Gives done t) is e = executes_behind m _ held' place' first next s t tt exact is e.3 e.2 (h e.0 t e.1)
-      by (effect.Stops end t) is e = inr e
-
-  -- what the machine does behind a statement that gives
-  pub behind_executes : (m : State) (held held' : List Cell) (place place' : ℕ) (action : Action (Unit {0})) (s : effect.State)
-      → Executes m held place action s → ((base : List Cell) (t : effect.State) → Based t base → Comes g.target 0 (on (base ++ held) place t.output)
-      (on (base ++ held') place' t.output)) → Executes m held' place' action s
-  behind_executes m held held' place place' action s (inl x) h = inl x
-  behind_executes m held held' place place' action s (inr e) h = inr (by (action s) e)
-    where
-      by : (r : Reply (Unit {0})) → Executed s.turns m held place r → Executed s.turns m held' place' r
-      by (Gives done t) e = (
-        e.0,
-        e.1,
-        comes_less g.target (s.turns - t.turns) (s.turns - t.turns + 0) m _ (omega arith)
-            (comes_on g.target (s.turns - t.turns) 0 m _ _ e.2 (h e.0 t e.1)),
-        e.3,
-      )
-      by (effect.Stops end t) e = e
-
-  -- what comes after a value
-  pub after_value : (m : State) (held held' : List Cell) (place place' : ℕ) (first : Action Value) (next : Value → Action (Unit {0})) (s : effect.State)
-      → UsesTurnsExactly first → Evaluates m held place first s
-      → ((base : List Cell) (v : Value) (t : effect.State) → Based t base → Fits (number_of v)
-      → Executes (on ((base ++ held) ++ Number (number_of v) ∷ []) place t.output) held' place' (next v) t)
-      → Executes m held' place' (first >>= next) s
-  after_value m held held' place place' first next s exact (inl x) h = inl (starves_first m first next s x)
-  after_value m held held' place place' first next s exact (inr e) h = by (first s) refl e
-    where
-      by : (r : Reply Value) → first s ≡ r → Valued s.turns m held place r
-          → Starves m (first >>= next) s ⊎ Executed s.turns m held' place' (effect.and_then r next)
-      by (Gives v t) is e = executes_behind m _ held' place' first next s t v exact is e.5 e.2 (h e.0 v t e.1 e.3)
-      by (effect.Stops end t) is e = inr e
-
-  -- what comes after a number
-  pub after_number : (m : State) (held held' : List Cell) (place place' : ℕ) (first : Action ℤ) (next : ℤ → Action (Unit {0})) (s : effect.State)
-      → UsesTurnsExactly first → Evaluates m held place (as_value first) s
-      → ((base : List Cell) (n : ℤ) (t : effect.State) → Based t base → Fits n
-      → Executes (on ((base ++ held) ++ Number n ∷ []) place t.output) held' place' (next n) t)
-      → Executes m held' place' (first >>= next) s
-  after_number m held held' place place' first next s exact e h =
-      executes_same m held' place' (first >>= next) (as_value first >>= λ v. next (number_of v)) s
-      (λ t. sym (and_then-and_then (first t) (λ n. effect.give (value.Number n)) (λ v. next (number_of v))))
-      (after_value m held held' place place' (as_value first) (λ v. next (number_of v)) s
-      (exact_then first (λ n. effect.give (value.Number n)) exact (λ n. exact_give (value.Number n))) e
-      (λ base v t based fit. h base (number_of v) t based fit))

@@ -24,9 +24,9 @@ use Rattle.stack_machine.specs.declared.cell.Cell.TheVariants.{Undefined, Number
 use Rattle.code_scheme.specs.Depth.{block_depth}
 use Rattle.code_scheme.specs.Scopes.{called_routine, cells_where, is_parameter_of, links_to, other_cells, parameter_cells, slot_cells}
 use Rattle.code_scheme.specs.Scopes.{variable_home}
-use Rattle.code_generator.proofs.Alike.{Activation, Lives, Fixed, Lies, LiesIn, HasFit, Keeps, Leads, cell_of, slice_get-front}
-use Rattle.code_generator.proofs.Callee.{callee, fixed_mark, length_replicate, new_activation, own_filled, own_part, seen, slice_before}
-use Rattle.code_generator.proofs.Callee.{its_start, slice_behind}
+use Rattle.code_generator.proofs.Alike.{Activation, Lives, Fixed, Lies, LiesIn, HasFit, Keeps, Leads, cell_of}
+use Rattle.code_generator.proofs.Callee.{callee, fixed_mark, new_activation, own_filled, own_part, seen}
+use Rattle.code_generator.proofs.Callee.{its_start}
 use Rattle.code_generator.proofs.Cells.{starts_as_parameter, where_cons}
 use Rattle.code_generator.proofs.Held.{scalar_kept}
 use Rattle.code_generator.proofs.Laying.{Laid, Takes, fitted_length, marked, marked_by, marked_first, marked_long, no_reference}
@@ -36,6 +36,8 @@ use Rattle.code_generator.proofs.Passing.{Fitted}
 use Rattle.code_generator.proofs.Rows.{cells_of as value_cells}
 use Rattle.code_generator.proofs.Setting.{Setting, Based}
 use Rattle.code_generator.proofs.Wholes.{row_kept, set_row, set_row_is, store_all_is, stored_all}
+use Rattle.code_generator.proofs.Lists.{slice_before, slice_behind, slice_get-front, set_middle}
+use Rattle.std.proofs.lemmas.List.{length-replicate}
 
 -- ---- what is fixed
 
@@ -119,10 +121,6 @@ module _ (g : Setting) (number : ℕ) where
 
 -- ---- cells in the middle that are set
 
-set_middle : {A : Type 0} (front : List A) (x y : A) (behind : List A) → slice_set (front ++ x ∷ behind) (length front) y ≡ front ++ y ∷ behind
-set_middle [] x y behind = refl
-set_middle (z ∷ front) x y behind = ap (λ l. z ∷ l) (set_middle front x y behind)
-
 set_row_middle : (front before row behind : List Cell) → length before ≡ length row
     → set_row (front ++ (before ++ behind)) (length front) row ≡ front ++ (row ++ behind)
 set_row_middle front before row behind same =
@@ -200,7 +198,7 @@ module _ (g : Setting) (number : ℕ) (block : Block) (block_is : slice_get g.tr
         length-append (base ++ held) (its_links ++ (blanks ++ unset)),
         length-append blanks unset,
         blanks_long,
-        length_replicate {A = Cell} others Undefined,
+        length-replicate {A = Cell} others Undefined,
       )
 
   -- before the parameters get what is passed, nothing of the routine's own is defined

@@ -39,6 +39,7 @@ use Rattle.meaning.specs.Effect.{Action, Round, ◌>>=◌, number_of, require, g
 use Rattle.meaning.specs.Meaning.{Execution, is_so, turn_if, while_round, repeat_round, for_round, for_rounds, for_between, is_among, arm_of, whole_of}
 use Rattle.meaning.specs.Meaning.{alternative_of, value_of, width_of, effect_of, effect_step, parameter_of, all_of, line_ended}
 use Rattle.meaning.specs.Meaning.{call_of, passing_of, default_width as default_width_of}
+use Rattle.stack_machine.specs.Deeds.{Writes, deed_of}
 use Rattle.stack_machine.specs.declared.cell.Cell.{Cell}
 use Rattle.stack_machine.specs.declared.cell.Cell.TheVariants.{Undefined, Number}
 use Rattle.machine_arithmetic.specs.declared.arithmetic.Dyadic.TheVariants as dyadic
@@ -56,27 +57,37 @@ use Rattle.code_scheme.specs.Depth.{whole_depth}
 use Rattle.typed_tree.specs.WellFormed.{all_hold, is_well_formed_expr, is_well_formed_width, is_well_formed_parameter, is_well_formed_test, is_well_formed_stmt}
 use Rattle.typed_tree.specs.WellFormed.{fits_target, stmt_is_well_formed, is_control, is_well_formed_call, is_well_formed_passed, is_well_formed_whole}
 use Rattle.typed_tree.specs.WellFormed.{length_of, whole_indexes}
-use Rattle.code_generator.proofs.Reach.{Stands, StandsAt, obeys, stands_front, stands_back, Comes, comes_less, comes_on, stays_here}
+use Rattle.code_generator.proofs.Reach.{Stands, StandsAt, stands_front, stands_back, Comes, comes_less, comes_on, stays_here}
+use Rattle.code_generator.proofs.Setting.{branched}
 use Rattle.code_generator.proofs.Setting.{goes_around}
-use Rattle.code_generator.proofs.Setting.{Setting, outline, around, exact_around, on, Based, later, linked, limit_far, Here, goes_on, jumps, branches_on}
-use Rattle.code_generator.proofs.Setting.{behind_executes, fails, Executes, done, executes_from, then_executes, after_number, after_value}
-use Rattle.code_generator.proofs.Loops.{Rounds, RoundsBehind, RoundRuns, rounds_later, then_rounds, value_rounds, turned, loops, reset, to_reset}
+use Rattle.code_generator.proofs.Setting.{Setting, outline, around, exact_around, on, Based, later, linked, limit_far, Here, goes_on, jumps}
+use Rattle.code_generator.proofs.Setting.{fails}
+use Rattle.code_generator.proofs.Loops.{Rounds, RoundsBehind, RoundRuns, rounds_later, turned, loops, reset, to_reset}
 use Rattle.code_generator.proofs.Loops.{rounds_from_reset, executes_from_reset}
 use Rattle.code_generator.proofs.Accesses.{Indexes, expressions, wells, codes as index_codes}
 use Rattle.code_generator.proofs.Assigns.{told, told_back, assign_runs, copy_runs}
+use Rattle.code_generator.proofs.Evaluating.{same_four}
 use Rattle.code_generator.proofs.Evaluating.{sites, ExecutesAs, fetched_at, frames_of, one_held}
 use Rattle.code_generator.proofs.Exact.{exact_for_round, exact_parameters, exact_repeat_round, exact_statements, exact_while_round}
 use Rattle.code_generator.proofs.Passing.{CallsAt, CallsRun, returns_executes}
 use Rattle.code_generator.proofs.Repeats.{repeats, repeats_step}
-use Rattle.code_generator.proofs.Wholes.{AllFit, few_components, fitting_bytes, row_executes, whole_runs}
+use Rattle.code_generator.proofs.Wholes.{AllFit, few_components, fitting_bytes, whole_runs}
 use Rattle.code_generator.proofs.Held.{slot, IsScalar, is_scalar, variable_kept, variable_forgotten, loads_held, stores_held, decides}
-use Rattle.code_generator.proofs.Held.{begins, steps, leaves, tests}
+use Rattle.code_generator.proofs.Held.{begins, steps, leaves}
 use Rattle.code_generator.proofs.Held.{compares_row, last_is, next_fits, one_fits}
 use Rattle.code_scheme.proofs.Pieces.{length-For, start_within}
-use Rattle.code_generator.proofs.Acts.{length_one, writes}
+use Rattle.code_generator.proofs.Acts.{writes}
 use Rattle.code_generator.proofs.Numbers.{Fits, fits_by_abs, sum_is, difference_is}
 use Rattle.code_generator.proofs.Rows.{cells_of, length-cells_of, numbers_of, same_byte, writes_string}
 use Rattle.code_generator.proofs.Exprs.{call_runs, expr_runs, width_runs}
+use Rattle.code_generator.proofs.Running.{Aim, Executes, Runs, behind_executes, branch_then, done, done_then, kept_on, number_then, runs_from, then_runs}
+use Rattle.code_generator.proofs.Running.{value_on}
+use Rattle.code_generator.proofs.Setting.{entered}
+use Rattle.code_generator.proofs.Exprs.{expr_then}
+use Rattle.code_generator.proofs.Evaluating.{range_then}
+use Rattle.code_generator.proofs.Loops.{round_on}
+use Rattle.code_generator.proofs.Wholes.{row_then}
+use Rattle.code_generator.proofs.Lists.{length_one}
 
 -- what the machine writes in a width is what the program writes
 same_integer_text : (n width : ℤ) → texts.integer_text n width ≡ effect.integer_text n width
@@ -119,12 +130,13 @@ placed_flat code_of scope (x ∷ xs) place = ap (λ rest. code_of scope x ++ res
 
 module _ (g : Setting) (known : CallsAt g) where
   -- a value and its width give way to a text
-  text_runs : (write : Instr) (text : List ℕ) (place : ℕ) (cells after : List Cell) (output : List ℕ) (attempt : Attempt (frames.Frames × List ℕ))
-      → Here g place write → obeys g.target write (fetched_at g cells place output) ≡ machine.and_then attempt
-      (with_text (fetched_at g cells place output))
-      → attempt ≡ Ok (frames_of g after, text) → Comes g.target 1 (on g cells place output) (on g after (place + 1) (output ++ text))
-  text_runs write text place cells after output attempt here rule does =
-      goes_on g write cells after place output (output ++ text) here (rule ∙ ap (λ r. machine.and_then r (with_text (fetched_at g cells place output))) does)
+  text_runs : (write : Instr) (text : List ℕ) (place : ℕ) (cells after : List Cell) (output : List ℕ)
+      (act : frames.Frames → Attempt (frames.Frames × List ℕ)) → Here g place write → deed_of write ≡ Writes act
+      → act (frames_of g cells) ≡ Ok (frames_of g after, text) → Comes g.target 1 (on g cells place output) (on g after (place + 1) (output ++ text))
+  text_runs write text place cells after output act here rule does =
+      let m = fetched_at g cells place output in
+      goes_on g write cells after place output (output ++ text) here
+      (ap (λ deed. machine.carried_out g.target.sites (length g.target.code) deed m) rule ∙ ap (λ r. machine.and_then r (with_text m)) does)
 
   ordinal_writes : (r : Representation) (place : ℕ) (cells : List Cell) (n w : ℤ) (output : List ℕ) → Fits n → Stands g.target place (ordinal_instr r ∷ [])
       → g.frame + 4 ≤ length cells
@@ -166,7 +178,7 @@ module _ (g : Setting) (known : CallsAt g) where
       → g.below + length held + (width_depth width + length row) ≤ g.limit
       → ((there : ℕ) (cells : List Cell) (w : ℤ) (output : List ℕ) → Stands g.target there (write_instr v ∷ []) → g.frame + 4 ≤ length cells
       → Comes g.target 1 (on g ((cells ++ cells_of row) ++ Number w ∷ []) there output) (on g cells (there + 1) (output ++ text w)))
-      → Executes g (on g ((base ++ held) ++ cells_of row) place s.output) held (place + length (width_code g.scope width v) + 1)
+      → Executes g (on g ((base ++ held) ++ cells_of row) place s.output) held (place + length (width_code g.scope width v ++ (write_instr v ∷ [])))
       (width_of width default (around g) >>= (λ w. effect.write (text w))) s
   width_writes width v default row text place base held s is fit stands good based deep writes =
       let wide = width_code g.scope width v in
@@ -174,18 +186,15 @@ module _ (g : Setting) (known : CallsAt g) where
       let more = held ++ cells_of row in
       let long = length-append held (cells_of row) in
       let next : ℤ → Action (Unit {0}) = λ w. effect.write (text w) in
-      let end = place + length wide + 1 in
-      let runs = width_runs g known width v default is fit place base more s (stands_front g.target place wide writing stands) good based
-      (omega (arith, length-cells_of row)) in
-      subst (λ cells. Executes g (on g cells place s.output) held end (width_of width default (around g) >>= next) s)
+      subst (λ cells. Executes g (on g cells place s.output) held (place + length (wide ++ writing)) (width_of width default (around g) >>= next) s)
       (sym (append_assoc base held (cells_of row)))
-      (after_number g _ more held (place + length wide) end (width_of width default (around g)) next s ((exact_around g).widths width default)
-      runs
-      (λ base2 w u based2 fit2.
-      subst (λ cells. Executes g (on g (cells ++ Number w ∷ []) (place + length wide) u.output) held end (next w) u)
+      (number_then g (kept_on g held) wide writing place _ more (width_of width default (around g)) next s ((exact_around g).widths width default) stands
+      (λ front. width_runs g known width v default is fit place base more s front good based (omega (arith, length-cells_of row)))
+      (λ base2 w u rest based2 fit2.
+      subst (λ cells. Executes g (on g (cells ++ Number w ∷ []) (place + length wide) u.output) held (place + length wide + 1) (next w) u)
       (append_assoc base2 held (cells_of row))
-      (inr (done g 1 _ base2 held end (record u { output = u.output ++ text w }) based2
-      (writes (place + length wide) (base2 ++ held) w u.output (stands_back g.target place wide writing stands) (linked g u base2 held based2))))))
+      (inr (done g 1 _ base2 held (place + length wide + 1) (record u { output = u.output ++ text w }) based2
+      (writes (place + length wide) (base2 ++ held) w u.output rest (linked g u base2 held based2))))))
 
   -- a value that is written, and its width
   abbrev ParameterRuns : WriteParameter → Type 0
@@ -212,38 +221,26 @@ module _ (g : Setting) (known : CallsAt g) where
       let parts = and_parts (all_hold (whole_indexes v (wells g indexes)) && shape) (is_well_formed_width (outline g) g.number width) good in
       let inside = and_parts (all_hold (whole_indexes v (wells g indexes))) shape parts.0 in
       let same : n ≡ row_length n = few_components g v (length (expressions g indexes)) inside.1 in
-      let behind = stands_back g.target place c (wide ++ writing) stands in
-      let e : place + length c + length wide + 1 ≡ place + length (c ++ (wide ++ writing)) = omega
-      (arith, length-append c (wide ++ writing), length-append wide writing) in
       let next : List Value → Action (Unit {0}) = λ row. width_of width (pos n) (around g) >>= λ w. effect.write (effect.row_text row w) in
-      let meant = whole_of v (map value_of (expressions g indexes)) (around g) in
-      subst (λ q. Executes g (on g (base ++ held) place s.output) held q (meant >>= next) s) e
-      (row_executes g _ held held (place + length c) (place + length c + length wide + 1) n meant next s
-      ((exact_around g).wholes v (expressions g indexes))
-      (whole_runs g v indexes place base held s (stands_front g.target place c (wide ++ writing) stands) inside.0 inside.1 based (omega arith))
-      (λ base2 row t based2 long fit.
+      row_then g (kept_on g held) c (wide ++ writing) place _ held n (whole_of v (map value_of (expressions g indexes)) (around g)) next s
+      ((exact_around g).wholes v (expressions g indexes)) stands
+      (λ front. whole_runs g v indexes place base held s front inside.0 inside.1 based (omega arith))
+      (λ base2 row t rest based2 long fit.
       width_writes width (String v vec) (pos n) row (effect.row_text row) (place + length c) base2 held t (ap (λ m. instr.LoadConstant (pos m)) (sym same))
-      (fits_by_abs (pos n) (omega arith)) behind parts.1 based2 (omega (arith, long))
-      (λ there cells w output here in_frame. string_writes (row_length n) row there cells w output (long ∙ same) fit here in_frame)))
+      (fits_by_abs (pos n) (omega arith)) rest parts.1 based2 (omega (arith, long))
+      (λ there cells w output here in_frame. string_writes (row_length n) row there cells w output (long ∙ same) fit here in_frame))
 
   written_runs : (v : Written) (width : Option Width) → ParameterRuns (record { value = v; width = width })
   written_runs (Ordinal v r) width place base held s stands good based high deep =
-      let c = expr_code g.scope v in
       let wide = width_code g.scope width (Ordinal v r) in
-      let writing = ordinal_instr r ∷ [] in
       let parts = and_parts (is_well_formed_expr (outline g) g.number v) (is_well_formed_width (outline g) g.number width) good in
-      let behind = stands_back g.target place c (wide ++ writing) stands in
-      let e : place + length c + length wide + 1 ≡ place + length (c ++ (wide ++ writing)) = omega
-      (arith, length-append c (wide ++ writing), length-append wide writing) in
       let default = default_width_of r in
-      let next : Value → Action (Unit {0}) = λ x. width_of width default (around g) >>= λ w. effect.write (effect.text_of r (number_of x) w) in
-      subst (λ q. Executes g (on g (base ++ held) place s.output) held q (value_of v (around g) >>= next) s) e
-      (after_value g _ held held (place + length c) (place + length c + length wide + 1) (value_of v (around g)) next s
-      ((exact_around g).values v)
-      (expr_runs g known v place base held s (stands_front g.target place c (wide ++ writing) stands) parts.0 based (omega arith))
-      (λ base2 x t based2 fit.
-      width_writes width (Ordinal v r) default (x ∷ []) (effect.text_of r (number_of x)) (place + length c) base2 held t (same_default r) (default_fits r)
-      behind parts.1 based2 (omega arith) (λ there cells w output here in_frame. ordinal_writes r there cells (number_of x) w output fit here in_frame)))
+      expr_then g known (kept_on g held) v (wide ++ (ordinal_instr r ∷ [])) place base held
+      (λ x. width_of width default (around g) >>= λ w. effect.write (effect.text_of r (number_of x) w)) s stands parts.0 based (omega arith)
+      (λ base2 x t rest based2 fit room.
+      width_writes width (Ordinal v r) default (x ∷ []) (effect.text_of r (number_of x)) (place + length (expr_code g.scope v)) base2 held t (same_default r)
+      (default_fits r) rest parts.1 based2 (omega arith)
+      (λ there cells w output here in_frame. ordinal_writes r there cells (number_of x) w output fit here in_frame))
   written_runs (String v indexes) width place base held s stands good based high deep =
       let runs = subst (StringRuns v indexes width) (told_back g known indexes.items) (string_runs v indexes width (told g known indexes.items)) in
       runs place base held s stands good based high deep
@@ -272,13 +269,11 @@ module _ (g : Setting) (known : CallsAt g) where
       let c = code_of x g.scope place in
       let rest = placed (map (λ code. code g.scope) (map code_of xs)) (place + length c) in
       let d = start_within (max depth (depth_of x)) (map depth_of xs) in
-      let e : place + length c + length rest ≡ place + length (c ++ rest) = omega (arith, length-append c rest) in
-      let next : Unit {0} → Action (Unit {0}) = λ _. all_of (map meant_by xs) (around g) in
-      subst (λ p. Executes g (on g (base ++ held) place s.output) held p (meant_by x (around g) >>= next) s) e
-      (then_executes g _ held held (place + length c) (place + length c + length rest) (meant_by x (around g)) next s (exact x)
-      (each.0 place base held s (stands_front g.target place c rest stands) (and_parts _ _ good).0 based high (omega arith))
-      (λ base2 t based2. all_run code_of depth_of well_of meant_by exact xs each.1 (max depth (depth_of x)) (place + length c) base2 held t
-      (stands_back g.target place c rest stands) (and_parts _ _ good).1 based2 high (omega arith)))
+      done_then g (kept_on g held) c rest place _ held (meant_by x (around g)) (λ _. all_of (map meant_by xs) (around g)) s (exact x) stands
+      (λ front. each.0 place base held s front (and_parts _ _ good).0 based high (omega arith))
+      (λ base2 t back based2.
+      all_run code_of depth_of well_of meant_by exact xs each.1 (max depth (depth_of x)) (place + length c) base2 held t back (and_parts _ _ good).1 based2 high
+      (omega arith))
 
   each_parameter : (ps : List WriteParameter) → Each ParameterRuns ps
   each_parameter [] = tt
@@ -297,43 +292,38 @@ module _ (g : Setting) (known : CallsAt g) where
       (all_hold (map (is_well_formed_parameter (outline g) g.number) ps))
       (λ e. effect.enter number e.visible >>= λ _. all_of (map parameter_of ps) e >>= λ _. line_ended ends_line)
   write_runs number ps ends_line place base held s stands good based high deep =
-      let s1 : effect.State = record s { visited = s.visited ++ record { number = number; environment = g.environment; store = s.store } ∷ [] } in
+      let s1 = entered g number s in
       let code_of : WriteParameter → Placed = λ p scope _. parameter_code scope p in
       let c = flat_map (parameter_code g.scope) ps in
-      let c' = placed (map (λ code. code g.scope) (map code_of ps)) place in
-      let ending = line_end_code ends_line in
-      let same : c' ≡ c = placed_flat parameter_code g.scope ps place in
-      let e : place + length c + length ending ≡ place + length (c ++ ending) = omega (arith, length-append c ending) in
-      let values = all_run code_of parameter_depth (is_well_formed_parameter (outline g) g.number) parameter_of
-      ((exact_around g).written) ps (each_parameter ps) 0 place base held s1
-      (subst (Stands g.target place) (sym same) (stands_front g.target place c ending stands)) good based high deep in
-      subst (λ p. Executes g (on g (base ++ held) place s.output) held p (all_of (map parameter_of ps) (around g) >>= (λ _. line_ended ends_line)) s1) e
-      (then_executes g _ held held (place + length c) (place + length c + length ending) (all_of (map parameter_of ps) (around g)) (λ _. line_ended ends_line)
-      s1 (exact_parameters (around g) (exact_around g) ps)
-      (subst (λ p. Executes g (on g (base ++ held) place s.output) held (place + length p) (all_of (map parameter_of
-      ps) (around g)) s1) same values)
-      (λ base2 t based2. line_end_runs ends_line (place + length c) base2 held t (stands_back g.target place c ending stands) based2))
+      let same : placed (map (λ code. code g.scope) (map code_of ps)) place ≡ c = placed_flat parameter_code g.scope ps place in
+      done_then g (kept_on g held) c (line_end_code ends_line) place _ held (all_of (map parameter_of ps) (around g)) (λ _. line_ended ends_line) s1
+      (exact_parameters (around g) (exact_around g) ps) stands
+      (λ front.
+      subst (λ p. Executes g (on g (base ++ held) place s.output) held (place + length p) (all_of (map parameter_of ps) (around g)) s1) same
+      (all_run code_of parameter_depth (is_well_formed_parameter (outline g) g.number) parameter_of ((exact_around g).written) ps (each_parameter ps) 0 place
+      base held s1 (subst (Stands g.target place) (sym same) front) good based high deep))
+      (λ base2 t rest based2. line_end_runs ends_line (place + length c) base2 held t rest based2)
 
-  -- a condition, and a jump where it is false
-  abbrev branch_code : Expr → ℕ → List Instr
-  branch_code condition target = expr_code g.scope condition ++ instr.JumpIfFalse target ∷ []
-
-  branch_runs : (condition : Expr) (target place end : ℕ) (base held : List Cell) (s : effect.State) (next : Bool → Action (Unit {0}))
-      → Stands g.target place (branch_code condition target) → is_well_formed_expr (outline g) g.number condition ≡ true → Based g s base
-      → g.below + length held + expr_depth condition ≤ g.limit
-      → ((holds : Bool) (base2 : List Cell) (t : effect.State) → Based g t base2
-      → Executes g (on g (base2 ++ held) (if holds then place + length (expr_code g.scope condition) + 1 else target) t.output) held end (next holds) t)
-      → Executes g (on g (base ++ held) place s.output) held end (value_of condition (around g) >>= (λ v. next (is_so v))) s
-  branch_runs condition target place end base held s next stands good based room goes_on =
-      let test = expr_code g.scope condition in
-      let here = stands_back g.target place test (instr.JumpIfFalse target ∷ []) stands in
-      after_value g _ held held (place + length test) end (value_of condition (around g)) (λ v. next (is_so v)) s
-      ((exact_around g).values condition)
-      (expr_runs g known condition place base held s (stands_front g.target place test (instr.JumpIfFalse target ∷ []) stands) good based room)
-      (λ base2 v t based2 fit.
-      executes_from g 1 _ _ held end (next (is_so v)) t
-      (branches_on g target (base2 ++ held) (number_of v) (place + length test) t.output here.0 (linked g t base2 held based2))
-      (goes_on (is_so v) base2 t based2))
+  -- a condition, a jump where it is false, and what comes at either place
+  condition_then : {A : Type 0} (aim : ℕ → Aim A) (condition : Expr) (target : ℕ) (c : List Instr) (place : ℕ) (base held : List Cell)
+      (next : Bool → Action A) (s : effect.State) → Stands g.target place (expr_code g.scope condition ++ (instr.JumpIfFalse target ∷ c))
+      → is_well_formed_expr (outline g) g.number condition ≡ true → Based g s base → g.below + length held + expr_depth condition ≤ g.limit
+      → ((base2 : List Cell) (t : effect.State) → Stands g.target (place + length (expr_code g.scope condition) + 1) c → Based g t base2
+      → Runs g (aim (place + length (expr_code g.scope condition) + 1 + length c))
+      (on g (base2 ++ held) (place + length (expr_code g.scope condition) + 1) t.output) (next true) t)
+      → ((base2 : List Cell) (t : effect.State) → Stands g.target (place + length (expr_code g.scope condition) + 1) c → Based g t base2
+      → Runs g (aim (place + length (expr_code g.scope condition) + 1 + length c)) (on g (base2 ++ held) target t.output) (next false) t)
+      → Runs g (aim (place + length (expr_code g.scope condition ++ (instr.JumpIfFalse target ∷ c)))) (on g (base ++ held) place s.output)
+      (value_of condition (around g) >>= (λ v. next (is_so v))) s
+  condition_then aim condition target c place base held next s stands good based room so not_so =
+      let jump = instr.JumpIfFalse target in
+      let first = place + length (expr_code g.scope condition) in
+      let e : first + 1 + length c ≡ first + length (jump ∷ c) = omega arith in
+      expr_then g known aim condition (jump ∷ c) place base held (λ v. next (is_so v)) s stands good based room
+      (λ base2 v t rest based2 fit room2.
+      subst (λ end. Runs g (aim end) (on g ((base2 ++ held) ++ Number (number_of v) ∷ []) first t.output) (next (is_so v)) t) e
+      (branch_then g (aim (first + 1 + length c)) target (base2 ++ held) (number_of v) first next t rest.0 (linked g t base2 held based2)
+      (so base2 t rest.1 based2) (not_so base2 t rest.1 based2)))
 
   -- a call of a procedure
   calling_runs : (call : Call) (actuals : List Passed)
@@ -366,18 +356,13 @@ compound_runs : (g : Setting) (known : CallsRun g.depth) (number : ℕ) (ss : Li
     (all_hold (map (is_well_formed_stmt (outline g) g.number) (map (λ x. x.0) ss)))
     (λ e. effect.enter number e.visible >>= λ _. all_of (map effect_of (map (λ x. x.0) ss)) e)
 compound_runs g known number ss few place base held s stands good based high deep =
-    let s1 : effect.State = record s { visited = s.visited ++ record { number = number; environment = g.environment; store = s.store } ∷ [] } in
     all_run g (known g refl) stmt_code stmt_depth (is_well_formed_stmt (outline g) g.number) effect_of ((exact_around g).statements)
     (map (λ x. x.0) ss)
-    (each_statement g known ss 0 few) 0 place base held s1 stands good based high deep
+    (each_statement g known ss 0 few) 0 place base held (entered g number s) stands good based high deep
 
 empty_runs : (g : Setting) (known : CallsRun g.depth) (number : ℕ) → ExecutesAs g (λ _ _. []) 0 true (λ e. effect.enter number e.visible)
 empty_runs g known number place base held s stands good based high deep =
-    nothing_runs g (known g refl) place base held (record s {
-      visited = s.visited ++ record { number = number; environment = g.environment; store = s.store } ∷
-          [];
-    })
-    based
+    nothing_runs g (known g refl) place base held (entered g number s) based
 
 -- an if statement without `else`
 if_runs : (g : Setting) (known : CallsRun g.depth) (number : ℕ) (condition : Expr) (consequence : (s : Stmt) × StmtRuns s)
@@ -387,26 +372,13 @@ if_runs : (g : Setting) (known : CallsRun g.depth) (number : ℕ) (condition : E
     (is_well_formed_expr (outline g) g.number condition && (is_well_formed_stmt (outline g) g.number consequence.0 && true))
     (λ e. effect.enter number e.visible >>= λ _. value_of condition e >>= λ v. if is_so v then effect_of consequence.0 e else alternative_of None e)
 if_runs g known number condition consequence few place base held s stands good based high deep =
-    let s1 : effect.State = record s { visited = s.visited ++ record { number = number; environment = g.environment; store = s.store } ∷ [] } in
-    let test = expr_code g.scope condition in
-    let yes = place + length test + 1 in
+    let yes = place + length (expr_code g.scope condition) + 1 in
     let code = stmt_code consequence.0 g.scope yes in
-    let target = yes + length code in
-    let whole = subst (Stands g.target place) (sym (append_assoc test (instr.JumpIfFalse target ∷ []) code)) stands in
-    let front = stands_front g.target place (test ++ instr.JumpIfFalse target ∷ []) code whole in
-    let back = stands_back g.target place (test ++ instr.JumpIfFalse target ∷ []) code whole in
-    let at : place + length (test ++ instr.JumpIfFalse target ∷ []) ≡ yes = omega (arith, length-append test (instr.JumpIfFalse target ∷ [])) in
-    let inside = subst (λ p. Stands g.target p code) at back in
-    let e : target ≡ place + length (test ++ (instr.JumpIfFalse target ∷ code)) = omega (arith, length-append test (instr.JumpIfFalse target ∷ code)) in
     let parts = and_parts _ _ good in
-    let next : Bool → Action (Unit {0}) = λ holds. if holds then effect_of consequence.0 (around g) else alternative_of None (around g) in
-    subst (λ p. Executes g (on g (base ++ held) place s.output) held p (value_of condition (around g) >>= (λ v. next (is_so v))) s1) e
-    (branch_runs g (known g refl) condition target place target base held s1 next front parts.0 based (omega arith)
-    (λ holds. elim holds as (λ h. (base2 : List Cell) (t : effect.State) → Based g t base2
-    → Executes g (on g (base2 ++ held) (if h then yes else target) t.output) held target (next h) t) [
-      | true ↦ λ base2 t based2. consequence.1 g known (omega arith) yes base2 held t inside (and_parts _ _ parts.1).0 based2 high (omega arith)
-      | false ↦ λ base2 t based2. inr (done g 0 _ base2 held target t based2 (stays_here g.target _))
-    ]))
+    condition_then g (known g refl) (kept_on g held) condition (yes + length code) code place base held
+    (λ holds. if holds then effect_of consequence.0 (around g) else alternative_of None (around g)) (entered g number s) stands parts.0 based (omega arith)
+    (λ base2 t inside based2. consequence.1 g known (omega arith) yes base2 held t inside (and_parts _ _ parts.1).0 based2 high (omega arith))
+    (λ base2 t inside based2. inr (done g 0 _ base2 held (yes + length code) t based2 (stays_here g.target _)))
 
 -- and one with it
 if_else_runs : (g : Setting) (known : CallsRun g.depth) (number : ℕ) (condition : Expr) (consequence alternative : (s : Stmt) × StmtRuns s)
@@ -417,7 +389,6 @@ if_else_runs : (g : Setting) (known : CallsRun g.depth) (number : ℕ) (conditio
     && is_well_formed_stmt (outline g) g.number alternative.0))
     (λ e. effect.enter number e.visible >>= λ _. value_of condition e >>= λ v. if is_so v then effect_of consequence.0 e else effect_of alternative.0 e)
 if_else_runs g known number condition consequence alternative few place base held s stands good based high deep =
-    let s1 : effect.State = record s { visited = s.visited ++ record { number = number; environment = g.environment; store = s.store } ∷ [] } in
     let test = expr_code g.scope condition in
     let yes = place + length test + 1 in
     let code = stmt_code consequence.0 g.scope yes in
@@ -425,27 +396,21 @@ if_else_runs g known number condition consequence alternative few place base hel
     let other = stmt_code alternative.0 g.scope no in
     let end = no + length other in
     let behind = instr.Jump end ∷ other in
-    let whole = subst (Stands g.target place) (sym (append_assoc test (instr.JumpIfFalse no ∷ []) (code ++ behind))) stands in
-    let front = stands_front g.target place (test ++ instr.JumpIfFalse no ∷ []) (code ++ behind) whole in
-    let back = stands_back g.target place (test ++ instr.JumpIfFalse no ∷ []) (code ++ behind) whole in
-    let at : place + length (test ++ instr.JumpIfFalse no ∷ []) ≡ yes = omega (arith, length-append test (instr.JumpIfFalse no ∷ [])) in
-    let inside = subst (λ p. Stands g.target p (code ++ behind)) at back in
-    let jump = stands_back g.target yes code behind inside in
     let e : end ≡ place + length (test ++ (instr.JumpIfFalse no ∷ (code ++ behind))) =
     omega (arith, length-append test (instr.JumpIfFalse no ∷ (code ++ behind)), length-append code behind) in
     let parts = and_parts _ _ good in
     let next : Bool → Action (Unit {0}) = λ holds. if holds then effect_of consequence.0 (around g) else effect_of alternative.0 (around g) in
-    subst (λ p. Executes g (on g (base ++ held) place s.output) held p (value_of condition (around g) >>= (λ v. next (is_so v))) s1) e
-    (branch_runs g (known g refl) condition no place end base held s1 next front parts.0 based (omega arith)
-    (λ holds. elim holds as (λ h. (base2 : List Cell) (t : effect.State) → Based g t base2
-    → Executes g (on g (base2 ++ held) (if h then yes else no) t.output) held end (next h) t) [
-      | true ↦ λ base2 t based2.
-          behind_executes g _ held held (yes + length code) end (effect_of consequence.0 (around g)) t
-          (consequence.1 g known (omega arith) yes base2 held t (stands_front g.target yes code behind inside) (and_parts _ _ parts.1).0 based2 high
-          (omega arith))
-          (λ base3 u based3. comes_less g.target 0 1 _ _ (omega arith) (jumps g end (base3 ++ held) (yes + length code) u.output jump.0))
-      | false ↦ λ base2 t based2. alternative.1 g known (omega arith) no base2 held t jump.1 (and_parts _ _ parts.1).1 based2 high (omega arith)
-    ]))
+    subst (λ p. Executes g (on g (base ++ held) place s.output) held p (value_of condition (around g) >>= (λ v. next (is_so v))) (entered g number s)) e
+    (condition_then g (known g refl) (λ _. kept_on g held end) condition no (code ++ behind) place base held next (entered g number s) stands parts.0 based
+    (omega arith)
+    (λ base2 t inside based2.
+    behind_executes g _ held held (yes + length code) end (effect_of consequence.0 (around g)) t
+    (consequence.1 g known (omega arith) yes base2 held t (stands_front g.target yes code behind inside) (and_parts _ _ parts.1).0 based2 high (omega arith))
+    (λ base3 u based3.
+    comes_less g.target 0 1 _ _ (omega arith)
+    (jumps g end (base3 ++ held) (yes + length code) u.output (stands_back g.target yes code behind inside).0)))
+    (λ base2 t inside based2.
+    alternative.1 g known (omega arith) no base2 held t (stands_back g.target yes code behind inside).1 (and_parts _ _ parts.1).1 based2 high (omega arith)))
 
 -- a while statement
 while_runs : (g : Setting) (known : CallsRun g.depth) (number : ℕ) (condition : Expr) (body : (s : Stmt) × StmtRuns s) → repeats body.0 ≤ g.slack
@@ -453,7 +418,7 @@ while_runs : (g : Setting) (known : CallsRun g.depth) (number : ℕ) (condition 
     (is_well_formed_expr (outline g) g.number condition && is_well_formed_stmt (outline g) g.number body.0)
     (λ e. effect.enter number e.visible >>= λ _. effect.looped (while_round (value_of condition) (effect_of body.0) e) tt)
 while_runs g known number condition body few place base held s stands good based high deep =
-    let s1 : effect.State = record s { visited = s.visited ++ record { number = number; environment = g.environment; store = s.store } ∷ [] } in
+    let s1 = entered g number s in
     let test = expr_code g.scope condition in
     let inside = place + length test + 1 in
     let code = stmt_code body.0 g.scope inside in
@@ -468,40 +433,31 @@ while_runs g known number condition body few place base held s stands good based
     let parts = and_parts (is_well_formed_expr (outline g) g.number condition) (is_well_formed_stmt (outline g) g.number body.0) good in
     let hold : Unit {0} → List Cell = λ _. held in
     let round : Round (Unit {0}) = while_round (value_of condition) (effect_of body.0) (around g) in
-    let turns_on : (bound : ℕ) (holds : Bool) (base2 : List Cell) (t : effect.State) → Based g t base2 → t.turns ≤ bound → (m : State)
-    → m.output ≡ t.output → Comes g.target 1 m (on g (base2 ++ held) (if holds then inside else end) t.output)
-    → Rounds g (λ _. Unit {0}) hold place end held 0 bound m (turn_if holds (effect_of body.0 (around g))) t =
-    λ bound holds. elim holds as (λ h. (base2 : List Cell) (t : effect.State) → Based g t base2 → t.turns ≤ bound → (m : State)
-    → m.output ≡ t.output → Comes g.target 1 m (on g (base2 ++ held) (if h then inside else end) t.output)
-    → Rounds g (λ _. Unit {0}) hold place end held 0 bound m (turn_if h (effect_of body.0 (around g))) t) [
-      | true ↦ λ base2 t based2 few' m same came.
-          turned g (λ _. Unit {0}) hold place end held bound t m (λ _. effect_of body.0 (around g) >>= λ _. give (Some tt)) same (λ left is.
-          rounds_later g (λ _. Unit {0}) hold place end held 0 bound t.turns m (on g (base2 ++ held) inside t.output)
-          (effect_of body.0 (around g) >>= λ _. give (Some tt)) (record t { turns = left }) (omega (arith, is))
-          (comes_less g.target (t.turns - left) 1 m _ (omega (arith, is)) came)
-          (then_rounds g (λ _. Unit {0}) hold place end held 0 bound _ held (inside + length code) (effect_of body.0 (around g)) (λ _. give (Some tt))
-          (record t { turns = left }) ((exact_around g).statements body.0)
-          (body.1 g known few inside base2 held (record t { turns = left }) (stands_front g.target inside code back within) parts.1
-          (later g left t base2 (omega (arith, is)) based2) high (omega arith))
-          (λ base3 u based3 fewer. inr (
-            base3,
-            based3,
-            comes_less g.target (u.turns - u.turns + 0) 1 _ _ (omega arith) (jumps g place (base3 ++ held) (inside + length code) u.output jump.0),
-            omega (arith, is, fewer),
-            tt,
-            omega arith,
-          ))))
-      | false ↦ λ base2 t based2 few' m same came. inr
-          (base2, based2, comes_less g.target (t.turns - t.turns + 0) 1 m _ (omega arith) came, omega arith)
-    ] in
+    let aim : ℕ → Aim (Option (Unit {0})) = round_on g (λ _. Unit {0}) hold place end held 0 in
+    let does = effect_of body.0 (around g) in
     let runs : RoundRuns g (λ _. Unit {0}) hold place end held round =
     λ start base2 t fits based2.
-    value_rounds g (λ _. Unit {0}) hold place end held 0 t.turns _ held (place + length test) (value_of condition (around g))
-    (λ v. turn_if (is_so v) (effect_of body.0 (around g))) t ((exact_around g).values condition)
-    (expr_runs g (known g refl) condition place base2 held t front parts.0 based2 (omega arith))
-    (λ base3 v u based3 fit fewer.
-    turns_on t.turns (is_so v) base3 u based3 fewer _ refl
-    (branches_on g end (base3 ++ held) (number_of v) (place + length test) u.output here.0 (linked g u base3 held based3))) in
+    then_runs g (value_on g held (place + length test)) (aim t.turns) _ (value_of condition (around g)) (λ v. turn_if (is_so v) does) t
+    ((exact_around g).values condition) (expr_runs g (known g refl) condition place base2 held t front parts.0 based2 (omega arith))
+    (λ v u x fewer.
+    let tested = on g ((x.0 ++ held) ++ Number (number_of v) ∷ []) (place + length test) u.output in
+    branched g (λ b. Runs g (aim t.turns) tested (turn_if b does) u) end (x.0 ++ held) (number_of v) (place + length test) u.output here.0
+    (linked g u x.0 held x.1)
+    (λ came.
+    turned g (λ _. Unit {0}) hold place end held t.turns u tested (λ _. does >>= λ _. give (Some tt)) refl
+    (λ left is.
+    let u' = record u { turns = left } in
+    rounds_later g (λ _. Unit {0}) hold place end held 0 t.turns u.turns tested (on g (x.0 ++ held) inside u.output) (does >>= λ _. give (Some tt)) u'
+    (omega (arith, is)) (comes_less g.target (u.turns - left) 1 tested _ (omega (arith, is)) came)
+    (then_runs g (kept_on g held (inside + length code)) (aim t.turns) _ does (λ _. give (Some tt)) u' ((exact_around g).statements body.0)
+    (body.1 g known few inside x.0 held u' (stands_front g.target inside code back within) parts.1 (later g left u x.0 (omega (arith, is)) x.1) high
+    (omega arith))
+    (λ _ w y fewest. inr (
+      (y.0, y.1, omega (arith, is, fewer, fewest), tt),
+      comes_less g.target (w.turns - w.turns + 0) 1 _ _ (omega arith) (jumps g place (y.0 ++ held) (inside + length code) w.output jump.0),
+      omega arith,
+    )))))
+    (λ came. inr ((x.0, x.1), comes_less g.target (u.turns - u.turns + 0) 1 tested _ (omega arith) came, omega arith))) in
     let goes = (goes_around g).whiles condition body.0 in
     subst (λ p. Executes g (on g (base ++ held) place s.output) held p (effect.looped round tt) s1) e
     (loops g (λ _. Unit {0}) hold place end held round goes (λ start. exact_while_round (around g) (exact_around g) condition body.0) runs tt base s1 tt based)
@@ -514,7 +470,7 @@ repeat_runs : (g : Setting) (known : CallsRun g.depth) (number : ℕ) (condition
     (all_hold (map (is_well_formed_stmt (outline g) g.number) (map (λ x. x.0) ss)) && is_well_formed_expr (outline g) g.number condition)
     (λ e. effect.enter number e.visible >>= λ _. effect.looped (repeat_round (all_of (map effect_of (map (λ x. x.0) ss))) (value_of condition) e) tt)
 repeat_runs g known number condition ss few place base held s stands good based high deep =
-    let s1 : effect.State = record s { visited = s.visited ++ record { number = number; environment = g.environment; store = s.store } ∷ [] } in
+    let s1 = entered g number s in
     let h = reset g (g.slack - 1) g.scope.height in
     let known_there = known h refl in
     let code = placed (map (λ c. c g.scope) (map stmt_code (map (λ x. x.0) ss))) place in
@@ -532,29 +488,28 @@ repeat_runs g known number condition ss few place base held s stands good based 
     let round : Round (Unit {0}) = repeat_round statements (value_of condition) (around g) in
     let until : Value → Action (Option (Unit {0})) = λ v. give (if is_so v then None else Some tt) in
     let rest : Action (Option (Unit {0})) = statements (around g) >>= λ _. value_of condition (around g) >>= until in
-    let decides : (bound : ℕ) (n : ℤ) (base2 : List Cell) (t : effect.State) → Based h t base2 → t.turns < bound
-    → Rounds h (λ _. Unit {0}) hold place end held 1 bound (on g ((base2 ++ held) ++ Number n ∷ []) (last + length test) t.output)
-    (give (if frames.is_true n then None else Some tt)) t =
-    λ bound n base2 t based2 fewer.
-    (elim (frames.is_true n) as (λ b. Comes g.target 1 (on g ((base2 ++ held) ++ Number n ∷ []) (last + length test) t.output)
-    (on g (base2 ++ held) (if b then last + length test + 1 else place) t.output) → Rounds h (λ _. Unit {0}) hold place end held 1 bound
-    (on g ((base2 ++ held) ++ Number n ∷ []) (last + length test) t.output) (give (if b then None else Some tt)) t) [
-      | true ↦ λ came. inr (base2, based2, comes_less g.target (t.turns - t.turns + 1) 1 _ _ (omega arith) came, omega arith)
-      | false ↦ λ came. inr (base2, based2, comes_less g.target (t.turns - t.turns + 1) 1 _ _ (omega arith) came, fewer, tt, omega arith)
-    ]) (branches_on g place (base2 ++ held) n (last + length test) t.output jump.0 (linked h t base2 held based2)) in
+    let aim : ℕ → Aim (Option (Unit {0})) = round_on h (λ _. Unit {0}) hold place end held 1 in
     let inside : (left : ℕ) (base2 : List Cell) (t : effect.State) → t.turns ≡ left → Based h t base2
     → Rounds h (λ _. Unit {0}) hold place end held 1 (suc left) (on g (base2 ++ held) place t.output) rest t =
     λ left base2 t is based2.
-    then_rounds h (λ _. Unit {0}) hold place end held 1 (suc left) _ held last (statements (around g)) (λ _. value_of condition (around g) >>= until) t
+    then_runs h (kept_on h held last) (aim (suc left)) _ (statements (around g)) (λ _. value_of condition (around g) >>= until) t
     (exact_statements (around g) (exact_around g) (map (λ x. x.0) ss))
     (all_run h known_there stmt_code stmt_depth (is_well_formed_stmt (outline g) g.number) effect_of ((exact_around g).statements)
     (map (λ x. x.0) ss)
     (each_statement h known ss 0 (omega arith)) 0 place base2 held t (stands_front g.target place code (test ++ back) stands) parts.0 based2 high (omega arith))
-    (λ base3 u based3 fewer.
-    value_rounds h (λ _. Unit {0}) hold place end held 1 (suc left) _ held (last + length test) (value_of condition (around g)) until u
-    ((exact_around g).values condition)
-    (expr_runs h known_there condition last base3 held u (stands_front g.target last test back behind) parts.1 based3 (omega arith))
-    (λ base4 v w based4 fit fewest. decides (suc left) (number_of v) base4 w based4 (omega (arith, is, fewer, fewest)))) in
+    (λ _ u x fewer.
+    then_runs h (value_on h held (last + length test)) (aim (suc left)) _ (value_of condition (around g)) until u ((exact_around g).values condition)
+    (expr_runs h known_there condition last x.0 held u (stands_front g.target last test back behind) parts.1 x.1 (omega arith))
+    (λ v w y fewest.
+    let tested = on g ((y.0 ++ held) ++ Number (number_of v) ∷ []) (last + length test) w.output in
+    branched g (λ b. Runs h (aim (suc left)) tested (give (if b then None else Some tt)) w) place (y.0 ++ held) (number_of v) (last + length test) w.output
+    jump.0 (linked h w y.0 held y.1)
+    (λ came. inr ((y.0, y.1), comes_less g.target (w.turns - w.turns + 1) 1 tested _ (omega arith) came, omega arith))
+    (λ came. inr (
+      (y.0, y.1, omega (arith, is, fewer, fewest), tt),
+      comes_less g.target (w.turns - w.turns + 1) 1 tested _ (omega arith) came,
+      omega arith,
+    )))) in
     let runs : RoundRuns g (λ _. Unit {0}) hold place end held round =
     λ start base2 t fits based2.
     turned g (λ _. Unit {0}) hold place end held t.turns t _ (λ _. rest) refl (λ left is.
@@ -580,10 +535,10 @@ ordered : (g : Setting) (s : effect.State) (base held : List Cell) (n l : ℤ) (
     (on g (base ++ (held ++ Number n ∷ Number l ∷ [])) (if has_values way n l then place + 4 else out) output)
 ordered g s base held n l output direction.To place out based high room at1 at2 at3 at4 =
     decides g s base held n l output based high room instr.LessOrEqual (frames.of_two dyadic.LessOrEqual) (int_le n l) place out at1 at2 at3 at4
-    (λ s. refl) refl
+    refl refl
 ordered g s base held n l output direction.DownTo place out based high room at1 at2 at3 at4 =
     decides g s base held n l output based high room instr.GreaterOrEqual (frames.of_two dyadic.GreaterOrEqual) (int_le l n) place out at1 at2 at3 at4
-    (λ s. refl) refl
+    refl refl
 
 -- the next value is held, and the next round begins
 stepped : (g : Setting) (s : effect.State) (base held : List Cell) (n l : ℤ) (output : List ℕ) (way : Direction) (place head : ℕ) → Based g s base
@@ -594,10 +549,10 @@ stepped : (g : Setting) (s : effect.State) (base held : List Cell) (n l : ℤ) (
     → Comes g.target 1 (on g (base ++ (held ++ Number n ∷ Number l ∷ [])) place output)
     (on g (base ++ (held ++ Number (next_value way n) ∷ Number l ∷ [])) head output)
 stepped g s base held n l output direction.To place head based high room fit fit' at1 at2 at3 at4 at5 =
-    steps g s base held n l output based high room instr.Add (frames.of_two dyadic.Add) (n +ℤ pos 1) place head at1 at2 at3 at4 at5 (λ s. refl)
+    steps g s base held n l output based high room instr.Add (frames.of_two dyadic.Add) (n +ℤ pos 1) place head at1 at2 at3 at4 at5 refl
     (sum_is n (pos 1) fit one_fits fit')
 stepped g s base held n l output direction.DownTo place head based high room fit fit' at1 at2 at3 at4 at5 =
-    steps g s base held n l output based high room instr.Subtract (frames.of_two dyadic.Subtract) (n -ℤ pos 1) place head at1 at2 at3 at4 at5 (λ s. refl)
+    steps g s base held n l output based high room instr.Subtract (frames.of_two dyadic.Subtract) (n -ℤ pos 1) place head at1 at2 at3 at4 at5 refl
     (difference_is n (pos 1) fit one_fits fit')
 
 module _ (g : Setting) (known : CallsRun g.depth) (control : ℕ) (scalar : IsScalar g control) (way : Direction) (body : (s : Stmt) × StmtRuns s)
@@ -635,8 +590,7 @@ module _ (g : Setting) (known : CallsRun g.depth) (control : ℕ) (scalar : IsSc
       → Rounds g fit hold head out (hold l) 0 bound (on g (base ++ hold n) behind s.output)
       (give (if same then None else Some (next_value way n))) s
   turns_back n base s bound true is fits fewer based stands came = inr (
-    base,
-    based,
+    (base, based),
     comes_less g.target (s.turns - s.turns + 0) 4 _ _ (omega arith)
         (subst (λ m. Comes g.target 4 (on g (base ++ hold n) behind s.output) (on g (base ++ hold m) out s.output)) (last_is n l is) came),
     omega arith,
@@ -649,11 +603,8 @@ module _ (g : Setting) (known : CallsRun g.depth) (control : ℕ) (scalar : IsSc
       rest.1.1.1.0 rest.1.1.1.1.0 in
       let from = subst (λ q. Comes g.target 1 (on g (base ++ hold n) q s.output) (on g (base ++ hold (next_value way n)) head s.output)) p again in
       inr (
-        base,
-        based,
+        (base, based, fewer, (next.fits, next.has)),
         comes_less g.target (s.turns - s.turns + 0) 5 _ _ (omega arith) (comes_on g.target 4 1 _ _ _ came from),
-        fewer,
-        (next.fits, next.has),
         omega arith,
       )
 
@@ -671,16 +622,17 @@ module _ (g : Setting) (known : CallsRun g.depth) (control : ℕ) (scalar : IsSc
       rounds_later g fit hold head out (hold l) 0 s.turns s.turns _ (on g (base1 ++ hold n) (head + 2) s.output)
       (body_action >>= λ _. give (value_behind way l n)) (record s1 { turns = left }) (omega (arith, is))
       (comes_less g.target (s.turns - left) 2 _ _ (omega (arith, is)) came)
-      (then_rounds g fit hold head out (hold l) 0 s.turns _ (hold n) behind body_action (λ _. give (value_behind way l n)) (record s1 { turns = left })
+      (then_runs g (kept_on g (hold n) behind) (round_on g fit hold head out (hold l) 0 s.turns) _ body_action (λ _. give (value_behind way l n))
+      (record s1 { turns = left })
       ((exact_around g).statements body.0)
       (executes_from_reset g g.slack (count (g.scope.height + 2)) _ (hold n) behind body_action (record s1 { turns = left }) refl
       (body.1 inner known few (head + 2) base1 (hold n) (record s1 { turns = left }) inside good
       (to_reset g g.slack (count (g.scope.height + 2)) (record s1 { turns = left }) base1 (later g left s1 base1 (omega (arith, is)) based1))
       (omega (arith, long, high, reach, room)) (omega (arith, long, room))))
-      (λ base2 u based2 fewer.
-      turns_back n base2 u s.turns (int_eq n l) refl fits (omega (arith, is, fewer)) based2 next
-      (decides g u base2 held n l u.output based2 high enough instr.NotEqual (frames.of_two dyadic.NotEqual) (not (int_eq n l)) behind out
-      next.0 next.1.0 next.1.1.0 next.1.1.1.0 (λ s. refl) refl))))
+      (λ _ u x fewer.
+      turns_back n x.0 u s.turns (int_eq n l) refl fits (omega (arith, is, fewer)) x.1 next
+      (decides g u x.0 held n l u.output x.1 high enough instr.NotEqual (frames.of_two dyadic.NotEqual) (not (int_eq n l)) behind out
+      next.0 next.1.0 next.1.1.0 next.1.1.1.0 refl refl))))
 
   goes : GoesRoundByRound round
   goes = (goes_around g).fors control way l body.0
@@ -725,18 +677,15 @@ module _ (g : Setting) (known : CallsRun g.depth) (control : ℕ) (scalar : IsSc
           let in_frame' = linked g s base one based in
           let loop = subst (λ m. Executes g (on g here m s.output) (hold l) out (effect.looped round n) s) (sym q)
           (loops g fit hold head out (hold l) round goes exact_rounds (for_round_runs beginning inside next) n base s (fits, has) based) in
-          let last' = tests g last_fits (base ++ one) (hold l) l (place + 1 + 1 + 1 + 1 + 1 + 1 + 1) out s (effect.looped round n) fit_last rest.1.1.1.0
-          site_last
-          in_frame' (subst (λ cs. Executes g (on g cs (place + 1 + 1 + 1 + 1 + 1 + 1 + 1 + 1) s.output) (hold l) out (effect.looped round n) s) split
-          loop) in
-          let last_here = subst (λ cs. Executes g (on g cs (place + 1 + 1 + 1 + 1 + 1 + 1 + 1) s.output) (hold l) out
-          (require (effect.is_in last_fits.range (value.Number l)) last_fits.site >>= (λ _. effect.looped round n)) s) (sym split) last' in
+          let last_test : Action (Unit {0}) = require (effect.is_in last_fits.range (value.Number l)) last_fits.site >>= λ _. effect.looped round n in
+          let six = place + 1 + 1 + 1 + 1 + 1 + 1 in
+          let last_here = subst (λ cs. Executes g (on g cs (six + 1) s.output) (hold l) out last_test s) (sym split)
+          (range_then g (kept_on g (hold l) out) last_fits (value.Number l) (base ++ one) (six + 1) s (effect.looped round n) rest.1.1.1.0 site_last in_frame'
+          fit_last (λ _. subst (λ cs. Executes g (on g cs (six + 1 + 1) s.output) (hold l) out (effect.looped round n) s) split loop)) in
           subst (λ m. Executes g (on g here m s.output) (hold l) out (for_rounds control first_fits way last_fits (effect_of body.0) (around g) n l) s) p
-          (executes_from g 1 _ _ (hold l) out (for_rounds control first_fits way last_fits (effect_of body.0) (around g) n l) s a
-          (tests g first_fits here (hold l) n (place + 1 + 1 + 1 + 1 + 1) out s
-          (require (effect.is_in last_fits.range (value.Number l)) last_fits.site >>= λ _. effect.looped round n) fits rest.1.0 site_first in_frame
-          (executes_from g 1 _ _ (hold l) out (require (effect.is_in last_fits.range (value.Number l)) last_fits.site >>= (λ _. effect.looped round n)) s b
-          last_here)))
+          (runs_from g (kept_on g (hold l) out) 1 _ _ (for_rounds control first_fits way last_fits (effect_of body.0) (around g) n l) s a
+          (range_then g (kept_on g (hold l) out) first_fits (value.Number n) here (place + 1 + 1 + 1 + 1 + 1) s last_test rest.1.0 site_first in_frame fits
+          (λ _. runs_from g (kept_on g (hold l) out) 1 _ _ last_test s b last_here)))
 
       -- from the values of the bounds on
       from_bounds : (n : ℤ) (base : List Cell) (s : effect.State) (has : Bool) → has_values way n l ≡ has → Fits n → Based g s base
@@ -745,14 +694,15 @@ module _ (g : Setting) (known : CallsRun g.depth) (control : ℕ) (scalar : IsSc
           (((if has then for_rounds control first_fits way last_fits (effect_of body.0) (around g) n l else give tt) >>= λ _. effect.undefine
           (g.environment.variables control))) s
       from_bounds n base s true has fits based came =
-          executes_from g 4 _ _ held (out + 4) ((for_rounds control first_fits way last_fits (effect_of body.0) (around g) n l >>= λ _. effect.undefine
+          runs_from g (kept_on g held (out + 4)) 4 _ _ ((for_rounds control first_fits way last_fits (effect_of body.0) (around g) n l >>= λ _. effect.undefine
           (g.environment.variables control))) s came
-          (then_executes g _ (hold l) held out (out + 4) (for_rounds control first_fits way last_fits (effect_of body.0) (around g) n l)
+          (then_runs g (kept_on g (hold l) out) (kept_on g held (out + 4)) _
+          (for_rounds control first_fits way last_fits (effect_of body.0) (around g) n l)
           (λ _. effect.undefine (g.environment.variables control)) s
           ((exact_around g).counted control first_fits way last_fits body.0 n l) (tested n base s fits has based)
-          (λ base2 t based2. leaves_it l base2 t fit_last based2))
+          (λ _ t x le. leaves_it l x.0 t fit_last x.1))
       from_bounds n base s false has fits based came =
-          executes_from g 4 _ _ held (out + 4) (effect.undefine (g.environment.variables control)) s came (leaves_it n base s fits based)
+          runs_from g (kept_on g held (out + 4)) 4 _ _ (effect.undefine (g.environment.variables control)) s came (leaves_it n base s fits based)
 
       for_between_runs : (n : ℤ) (base : List Cell) (s : effect.State) → Fits n → Based g s base
           → Executes g (on g (base ++ hold n) place s.output) held (out + 4)
@@ -775,7 +725,7 @@ for_runs : (g : Setting) (known : CallsRun g.depth) (number control : ℕ) (firs
     (number_of a) (number_of b)
     >>= λ _. effect.undefine (e.visible.variables control))
 for_runs g known number control first first_fits way last last_fits body few place base held s stands good based high deep =
-    let s1 : effect.State = record s { visited = s.visited ++ record { number = number; environment = g.environment; store = s.store } ∷ [] } in
+    let s1 = entered g number s in
     let a = expr_code g.scope first in
     let b = expr_code g.scope last in
     let head = place + length a + length b + 8 in
@@ -785,19 +735,8 @@ for_runs g known number control first first_fits way last last_fits body few pla
     let begin = for_begin g.scope control in
     let next = for_next g.scope way head out' in
     let end = for_end g.scope control in
-    let at_a = stands_front g.target place a (b ++ (entry ++ (begin ++ (inside ++ (next ++ end))))) stands in
-    let from_b = stands_back g.target place a (b ++ (entry ++ (begin ++ (inside ++ (next ++ end))))) stands in
-    let at_b = stands_front g.target (place + length a) b (entry ++ (begin ++ (inside ++ (next ++ end)))) from_b in
-    let from_entry = stands_back g.target (place + length a) b (entry ++ (begin ++ (inside ++ (next ++ end)))) from_b in
     let test = place + length a + length b in
-    let at_entry = stands_front g.target test entry (begin ++ (inside ++ (next ++ end))) from_entry in
-    let from_begin = stands_back g.target test entry (begin ++ (inside ++ (next ++ end))) from_entry in
-    let at_begin = stands_front g.target head begin (inside ++ (next ++ end)) from_begin in
-    let from_inside = stands_back g.target head begin (inside ++ (next ++ end)) from_begin in
-    let at_inside = stands_front g.target (head + 2) inside (next ++ end) from_inside in
-    let from_next = stands_back g.target (head + 2) inside (next ++ end) from_inside in
-    let at_next = stands_front g.target (head + 2 + length inside) next end from_next in
-    let at_end = stands_back g.target (head + 2 + length inside) next end from_next in
+    let loop = begin ++ (inside ++ (next ++ end)) in
     let e : out' + 4 ≡ place + length (for_code control a first_fits way b last_fits (stmt_code body.0) g.scope place) =
     omega (arith, length-For control a first_fits way b last_fits (stmt_code body.0) g.scope place) in
     let p1 = and_parts (is_control (outline g) g.number control) _ good in
@@ -808,32 +747,34 @@ for_runs g known number control first first_fits way last last_fits body few pla
     let site_of : (fits : RangeTest) → fits_target (outline g) g.number fits control [] ≡ true → fits.site < sites g =
     λ fits well. ltb-true fits.site (sites g)
     (and_parts (nat_lt fits.site (sites g)) _ (and_parts (is_well_formed_test (outline g) g.number fits) _ well).0).0 in
-    let site_first = site_of first_fits p3.0 in
-    let site_last = site_of last_fits p5.0 in
     let scalar = is_scalar g control p1.0 in
     let rest : Value → Value → Action (Unit {0}) =
     λ v w. for_between control first_fits way last_fits (effect_of body.0) (around g) (number_of v) (number_of w) >>= λ _.
     effect.undefine (g.environment.variables control) in
+    let there : ℕ → Aim (Unit {0}) = λ _. kept_on g held (out' + 4) in
     subst (λ q. Executes g (on g (base ++ held) place s.output) held q (value_of first (around g) >>= (λ v. value_of last (around g) >>= λ w. rest v w)) s1) e
-    (after_value g _ held held (place + length a) (out' + 4) (value_of first (around g)) (λ v. value_of last (around g) >>= λ w. rest v w) s1
-    ((exact_around g).values first)
-    (expr_runs g (known g refl) first place base held s1 at_a p2.0 based (omega arith))
-    (λ base2 v t based2 fit.
+    (expr_then g (known g refl) there first (b ++ (entry ++ loop)) place base held (λ v. value_of last (around g) >>= λ w. rest v w) s1 stands p2.0 based
+    (omega arith)
+    (λ base2 v t from_b based2 fit room2.
     let n = number_of v in
     let more : length (held ++ Number n ∷ []) ≡ length held + 1 = length_one held (Number n) in
     subst (λ cells. Executes g (on g cells (place + length a) t.output) held (out' + 4) (value_of last (around g) >>= (rest v)) t)
     (one_held g base2 held n)
-    (after_value g _ (held ++ Number n ∷ []) held test (out' + 4) (value_of last (around g)) (rest v) t
-    ((exact_around g).values last)
-    (expr_runs g (known g refl) last (place + length a) base2 (held ++ Number n ∷ []) t at_b p4.0 based2 (omega (arith, more)))
-    (λ base3 w u based3 fit'.
+    (expr_then g (known g refl) there last (entry ++ loop) (place + length a) base2 (held ++ Number n ∷ []) (rest v) t from_b p4.0 based2
+    (omega (arith, more))
+    (λ base3 w u from_entry based3 fit' room3.
     let l = number_of w in
+    let from_begin = stands_back g.target test entry loop from_entry in
+    let from_inside = stands_back g.target head begin (inside ++ (next ++ end)) from_begin in
+    let from_next = stands_back g.target (head + 2) inside (next ++ end) from_inside in
     let two : (base3 ++ (held ++ Number n ∷ [])) ++ Number l ∷ [] ≡ base3 ++ (held ++ Number n ∷ Number l ∷ []) =
     append_assoc base3 (held ++ Number n ∷ []) (Number l ∷ []) ∙ ap (λ cs. base3 ++ cs) (append_assoc held (Number n ∷ []) (Number l ∷ [])) in
     subst (λ cells. Executes g (on g cells test u.output) held (out' + 4) (rest v w) u) (sym two)
-    (for_between_runs g known control scalar way body few p5.1 head held high (omega arith) l fit' at_end first_fits last_fits site_first site_last test refl
-    at_entry
-    at_begin at_inside at_next n base3 u fit based3)))))
+    (for_between_runs g known control scalar way body few p5.1 head held high (omega arith) l fit'
+    (stands_back g.target (head + 2 + length inside) next end from_next) first_fits last_fits (site_of first_fits p3.0) (site_of last_fits p5.0) test refl
+    (stands_front g.target test entry loop from_entry) (stands_front g.target head begin (inside ++ (next ++ end)) from_begin)
+    (stands_front g.target (head + 2) inside (next ++ end) from_inside) (stands_front g.target (head + 2 + length inside) next end from_next) n base3 u fit
+    based3)))))
 
 -- ---- a case statement
 
@@ -841,11 +782,9 @@ for_runs g known number control first first_fits way last last_fits body few pla
 popped_there : (g : Setting) (below : List Cell) (n : ℤ) (place : ℕ) (output : List ℕ) → StandsAt g.target place (instr.JumpIfFalse (place + 1)) true
     → g.frame + 4 ≤ length below → Comes g.target 0 (on g (below ++ Number n ∷ []) place output) (on g below (place + 1) output)
 popped_there g below n place output stands in_frame =
-    let both : (b : Bool) → Comes g.target 1 (on g (below ++ Number n ∷ []) place output) (on g below (if b then place + 1 else place + 1) output)
-    → Comes g.target 1 (on g (below ++ Number n ∷ []) place output) (on g below (place + 1) output) =
-    λ b. elim b as (λ b. Comes g.target 1 (on g (below ++ Number n ∷ []) place output) (on g below (if b then place + 1 else place + 1) output)
-    → Comes g.target 1 (on g (below ++ Number n ∷ []) place output) (on g below (place + 1) output)) [ true ↦ λ c. c | false ↦ λ c. c ] in
-    comes_less g.target 0 1 _ _ (omega arith) (both (frames.is_true n) (branches_on g (place + 1) below n place output stands in_frame))
+    comes_less g.target 0 1 _ _ (omega arith)
+    (branched g (λ _. Comes g.target 1 (on g (below ++ Number n ∷ []) place output) (on g below (place + 1) output)) (place + 1) below n place output stands
+    in_frame (λ came. came) (λ came. came))
 
 -- where the jumps out go changes no length
 length-arms : (scope : Scope) (rows : List (Vec ℤ)) (arms : List Placed) (out out' place : ℕ)
@@ -881,7 +820,7 @@ module _ (g : Setting) (known : CallsRun g.depth) (site : ℕ) (within : site < 
 
   no_arm : (place : ℕ) (base : List Cell) (s : effect.State) → Stands g.target place (instr.Fail site ∷ behind)
       → Executes g (on g (base ++ index) place s.output) index out (effect.stop (ending.Error site)) s
-  no_arm place base s stands = inr (fails g (instr.Fail site) (base ++ index) place site s.output (Ok false) refl refl s.turns stands.0 within refl)
+  no_arm place base s stands = inr (fails g (instr.Fail site) (base ++ index) place site s.output _ refl refl s.turns stands.0 within refl)
 
   arms_run : (rows : List (Vec ℤ)) (arms : List ((s : Stmt) × StmtRuns s)) (before place : ℕ) (base : List Cell) (s : effect.State)
       → fold max before (map repeats (map (λ x. x.0) arms)) ≤ g.slack
@@ -920,14 +859,14 @@ module _ (g : Setting) (known : CallsRun g.depth) (site : ℕ) (within : site < 
       (on g (base ++ index) (if b then inside else place + length compared) s.output)
       → Executes g (on g (base ++ index) place s.output) index out (result b) s) [
         | true ↦ λ there.
-            executes_from g 0 _ _ index out (effect_of arm.0 (around g)) s there
+            runs_from g (kept_on g index out) 0 _ _ (effect_of arm.0 (around g)) s there
             (behind_executes g _ index index (inside + length code) out (effect_of arm.0 (around g)) s
             (executes_from_reset g g.slack (count (g.scope.height + 1)) _ index (inside + length code) (effect_of arm.0 (around g)) s refl
             (arm.1 inner known (omega arith) inside base index s (stands_front g.target inside code (instr.Jump out ∷ (rest ++ tail)) from_arm) parts.0
             (to_reset g g.slack (count (g.scope.height + 1)) s base based) (omega (arith, long, high, reach, deep)) (omega (arith, long))))
             (λ base2 t based2. comes_less g.target 0 1 _ _ (omega arith) (jumps g out (base2 ++ index) (inside + length code) t.output from_jump.0)))
         | false ↦ λ there.
-            executes_from g 1 _ _ index out (arm_of site rows (map effect_of others) n (around g)) s
+            runs_from g (kept_on g index out) 1 _ _ (arm_of site rows (map effect_of others) n (around g)) s
             (comes_on g.target 0 1 _ _ _ there (jumps g next (base ++ index) (place + length compared) s.output jump.0))
             (arms_run rows arms (max before (repeats arm.0)) next base s few parts.1 (omega arith) based from_jump.1)
       ]) came
@@ -941,43 +880,34 @@ case_runs : (g : Setting) (known : CallsRun g.depth) (number site : ℕ) (index 
     (is_well_formed_stmt (outline g) g.number) (map (λ x. x.0) arms)))))
     (λ e. effect.enter number e.visible >>= λ _. value_of index e >>= λ v. arm_of site rows (map effect_of (map (λ x. x.0) arms)) (number_of v) e)
 case_runs g known number site index rows arms well few place base held s stands good based high deep =
-    let s1 : effect.State = record s { visited = s.visited ++ record { number = number; environment = g.environment; store = s.store } ∷ [] } in
+    let s1 = entered g number s in
     let test = expr_code g.scope index in
     let codes = map stmt_code (map (λ (x : (s : Stmt) × StmtRuns s). x.0) arms) in
     let first = place + length test in
     let out = first + length (arms_code g.scope 0 rows codes first) + 1 in
     let all = arms_code g.scope out rows codes first in
     let pop = instr.JumpIfFalse (out + 1) ∷ [] in
-    let rest = all ++ (instr.Fail site ∷ pop) in
-    let at_test = stands_front g.target place test rest stands in
-    let from_arms = stands_back g.target place test rest stands in
-    let at_end = stands_back g.target first all (instr.Fail site ∷ pop) from_arms in
     let same : first + length all + 1 ≡ out = ap (λ m. first + m + 1) (length-arms g.scope rows codes out 0 first) in
-    let popping = subst (λ p. StandsAt g.target p (instr.JumpIfFalse (out + 1)) true) same at_end.1.0 in
-    let e : out + 1 ≡ place + length (test ++ rest) = omega (arith, same, length-append test rest, length-append all (instr.Fail site ∷ pop)) in
     let p1 = and_parts (nat_lt site (sites g)) _ good in
     let p2 = and_parts (is_well_formed_expr (outline g) g.number index) _ p1.1 in
     let p3 = and_parts well (all_hold (map (is_well_formed_stmt (outline g) g.number) (map (λ x. x.0) arms))) p2.1 in
     let within = ltb-true site (sites g) p1.0 in
     let next : Value → Action (Unit {0}) = λ v. arm_of site rows (map effect_of (map (λ x. x.0) arms)) (number_of v) (around g) in
-    subst (λ q. Executes g (on g (base ++ held) place s.output) held q (value_of index (around g) >>= next) s1) e
-    (after_value g _ held held first (out + 1) (value_of index (around g)) next s1 ((exact_around g).values index)
-    (expr_runs g (known g refl) index place base held s1 at_test p2.0 based (omega arith))
-    (λ base2 v t based2 fit.
+    expr_then g (known g refl) (kept_on g held) index (all ++ (instr.Fail site ∷ pop)) place base held next s1 stands p2.0 based (omega arith)
+    (λ base2 v t from_arms based2 fit room2.
     let n = number_of v in
     let here = held ++ Number n ∷ [] in
-    subst (λ cells. Executes g (on g cells first t.output) held (out + 1) (next v) t) (one_held g base2 held n)
+    let end = first + length (all ++ (instr.Fail site ∷ pop)) in
+    let at_end = stands_back g.target first all (instr.Fail site ∷ pop) from_arms in
+    let popping = subst (λ p. StandsAt g.target p (instr.JumpIfFalse (out + 1)) true) same at_end.1.0 in
+    let e : out + 1 ≡ end = omega (arith, same, length-append all (instr.Fail site ∷ pop)) in
+    subst (λ cells. Executes g (on g cells first t.output) held end (next v) t) (one_held g base2 held n)
+    (subst (λ q. Executes g (on g (base2 ++ here) first t.output) held q (next v) t) e
     (behind_executes g _ here held out (out + 1) (next v) t
     (arms_run g known site within out pop held high n rows arms 0 first base2 t few p3.1 (omega arith) based2 from_arms)
     (λ base3 u based3.
     subst (λ cells. Comes g.target 0 (on g cells out u.output) (on g (base3 ++ held) (out + 1) u.output)) (sym (one_held g base3 held n))
     (popped_there g (base3 ++ held) n out u.output popping (linked g u base3 held based3))))))
-
-same_executes : (g : Setting) (c c' : Placed) (d d' : ℕ) (w w' : Bool) (v v' : Execution) → c ≡ c' → d ≡ d' → w ≡ w' → v ≡ v' → ExecutesAs g c' d' w' v'
-    → ExecutesAs g c d w v
-same_executes g c c' d d' w w' v v' p q r t runs =
-    subst (λ x. ExecutesAs g x d w v) (sym p) (subst (λ x. ExecutesAs g c' x w v) (sym q) (subst (λ x. ExecutesAs g c' d' x v) (sym r) (subst (λ x. ExecutesAs
-    g c' d' w' x) (sym t) runs)))
 
 module _ (x : Stmt-F Stmt) where
   abbrev is_step : Setting → Stmt-F Bool → Bool
@@ -988,7 +918,7 @@ module _ (x : Stmt-F Stmt) where
       (stmt_depth_step (map-Stmt Stmt ℕ stmt_depth x))
       (is_step g (map-Stmt Stmt Bool (fold-Stmt Bool (is_step g)) x)) (effect_step (map-Stmt Stmt Execution effect_of x))) → StmtRuns (roll-Stmt x)
   rolled_stmt runs g known few =
-      same_executes g _ _ _ _ _ _ _ _ (fold-roll-Stmt Placed stmt_step x) (fold-roll-Stmt ℕ stmt_depth_step x) (fold-roll-Stmt Bool (is_step g) x)
+      same_four (ExecutesAs g) (fold-roll-Stmt Placed stmt_step x) (fold-roll-Stmt ℕ stmt_depth_step x) (fold-roll-Stmt Bool (is_step g) x)
       (fold-roll-Stmt Execution effect_step x) (runs g known (subst (λ n. n ≤ g.slack) (fold-roll-Stmt ℕ repeats_step x) few))
 
 stmt_layer : (y : Stmt-F ((s : Stmt) × StmtRuns s)) → StmtRuns (roll-Stmt (map-Stmt ((s : Stmt) × StmtRuns s) Stmt (λ s. s.0) y))

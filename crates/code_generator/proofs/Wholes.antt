@@ -12,6 +12,7 @@ use Rattle.typed_tree.specs.declared.tree.Whole.{Whole}
 use Rattle.typed_tree.specs.declared.tree.Whole.TheVariants.{Text, Variable as VariableOf}
 use Rattle.typed_tree.specs.WellFormed.{all_hold, is_character, is_value_of, is_well_formed_whole, leads_to_whole}
 use Rattle.typed_tree.specs.WellFormed.{is_alike, length_of, may_copy, whole_indexes}
+use Rattle.pcode_assembler.specs.declared.instr.Instr.{Instr}
 use Rattle.pcode_assembler.specs.declared.instr.Instr.TheVariants as instr
 use Rattle.types.specs.declared.form.TypeId.{TypeId}
 use Rattle.types.specs.Components.{Steps, components_of}
@@ -36,21 +37,24 @@ use Rattle.code_scheme.specs.Code.{address_code, whole_code}
 use Rattle.code_scheme.specs.Depth.{whole_depth}
 use Rattle.code_scheme.specs.Scopes.{row_length}
 use Rattle.code_scheme.proofs.Pieces.{start_within}
-use Rattle.code_generator.proofs.Accesses.{Indexes, expressions, wells, codes, depths, PartAt, Addressed, Addresses, leads, begins, entered}
+use Rattle.code_generator.proofs.Accesses.{Indexes, expressions, wells, codes, depths, PartAt, leads, begins}
 use Rattle.code_generator.proofs.Accesses.{found as place_found, exact_found}
 use Rattle.code_generator.proofs.Accesses.{address_runs}
-use Rattle.code_generator.proofs.Acts.{framed, length_one, pushes}
+use Rattle.code_generator.proofs.Acts.{framed, pushes}
 use Rattle.code_generator.proofs.Addressing.{loads_many, all_defined, row_place_is, stores_at}
 use Rattle.stack_machine.specs.Addresses.{store_many}
 use Rattle.code_generator.proofs.Evaluating.{sites}
-use Rattle.code_generator.proofs.Held.{set_front, scalar_kept}
-use Rattle.code_generator.proofs.Reach.{Stands, StandsAt, stands_front, stands_back, Comes, comes_less, comes_on, stays_here}
-use Rattle.code_generator.proofs.Setting.{Setting, outline, around, on, Based, linked, acts, passes, fails, Ends, ends_on, Starves, starves_on}
-use Rattle.code_generator.proofs.Setting.{starves_first, starves_behind, Valued, Evaluates, evaluates_behind, Executed, Executes, executes_behind}
+use Rattle.code_generator.proofs.Held.{scalar_kept}
+use Rattle.code_generator.proofs.Reach.{Stands, StandsAt, Comes, comes_less, comes_on, stays_here}
+use Rattle.code_generator.proofs.Setting.{Setting, outline, around, on, Based, linked, acts, passes, fails}
 use Rattle.code_generator.proofs.Alike.{LiesIn, cell_of, HasFit, alike_above}
 use Rattle.code_generator.proofs.Numbers.{Fits, fits_by_abs}
 use Rattle.code_generator.proofs.Parts.{inner}
 use Rattle.code_generator.proofs.Rows.{cells_of as value_cells, length-cells_of, numbers_of, same_byte}
+use Rattle.code_generator.proofs.Running.{Aim, Arrives, Runs, runs_from, then_code}
+use Rattle.code_generator.proofs.Accesses.{address_then}
+use Rattle.code_generator.proofs.Setting.{entered}
+use Rattle.code_generator.proofs.Lists.{set_front, take_drop, take_set, drop_set, row_at, length_one}
 
 -- values whose numbers are of type integer
 abbrev pub AllFit : List Value → Type 0
@@ -65,21 +69,6 @@ fitting_bytes (v ∷ vs) fit =
     ∙ ap (λ bs. integers.byte_of (number_of v) ∷ bs) (fitting_bytes vs fit.1)
 
 -- ---- rows in a list of cells
-
-drop_at : {A : Type 0} (xs : List A) (d : ℕ) (x : A) → slice_get xs d ≡ Some x → drop d xs ≡ x ∷ drop (suc d) xs
-drop_at [] d x e = absurd (none-some x e)
-drop_at (y ∷ xs) zero x e = ap (λ z. z ∷ xs) (same_Some y x e)
-drop_at (y ∷ xs) (suc d) x e = drop_at xs d x e
-
--- the elements from a place on, each of which is known
-pub row_at : {A B : Type 0} (f : A → B) (xs : List A) (cells : List B) (d : ℕ)
-    → ((k : ℕ) (x : A) → slice_get xs k ≡ Some x → slice_get cells (d + k) ≡ Some (f x)) → take (length xs) (drop d cells) ≡ map f xs
-row_at f [] cells d each = refl
-row_at f (x ∷ xs) cells d each =
-    let here : d + 0 ≡ d = omega arith in
-    let rest = row_at f xs cells (suc d)
-    (λ k y at. let e : d + suc k ≡ suc d + k = omega arith in ap (slice_get cells) (sym e) ∙ each (suc k) y at) in
-    ap (take (suc (length xs))) (drop_at cells d (f x) (ap (slice_get cells) (sym here) ∙ each 0 x refl)) ∙ ap (λ l. f x ∷ l) rest
 
 -- what a row of scalars gives, all of which are components of one place
 module _ (store : meant.Store) (p : Place) where
@@ -150,23 +139,6 @@ pub length-set_row : (cells : List Cell) (d : ℕ) (row : List Cell) → length 
 length-set_row cells d [] = refl
 length-set_row cells d (c ∷ row) = length-set_row (slice_set cells d c) (d + 1) row ∙ length-set cells d c
 
-take_drop : {A : Type 0} (xs : List A) (d : ℕ) → xs ≡ take d xs ++ drop d xs
-take_drop xs zero = refl
-take_drop [] (suc d) = refl
-take_drop (x ∷ xs) (suc d) = ap (λ l. x ∷ l) (take_drop xs d)
-
-take_set : {A : Type 0} (xs : List A) (d : ℕ) (a : A) → d < length xs → take (suc d) (slice_set xs d a) ≡ take d xs ++ a ∷ []
-take_set [] d a h = absurd (omega arith)
-take_set (x ∷ xs) zero a h = refl
-take_set (x ∷ xs) (suc d) a h = ap (λ l. x ∷ l) (take_set xs d a (omega arith))
-
-drop_set : {A : Type 0} (xs : List A) (d more : ℕ) (a : A) → drop (suc (d + more)) (slice_set xs d a) ≡ drop (suc (d + more)) xs
-drop_set [] d more a = refl
-drop_set (x ∷ xs) zero more a = refl
-drop_set (x ∷ xs) (suc d) more a =
-    let e : suc d + more ≡ suc (d + more) = omega arith in
-    ap (λ n. drop n (slice_set xs d a)) e ∙ drop_set xs d more a ∙ ap (λ n. drop n xs) (sym e)
-
 -- a row in one piece
 pub set_row_is : (cells : List Cell) (d : ℕ) (row : List Cell) → d + length row ≤ length cells
     → set_row cells d row ≡ (take d cells ++ row) ++ drop (d + length row) cells
@@ -233,92 +205,33 @@ module _ (g : Setting) where
 
   -- ---- the code of a whole value
 
-  -- what the code of a whole value does, with so many turns left here: the row of its components comes on top of what is
-  -- held, over cells alike to the store; or the value ends the run
-  abbrev pub Pushed : ℕ → State → List Cell → ℕ → ℕ → Reply (List Value) → Type 0
-  Pushed turns m held place count (Gives vs s) =
-      (base : List Cell) × Based g s base × Comes g.target (turns - s.turns) m (on g ((base ++ held) ++ value_cells vs) place s.output)
-      × (length vs ≡ count) × AllFit vs × (s.turns ≤ turns)
-  Pushed turns m held place count (effect.Stops end s) = Ends g turns m end s.output
+  -- the row of its components comes on top of what is held, over cells alike to the store
+  abbrev pub row_on : List Cell → ℕ → ℕ → Aim (List Value)
+  row_on held count place = record {
+    Holds = λ vs s. (base : List Cell) × Based g s base × (length vs ≡ count) × AllFit vs;
+    there = λ vs s h. on g ((h.0 ++ held) ++ value_cells vs) place s.output;
+    gain = 0;
+  }
 
-  -- or the store is full
   abbrev pub Pushes : State → List Cell → ℕ → ℕ → Action (List Value) → effect.State → Type 0
-  Pushes m held place count action s = Starves g m action s ⊎ Pushed s.turns m held place count (action s)
+  Pushes m held place count action s = Runs g (row_on held count place) m action s
 
   -- a row that is there after some instructions
   pub pushes_row : (least : ℕ) (m : State) (base held : List Cell) (place count : ℕ) (vs : List Value) (s : effect.State) → Based g s base
       → Comes g.target least m (on g ((base ++ held) ++ value_cells vs) place s.output) → length vs ≡ count → AllFit vs
-      → Pushed s.turns m held place count (Gives vs s)
+      → Arrives g (row_on held count place) s.turns m (Gives vs s)
   pushes_row least m base held place count vs s based l long fit =
-      (base, based, comes_less g.target (s.turns - s.turns) least m _ (omega arith) l, long, fit, omega arith)
+      ((base, based, long, fit), comes_less g.target (s.turns - s.turns + 0) least m _ (omega arith) l, omega arith)
 
-  pushed_on : (turns left : ℕ) (a b : State) (held : List Cell) (place count : ℕ) (r : Reply (List Value)) → left ≤ turns → Comes g.target (turns - left) a b
-      → Pushed left b held place count r → Pushed turns a held place count r
-  pushed_on turns left a b held place count (Gives vs s) le l e = (
-    e.0,
-    e.1,
-    comes_less g.target (turns - s.turns) (turns - left + (left - s.turns)) a _ (omega arith)
-        (comes_on g.target (turns - left) (left - s.turns) a b _ l e.2),
-    e.3,
-    e.4,
-    omega (arith, e.5),
-  )
-  pushed_on turns left a b held place count (effect.Stops end s) le l e = ends_on g turns left a b end s.output l e
-
-  -- where no turn is used
-  pub pushes_from : (least : ℕ) (a b : State) (held : List Cell) (place count : ℕ) (action : Action (List Value)) (s : effect.State) → Comes g.target least a b
-      → Pushes b held place count action s → Pushes a held place count action s
-  pushes_from least a b held place count action s l (inl x) = inl (starves_on g least a b action s l x)
-  pushes_from least a b held place count action s l (inr e) =
-      inr (pushed_on s.turns s.turns a b held place count (action s) (omega arith) (comes_less g.target (s.turns - s.turns) least a b (omega arith) l) e)
-
-  -- a row behind an address
-  address_pushes : (m : State) (held held' : List Cell) (place place' : ℕ) (t : TypeId) (count : ℕ) (first : Action (Option Place))
-      (next : Option Place → Action (List Value)) (s : effect.State) → UsesTurnsExactly first → Addresses g m held place t first s
-      → ((base : List Cell) (d : ℕ) (p : Place) (u : effect.State) → Based g u base → PartAt g p t d → g.below + length held < g.limit
-      → Pushes (on g ((base ++ held) ++ Number (pos d) ∷ []) place u.output) held' place' count (next (Some p)) u)
-      → Pushes m held' place' count (first >>= next) s
-  address_pushes m held held' place place' t count first next s exact (inl x) h = inl (starves_first g m first next s x)
-  address_pushes m held held' place place' t count first next s exact (inr e) h = by (first s) refl e
-    where
-      behind : (u : effect.State) (p : Place) (there : State) → first s ≡ Gives (Some p) u → u.turns ≤ s.turns → Comes g.target (s.turns - u.turns) m there
-          → Pushes there held' place' count (next (Some p)) u
-          → Starves g m (first >>= next) s ⊎ Pushed s.turns m held' place' count (next (Some p) u)
-      behind u p there is le l (inl x) = inl (starves_behind g (s.turns - u.turns) m there first next s u (Some p) exact is l x)
-      behind u p there is le l (inr d) = inr (pushed_on s.turns u.turns m there held' place' count (next (Some p) u) le l d)
-
-      by : (r : Reply (Option Place)) → first s ≡ r → Addressed g s.turns m held place t r
-          → Starves g m (first >>= next) s ⊎ Pushed s.turns m held' place' count (effect.and_then r next)
-      by (Gives None u) is e = absurd e
-      by (Gives (Some p) u) is e = behind u p _ is e.6 e.4 (h e.0 e.2 p u e.1 e.3 e.5)
-      by (effect.Stops end u) is e = inr e
-
-  -- a value, or a statement, behind a row
-  pub row_evaluates : (m : State) (held held' : List Cell) (place place' count : ℕ) (first : Action (List Value)) (next : List Value → Action Value)
-      (s : effect.State) → UsesTurnsExactly first → Pushes m held place count first s
-      → ((base : List Cell) (vs : List Value) (u : effect.State) → Based g u base → length vs ≡ count → AllFit vs
-      → Evaluates g (on g ((base ++ held) ++ value_cells vs) place u.output) held' place' (next vs) u)
-      → Evaluates g m held' place' (first >>= next) s
-  row_evaluates m held held' place place' count first next s exact (inl x) h = inl (starves_first g m first next s x)
-  row_evaluates m held held' place place' count first next s exact (inr e) h = by (first s) refl e
-    where
-      by : (r : Reply (List Value)) → first s ≡ r → Pushed s.turns m held place count r
-          → Starves g m (first >>= next) s ⊎ Valued g s.turns m held' place' (effect.and_then r next)
-      by (Gives vs u) is e = evaluates_behind g m _ held' place' first next s u vs exact is e.5 e.2 (h e.0 vs u e.1 e.3 e.4)
-      by (effect.Stops end u) is e = inr e
-
-  pub row_executes : (m : State) (held held' : List Cell) (place place' count : ℕ) (first : Action (List Value)) (next : List Value → Action (Unit {0}))
-      (s : effect.State) → UsesTurnsExactly first → Pushes m held place count first s
-      → ((base : List Cell) (vs : List Value) (u : effect.State) → Based g u base → length vs ≡ count → AllFit vs
-      → Executes g (on g ((base ++ held) ++ value_cells vs) place u.output) held' place' (next vs) u)
-      → Executes g m held' place' (first >>= next) s
-  row_executes m held held' place place' count first next s exact (inl x) h = inl (starves_first g m first next s x)
-  row_executes m held held' place place' count first next s exact (inr e) h = by (first s) refl e
-    where
-      by : (r : Reply (List Value)) → first s ≡ r → Pushed s.turns m held place count r
-          → Starves g m (first >>= next) s ⊎ Executed g s.turns m held' place' (effect.and_then r next)
-      by (Gives vs u) is e = executes_behind g m _ held' place' first next s u vs exact is e.5 e.2 (h e.0 vs u e.1 e.3 e.4)
-      by (effect.Stops end u) is e = inr e
+  -- a row, and the code behind it
+  pub row_then : {A : Type 0} (aim : ℕ → Aim A) (c c' : List Instr) (place : ℕ) (m : State) (held : List Cell) (count : ℕ) (first : Action (List Value))
+      (next : List Value → Action A) (s : effect.State) → UsesTurnsExactly first → Stands g.target place (c ++ c')
+      → (Stands g.target place c → Pushes m held (place + length c) count first s)
+      → ((base : List Cell) (vs : List Value) (u : effect.State) → Stands g.target (place + length c) c' → Based g u base → length vs ≡ count → AllFit vs
+      → Runs g (aim (place + length c + length c')) (on g ((base ++ held) ++ value_cells vs) (place + length c) u.output) (next vs) u)
+      → Runs g (aim (place + length (c ++ c'))) m (first >>= next) s
+  row_then aim c c' place m held count first next s exact stands runs h =
+      then_code g (row_on held count) aim c c' place m first next s exact stands runs (λ vs u x rest. h x.0 vs u rest x.1 x.2 x.3)
 
   -- characters as values
   abbrev characters_of : List ℕ → List Value
@@ -381,7 +294,7 @@ module _ (g : Setting) where
       let defined_all : list_all is_defined row ≡ true = ap (list_all is_defined) all.cells ∙ all_are_defined all.values in
       let passed = passes g (instr.CheckDefined defined count) (cells ++ row) place defined s.output _ refl refl stands
       (all_defined g.frame g.limit g.size cells (linked g s base held based) row count as_long ∙ ap Ok defined_all) in
-      inr (subst (λ r. Pushed s.turns (on g (cells ++ row) place s.output) held (place + 1) count r) (sym (all.gives s refl))
+      inr (subst (Arrives g (row_on held count (place + 1)) s.turns (on g (cells ++ row) place s.output)) (sym (all.gives s refl))
       (pushes_row 0 _ base held (place + 1) count all.values s based
       (subst (λ cs. Comes g.target 0 (on g (cells ++ row) place s.output) (on g (cells ++ cs) (place + 1) s.output)) all.cells passed) many all.fit))
   checked_row p type_id count d defined place base held s (inr one) stands within long based =
@@ -389,7 +302,7 @@ module _ (g : Setting) where
       let cells = base ++ held in
       let row = map (cell_at s.store p) components in
       let as_long : length row ≡ count = length-map components (cell_at s.store p) ∙ long in
-      inr (subst (λ r. Pushed s.turns (on g (cells ++ row) place s.output) held (place + 1) count r) (sym (one.stops s refl))
+      inr (subst (Arrives g (row_on held count (place + 1)) s.turns (on g (cells ++ row) place s.output)) (sym (one.stops s refl))
       (fails g (instr.CheckDefined defined count) (cells ++ row) place defined s.output _ refl refl s.turns stands within
       (all_defined g.frame g.limit g.size cells (linked g s base held based) row count as_long ∙ ap Ok one.cells)))
 
@@ -415,7 +328,7 @@ module _ (g : Setting) where
       let loaded = acts g (instr.LoadMany count) (cells ++ Number (pos d) ∷ []) (cells ++ take count (drop d cells)) place s.output _ stands.0 refl
       (loads_many g.frame g.limit g.size cells (linked g s base held based) count d (omega arith) (omega arith)) in
       let there = subst (λ cs. Comes g.target 1 (on g (cells ++ Number (pos d) ∷ []) place s.output) (on g (cells ++ cs) (place + 1) s.output)) row loaded in
-      pushes_from 1 _ _ held (place + 1 + 1) count (fetch_all (Some p) components defined) s there
+      runs_from g (row_on held count (place + 1 + 1)) 1 _ _ (fetch_all (Some p) components defined) s there
       (checked_row p type_id count d defined (place + 1) base held s (row_fetched s.store p components defined fits) stands.1.0 within all based)
 
   -- a row is no longer than the longest
@@ -466,20 +379,19 @@ module _ (g : Setting) where
       let counts = led_to.counts in
       let c = address_code g.scope access (codes g indexes) in
       let load = instr.LoadMany (row_length cells) ∷ instr.CheckDefined defined (row_length cells) ∷ [] in
-      let loading = subst (λ n. Stands g.target (place + length c) (instr.LoadMany n ∷ instr.CheckDefined defined n ∷ [])) same
-      (stands_back g.target place c load stands) in
-      let e : place + length c + 1 + 1 ≡ place + length (c ++ load) = omega (arith, length-append c load) in
       let next : List Form → Option Place → Action (List Value) = λ types q. fetch_all q (components_of types type_id) defined in
-      let addressed = address_runs g access indexes led_to.last start good counts place base held (entered g access.number s)
-      (stands_front g.target place c load stands) based (omega arith) in
       let from = place_found g access indexes led_to.last start good counts in
       subst (λ action. Pushes (on g (base ++ held) place s.output) held (place + length (c ++ load)) cells (action >>= next g.environment.types) s)
       (sym (start.meant (map value_of (expressions g indexes))))
       (subst (λ types. Pushes (on g (base ++ held) place s.output) held (place + length (c ++ load)) cells (from >>= next types) (entered g access.number s))
       (sym g.types_are)
-      (subst (λ q. Pushes (on g (base ++ held) place s.output) held q cells (from >>= next g.tree.types) (entered g access.number s)) e
-      (address_pushes _ held held (place + length c) (place + length c + 1 + 1) led_to.last cells from (next g.tree.types) (entered g access.number s)
-      (exact_found g access indexes led_to.last start good counts) addressed
-      (λ base2 d p s2 based2 part2 room2.
-      loaded_row p type_id cells d defined (place + length c) base2 held s2 (subst (λ t. PartAt g p t d) its part2) loading
+      (address_then g (row_on held cells) c load place _ held led_to.last from (next g.tree.types) (entered g access.number s)
+      (exact_found g access indexes led_to.last start good counts) stands
+      (λ front. address_runs g access indexes led_to.last start good counts place base held (entered g access.number s) front based (omega arith))
+      (λ base2 d p s2 rest based2 part2 room2.
+      let there = place + length c in
+      let e : there + 1 + 1 ≡ there + 2 = omega arith in
+      subst (λ q. Pushes (on g ((base2 ++ held) ++ Number (pos d) ∷ []) there s2.output) held q cells (next g.tree.types (Some p)) s2) e
+      (loaded_row p type_id cells d defined there base2 held s2 (subst (λ t. PartAt g p t d) its part2)
+      (subst (λ n. Stands g.target there (instr.LoadMany n ∷ instr.CheckDefined defined n ∷ [])) same rest)
       (ltb-true defined (sites g) parts'.1) (sym many) based2 (omega arith)))))

@@ -1,0 +1,238 @@
+-- What the code of a piece of the program does: it comes to where it is to come with what the piece gives, or stops as the
+-- piece does. Code runs behind other code, whatever each is to come to.
+use Rattle.std.proofs.Common.{◌≡◌, ℕ, ◌+◌, ◌-◌, ◌<◌, ◌≤◌, ◌⊎◌, inl, inr, List, [], ◌∷◌, ◌++◌, length, Ok, refl, sym, subst, arith, length-append}
+use Rattle.std.proofs.Common.{Bool, true, false}
+use Rattle.std.specs.Prelude.{ℤ}
+use Rattle.pcode_assembler.specs.declared.instr.Instr.{Instr}
+use Rattle.pcode_assembler.specs.declared.instr.Instr.TheVariants as instr
+use Rattle.meaning.specs.declared.store.Value.{Value}
+use Rattle.meaning.specs.declared.store.Value.TheVariants as value
+use Rattle.meaning.specs.Effect as effect
+use Rattle.meaning.specs.Effect.{Reply, Gives, Action, ◌>>=◌, number_of, require}
+use Rattle.meaning.specs.Laws.{UsesTurnsExactly}
+use Rattle.meaning.proofs.Replies.{and_then-and_then}
+use Rattle.stack_machine.specs.Deeds.{Tests, deed_of}
+use Rattle.code_generator.proofs.Acts.{framed}
+use Rattle.stack_machine.specs.declared.cell.Cell.{Cell}
+use Rattle.stack_machine.specs.declared.cell.Cell.TheVariants.{Number}
+use Rattle.stack_machine.specs.Frames.{Attempt, Frames}
+use Rattle.stack_machine.specs.Machine.{State}
+use Rattle.check_remover.specs.Strip.{moved}
+use Rattle.code_generator.proofs.Exact.{exact_give, exact_then}
+use Rattle.code_generator.proofs.Numbers.{Fits}
+use Rattle.code_generator.proofs.Reach.{Stands, StandsAt, Comes, comes_on, comes_less, stands_front, stands_back}
+use Rattle.code_generator.proofs.Setting.{Setting, on, Based, Ends, ends_on, Starves, starves_on, starves_same, starves_first, starves_behind}
+use Rattle.code_generator.proofs.Setting.{as_value, passes, fails}
+use Rattle.code_generator.proofs.Reach.{stays_here}
+use Rattle.stack_machine.specs.Frames.{is_true}
+use Rattle.code_generator.proofs.Setting.{branched}
+
+-- where code is to come with what a piece gives: what holds then, the machine there, and for how many turns more than the
+-- piece used its instructions make up
+pub record Aim (A : Type 0) : Type 1 where
+  pub Holds : A → effect.State → Type 0
+  pub there : (v : A) (s : effect.State) → Holds v s → State
+  pub gain : ℕ
+
+module _ (g : Setting) where
+  -- what the code of a piece does, with so many turns left here: it comes there; or the piece ends
+  abbrev pub Arrives : {A : Type 0} → Aim A → ℕ → State → Reply A → Type 0
+  Arrives aim turns m (Gives v s) = (h : aim.Holds v s) × Comes g.target (turns - s.turns + aim.gain) m (aim.there v s h) × (s.turns ≤ turns)
+  Arrives aim turns m (effect.Stops end s) = Ends g turns m end s.output
+
+  -- or the store is full
+  abbrev pub Runs : {A : Type 0} → Aim A → State → Action A → effect.State → Type 0
+  Runs aim m action s = Starves g m action s ⊎ Arrives aim s.turns m (action s)
+
+  pub arrives_on : {A : Type 0} (aim : Aim A) (turns left : ℕ) (a b : State) (r : Reply A) → left ≤ turns → Comes g.target (turns - left) a b
+      → Arrives aim left b r → Arrives aim turns a r
+  arrives_on aim turns left a b (Gives v s) le l e = (
+    e.0,
+    comes_less g.target (turns - s.turns + aim.gain) (turns - left + (left - s.turns + aim.gain)) a _ (omega arith)
+        (comes_on g.target (turns - left) (left - s.turns + aim.gain) a b _ l e.1),
+    omega (arith, e.2),
+  )
+  arrives_on aim turns left a b (effect.Stops end s) le l e = ends_on g turns left a b end s.output l e
+
+  -- where no turn is used
+  pub runs_from : {A : Type 0} (aim : Aim A) (least : ℕ) (a b : State) (action : Action A) (s : effect.State) → Comes g.target least a b
+      → Runs aim b action s → Runs aim a action s
+  runs_from aim least a b action s l (inl x) = inl (starves_on g least a b action s l x)
+  runs_from aim least a b action s l (inr e) =
+      inr (arrives_on aim s.turns s.turns a b (action s) (omega arith) (comes_less g.target (s.turns - s.turns) least a b (omega arith) l) e)
+
+  -- the same action
+  pub runs_same : {A : Type 0} (aim : Aim A) (m : State) (action other : Action A) (s : effect.State) → ((t : effect.State) → action t ≡ other t)
+      → Runs aim m other s → Runs aim m action s
+  runs_same aim m action other s same (inl x) = inl (starves_same g m action other s same x)
+  runs_same aim m action other s same (inr e) = inr (subst (Arrives aim s.turns m) (sym (same s)) e)
+
+  -- what the machine does behind a piece
+  pub runs_to : {A : Type 0} (aim aim' : Aim A) (m : State) (action : Action A) (s : effect.State) → aim'.gain ≤ aim.gain → Runs aim m action s
+      → ((v : A) (t : effect.State) (h : aim.Holds v t) → (h' : aim'.Holds v t) × Comes g.target 0 (aim.there v t h) (aim'.there v t h'))
+      → Runs aim' m action s
+  runs_to aim aim' m action s less (inl x) to = inl x
+  runs_to {A} aim aim' m action s less (inr e) to = inr (by (action s) e)
+    where
+      by : (r : Reply A) → Arrives aim s.turns m r → Arrives aim' s.turns m r
+      by (Gives v t) at =
+          let x = to v t at.0 in (
+            x.0,
+            comes_less g.target (s.turns - t.turns + aim'.gain) (s.turns - t.turns + aim.gain + 0) m _ (omega (arith, less))
+                (comes_on g.target (s.turns - t.turns + aim.gain) 0 m _ _ at.1 x.1),
+            at.2,
+          )
+      by (effect.Stops end t) ends = ends
+
+  -- ---- one piece behind another
+
+  -- behind one that gave something
+  pub runs_behind : {A B : Type 0} (aim : Aim B) (m there : State) (first : Action A) (next : A → Action B) (s t : effect.State) (v : A)
+      → UsesTurnsExactly first → first s ≡ Gives v t → t.turns ≤ s.turns → Comes g.target (s.turns - t.turns) m there → Runs aim there (next v) t
+      → Starves g m (first >>= next) s ⊎ Arrives aim s.turns m (next v t)
+  runs_behind aim m there first next s t v exact is le l (inl x) = inl (starves_behind g (s.turns - t.turns) m there first next s t v exact is l x)
+  runs_behind aim m there first next s t v exact is le l (inr e) = inr (arrives_on aim s.turns t.turns m there (next v t) le l e)
+
+  -- wherever the first one comes to
+  pub then_runs : {A B : Type 0} (aim : Aim A) (aim' : Aim B) (m : State) (first : Action A) (next : A → Action B) (s : effect.State)
+      → UsesTurnsExactly first → Runs aim m first s
+      → ((v : A) (t : effect.State) (h : aim.Holds v t) → t.turns ≤ s.turns → Runs aim' (aim.there v t h) (next v) t)
+      → Runs aim' m (first >>= next) s
+  then_runs aim aim' m first next s exact (inl x) h = inl (starves_first g m first next s x)
+  then_runs {A} {B} aim aim' m first next s exact (inr e) h = by (first s) refl e
+    where
+      by : (r : Reply A) → first s ≡ r → Arrives aim s.turns m r
+          → Starves g m (first >>= next) s ⊎ Arrives aim' s.turns m (effect.and_then r next)
+      by (Gives v t) is at =
+          runs_behind aim' m (aim.there v t at.0) first next s t v exact is at.2
+          (comes_less g.target (s.turns - t.turns) (s.turns - t.turns + aim.gain) m _ (omega arith) at.1) (h v t at.0 at.2)
+      by (effect.Stops end t) is ends = inr ends
+
+  -- behind one that has no code
+  pub gives_then : {A B : Type 0} (aim : Aim B) (m : State) (first : Action A) (next : A → Action B) (s t : effect.State) (v : A)
+      → UsesTurnsExactly first → first s ≡ Gives v t → s.turns ≡ t.turns → Runs aim m (next v) t → Runs aim m (first >>= next) s
+  gives_then aim m first next s t v exact is same (inl x) = inl (starves_behind g 0 m m first next s t v exact is (stays_here g.target m) x)
+  gives_then aim m first next s t v exact is same (inr e) =
+      inr (subst (λ r. Arrives aim s.turns m (effect.and_then r next)) (sym is) (subst (λ n. Arrives aim n m (next v t)) (sym same) e))
+
+  -- the code of one, and the code of the other
+  pub then_code : {A B : Type 0} (aim : ℕ → Aim A) (aim' : ℕ → Aim B) (c c' : List Instr) (place : ℕ) (m : State) (first : Action A)
+      (next : A → Action B) (s : effect.State) → UsesTurnsExactly first → Stands g.target place (c ++ c')
+      → (Stands g.target place c → Runs (aim (place + length c)) m first s)
+      → ((v : A) (t : effect.State) (h : (aim (place + length c)).Holds v t) → Stands g.target (place + length c) c'
+      → Runs (aim' (place + length c + length c')) ((aim (place + length c)).there v t h) (next v) t)
+      → Runs (aim' (place + length (c ++ c'))) m (first >>= next) s
+  then_code aim aim' c c' place m first next s exact stands runs h =
+      let e : place + length c + length c' ≡ place + length (c ++ c') = omega (arith, length-append c c') in
+      subst (λ end. Runs (aim' end) m (first >>= next) s) e
+      (then_runs (aim (place + length c)) (aim' (place + length c + length c')) m first next s exact (runs (stands_front g.target place c c' stands))
+      (λ v t holds le. h v t holds (stands_back g.target place c c' stands)))
+
+  -- an instruction, and the code of a piece
+  pub instr_then : {A : Type 0} (aim : ℕ → Aim A) (least : ℕ) (i : Instr) (c : List Instr) (place : ℕ) (m there : State) (action : Action A)
+      (s : effect.State) → Comes g.target least m there → Runs (aim (place + 1 + length c)) there action s
+      → Runs (aim (place + length (i ∷ c))) m action s
+  instr_then aim least i c place m there action s l runs =
+      let e : place + 1 + length c ≡ place + length (i ∷ c) = omega arith in
+      subst (λ end. Runs (aim end) m action s) e (runs_from (aim (place + 1 + length c)) least m there action s l runs)
+
+  -- a check, and what comes behind it where it holds
+  pub check_then : {A : Type 0} (aim : Aim A) (check : Instr) (site place : ℕ) (cells : List Cell) (s : effect.State) (next : Action A)
+      (test : Frames → Attempt Bool) (good : Bool) → StandsAt g.target place check (g.target.is_open site) → moved g.target.to check ≡ check
+      → deed_of check ≡ Tests site test → test (framed g.frame g.limit g.size cells) ≡ Ok good → site < length g.tree.sites.items
+      → (good ≡ true → Runs aim (on g cells (place + 1) s.output) next s)
+      → Runs aim (on g cells place s.output) (require good site >>= (λ _. next)) s
+  check_then aim check site place cells s next test true stands same rule e within rest =
+      runs_from aim 0 _ _ next s (passes g check cells place site s.output test same rule stands e) (rest refl)
+  check_then aim check site place cells s next test false stands same rule e within rest =
+      inr (fails g check cells place site s.output test same rule s.turns stands within e)
+
+  -- a conditional jump behind a number, and what comes at either place
+  pub branch_then : {A : Type 0} (aim : Aim A) (target : ℕ) (below : List Cell) (n : ℤ) (place : ℕ) (next : Bool → Action A) (s : effect.State)
+      → StandsAt g.target place (instr.JumpIfFalse target) true → g.frame + 4 ≤ length below
+      → Runs aim (on g below (place + 1) s.output) (next true) s → Runs aim (on g below target s.output) (next false) s
+      → Runs aim (on g (below ++ Number n ∷ []) place s.output) (next (is_true n)) s
+  branch_then aim target below n place next s stands in_frame so not_so =
+      branched g (λ b. Runs aim (on g (below ++ Number n ∷ []) place s.output) (next b) s) target below n place s.output stands in_frame
+      (λ came. runs_from aim 1 _ _ (next true) s came so) (λ came. runs_from aim 1 _ _ (next false) s came not_so)
+
+  -- ---- the code of an expression
+
+  -- its value comes on top of what is held, over cells alike to the store
+  abbrev pub value_on : List Cell → ℕ → Aim Value
+  value_on held place = record {
+    Holds = λ v s. (base : List Cell) × Based g s base × Fits (number_of v) × (g.below + length held < g.limit);
+    there = λ v s h. on g ((h.0 ++ held) ++ Number (number_of v) ∷ []) place s.output;
+    gain = 0;
+  }
+
+  abbrev pub Evaluates : State → List Cell → ℕ → Action Value → effect.State → Type 0
+  Evaluates m held place action s = Runs (value_on held place) m action s
+
+  -- a value that is there after some instructions
+  pub gives : (least : ℕ) (m : State) (base held : List Cell) (place : ℕ) (v : Value) (s : effect.State) → Based g s base
+      → Comes g.target least m (on g ((base ++ held) ++ Number (number_of v) ∷ []) place s.output) → Fits (number_of v) → g.below + length held < g.limit
+      → Arrives (value_on held place) s.turns m (Gives v s)
+  gives least m base held place v s based l fit room =
+      ((base, based, fit, room), comes_less g.target (s.turns - s.turns + 0) least m _ (omega arith) l, omega arith)
+
+  -- a value, and the code behind it
+  pub value_then : {A : Type 0} (aim : ℕ → Aim A) (c c' : List Instr) (place : ℕ) (m : State) (held : List Cell) (first : Action Value)
+      (next : Value → Action A) (s : effect.State) → UsesTurnsExactly first → Stands g.target place (c ++ c')
+      → (Stands g.target place c → Evaluates m held (place + length c) first s)
+      → ((base : List Cell) (v : Value) (t : effect.State) → Stands g.target (place + length c) c' → Based g t base → Fits (number_of v)
+      → g.below + length held < g.limit
+      → Runs (aim (place + length c + length c')) (on g ((base ++ held) ++ Number (number_of v) ∷ []) (place + length c) t.output) (next v) t)
+      → Runs (aim (place + length (c ++ c'))) m (first >>= next) s
+  value_then aim c c' place m held first next s exact stands runs h =
+      then_code (value_on held) aim c c' place m first next s exact stands runs (λ v t x rest. h x.0 v t rest x.1 x.2 x.3)
+
+  -- a number
+  pub number_then : {A : Type 0} (aim : ℕ → Aim A) (c c' : List Instr) (place : ℕ) (m : State) (held : List Cell) (first : Action ℤ)
+      (next : ℤ → Action A) (s : effect.State) → UsesTurnsExactly first → Stands g.target place (c ++ c')
+      → (Stands g.target place c → Evaluates m held (place + length c) (as_value first) s)
+      → ((base : List Cell) (n : ℤ) (t : effect.State) → Stands g.target (place + length c) c' → Based g t base → Fits n
+      → Runs (aim (place + length c + length c')) (on g ((base ++ held) ++ Number n ∷ []) (place + length c) t.output) (next n) t)
+      → Runs (aim (place + length (c ++ c'))) m (first >>= next) s
+  number_then aim c c' place m held first next s exact stands runs h =
+      runs_same (aim (place + length (c ++ c'))) m (first >>= next) (as_value first >>= λ v. next (number_of v)) s
+      (λ t. sym (and_then-and_then (first t) (λ n. effect.give (value.Number n)) (λ v. next (number_of v))))
+      (value_then aim c c' place m held (as_value first) (λ v. next (number_of v)) s
+      (exact_then first (λ n. effect.give (value.Number n)) exact (λ n. exact_give (value.Number n))) stands runs
+      (λ base v t rest based fit room. h base (number_of v) t rest based fit))
+
+  -- ---- the code of a statement
+
+  -- what is held stays, over cells alike to the store
+  abbrev pub kept_on : List Cell → ℕ → Aim (Unit {0})
+  kept_on held place = record {
+    Holds = λ v s. (base : List Cell) × Based g s base;
+    there = λ v s h. on g (h.0 ++ held) place s.output;
+    gain = 0;
+  }
+
+  abbrev pub Executes : State → List Cell → ℕ → Action (Unit {0}) → effect.State → Type 0
+  Executes m held place action s = Runs (kept_on held place) m action s
+
+  -- a state that is there after some instructions
+  pub done : (least : ℕ) (m : State) (base held : List Cell) (place : ℕ) (s : effect.State) → Based g s base
+      → Comes g.target least m (on g (base ++ held) place s.output) → Arrives (kept_on held place) s.turns m (Gives tt s)
+  done least m base held place s based l = ((base, based), comes_less g.target (s.turns - s.turns + 0) least m _ (omega arith) l, omega arith)
+
+  -- a statement, and the code behind it
+  pub done_then : {A : Type 0} (aim : ℕ → Aim A) (c c' : List Instr) (place : ℕ) (m : State) (held : List Cell) (first : Action (Unit {0}))
+      (next : Unit {0} → Action A) (s : effect.State) → UsesTurnsExactly first → Stands g.target place (c ++ c')
+      → (Stands g.target place c → Executes m held (place + length c) first s)
+      → ((base : List Cell) (t : effect.State) → Stands g.target (place + length c) c' → Based g t base
+      → Runs (aim (place + length c + length c')) (on g (base ++ held) (place + length c) t.output) (next tt) t)
+      → Runs (aim (place + length (c ++ c'))) m (first >>= next) s
+  done_then aim c c' place m held first next s exact stands runs h =
+      then_code (kept_on held) aim c c' place m first next s exact stands runs (λ v t x rest. h x.0 t rest x.1)
+
+  -- what the machine does behind a statement that gives
+  pub behind_executes : (m : State) (held held' : List Cell) (place place' : ℕ) (action : Action (Unit {0})) (s : effect.State)
+      → Executes m held place action s
+      → ((base : List Cell) (t : effect.State) → Based g t base → Comes g.target 0 (on g (base ++ held) place t.output) (on g (base ++ held') place' t.output))
+      → Executes m held' place' action s
+  behind_executes m held held' place place' action s e h =
+      runs_to (kept_on held place) (kept_on held' place') m action s (omega arith) e (λ v t x. ((x.0, x.1), h x.0 t x.1))
