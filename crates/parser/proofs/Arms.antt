@@ -1,5 +1,5 @@
 -- The arms of a case, as they are read.
-use Rattle.std.proofs.Common.{◌≡◌, ℕ, List, [], ◌∷◌, map, refl, ap}
+use Rattle.std.proofs.Common.{[], ◌∷◌, map, refl, ap}
 use Rattle.reading.specs.Outline as form
 use Rattle.reading.specs.Outline.{Outline}
 use Rattle.reading.specs.Reading.{Reading}

@@ -1,18 +1,16 @@
 -- What is answered, by what the rule of a program makes of the tokens.
-use Rattle.std.proofs.Common.{◌≡◌, ℕ, ◌-◌, ◌≤◌, ◌<◌, List, [], length, Option, Some, None, Result, Ok, Err, IsTrue, refl, sym, ap, ◌∙◌}
+use Rattle.std.proofs.Common.{◌≡◌, ℕ, ◌-◌, ◌≤◌, ◌<◌, List, [], length, Option, None, Ok, Err, refl, sym, ap, ◌∙◌}
 use Rattle.std.proofs.Common.{arith}
 use Rattle.place.specs.declared.Place.{Place}
 use Rattle.lexer.specs.declared.token.Token.{Token}
-use Rattle.token_cursor.specs.declared.fault.ParseFault.TheVariants as fault
 use Rattle.syntax_tree.specs.declared.Program.{Program}
 use Rattle.reading.specs.declared.refusal.Refusal.{Refusal}
 use Rattle.reading.specs.declared.refusal.Refusal.TheVariants.{Memory, NoProgram, TooDeep}
 use Rattle.reading.specs.Declarations.{program}
 use Rattle.reading.specs.Laws.{IsRead}
-use Rattle.reading.specs.Lexemes.{Spells}
 use Rattle.reading.specs.Reading.{Outcome}
 use Rattle.reading.specs.Outline.{Outline}
-use Rattle.reading.specs.Trees.{program_outline, program_spelling, is_program, nesting}
+use Rattle.reading.specs.Trees.{program_outline, nesting}
 use Rattle.reading.proofs.DeepRules.{program_deep}
 use Rattle.reading.proofs.Three.{read_is_spelled, spelled_is_read}
 use Rattle.token_cursor.specs.LeftOut.{first_left_out}

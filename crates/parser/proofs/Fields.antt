@@ -1,8 +1,7 @@
 -- The fields of a record, as they are read.
-use Rattle.std.proofs.Common.{◌≡◌, ℕ, List, [], ◌∷◌, ◌++◌, length, map, Vec, refl, ap}
+use Rattle.std.proofs.Common.{◌≡◌, List, [], ◌∷◌, map, Vec, refl, ap}
 use Rattle.std.specs.declared.alloc.Global.{Global}
 use Rattle.syntax_tree.specs.declared.Name.{Name}
-use Rattle.syntax_tree.specs.declared.TypeDenoter.{TypeDenoter}
 use Rattle.reading.specs.Outline as form
 use Rattle.reading.specs.Outline.{Outline}
 use Rattle.reading.specs.Reading.{Reading}

@@ -1,5 +1,5 @@
 -- Parts with a symbol between each two, as they are read, by what those look like that were read.
-use Rattle.std.proofs.Common.{◌≡◌, ◌<◌, length, Result, List, [], ◌∷◌, ◌++◌, Some, None, Ok, Err, map, refl, sym, ap, subst, ◌∙◌}
+use Rattle.std.proofs.Common.{◌≡◌, ◌<◌, length, Result, List, [], ◌∷◌, ◌++◌, Some, None, Ok, Err, map, sym, ap, subst, ◌∙◌}
 use Rattle.std.proofs.lemmas.List.{map-append}
 use Rattle.place.specs.declared.Place.{Place}
 use Rattle.lexer.specs.declared.token.Symbol.{Symbol}

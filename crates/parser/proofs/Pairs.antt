@@ -1,5 +1,5 @@
 -- Parts up to an `end` that are kept as two rows: what the heads of the parts are, and what stands behind each.
-use Rattle.std.proofs.Common.{◌≡◌, ℕ, ◌+◌, ◌<◌, ◌≤◌, Bool, List, [], ◌∷◌, ◌++◌, length, Option, Some, None, Result, Ok, Err, map, refl, sym, ap, subst, ◌∙◌}
+use Rattle.std.proofs.Common.{◌≡◌, ◌<◌, Bool, List, [], ◌∷◌, ◌++◌, length, Some, None, Result, Ok, Err, refl, sym, ap, subst, ◌∙◌}
 use Rattle.std.proofs.Common.{arith, length-append}
 use Rattle.lexer.specs.declared.token.Token.{Token}
 use Rattle.reading.specs.declared.refusal.Refusal.{Refusal}

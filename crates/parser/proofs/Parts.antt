@@ -1,5 +1,5 @@
 -- The rules of the parts of lists leave no more tokens than there were, and those of items fewer.
-use Rattle.std.proofs.Common.{◌≡◌, ℕ, List, Ok, refl}
+use Rattle.std.proofs.Common.{◌≡◌, ℕ, List, refl}
 use Rattle.lexer.specs.declared.token.Symbol.TheVariants as symbol
 use Rattle.lexer.specs.declared.token.Token.{Token}
 use Rattle.reading.specs.Reading.{Reading, separated}

@@ -1,5 +1,5 @@
 -- What begins with a name and is no assignment: the call of a procedure, or selectors, with which no statement goes on.
-use Rattle.std.proofs.Common.{◌≡◌, ℕ, Bool, true, false, if◌then◌else◌, List, Some, None, Ok, Err, ap, ◌∙◌}
+use Rattle.std.proofs.Common.{◌≡◌, ℕ, Bool, true, false, if◌then◌else◌, List, None, Ok, Err, ap, ◌∙◌}
 use Rattle.lexer.specs.declared.token.Token.{Token}
 use Rattle.lexer.specs.declared.token.Symbol.TheVariants as symbol
 use Rattle.reading.specs.declared.refusal.Refusal.TheVariants.{NoProgram}

@@ -1,6 +1,6 @@
 -- How the lists and the pairs look that the rules of statements make, by the outlines of their parts.
 -- This doesn't say how a form is outlined: see Outline and Trees in reading.
-use Rattle.std.specs.Prelude.{List, Bool, Option, Some, None, map}
+use Rattle.std.specs.Prelude.{List, Bool, Option, map}
 use Rattle.std.specs.declared.alloc.Global.{Global}
 use Rattle.std.specs.declared.boxed.Box.{Box}
 use Rattle.std.specs.declared.vec.Vec.{Vec}
@@ -11,11 +11,10 @@ use Rattle.syntax_tree.specs.declared.Constant.{Constant}
 use Rattle.syntax_tree.specs.declared.Direction.{Direction}
 use Rattle.syntax_tree.specs.declared.Expr.{Expr}
 use Rattle.syntax_tree.specs.declared.Name.{Name}
-use Rattle.syntax_tree.specs.declared.SignAt.{SignAt}
 use Rattle.syntax_tree.specs.declared.Stmt.{Stmt}
 use Rattle.reading.specs.Lexemes.{Lexeme, identifier}
 use Rattle.reading.specs.Outline.{Outline}
-use Rattle.reading.specs.Trees.{arm_outline, constant_outline, expr_outline, sign_outline, stmt_outline}
+use Rattle.reading.specs.Trees.{arm_outline, constant_outline, expr_outline, stmt_outline}
 
 -- the constants before an arm of a case
 abbrev pub constants_outlines : Vec Constant Global → List Outline

@@ -93,8 +93,8 @@ fn routine<'a>(
 {
     let heading = heading(alloc, cursor)?;
     let directive = takes_directive(&heading);
-    let block = body(alloc, cursor, levels, directive)?;
-    cursor.expect_symbol(Symbol::Semicolon)?;
+    let block = body(alloc, cursor, levels, directive);
+    let block = cursor.followed_by(block, Kind::Symbol(Symbol::Semicolon))?;
     Ok(Routine { heading, block })
 }
 
@@ -115,7 +115,7 @@ fn body<'a>(
         return Ok(None);
     }
     let levels = inside(levels, cursor.place())?;
-    Ok(Some(block(alloc, cursor, levels)?))
+    block(alloc, cursor, levels).map(Some)
 }
 
 /// Whether `forward` comes next where it may stand, which is taken.

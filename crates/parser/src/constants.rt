@@ -7,7 +7,7 @@ ghost use Rattle.parser.specs.Built.{constants_outlines};
 ghost use Rattle.parser.specs.Constants.{signed};
 
 use crate::lists::{Item, Part, enclosed};
-use lexer::token::Symbol;
+use lexer::token::{Kind, Symbol};
 use reading::refusal::Refusal;
 use std::alloc::Global;
 use syntax_tree::{Constant, ConstantDefinition, ConstantValue, SignAt};
@@ -21,10 +21,10 @@ impl<'a> Item<'a> for ConstantDefinition<'a> {
 
     #[tactic(auto, unfolding(reading::specs::Declarations::definition))]
     fn read(_alloc: Global, cursor: &mut Cursor<'_, 'a>, _levels: u32) -> Result<Self, Refusal> {
-        let name = cursor.expect_name()?;
-        cursor.expect_symbol(Symbol::Equal)?;
-        let value = constant(cursor)?;
-        cursor.expect_symbol(Symbol::Semicolon)?;
+        let name = cursor.expect_name();
+        let name = cursor.followed_by(name, Kind::Symbol(Symbol::Equal))?;
+        let value = constant(cursor);
+        let value = cursor.followed_by(value, Kind::Symbol(Symbol::Semicolon))?;
         Ok(ConstantDefinition { name, value })
     }
 }

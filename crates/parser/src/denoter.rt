@@ -65,10 +65,10 @@ fn array<'a>(
 ) -> Result<TypeDenoter<'a>, Refusal>
     ensures { Makes denoter_outline (array_type packed (spec.denoter levels) cursor.old.rest.now) result cursor.new }
 {
-    let place = cursor.expect_word(Word::Array)?;
-    cursor.expect_symbol(Symbol::OpenBracket)?;
-    let indexes = indexes(alloc, cursor, levels)?;
-    cursor.expect_symbol(Symbol::CloseBracket)?;
+    let place = cursor.expect_word(Word::Array);
+    let place = cursor.followed_by(place, Kind::Symbol(Symbol::OpenBracket))?;
+    let indexes = indexes(alloc, cursor, levels);
+    let indexes = cursor.followed_by(indexes, Kind::Symbol(Symbol::CloseBracket))?;
     cursor.expect_word(Word::Of)?;
     let element = element(alloc, cursor, levels)?;
     Ok(TypeDenoter::Array {

@@ -32,8 +32,8 @@ fn procedure<'a>(alloc: Global, cursor: &mut Cursor<'_, 'a>) -> Result<Heading<'
 {
     cursor.expect_word(Word::Procedure)?;
     let name = cursor.expect_name()?;
-    let formals = formals(alloc, cursor)?;
-    cursor.expect_symbol(Symbol::Semicolon)?;
+    let formals = formals(alloc, cursor);
+    let formals = cursor.followed_by(formals, Kind::Symbol(Symbol::Semicolon))?;
     Ok(Heading::Procedure { name, formals })
 }
 
@@ -63,10 +63,10 @@ fn signature<'a>(
     ensures { Makes (λ found. (map formal_outline found.0.items, identifier found.1))
         (spec.signature cursor.old.rest.now) result cursor.new }
 {
-    let formals = formals(alloc, cursor)?;
-    cursor.expect_symbol(Symbol::Colon)?;
-    let result = cursor.expect_name()?;
-    cursor.expect_symbol(Symbol::Semicolon)?;
+    let formals = formals(alloc, cursor);
+    let formals = cursor.followed_by(formals, Kind::Symbol(Symbol::Colon))?;
+    let result = cursor.expect_name();
+    let result = cursor.followed_by(result, Kind::Symbol(Symbol::Semicolon))?;
     Ok((formals, result))
 }
 

@@ -58,6 +58,7 @@ fn separated<'a, P: Part<'a>>(
 }
 
 /// One part or more, with a symbol between each two, and the symbol that ends them.
+#[tactic(auto, using(token_cursor::proofs::Keeping::followed_makes))]
 pub(crate) fn enclosed<'a, P: Part<'a>>(
     alloc: Global,
     cursor: &mut Cursor<'_, 'a>,
@@ -68,9 +69,8 @@ pub(crate) fn enclosed<'a, P: Part<'a>>(
     ensures { Makes (λ found. map P.look found.items) (enclosed symbol end P.rule cursor.old.rest.now)
         result cursor.new }
 {
-    let found = separated(alloc, cursor, symbol)?;
-    cursor.expect_symbol(end)?;
-    Ok(found)
+    let found = separated(alloc, cursor, symbol);
+    cursor.followed_by(found, Kind::Symbol(end))
 }
 
 /// Parts in parentheses, with a symbol between each two, or none where no parentheses come.

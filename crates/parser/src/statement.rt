@@ -141,8 +141,7 @@ fn alternative<'a>(
     let Some(_) = cursor.take_word(Word::Else) else {
         return Ok(None);
     };
-    let statement = body(alloc, cursor, levels)?;
-    Ok(Some(statement))
+    body(alloc, cursor, levels).map(Some)
 }
 
 /// A while statement (6.8.3.8), below which `levels` levels are left.
@@ -178,8 +177,8 @@ fn repeat_loop<'a>(
         result cursor.new }
 {
     let place = cursor.expect_word(Word::Repeat)?;
-    let statements = statements(alloc, cursor, levels)?;
-    cursor.expect_word(Word::Until)?;
+    let statements = statements(alloc, cursor, levels);
+    let statements = cursor.followed_by(statements, Kind::Word(Word::Until))?;
     let condition = expression(alloc, cursor, levels)?;
     Ok(Stmt::Repeat {
         place,
@@ -218,8 +217,8 @@ fn control<'a>(cursor: &mut Cursor<'_, 'a>) -> Result<(Place, Name<'a>), Refusal
     ensures { Makes control_lexeme (spec.control cursor.old.rest.now) result cursor.new }
 {
     let place = cursor.expect_word(Word::For)?;
-    let variable = cursor.expect_name()?;
-    cursor.expect_symbol(Symbol::Becomes)?;
+    let variable = cursor.expect_name();
+    let variable = cursor.followed_by(variable, Kind::Symbol(Symbol::Becomes))?;
     Ok((place, variable))
 }
 

@@ -3,7 +3,7 @@ ghost use Rattle.reading.specs.Trees.{type_outline};
 
 use crate::denoter::denoter;
 use crate::lists::Item;
-use lexer::token::Symbol;
+use lexer::token::{Kind, Symbol};
 use reading::refusal::Refusal;
 use std::alloc::Global;
 use syntax_tree::TypeDefinition;
@@ -17,10 +17,10 @@ impl<'a> Item<'a> for TypeDefinition<'a> {
 
     #[tactic(auto, unfolding(reading::specs::Declarations::type_definition))]
     fn read(alloc: Global, cursor: &mut Cursor<'_, 'a>, levels: u32) -> Result<Self, Refusal> {
-        let name = cursor.expect_name()?;
-        cursor.expect_symbol(Symbol::Equal)?;
-        let denoter = denoter(alloc, cursor, levels)?;
-        cursor.expect_symbol(Symbol::Semicolon)?;
+        let name = cursor.expect_name();
+        let name = cursor.followed_by(name, Kind::Symbol(Symbol::Equal))?;
+        let denoter = denoter(alloc, cursor, levels);
+        let denoter = cursor.followed_by(denoter, Kind::Symbol(Symbol::Semicolon))?;
         Ok(TypeDefinition { name, denoter })
     }
 }

@@ -4,7 +4,7 @@ ghost use Rattle.reading.specs.Trees.{group_outline};
 use crate::denoter::denoter;
 use crate::lists::Item;
 use crate::names::field_names;
-use lexer::token::Symbol;
+use lexer::token::{Kind, Symbol};
 use reading::refusal::Refusal;
 use std::alloc::Global;
 use syntax_tree::VariableGroup;
@@ -19,8 +19,8 @@ impl<'a> Item<'a> for VariableGroup<'a> {
     #[tactic(auto, unfolding(reading::specs::Declarations::group))]
     fn read(alloc: Global, cursor: &mut Cursor<'_, 'a>, levels: u32) -> Result<Self, Refusal> {
         let names = field_names(alloc, cursor)?;
-        let denoter = denoter(alloc, cursor, levels)?;
-        cursor.expect_symbol(Symbol::Semicolon)?;
+        let denoter = denoter(alloc, cursor, levels);
+        let denoter = cursor.followed_by(denoter, Kind::Symbol(Symbol::Semicolon))?;
         Ok(VariableGroup { names, denoter })
     }
 }

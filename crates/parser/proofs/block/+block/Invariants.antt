@@ -1,6 +1,5 @@
 use Rattle.std.proofs.Common.{◌+◌, ◌*◌, map, length}
 use Rattle.reading.specs.Declarations as spec
-use Rattle.reading.specs.Reading.{many}
 use Rattle.reading.specs.Trees.{routine_outline}
 use Rattle.token_cursor.proofs.Turns.{Parts}
 use Rattle.parser.specs.Blocks.{block_below}

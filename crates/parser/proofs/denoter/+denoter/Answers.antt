@@ -1,4 +1,4 @@
-use Rattle.std.proofs.Common.{◌≡◌, rules, Some, Ok, Err, refl, sym, ap, subst, ◌∙◌}
+use Rattle.std.proofs.Common.{◌≡◌, rules, Some, Ok, Err, sym, ap, subst, ◌∙◌}
 use Rattle.lexer.specs.declared.token.Kind.TheVariants as kind
 use Rattle.lexer.specs.declared.token.Symbol.TheVariants as symbol
 use Rattle.lexer.specs.declared.token.Word.{Word}
@@ -13,7 +13,7 @@ use Rattle.token_cursor.specs.Cursor.{Makes}
 use Rattle.parser.specs.Fields.{fields_look}
 use Rattle.parser.proofs.Denoters.{denoter_at, denoter_else}
 use Rattle.parser.proofs.Fields.{names_look, fields_push}
-use Rattle.parser.proofs.Listed.{listed_begins, listed_goes, listed_fewer, listed_ends, listed_stops}
+use Rattle.parser.proofs.Listed.{listed_goes, listed_fewer, listed_ends, listed_stops}
 use Rattle.parser.proofs.Pairs.{pairs_go, pairs_fewer, pairs_end, head_stops, inner_stops, behind_stops}
 use Rattle.parser.proofs.denoter.+denoter.Goals as goal
 use Rattle.parser.proofs.denoter.+denoter.Goals.{denoter-in_default-via-in-Some+in-Symbol+in_default, denoter-in_default-via-in-Some+in_default}

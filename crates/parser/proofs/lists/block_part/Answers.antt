@@ -1,8 +1,8 @@
-use Rattle.std.proofs.Common.{◌≡◌, rules, true, false, Err, sym, ◌∙◌}
+use Rattle.std.proofs.Common.{◌≡◌, rules, Err, sym, ◌∙◌}
 use Rattle.lexer.specs.declared.token.Kind.TheVariants as kind
 use Rattle.reading.specs.declared.refusal.Refusal.TheVariants.{Memory}
 use Rattle.reading.specs.Declarations as spec
-use Rattle.reading.specs.Reading.{is_kind, next_kind}
+use Rattle.reading.specs.Reading.{is_kind}
 use Rattle.parser.proofs.Items.{part_begins, part_left_out, some_go, some_end, some_stop, items_fewer, takes_one}
 use Rattle.parser.proofs.lists.block_part.Goals as goal
 

@@ -1,6 +1,5 @@
 use Rattle.std.proofs.Common.{rules, ◌≡◌, true, false, map, Ok, Err, sym, ap, ◌∙◌}
 use Rattle.reading.specs.declared.refusal.Refusal.TheVariants.{NoProgram}
-use Rattle.reading.specs.Expressions.{expression_below}
 use Rattle.reading.specs.Lexemes.{identifier}
 use Rattle.reading.specs.Outline.{has_items}
 use Rattle.reading.specs.Statements as spec
