@@ -8,7 +8,7 @@ use Rattle.lexer.specs.Tokens.{IsTokenList, IsFirstFault, lexeme_of}
 use Rattle.token_cursor.specs.declared.fault.ParseFault.{ParseFault}
 use Rattle.token_cursor.specs.declared.fault.ParseFault.TheVariants as parse
 use Rattle.syntax_tree.specs.declared.Program.{Program}
-use Rattle.parser.specs.Syntax.{IsFaultOf}
+use Rattle.parser.specs.Syntax.{IsFaultOf, IsReadAs}
 use Rattle.typed_tree.specs.declared.tree.Tree.{Tree}
 use Rattle.typing.specs.Typing.{typing}
 use Rattle.typing.specs.Outcomes.{IsFault}
@@ -51,9 +51,9 @@ lexing-refusal source text fault h = h (λ same. cc)
 
 -- syntax is refused of a source whose tokens have that fault
 pub parsing-refusal : (source text : List ℕ) (fault : ParseFault) (tokens : List Token) → IsTokenList source (map lexeme_of tokens) → IsFaultOf fault tokens
-    → IsRefusal source text (parser_fault fault)
-parsing-refusal source text parse.Memory tokens list h = tt
-parsing-refusal source text fault tokens list h = (tokens, list, h)
+    → IsReadAs (Err fault) tokens → IsRefusal source text (parser_fault fault)
+parsing-refusal source text parse.Memory tokens list h read = tt
+parsing-refusal source text fault tokens list h read = (tokens, list, h, read)
 
 -- names and types are refused of a source that is written as a program, whose typing tells just that
 pub typing-refusal : (source text : List ℕ) (fault : TypeFault) (program : Program) → IsWrittenAs source program → IsFault (typing program) fault

@@ -1,13 +1,13 @@
--- Why a source is refused: the fault of the first layer that refuses, for nothing else but memory. Of names and types
--- it is the first rule that the program breaks, with its place, and so it is of a certificate. It does not say at which
--- token P1 and P2 are told.
+-- Why a source is refused: the fault of the first layer that refuses, for nothing else but memory. Of syntax it is where
+-- the rules of reading stop, of names and types the first rule that the program breaks, with its place, and so it is of
+-- a certificate.
 use Rattle.std.specs.Prelude.{◌≡◌, ℕ, List, [], Option, Some, None, Err, true, map, codes}
 use denote.Ref.{Bor}
 use Rattle.lexer.specs.declared.token.Token.{Token}
 use Rattle.lexer.specs.Tokens.{IsTokenList, IsFirstFault, lexeme_of}
 use Rattle.syntax_tree.specs.declared.Program.{Program}
 use Rattle.token_cursor.specs.declared.fault.ParseFault.TheVariants as parse
-use Rattle.parser.specs.Syntax.{IsFaultOf}
+use Rattle.parser.specs.Syntax.{IsFaultOf, IsReadAs}
 use Rattle.typed_tree.specs.declared.tree.Tree.{Tree}
 use Rattle.typed_tree.specs.declared.fault.TypeFault.TheVariants as untyped
 use Rattle.typing.specs.Typing.{typing}
@@ -41,6 +41,7 @@ IsRefusal source text (Lex fault) = IsFirstFault source fault
 IsRefusal source text (Parse parse.Memory) = ⊥
 IsRefusal source text (Parse fault) =
     (tokens : List Token) × IsTokenList source (map lexeme_of tokens) × IsFaultOf fault tokens
+    × IsReadAs (Err fault) tokens
 IsRefusal source text (Typing untyped.Memory) = ⊥
 IsRefusal source text (Typing fault) = (program : Program) × IsWrittenAs source program × (typing program ≡ Err fault)
 IsRefusal source text (Certificate fault) = (tree : Tree) × IsTypedTreeOf tree source × (first_fault text ≡ Some fault)

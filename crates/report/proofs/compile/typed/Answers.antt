@@ -1,7 +1,7 @@
-use Rattle.std.proofs.Common.{map, sym, subst}
+use Rattle.std.proofs.Common.{Err, map, sym, subst}
 use Rattle.std.proofs.lemmas.Result.{err_from_is_err_and}
 use Rattle.place.specs.Place.{ArePlacesInOrder}
-use Rattle.parser.specs.Syntax.{IsTreeOf, IsFaultOf}
+use Rattle.parser.specs.Syntax.{IsTreeOf, IsFaultOf, IsReadAs}
 use Rattle.report.proofs.RefusalLemmas.{untyped_by, lexing-refusal, parsing-refusal, typing-refusal}
 use Rattle.report.proofs.compile.typed.Goals as goal
 
@@ -42,7 +42,8 @@ returns-in_err-program c =
     let told = err_from_is_err_and c.from_residual-in_err-program.result c.from_residual-in_err-program.ensures.1 in
     untyped_by source c.from_residual-in_err-program.result told.0 _ told.1 told.2
     (λ text. parsing-refusal source text fault c.in_ok-tokens.tokens.items c.in_ok-tokens.ensures.list
-    (subst (IsFaultOf fault) c.deref.ensures.value c.in_err-program.ensures.exact))
+    (subst (IsFaultOf fault) c.deref.ensures.value c.in_err-program.ensures.exact)
+    (subst (IsReadAs (Err fault)) c.deref.ensures.value c.in_err-program.ensures.read))
 
 pub returns-in_err-tree : goal.returns-in_err-tree
 returns-in_err-tree c =
