@@ -1,13 +1,12 @@
 -- A routine that was called: its activation is the latest, its frame begins behind what its caller holds, and all that stands
 -- below it but the scalars is fixed while it runs.
-use Rattle.std.proofs.Common.{◌≡◌, ℕ, zero, suc, ◌+◌, ◌-◌, ◌<◌, ◌≤◌, ◌⊎◌, inl, inr, ⊎_elim, List, [], ◌∷◌, ◌++◌, length, map, take, Option, Some, None}
+use Rattle.std.proofs.Common.{◌≡◌, ℕ, suc, ◌+◌, ◌-◌, ◌<◌, ◌≤◌, ◌⊎◌, inl, inr, ⊎_elim, List, [], ◌∷◌, ◌++◌, length, map, take, Option, Some, None}
 use Rattle.std.proofs.Common.{refl, sym, ap, ◌∙◌, subst, arith, Bool, true, false, length-append, append_assoc, replicate, eq-eqb}
 use Rattle.std.specs.Prelude.{if◌then◌else◌, nat_eq, nat_lt, slice_get, pos, ◌&&◌, ◌||◌}
-use Rattle.std.specs.List.{list_all}
-use Rattle.std.proofs.lemmas.Bool.{and_parts, eqb-true, false≢true, false_from_ne_true, ltb-true}
+use Rattle.std.proofs.lemmas.Bool.{eqb-true, false≢true, false_from_ne_true, ltb-true}
 use Rattle.std.proofs.lemmas.List.{length-map}
 use Rattle.std.proofs.lemmas.List.Sums.{sum_by-cons}
-use Rattle.std.proofs.lemmas.Option.{none-some, same_Some, slice_get_within}
+use Rattle.std.proofs.lemmas.Option.{slice_get_within}
 use Rattle.types.specs.Components.{components_of}
 use Rattle.types.specs.Types.{cells_of}
 use Rattle.typed_tree.specs.declared.tree.Block.{Block}

@@ -1,8 +1,8 @@
 -- What the instructions of calls do to a store: the mark of a new frame, the jump to a routine, the beginning of its frame, and
 -- the return.
-use Rattle.std.proofs.Common.{◌≡◌, ℕ, suc, ◌+◌, ◌-◌, ◌<◌, ◌≤◌, List, [], ◌∷◌, ◌++◌, length, take, drop, replicate, Option, Some, None, Ok, Err, ap}
-use Rattle.std.proofs.Common.{◌∙◌, arith, length-append, refl}
-use Rattle.std.specs.Prelude.{if◌then◌else◌, pos, slice_get, slice_set}
+use Rattle.std.proofs.Common.{◌≡◌, ℕ, ◌+◌, ◌-◌, ◌<◌, ◌≤◌, List, [], ◌∷◌, ◌++◌, length, take, drop, replicate, Option, Some, None, Ok, Err, ap}
+use Rattle.std.proofs.Common.{◌∙◌, arith, length-append}
+use Rattle.std.specs.Prelude.{if◌then◌else◌, pos, slice_get}
 use Rattle.std.specs.Int.{w32, cast_signed}
 use Rattle.std.proofs.Math.Nat.{mod-eq_of_lt}
 use Rattle.std.proofs.lemmas.Bool.{le-leb, lt-leb, lt-ltb}

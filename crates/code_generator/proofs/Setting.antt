@@ -1,6 +1,6 @@
 -- One activation of a block, whose code runs: what stays as it is meanwhile, and what the machine does of what the
 -- program does.
-use Rattle.std.proofs.Common.{◌≡◌, ℕ, zero, suc, ◌+◌, ◌-◌, ◌<◌, ◌≤◌, ◌⊎◌, inl, inr, List, [], ◌∷◌, ◌++◌, length, map, Some, None, Ok, Err, refl, sym, ap}
+use Rattle.std.proofs.Common.{◌≡◌, ℕ, suc, ◌+◌, ◌-◌, ◌<◌, ◌≤◌, ◌⊎◌, inl, inr, List, [], ◌∷◌, ◌++◌, length, Some, None, Ok, Err, refl, sym, ap}
 use Rattle.std.proofs.Common.{subst, arith, length-append, Bool, true, false, ◌∙◌}
 use Rattle.std.specs.Prelude.{slice_get, ℤ, pos, if◌then◌else◌}
 use Rattle.pcode_assembler.specs.declared.instr.Instr.{Instr}

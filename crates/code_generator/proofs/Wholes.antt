@@ -7,7 +7,6 @@ use Rattle.std.specs.Prelude.{slice_get, slice_set, pos, nat_eq, nat_le, nat_lt,
 use Rattle.std.specs.List.{list_all}
 use Rattle.std.proofs.lemmas.Bool.{and_parts, eqb-true, leb-true, ltb-true}
 use Rattle.std.proofs.lemmas.List.{length-map, length-set}
-use Rattle.std.proofs.lemmas.Option.{none-some, same_Some}
 use Rattle.typed_tree.specs.declared.tree.Whole.{Whole}
 use Rattle.typed_tree.specs.declared.tree.Whole.TheVariants.{Text, Variable as VariableOf}
 use Rattle.typed_tree.specs.WellFormed.{all_hold, is_character, is_value_of, is_well_formed_whole, leads_to_whole}
