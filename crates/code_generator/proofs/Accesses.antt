@@ -1,59 +1,42 @@
 -- The code of an access: it leaves the address of the part that selectors lead to on top, or stops as an index does.
-use Rattle.std.proofs.Common.{◌≡◌, ℕ, zero, suc, ◌+◌, ◌-◌, ◌*◌, ◌<◌, ◌≤◌, max, List, [], ◌∷◌, ◌++◌, length, map, Option, Some, None, Ok, refl, sym, ap, ◌∙◌}
-use Rattle.std.proofs.Common.{subst, append_assoc}
-use Rattle.std.proofs.Common.{arith, length-append, Bool, true, inr, if◌then◌else◌}
-use Rattle.std.specs.Prelude.{ℤ, pos, negsuc, ◌-ℤ◌, ◌≤ℤ◌, int_le, ◌&&◌, fold, nat_lt, slice_get}
-use Rattle.std.specs.List.{list_all}
-use Rattle.std.specs.Option.{option_and_then}
-use Rattle.std.proofs.lemmas.Bool.{and_parts, eqb-true, ltb-true, false≢true}
+use Rattle.code_generator.proofs.Words.{◌≡◌, ℕ, zero, suc, ◌+◌, ◌-◌, ◌*◌, ◌<◌, ◌≤◌, max, List, [], ◌∷◌, ◌++◌, length, map, Option, Some, None, Ok, refl, sym}
+use Rattle.code_generator.proofs.Words.{ap, ◌∙◌, subst, append_assoc, arith, length-append, Bool, true, inr, ℤ, pos, ◌-ℤ◌, int_le, ◌&&◌, nat_lt, slice_get}
+use Rattle.code_generator.proofs.Words.{list_all, option_and_then, and_parts, eqb-true, ltb-true, false≢true, same_Some, slice_get_within, length-map, Instr}
+use Rattle.code_generator.proofs.Words.{TypeId, cells_of, is_ordinal, Expr, RangeTest, Variable, all_hold, is_well_formed_expr, Value, Place, stored, Reply}
+use Rattle.code_generator.proofs.Words.{Gives, Action, ◌>>=◌, number_of, require, value_of, UsesTurnsExactly, Cell, Number, State, expr_code, Home, expr_depth}
+use Rattle.code_generator.proofs.Words.{row_length, links_to, variable_home, start_within}
+use Rattle.std.proofs.Common.{if◌then◌else◌}
+use Rattle.std.specs.Prelude.{negsuc, ◌≤ℤ◌, fold}
 use Rattle.std.proofs.lemmas.Int.{ints}
-use Rattle.std.proofs.lemmas.Option.{same_Some, slice_get_within}
-use Rattle.std.proofs.lemmas.List.{length-map}
-use Rattle.pcode_assembler.specs.declared.instr.Instr.{Instr}
 use Rattle.pcode_assembler.specs.declared.instr.Instr.TheVariants as instr
 use Rattle.types.specs.declared.form.Step.TheVariants as step
-use Rattle.types.specs.declared.form.TypeId.{TypeId}
-use Rattle.types.specs.Types.{cells_of, is_ordinal}
 use Rattle.typed_tree.specs.declared.tree.Access.{Access}
-use Rattle.typed_tree.specs.declared.tree.Expr.{Expr}
-use Rattle.typed_tree.specs.declared.tree.RangeTest.{RangeTest}
 use Rattle.typed_tree.specs.declared.tree.Selector.{Selector}
 use Rattle.typed_tree.specs.declared.tree.Selector.TheVariants.{Element, Field}
-use Rattle.typed_tree.specs.declared.tree.Variable.{Variable}
-use Rattle.typed_tree.specs.Accesses.{index_count, led, is_type}
-use Rattle.typed_tree.specs.Accesses.{selected as chosen}
-use Rattle.typed_tree.specs.WellFormed.{is_visible, all_hold, is_well_formed_expr, is_well_formed_selector, is_well_formed_test, is_whole, leads_to}
-use Rattle.meaning.specs.declared.store.Value.{Value}
-use Rattle.meaning.specs.Store.{Place, stored}
+use Rattle.typed_tree.specs.Accesses.{index_count, led, is_type, selected as chosen}
+use Rattle.typed_tree.specs.WellFormed.{is_visible, is_well_formed_selector, is_well_formed_test, is_whole, leads_to}
 use Rattle.meaning.specs.Effect as effect
-use Rattle.meaning.specs.Effect.{Reply, Gives, Action, ◌>>=◌, fetch, number_of, require}
-use Rattle.meaning.specs.Meaning.{Evaluation, selected, value_of}
-use Rattle.meaning.specs.Laws.{UsesTurnsExactly}
+use Rattle.meaning.specs.Effect.{fetch}
+use Rattle.meaning.specs.Meaning.{Evaluation, selected}
 use Rattle.meaning.specs.Meaning as meaning
-use Rattle.stack_machine.specs.declared.cell.Cell.{Cell}
-use Rattle.stack_machine.specs.declared.cell.Cell.TheVariants.{Number}
 use Rattle.stack_machine.specs.Addresses.{element}
 use Rattle.stack_machine.specs.Frames.{on_two, base as base_of}
-use Rattle.stack_machine.specs.Machine.{State}
-use Rattle.code_scheme.specs.Code.{Reached, At, By, address_code, address_of, expr_code, fetch_code, field_code, range_check, reached, reached_from}
-use Rattle.code_scheme.specs.Code.{selectors_code, variable_code}
-use Rattle.code_scheme.specs.declared.home.Home.{Home}
-use Rattle.code_scheme.specs.Depth.{access_depth, expr_depth}
-use Rattle.code_scheme.specs.Scopes.{offset, row_length, access_offset, behind_fields, fields_offset, links_to, variable_home}
+use Rattle.code_scheme.specs.Code.{Reached, At, By, address_code, address_of, fetch_code, field_code, range_check, reached, reached_from, selectors_code}
+use Rattle.code_scheme.specs.Code.{variable_code}
+use Rattle.code_scheme.specs.Depth.{access_depth}
+use Rattle.code_scheme.specs.Scopes.{offset, access_offset, behind_fields, fields_offset}
 use Rattle.check_remover.specs.Strip.{stays}
-use Rattle.code_scheme.proofs.Pieces.{start_within}
 use Rattle.code_generator.proofs.Acts.{loads}
 use Rattle.code_generator.proofs.Addressing.{loads_address, increases, indexes as element_indexed, loads_indirect}
 use Rattle.code_generator.proofs.Alike.{LiesIn, Leads, cell_of, cell_within, alike_above, base_is, keeps_above}
-use Rattle.code_generator.proofs.Evaluating.{ExprRuns, fetched_runs, frames_of, one_held, sites}
+use Rattle.code_generator.proofs.Evaluating.{ExprRuns, fetched_runs, frames_of, one_held, sites, range_then}
 use Rattle.code_generator.proofs.Numbers.{Fits, same_range}
 use Rattle.code_generator.proofs.Parts.{inner, IsPart, element_part, field_part, is_element, is_field_of, led_on, ordinal_part, part_later, part_up_to}
 use Rattle.code_generator.proofs.Reach.{Stands, StandsAt, stands_front, stands_back, Comes, comes_less, stays_here}
 use Rattle.code_generator.proofs.Exact.{exact_selected}
 use Rattle.code_generator.proofs.Setting.{Setting, Shown, Way, Direct, ByAddress, Reaches, outline, around, exact_around, on, Based, linked, limit_far, acts}
-use Rattle.code_generator.proofs.Running.{Aim, Arrives, Evaluates, Runs, instr_then, runs_from, then_code, value_on, value_then}
 use Rattle.code_generator.proofs.Setting.{entered}
-use Rattle.code_generator.proofs.Evaluating.{range_then}
+use Rattle.code_generator.proofs.Running.{Aim, Arrives, Evaluates, Runs, instr_then, runs_from, then_code, value_on, value_then}
 use Rattle.code_generator.proofs.Lists.{slice_get-front, length_one}
 
 -- how far a number lies above another

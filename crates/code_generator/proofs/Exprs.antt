@@ -1,18 +1,16 @@
 -- The code of an expression leaves its value on top, or stops as the expression does.
-use Rattle.std.proofs.Common.{◌≡◌, ℕ, ◌+◌, ◌<◌, ◌≤◌, max, List, [], ◌∷◌, ◌++◌, length, map, Option, Some, None, Ok, inr, refl, sym, ap, ◌∙◌, subst, arith}
-use Rattle.std.proofs.Common.{length-append, append_assoc, append-nil, ◌-◌, suc, zero, Bool, true, false}
-use Rattle.std.specs.Prelude.{ℤ, pos, neg_ℤ, ◌+ℤ◌, ◌-ℤ◌, ◌*ℤ◌, int_le, int_lt, int_div, slice_get, unsigned_abs, nat_eq, nat_lt, not, ◌&&◌, ◌||◌, fold}
-use Rattle.std.specs.Int.{w32, cast_signed, int_rem_euclid, int_wrapping_add, int_wrapping_sub, int_wrapping_mul, int_wrapping_div, int_wrapping_neg}
+use Rattle.code_generator.proofs.Words.{◌≡◌, ℕ, ◌+◌, ◌<◌, ◌≤◌, max, List, [], ◌∷◌, ◌++◌, length, map, Option, Some, None, Ok, inr, refl, sym, ap, ◌∙◌, subst}
+use Rattle.code_generator.proofs.Words.{arith, length-append, append_assoc, append-nil, ◌-◌, suc, zero, Bool, true, false, ℤ, pos, ◌-ℤ◌, int_le, slice_get}
+use Rattle.code_generator.proofs.Words.{nat_eq, nat_lt, not, ◌&&◌, ◌||◌, w32, eqb-true, ltb-true, and_parts, length-map, none-some, same_Some, Instr, TypeId}
+use Rattle.code_generator.proofs.Words.{is_ordinal, Form, Expr, Block, RangeTest, Value, Place, UsesTurnsExactly, Action, ◌>>=◌, number_of, require, give}
+use Rattle.code_generator.proofs.Words.{value_of, Argument, OfValue, OfRow, OfPlace, deed_of, Cell, Number, Attempt, expr_code, expr_depth, called_routine}
+use Rattle.code_generator.proofs.Words.{links_to, row_length, all_hold, is_well_formed_expr, heading_of, moved, start_within}
+use Rattle.std.specs.Prelude.{neg_ℤ, ◌+ℤ◌, ◌*ℤ◌, int_lt, int_div, unsigned_abs, fold}
+use Rattle.std.specs.Int.{cast_signed, int_rem_euclid, int_wrapping_add, int_wrapping_sub, int_wrapping_mul, int_wrapping_div, int_wrapping_neg}
 use Rattle.std.specs.Ordering.{int_eq}
-use Rattle.std.proofs.lemmas.Bool.{eqb-true, ltb-true, and_parts}
-use Rattle.std.proofs.lemmas.List.{length-map}
-use Rattle.std.proofs.lemmas.Option.{none-some, same_Some}
-use Rattle.pcode_assembler.specs.declared.instr.Instr.{Instr}
 use Rattle.pcode_assembler.specs.declared.instr.Instr.TheVariants as instr
 use Rattle.types.specs.declared.form.OrdinalRange.{OrdinalRange}
-use Rattle.types.specs.declared.form.TypeId.{TypeId}
-use Rattle.types.specs.Types.{is_ordinal, is_same, cells_of as type_cells}
-use Rattle.types.specs.Forms.{Form}
+use Rattle.types.specs.Types.{is_same, cells_of as type_cells}
 use Rattle.typed_tree.specs.declared.tree.Access.{Access}
 use Rattle.typed_tree.specs.declared.tree.Variable.{Variable as DeclaredVariable}
 use Rattle.typed_tree.specs.declared.tree.Monadic.{Monadic}
@@ -28,77 +26,54 @@ use Rattle.typed_tree.specs.declared.tree.Relation.TheVariants as relation
 use Rattle.typed_tree.specs.declared.tree.Width.{Width}
 use Rattle.typed_tree.specs.declared.tree.Written.{Written}
 use Rattle.typed_tree.specs.declared.tree.Whole.{Whole}
-use Rattle.typed_tree.specs.declared.tree.Expr.{Expr}
 use Rattle.typed_tree.specs.declared.tree.Link.{Link}
-use Rattle.typed_tree.specs.declared.tree.Block.{Block}
 use Rattle.typed_tree.specs.declared.tree.Call.{Call}
 use Rattle.typed_tree.specs.declared.tree.Heading.{Heading}
 use Rattle.typed_tree.specs.declared.tree.Passed.{Passed}
-use Rattle.typed_tree.specs.declared.tree.RangeTest.{RangeTest}
 use Rattle.typed_tree.specs.declared.tree.Expr.TheOpen.{Expr-F, Passed-F, Link-F}
 use Rattle.typed_tree.specs.declared.tree.Expr.TheOpen.Passed-F.{Value as PassedValue, Whole as PassedWhole, Reference}
 use Rattle.typed_tree.specs.declared.tree.Expr.TheOpen.Expr-F.{Constant, Variable, Monadic as MonadicOf, Chain, Compare, Call as CallOf}
 use Rattle.typed_tree.specs.declared.tree.Expr.TheViews.{roll-Expr, roll-Passed, roll-Link}
-use Rattle.typed_tree.specs.declared.tree.Expr.TheFolds.{map-Expr, map-Passed, map-Link, fold-roll-Expr, fold-roll-Passed, fold-roll-Link}
-use Rattle.typed_tree.specs.declared.tree.Expr.TheFolds.{ind-Expr, ind-Passed}
-use Rattle.meaning.specs.declared.store.Value.{Value}
+use Rattle.typed_tree.specs.declared.tree.Expr.TheFolds.{map-Expr, map-Passed, map-Link, fold-roll-Expr, fold-roll-Passed, fold-roll-Link, ind-Expr, ind-Passed}
 use Rattle.meaning.specs.declared.store.Value.TheVariants as value
-use Rattle.meaning.specs.Store.{Place}
 use Rattle.meaning.specs.Effect as effect
-use Rattle.meaning.specs.Laws.{UsesTurnsExactly}
-use Rattle.meaning.specs.Effect.{Action, ◌>>=◌, fetch, number_of, require, give}
-use Rattle.meaning.specs.Meaning.{Evaluation, Combination, value_of, link_of, value_step, operated, combined, relates, in_turn, width_of, order_of}
-use Rattle.meaning.specs.Meaning.{calculated, overflow_of, shifted, unless_overflow}
+use Rattle.meaning.specs.Effect.{fetch}
+use Rattle.meaning.specs.Meaning.{Evaluation, Combination, link_of, value_step, operated, combined, relates, in_turn, width_of, order_of, calculated}
+use Rattle.meaning.specs.Meaning.{overflow_of, shifted, unless_overflow, Passing, all_passed, calls_of, passing_of}
 use Rattle.meaning.proofs.Replies.{and_then-and_then}
-use Rattle.meaning.specs.Meaning.{Argument, OfValue, OfRow, OfPlace, Passing, all_passed, calls_of, passing_of}
 use Rattle.meaning.specs.Meaning as meaning
 use Rattle.meaning.specs.Integers.{magnitude, truth}
-use Rattle.stack_machine.specs.Deeds.{Acts, Tests, deed_of}
-use Rattle.stack_machine.specs.declared.cell.Cell.{Cell}
-use Rattle.stack_machine.specs.declared.cell.Cell.TheVariants.{Number}
+use Rattle.stack_machine.specs.Deeds.{Acts, Tests}
 use Rattle.stack_machine.specs.Frames as frames
-use Rattle.stack_machine.specs.Frames.{Attempt}
 use Rattle.stack_machine.specs.Rows as rows
 use Rattle.machine_arithmetic.specs.Arithmetic.{is_odd}
-use Rattle.code_scheme.specs.Code.{calculation_code, monadic_code, shift_code}
-use Rattle.code_scheme.specs.Code.{joined, dyadic_code, relation_instr, variable_code, width_code, check_positive, expr_code, link_code}
-use Rattle.code_scheme.specs.Code.{address_code, call_code, expr_step, passed_code, passed_step as passed_code_step, range_check}
-use Rattle.code_scheme.specs.Code.{link_step, compare_code, default_width, whole_code}
-use Rattle.code_scheme.specs.Depth.{access_depth, expr_depth, link_depth, expr_depth_step, link_depth_step, width_depth, monadic_depth, whole_depth}
-use Rattle.code_scheme.specs.Depth.{PassedDepth, actuals_depth, call_depth, passed_depth, passed_depth_step, shift_depth}
-use Rattle.code_scheme.specs.Scopes.{called_routine, links_to, row_length}
-use Rattle.typed_tree.specs.WellFormed.{calculation_is_well_formed, shift_is_well_formed}
-use Rattle.typed_tree.specs.WellFormed.{all_hold, monadic_is_well_formed, dyadic_is_well_formed, expr_is_well_formed, link_is_well_formed, is_well_formed_expr}
-use Rattle.typed_tree.specs.WellFormed.{is_well_formed_link, is_well_formed_width, is_well_formed_whole, is_whole, leads_to_ordinal, length_of, whole_indexes}
-use Rattle.typed_tree.specs.WellFormed.{formal_of, heading_of, is_callable, is_passed_to, is_well_formed_call, is_well_formed_passed, is_well_formed_test}
-use Rattle.typed_tree.specs.WellFormed.{leads_to_type, may_call, may_copy, passed_is_well_formed, passes_value, passes_variable, passes_whole}
-use Rattle.typed_tree.specs.WellFormed.{placed as placed_for, source_of, takes_value, takes_variable, takes_whole}
-use Rattle.check_remover.specs.Strip.{moved}
-use Rattle.code_scheme.proofs.Pieces.{start_within}
+use Rattle.code_scheme.specs.Code.{calculation_code, monadic_code, shift_code, joined, dyadic_code, relation_instr, variable_code, width_code, check_positive}
+use Rattle.code_scheme.specs.Code.{link_code, address_code, call_code, expr_step, passed_code, passed_step as passed_code_step, range_check, link_step}
+use Rattle.code_scheme.specs.Code.{compare_code, default_width, whole_code}
+use Rattle.code_scheme.specs.Depth.{access_depth, link_depth, expr_depth_step, link_depth_step, width_depth, monadic_depth, whole_depth, PassedDepth}
+use Rattle.code_scheme.specs.Depth.{actuals_depth, call_depth, passed_depth, passed_depth_step, shift_depth}
+use Rattle.typed_tree.specs.WellFormed.{calculation_is_well_formed, shift_is_well_formed, monadic_is_well_formed, dyadic_is_well_formed, expr_is_well_formed}
+use Rattle.typed_tree.specs.WellFormed.{link_is_well_formed, is_well_formed_link, is_well_formed_width, is_well_formed_whole, is_whole, leads_to_ordinal}
+use Rattle.typed_tree.specs.WellFormed.{length_of, whole_indexes, formal_of, is_callable, is_passed_to, is_well_formed_call, is_well_formed_passed}
+use Rattle.typed_tree.specs.WellFormed.{is_well_formed_test, leads_to_type, may_call, may_copy, passed_is_well_formed, passes_value, passes_variable}
+use Rattle.typed_tree.specs.WellFormed.{passes_whole, placed as placed_for, source_of, takes_value, takes_variable, takes_whole}
 use Rattle.code_generator.proofs.Alike.{Leads, leads_split}
 use Rattle.code_generator.proofs.Calling.{marks}
 use Rattle.code_generator.proofs.Exact.{exact_link, exact_passed}
 use Rattle.code_generator.proofs.Nesting.{one_there}
-use Rattle.code_generator.proofs.Passing.{AllPass, CallsAt, PassedRuns, Passes, PassesAs, Returns, function_evaluates, links_of}
+use Rattle.code_generator.proofs.Passing.{AllPass, CallsAt, PassedRuns, Passes, PassesAs, Returns, function_evaluates, links_of, all_on, passed_on, passes_it}
+use Rattle.code_generator.proofs.Passing.{return_on}
 use Rattle.code_generator.proofs.Reach.{StandsAt, Stands, Comes, comes_less, comes_on, stays_here}
 use Rattle.code_generator.proofs.Rows.{cells_of, length-cells_of, compares, numbers_of, same_order, order_fits}
-use Rattle.code_generator.proofs.Setting.{Setting, outline, around, exact_around, on, Based, linked, Here, acts, passes, fails}
-use Rattle.code_generator.proofs.Setting.{as_value}
-use Rattle.code_generator.proofs.Accesses.{Indexes, expressions, wells, as_many_wells, codes, depths, leads, begins, fetch_runs, found as place_found}
-use Rattle.code_generator.proofs.Accesses.{PartAt, address_runs, exact_found, frame_found}
-use Rattle.code_generator.proofs.Evaluating.{same_four}
-use Rattle.code_generator.proofs.Evaluating.{sites, frames_of, RunsAs, CombinesAs, ExprRuns, LinkRuns, one_held}
-use Rattle.code_generator.proofs.Wholes.{copied_cells, few_components, same_type, whole_runs}
-use Rattle.code_generator.proofs.Acts.{pushes, on_one_is, is_in_range, is_not_zero, squares, sums, differs, multiplies}
-use Rattle.code_generator.proofs.Acts.{on_two_is, divides, leaves}
+use Rattle.code_generator.proofs.Setting.{Setting, outline, around, exact_around, on, Based, linked, Here, acts, passes, fails, as_value, entered}
+use Rattle.code_generator.proofs.Accesses.{Indexes, expressions, wells, as_many_wells, codes, depths, leads, begins, fetch_runs, found as place_found, PartAt}
+use Rattle.code_generator.proofs.Accesses.{address_runs, exact_found, frame_found, address_on, at_address}
+use Rattle.code_generator.proofs.Evaluating.{same_four, sites, frames_of, RunsAs, CombinesAs, ExprRuns, LinkRuns, one_held, range_then}
+use Rattle.code_generator.proofs.Wholes.{copied_cells, few_components, same_type, whole_runs, row_on, row_then}
+use Rattle.code_generator.proofs.Acts.{pushes, on_one_is, is_in_range, is_not_zero, squares, sums, differs, multiplies, on_two_is, divides, leaves}
 use Rattle.code_generator.proofs.Numbers.{Fits, sum_is, difference_is, product_is, fits_negated, negated_is, fits_magnitude, magnitude_is, fits_quotient}
 use Rattle.code_generator.proofs.Numbers.{quotient_is, fits_remainder, fits_truth, same_truth, same_test, same_positive, fits_next, fits_previous, same_range}
 use Rattle.code_generator.proofs.Running.{Aim, Evaluates, Runs, gives, instr_then, runs_from, runs_same, then_code, then_runs, value_on, value_then}
-use Rattle.code_generator.proofs.Accesses.{address_on, at_address}
-use Rattle.code_generator.proofs.Passing.{all_on, passed_on, passes_it, return_on}
-use Rattle.code_generator.proofs.Setting.{entered}
-use Rattle.code_generator.proofs.Evaluating.{range_then}
-use Rattle.code_generator.proofs.Wholes.{row_on, row_then}
 use Rattle.code_generator.proofs.Lists.{length_one}
 
 -- a heading of a table is that of a block

@@ -1,31 +1,19 @@
 -- What the code of a piece of the program does: it comes to where it is to come with what the piece gives, or stops as the
 -- piece does. Code runs behind other code, whatever each is to come to.
-use Rattle.std.proofs.Common.{◌≡◌, ℕ, ◌+◌, ◌-◌, ◌<◌, ◌≤◌, ◌⊎◌, inl, inr, List, [], ◌∷◌, ◌++◌, length, Ok, refl, sym, subst, arith, length-append}
-use Rattle.std.proofs.Common.{Bool, true, false}
-use Rattle.std.specs.Prelude.{ℤ}
-use Rattle.pcode_assembler.specs.declared.instr.Instr.{Instr}
+use Rattle.code_generator.proofs.Words.{◌≡◌, ℕ, ◌+◌, ◌-◌, ◌<◌, ◌≤◌, ◌⊎◌, inl, inr, List, [], ◌∷◌, ◌++◌, length, Ok, refl, sym, subst, arith, length-append}
+use Rattle.code_generator.proofs.Words.{Bool, true, false, ℤ, Instr, Value, Reply, Gives, Action, ◌>>=◌, number_of, require, UsesTurnsExactly, deed_of, Cell}
+use Rattle.code_generator.proofs.Words.{Number, Attempt, Frames, State, moved, is_true}
 use Rattle.pcode_assembler.specs.declared.instr.Instr.TheVariants as instr
-use Rattle.meaning.specs.declared.store.Value.{Value}
 use Rattle.meaning.specs.declared.store.Value.TheVariants as value
 use Rattle.meaning.specs.Effect as effect
-use Rattle.meaning.specs.Effect.{Reply, Gives, Action, ◌>>=◌, number_of, require}
-use Rattle.meaning.specs.Laws.{UsesTurnsExactly}
 use Rattle.meaning.proofs.Replies.{and_then-and_then}
-use Rattle.stack_machine.specs.Deeds.{Tests, deed_of}
+use Rattle.stack_machine.specs.Deeds.{Tests}
 use Rattle.code_generator.proofs.Acts.{framed}
-use Rattle.stack_machine.specs.declared.cell.Cell.{Cell}
-use Rattle.stack_machine.specs.declared.cell.Cell.TheVariants.{Number}
-use Rattle.stack_machine.specs.Frames.{Attempt, Frames}
-use Rattle.stack_machine.specs.Machine.{State}
-use Rattle.check_remover.specs.Strip.{moved}
 use Rattle.code_generator.proofs.Exact.{exact_give, exact_then}
 use Rattle.code_generator.proofs.Numbers.{Fits}
-use Rattle.code_generator.proofs.Reach.{Stands, StandsAt, Comes, comes_on, comes_less, stands_front, stands_back}
-use Rattle.code_generator.proofs.Setting.{Setting, on, Based, Ends, ends_on, Starves, starves_on, starves_same, starves_first, starves_behind}
-use Rattle.code_generator.proofs.Setting.{as_value, passes, fails}
-use Rattle.code_generator.proofs.Reach.{stays_here}
-use Rattle.stack_machine.specs.Frames.{is_true}
-use Rattle.code_generator.proofs.Setting.{branched}
+use Rattle.code_generator.proofs.Reach.{Stands, StandsAt, Comes, comes_on, comes_less, stands_front, stands_back, stays_here}
+use Rattle.code_generator.proofs.Setting.{Setting, on, Based, Ends, ends_on, Starves, starves_on, starves_same, starves_first, starves_behind, as_value, passes}
+use Rattle.code_generator.proofs.Setting.{fails, branched}
 
 -- where code is to come with what a piece gives: what holds then, the machine there, and for how many turns more than the
 -- piece used its instructions make up

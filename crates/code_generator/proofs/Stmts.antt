@@ -1,18 +1,18 @@
 -- The code of a statement keeps the program's store and the cells of its frame alike, or stops as the statement does.
-use Rattle.std.proofs.Common.{◌≡◌, ℕ, suc, ◌+◌, ◌<◌, ◌≤◌, max, Option, List, [], ◌∷◌, ◌++◌, length, map, Some, None, Ok, inr, refl, sym, ap, ◌∙◌, subst, arith}
-use Rattle.std.proofs.Common.{length-append, append_assoc, append-nil, Bool, true, false}
-use Rattle.std.specs.Prelude.{slice_set, ℤ, pos, negsuc, ◌+ℤ◌, ◌-ℤ◌, int_le, not, nat_lt, ◌-◌, ◌&&◌, replicate, take, codes, if◌then◌else◌, fold}
+use Rattle.code_generator.proofs.Words.{◌≡◌, ℕ, suc, ◌+◌, ◌<◌, ◌≤◌, max, Option, List, [], ◌∷◌, ◌++◌, length, map, Some, None, Ok, inr, refl, sym, ap, ◌∙◌}
+use Rattle.code_generator.proofs.Words.{subst, arith, length-append, append_assoc, append-nil, Bool, true, false, slice_set, ℤ, pos, ◌-ℤ◌, int_le, not, nat_lt}
+use Rattle.code_generator.proofs.Words.{◌&&◌, if◌then◌else◌, ltb-true, and_parts, Instr, RangeTest, Expr, Value, UsesTurnsExactly, Action, ◌>>=◌, number_of}
+use Rattle.code_generator.proofs.Words.{require, give, value_of, deed_of, Cell, Undefined, Number, Attempt, State, Scope, count, row_length, expr_code}
+use Rattle.code_generator.proofs.Words.{expr_depth, all_hold, is_well_formed_expr, start_within}
+use Rattle.std.specs.Prelude.{negsuc, ◌+ℤ◌, ◌-◌, replicate, take, codes, fold}
 use Rattle.std.specs.Global.{Vec}
 use Rattle.std.specs.List.{flat_map}
 use Rattle.std.specs.Ordering.{int_eq}
 use Rattle.check_remover.specs.Strip.{stays}
 use Rattle.std.specs.Fmt.{signed_decimal}
-use Rattle.std.proofs.lemmas.Bool.{ltb-true, and_parts}
-use Rattle.pcode_assembler.specs.declared.instr.Instr.{Instr}
 use Rattle.pcode_assembler.specs.declared.instr.Instr.TheVariants as instr
 use Rattle.typed_tree.specs.declared.tree.Call.{Call}
 use Rattle.typed_tree.specs.declared.tree.Passed.{Passed}
-use Rattle.typed_tree.specs.declared.tree.RangeTest.{RangeTest}
 use Rattle.typed_tree.specs.declared.tree.Direction.{Direction}
 use Rattle.typed_tree.specs.declared.tree.Direction.TheVariants as direction
 use Rattle.typed_tree.specs.declared.tree.Representation.{Representation}
@@ -22,71 +22,56 @@ use Rattle.typed_tree.specs.declared.tree.WriteParameter.{WriteParameter}
 use Rattle.typed_tree.specs.declared.tree.Written.{Written}
 use Rattle.typed_tree.specs.declared.tree.Written.TheVariants.{Ordinal, String}
 use Rattle.typed_tree.specs.declared.tree.Whole.{Whole}
-use Rattle.typed_tree.specs.declared.tree.Expr.{Expr}
 use Rattle.typed_tree.specs.declared.tree.Stmt.{Stmt}
 use Rattle.typed_tree.specs.declared.tree.Stmt.TheOpen.{Stmt-F}
 use Rattle.typed_tree.specs.declared.tree.Stmt.TheOpen.Stmt-F.{Empty, Assign, Copy, Write, Compound, If, While, Repeat, For, Case, Call as Calling}
 use Rattle.typed_tree.specs.declared.tree.Stmt.TheViews.{roll-Stmt}
 use Rattle.typed_tree.specs.declared.tree.Stmt.TheFolds.{fold-Stmt, map-Stmt, fold-roll-Stmt, ind-Stmt}
 use Rattle.meaning.specs.declared.outcome.Ending.TheVariants as ending
-use Rattle.meaning.specs.declared.store.Value.{Value}
 use Rattle.meaning.specs.declared.store.Value.TheVariants as value
 use Rattle.meaning.specs.Store.{kept, forgotten}
 use Rattle.meaning.specs.Counting.{has_values, next_value, value_behind}
 use Rattle.meaning.specs.Effect as effect
-use Rattle.meaning.specs.Laws.{GoesRoundByRound, UsesTurnsExactly}
-use Rattle.meaning.specs.Effect.{Action, Round, ◌>>=◌, number_of, require, give}
+use Rattle.meaning.specs.Laws.{GoesRoundByRound}
+use Rattle.meaning.specs.Effect.{Round}
 use Rattle.meaning.specs.Meaning.{Execution, is_so, turn_if, while_round, repeat_round, for_round, for_rounds, for_between, is_among, arm_of, whole_of}
-use Rattle.meaning.specs.Meaning.{alternative_of, value_of, width_of, effect_of, effect_step, parameter_of, all_of, line_ended}
-use Rattle.meaning.specs.Meaning.{call_of, passing_of, default_width as default_width_of}
-use Rattle.stack_machine.specs.Deeds.{Writes, deed_of}
-use Rattle.stack_machine.specs.declared.cell.Cell.{Cell}
-use Rattle.stack_machine.specs.declared.cell.Cell.TheVariants.{Undefined, Number}
+use Rattle.meaning.specs.Meaning.{alternative_of, width_of, effect_of, effect_step, parameter_of, all_of, line_ended, call_of, passing_of}
+use Rattle.meaning.specs.Meaning.{default_width as default_width_of}
+use Rattle.stack_machine.specs.Deeds.{Writes}
 use Rattle.machine_arithmetic.specs.declared.arithmetic.Dyadic.TheVariants as dyadic
 use Rattle.stack_machine.specs.Frames as frames
-use Rattle.stack_machine.specs.Frames.{Attempt}
 use Rattle.stack_machine.specs.Machine as machine
-use Rattle.stack_machine.specs.Machine.{State, with_text}
+use Rattle.stack_machine.specs.Machine.{with_text}
 use Rattle.stack_machine.specs.Texts as texts
-use Rattle.code_scheme.specs.Scopes.{Scope, count, held_offset, holding, row_length}
+use Rattle.code_scheme.specs.Scopes.{held_offset, holding}
 use Rattle.code_scheme.specs.Code.{Placed, placed, if_code, if_else_code, while_code, repeat_code, for_code, for_entry, for_begin, for_next, for_end}
-use Rattle.code_scheme.specs.Code.{order_instr, next_instr, row_code, arms_code, case_code, expr_code, width_code, write_instr, parameter_code, line_end_code}
-use Rattle.code_scheme.specs.Code.{call_code, passed_code, write_code, stmt_code, stmt_step, default_width, ordinal_instr, ordinal_width, whole_code}
-use Rattle.code_scheme.specs.Depth.{call_depth, greatest, passed_depth, stmt_depth, stmt_depth_step, arms_depth, expr_depth, parameter_depth, width_depth}
-use Rattle.code_scheme.specs.Depth.{whole_depth}
-use Rattle.typed_tree.specs.WellFormed.{all_hold, is_well_formed_expr, is_well_formed_width, is_well_formed_parameter, is_well_formed_test, is_well_formed_stmt}
-use Rattle.typed_tree.specs.WellFormed.{fits_target, stmt_is_well_formed, is_control, is_well_formed_call, is_well_formed_passed, is_well_formed_whole}
-use Rattle.typed_tree.specs.WellFormed.{length_of, whole_indexes}
+use Rattle.code_scheme.specs.Code.{order_instr, next_instr, row_code, arms_code, case_code, width_code, write_instr, parameter_code, line_end_code, call_code}
+use Rattle.code_scheme.specs.Code.{passed_code, write_code, stmt_code, stmt_step, default_width, ordinal_instr, ordinal_width, whole_code}
+use Rattle.code_scheme.specs.Depth.{call_depth, greatest, passed_depth, stmt_depth, stmt_depth_step, arms_depth, parameter_depth, width_depth, whole_depth}
+use Rattle.typed_tree.specs.WellFormed.{is_well_formed_width, is_well_formed_parameter, is_well_formed_test, is_well_formed_stmt, fits_target}
+use Rattle.typed_tree.specs.WellFormed.{stmt_is_well_formed, is_control, is_well_formed_call, is_well_formed_passed, is_well_formed_whole, length_of}
+use Rattle.typed_tree.specs.WellFormed.{whole_indexes}
 use Rattle.code_generator.proofs.Reach.{Stands, StandsAt, stands_front, stands_back, Comes, comes_less, comes_on, stays_here}
-use Rattle.code_generator.proofs.Setting.{branched}
-use Rattle.code_generator.proofs.Setting.{goes_around}
-use Rattle.code_generator.proofs.Setting.{Setting, outline, around, exact_around, on, Based, later, linked, limit_far, Here, goes_on, jumps}
-use Rattle.code_generator.proofs.Setting.{fails}
-use Rattle.code_generator.proofs.Loops.{Rounds, RoundsBehind, RoundRuns, rounds_later, turned, loops, reset, to_reset}
-use Rattle.code_generator.proofs.Loops.{rounds_from_reset, executes_from_reset}
+use Rattle.code_generator.proofs.Setting.{branched, goes_around, Setting, outline, around, exact_around, on, Based, later, linked, limit_far, Here, goes_on}
+use Rattle.code_generator.proofs.Setting.{jumps, fails, entered}
+use Rattle.code_generator.proofs.Loops.{Rounds, RoundsBehind, RoundRuns, rounds_later, turned, loops, reset, to_reset, rounds_from_reset, executes_from_reset}
+use Rattle.code_generator.proofs.Loops.{round_on}
 use Rattle.code_generator.proofs.Accesses.{Indexes, expressions, wells, codes as index_codes}
 use Rattle.code_generator.proofs.Assigns.{told, told_back, assign_runs, copy_runs}
-use Rattle.code_generator.proofs.Evaluating.{same_four}
-use Rattle.code_generator.proofs.Evaluating.{sites, ExecutesAs, fetched_at, frames_of, one_held}
+use Rattle.code_generator.proofs.Evaluating.{same_four, sites, ExecutesAs, fetched_at, frames_of, one_held, range_then}
 use Rattle.code_generator.proofs.Exact.{exact_for_round, exact_parameters, exact_repeat_round, exact_statements, exact_while_round}
 use Rattle.code_generator.proofs.Passing.{CallsAt, CallsRun, returns_executes}
 use Rattle.code_generator.proofs.Repeats.{repeats, repeats_step}
-use Rattle.code_generator.proofs.Wholes.{AllFit, few_components, fitting_bytes, whole_runs}
-use Rattle.code_generator.proofs.Held.{slot, IsScalar, is_scalar, variable_kept, variable_forgotten, loads_held, stores_held, decides}
-use Rattle.code_generator.proofs.Held.{begins, steps, leaves}
+use Rattle.code_generator.proofs.Wholes.{AllFit, few_components, fitting_bytes, whole_runs, row_then}
+use Rattle.code_generator.proofs.Held.{slot, IsScalar, is_scalar, variable_kept, variable_forgotten, loads_held, stores_held, decides, begins, steps, leaves}
 use Rattle.code_generator.proofs.Held.{compares_row, last_is, next_fits, one_fits}
-use Rattle.code_scheme.proofs.Pieces.{length-For, start_within}
+use Rattle.code_scheme.proofs.Pieces.{length-For}
 use Rattle.code_generator.proofs.Acts.{writes}
 use Rattle.code_generator.proofs.Numbers.{Fits, fits_by_abs, sum_is, difference_is}
 use Rattle.code_generator.proofs.Rows.{cells_of, length-cells_of, numbers_of, same_byte, writes_string}
-use Rattle.code_generator.proofs.Exprs.{call_runs, expr_runs, width_runs}
+use Rattle.code_generator.proofs.Exprs.{call_runs, expr_runs, width_runs, expr_then}
 use Rattle.code_generator.proofs.Running.{Aim, Executes, Runs, behind_executes, branch_then, done, done_then, kept_on, number_then, runs_from, then_runs}
 use Rattle.code_generator.proofs.Running.{value_on}
-use Rattle.code_generator.proofs.Setting.{entered}
-use Rattle.code_generator.proofs.Exprs.{expr_then}
-use Rattle.code_generator.proofs.Evaluating.{range_then}
-use Rattle.code_generator.proofs.Loops.{round_on}
-use Rattle.code_generator.proofs.Wholes.{row_then}
 use Rattle.code_generator.proofs.Lists.{length_one}
 
 -- what the machine writes in a width is what the program writes

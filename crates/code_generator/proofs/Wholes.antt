@@ -1,58 +1,45 @@
 -- The code of a whole value leaves the row of its components on top, or stops as the value does; and a row of cells that is
 -- stored from an address on is what the program writes to the components there.
-use Rattle.std.proofs.Common.{◌≡◌, ℕ, zero, suc, ◌+◌, ◌-◌, ◌<◌, ◌≤◌, ◌⊎◌, inl, inr, List, [], ◌∷◌, ◌++◌, length, map, take, drop, Option, Some}
-use Rattle.std.proofs.Common.{None, Ok}
-use Rattle.std.proofs.Common.{refl, sym, ap, ◌∙◌, subst, arith, length-append, append_assoc, append-nil, Bool, true, false}
-use Rattle.std.specs.Prelude.{slice_get, slice_set, pos, nat_eq, nat_le, nat_lt, not, ◌&&◌}
-use Rattle.std.specs.List.{list_all}
-use Rattle.std.proofs.lemmas.Bool.{and_parts, eqb-true, leb-true, ltb-true}
-use Rattle.std.proofs.lemmas.List.{length-map, length-set}
+use Rattle.code_generator.proofs.Words.{◌≡◌, ℕ, zero, suc, ◌+◌, ◌-◌, ◌<◌, ◌≤◌, ◌⊎◌, inl, inr, List, [], ◌∷◌, ◌++◌, length, map, take, drop, Option, Some, None}
+use Rattle.code_generator.proofs.Words.{Ok, refl, sym, ap, ◌∙◌, subst, arith, length-append, append_assoc, append-nil, Bool, true, false, slice_get, slice_set}
+use Rattle.code_generator.proofs.Words.{pos, nat_eq, nat_lt, not, ◌&&◌, list_all, and_parts, eqb-true, ltb-true, length-map, all_hold, Instr, TypeId}
+use Rattle.code_generator.proofs.Words.{components_of, Form, cells_of, is_ordinal, Value, Place, stored, UsesTurnsExactly, Reply, Gives, Action, ◌>>=◌}
+use Rattle.code_generator.proofs.Words.{number_of, value_of, Cell, Number, State, row_length, start_within}
+use Rattle.std.specs.Prelude.{nat_le}
+use Rattle.std.proofs.lemmas.Bool.{leb-true}
+use Rattle.std.proofs.lemmas.List.{length-set}
 use Rattle.typed_tree.specs.declared.tree.Whole.{Whole}
 use Rattle.typed_tree.specs.declared.tree.Whole.TheVariants.{Text, Variable as VariableOf}
-use Rattle.typed_tree.specs.WellFormed.{all_hold, is_character, is_value_of, is_well_formed_whole, leads_to_whole}
-use Rattle.typed_tree.specs.WellFormed.{is_alike, length_of, may_copy, whole_indexes}
-use Rattle.pcode_assembler.specs.declared.instr.Instr.{Instr}
+use Rattle.typed_tree.specs.WellFormed.{is_character, is_value_of, is_well_formed_whole, leads_to_whole, is_alike, length_of, may_copy, whole_indexes}
 use Rattle.pcode_assembler.specs.declared.instr.Instr.TheVariants as instr
-use Rattle.types.specs.declared.form.TypeId.{TypeId}
-use Rattle.types.specs.Components.{Steps, components_of}
-use Rattle.types.specs.Forms.{Form}
-use Rattle.types.specs.Types.{cells_of, is_ordinal, is_same, is_structured}
+use Rattle.types.specs.Components.{Steps}
+use Rattle.types.specs.Types.{is_same, is_structured}
 use Rattle.meaning.specs.declared.outcome.Ending.TheVariants as ending
-use Rattle.meaning.specs.declared.store.Value.{Value}
 use Rattle.meaning.specs.declared.store.Value.TheVariants as value
 use Rattle.meaning.specs.Store as meant
-use Rattle.meaning.specs.Store.{Place, stored, written}
+use Rattle.meaning.specs.Store.{written}
 use Rattle.meaning.specs.Effect as effect
-use Rattle.meaning.specs.Laws.{UsesTurnsExactly}
-use Rattle.meaning.specs.Effect.{Reply, Gives, Action, ◌>>=◌, fetched, fetch_all, number_of, store_all}
-use Rattle.meaning.specs.Meaning.{value_of, whole_of}
-use Rattle.stack_machine.specs.declared.cell.Cell.{Cell}
-use Rattle.stack_machine.specs.declared.cell.Cell.TheVariants.{Number}
+use Rattle.meaning.specs.Effect.{fetched, fetch_all, store_all}
+use Rattle.meaning.specs.Meaning.{whole_of}
 use Rattle.stack_machine.specs.Frames.{is_defined}
-use Rattle.stack_machine.specs.Machine.{State}
 use Rattle.stack_machine.specs.Texts as texts
 use Rattle.meaning.specs.Integers as integers
 use Rattle.code_scheme.specs.Code.{address_code, whole_code}
 use Rattle.code_scheme.specs.Depth.{whole_depth}
-use Rattle.code_scheme.specs.Scopes.{row_length}
-use Rattle.code_scheme.proofs.Pieces.{start_within}
-use Rattle.code_generator.proofs.Accesses.{Indexes, expressions, wells, codes, depths, PartAt, leads, begins}
-use Rattle.code_generator.proofs.Accesses.{found as place_found, exact_found}
-use Rattle.code_generator.proofs.Accesses.{address_runs}
+use Rattle.code_generator.proofs.Accesses.{Indexes, expressions, wells, codes, depths, PartAt, leads, begins, found as place_found, exact_found, address_runs}
+use Rattle.code_generator.proofs.Accesses.{address_then}
 use Rattle.code_generator.proofs.Acts.{framed, pushes}
 use Rattle.code_generator.proofs.Addressing.{loads_many, all_defined, row_place_is, stores_at}
 use Rattle.stack_machine.specs.Addresses.{store_many}
 use Rattle.code_generator.proofs.Evaluating.{sites}
 use Rattle.code_generator.proofs.Held.{scalar_kept}
 use Rattle.code_generator.proofs.Reach.{Stands, StandsAt, Comes, comes_less, comes_on, stays_here}
-use Rattle.code_generator.proofs.Setting.{Setting, outline, around, on, Based, linked, acts, passes, fails}
+use Rattle.code_generator.proofs.Setting.{Setting, outline, around, on, Based, linked, acts, passes, fails, entered}
 use Rattle.code_generator.proofs.Alike.{LiesIn, cell_of, HasFit, alike_above}
 use Rattle.code_generator.proofs.Numbers.{Fits, fits_by_abs}
 use Rattle.code_generator.proofs.Parts.{inner}
 use Rattle.code_generator.proofs.Rows.{cells_of as value_cells, length-cells_of, numbers_of, same_byte}
 use Rattle.code_generator.proofs.Running.{Aim, Arrives, Runs, runs_from, then_code}
-use Rattle.code_generator.proofs.Accesses.{address_then}
-use Rattle.code_generator.proofs.Setting.{entered}
 use Rattle.code_generator.proofs.Lists.{set_front, take_drop, take_set, drop_set, row_at, length_one}
 
 -- values whose numbers are of type integer
