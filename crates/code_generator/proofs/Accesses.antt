@@ -182,43 +182,7 @@ module _ (g : Setting) where
       → Addresses (on g ((base ++ held) ++ Number (pos d) ∷ []) place s.output) held (place + length (selectors_code selectors (codes indexes))) last
       (selected selectors (map value_of (expressions indexes)) (around g) (Some p)) s
 
-  -- an index in the range of its test: the address of the element, and what is selected from there
-  indexed_by : (fits : RangeTest) (cells : ℕ) (selectors : List Selector) (indexes : Indexes) (depth place d : ℕ) (base held : List Cell) (n : ℤ)
-      (p : Place) (t part last : TypeId) (s : effect.State) → (int_le fits.range.first n && int_le n fits.range.last) ≡ true → SelectorsRun selectors indexes
-      → Stands g.target place (instr.IndexAddress fits.range.first (row_length cells) ∷ selectors_code selectors (codes indexes))
-      → are_well_formed_indexes indexes ≡ true → is_whole fits.range.first ≡ true → are_selectors selectors ≡ true
-      → length (expressions indexes) ≡ index_count selectors → chosen g.tree.types (Element fits cells) t ≡ Some part
-      → led g.tree.types selectors part ≡ Some last
-      → PartAt p t d → Based g s base → g.below + length held + fold max depth (map (λ i. i + 1) (depths indexes)) ≤ g.limit
-      → g.below + length held < g.limit → Fits n
-      → Addresses (on g (((base ++ held) ++ Number (pos d) ∷ []) ++ Number n ∷ []) place s.output) held
-      (place + length (instr.IndexAddress fits.range.first (row_length cells) ∷ selectors_code selectors (codes indexes))) last
-      (selected selectors (map value_of (expressions indexes)) (around g) (Some (inner p (step.Element n ∷ [])))) s
-  indexed_by fits cells selectors indexes depth place d base held n p t part last s holds runs stands wells whole_bound well counts is ends whole based deep
-      room fit =
-      let below = base ++ held in
-      let one = below ++ Number (pos d) ∷ [] in
-      let both = and_parts (int_le fits.range.first n) (int_le n fits.range.last) holds in
-      let low : fits.range.first ≤ℤ n = omega (arith, ints, both.0) in
-      let high : n ≤ℤ fits.range.last = omega (arith, ints, both.1) in
-      let far = counted (n -ℤ fits.range.first) (omega (arith, ints, low)) in
-      let lies = element_at_part fits cells d far.0 n p t part is low high far.1 whole in
-      let small = lies.1 in
-      let same : row_length cells ≡ cells = omega arith in
-      let inside = lies.0.within in
-      let full = based.full in
-      let limit = limit_far g in
-      let long = length-append base held in
-      let there = below ++ Number (pos (d + far.0 * cells)) ∷ [] in
-      let reached = acts g (instr.IndexAddress fits.range.first (row_length cells)) (one ++ Number n ∷ []) there place s.output _ stands.0 refl
-      (ap (λ size. on_two (element fits.range.first size) (frames_of g (one ++ Number n ∷ []))) same
-      ∙ element_indexed g.frame g.limit g.size below (linked g s base held based) fits.range.first n cells d far.0 (omega arith)
-      (record { is = whole_bound }) fit far.1 small (omega arith)) in
-      instr_then g (address_on held last) 1 (instr.IndexAddress fits.range.first (row_length cells)) (selectors_code selectors (codes indexes)) place _ _
-      (selected selectors (map value_of (expressions indexes)) (around g) (Some (inner p (step.Element n ∷ [])))) s reached
-      (runs depth (place + 1) (d + far.0 * cells) base held (inner p (step.Element n ∷ [])) part last s stands.1 wells well counts ends lies.0 based
-      deep room)
-
+  -- a field is a step further; an index is evaluated, tested and gives way to the address of its element
   pub selectors_run : (selectors : List Selector) (indexes : Indexes) → SelectorsRun selectors indexes
   selectors_run [] indexes depth place d base held p t last s stands wells well counts ends whole based deep room =
       let here : place ≡ place + 0 = omega arith in
@@ -277,9 +241,25 @@ module _ (g : Setting) where
       (range_then g (address_on held last (from + 1 + length indexing)) fits v one from s2 (chosen_by v) rest.0
       (ltb-true fits.site (sites g) test_parts.0) (omega (arith, in_frame, length_one (base2 ++ held) (Number (pos d)))) fit2
       (λ holds.
-      indexed_by fits cells selectors indexes (max depth (expr_depth index.0 + 1)) (from + 1) d base2 held n p t on_led.0 last s2
-      (sym (same_range fits.range v fit2) ∙ holds) (selectors_run selectors indexes) rest.1 parts.1 whole_bound selector_parts.1 (omega arith)
-      on_led.1 on_led.2 whole based2 deep (omega arith) fit2)))))
+      let both = and_parts (int_le fits.range.first n) (int_le n fits.range.last) (sym (same_range fits.range v fit2) ∙ holds) in
+      let low : fits.range.first ≤ℤ n = omega (arith, ints, both.0) in
+      let far = counted (n -ℤ fits.range.first) (omega (arith, ints, low)) in
+      let lies = element_at_part fits cells d far.0 n p t on_led.0 on_led.1 low (omega (arith, ints, both.1)) far.1 whole in
+      let small = lies.1 in
+      let same : row_length cells ≡ cells = omega arith in
+      let inside = lies.0.within in
+      let full = based2.full in
+      let limit = limit_far g in
+      let long = length-append base2 held in
+      let reached = acts g (instr.IndexAddress fits.range.first (row_length cells)) (one ++ Number n ∷ [])
+      ((base2 ++ held) ++ Number (pos (d + far.0 * cells)) ∷ []) (from + 1) s2.output _ rest.1.0 refl
+      (ap (λ size. on_two (element fits.range.first size) (frames_of g (one ++ Number n ∷ []))) same
+      ∙ element_indexed g.frame g.limit g.size (base2 ++ held) in_frame fits.range.first n cells d far.0 (omega arith)
+      (record { is = whole_bound }) fit2 far.1 small (omega arith)) in
+      instr_then g (address_on held last) 1 (instr.IndexAddress fits.range.first (row_length cells)) (selectors_code selectors (codes indexes)) (from + 1) _ _
+      (chosen_by v) s2 reached
+      (selectors_run selectors indexes (max depth (expr_depth index.0 + 1)) (from + 1 + 1) (d + far.0 * cells) base2 held
+      (inner p (step.Element n ∷ [])) on_led.0 last s2 rest.1.1 parts.1 selector_parts.1 (omega arith) on_led.2 lies.0 based2 deep (omega arith)))))))
 
   -- ---- an access
 

@@ -74,6 +74,7 @@ use Rattle.code_generator.proofs.Acts.{pushes, on_one_is, is_in_range, is_not_ze
 use Rattle.code_generator.proofs.Numbers.{Fits, sum_is, difference_is, product_is, fits_negated, negated_is, fits_magnitude, magnitude_is, fits_quotient}
 use Rattle.code_generator.proofs.Numbers.{quotient_is, fits_remainder, fits_truth, same_truth, same_test, same_positive, fits_next, fits_previous, same_range}
 use Rattle.code_generator.proofs.Running.{Aim, Evaluates, Runs, gives, instr_then, runs_from, runs_same, then_code, then_runs, value_on, value_then}
+use Rattle.code_generator.proofs.Held.{pushes_number}
 use Rattle.code_generator.proofs.Lists.{length_one}
 
 -- a heading of a table is that of a block
@@ -102,8 +103,7 @@ module _ (g : Setting) where
       let full = based.full in
       let long = length-append base held in
       inr (gives g 1 _ base held (place + 1) (value.Number n) s based
-      (acts g (instr.LoadConstant n) (base ++ held) ((base ++ held) ++ Number n ∷ []) place s.output _ here refl
-      (pushes g.frame g.limit g.size (base ++ held) n (omega arith))) fit (omega arith))
+      (pushes_number g (base ++ held) n place s.output here (omega arith)) fit (omega arith))
 
   -- a constant
   constant_runs : (number : ℕ) (n : ℤ) → RunsAs g (expr_step g.scope (Constant number n)) (expr_depth_step (Constant number n))
@@ -211,8 +211,7 @@ module _ (g : Setting) where
     stepped_runs step f c at1 at2 rule same fit' deep =
         let full = based.full in
         let two = one ++ Number (pos 1) ∷ [] in
-        let pushed = acts g (instr.LoadConstant (pos 1)) one two place s.output _ at1 refl
-        (pushes g.frame g.limit g.size one (pos 1) (omega (arith, length_one cells (Number n), length-append base held))) in
+        let pushed = pushes_number g one (pos 1) place s.output at1 (omega (arith, length_one cells (Number n), length-append base held)) in
         let p : place + 1 + 1 ≡ place + 2 = omega arith in
         subst (λ q. Evaluates g (on g one place s.output) held q (give (value.Number c)) s) p
         (runs_from g (value_on g held (place + 1 + 1)) 1 _ _ (give (value.Number c)) s pushed
@@ -389,8 +388,7 @@ module _ (g : Setting) where
       same_order left right (length-map vs number_of ∙ long ∙ sym as_long ∙ sym (length-map ws number_of)) in
       let compared = acts g (instr.Compare count) both ordered place s.output _ stands.0 refl
       (compares g.frame g.limit g.size cells (linked g s base held based) vs ws count long as_long (omega arith)) in
-      let zero = acts g (instr.LoadConstant (pos 0)) ordered (ordered ++ Number (pos 0) ∷ []) (place + 1) s.output _ stands.1.0 refl
-      (pushes g.frame g.limit g.size ordered (pos 0) (omega (arith, length_one cells (Number order)))) in
+      let zero = pushes_number g ordered (pos 0) (place + 1) s.output stands.1.0 (omega (arith, length_one cells (Number order))) in
       let fit : Fits order = subst Fits (sym is_order) (order_fits left right) in
       let related = relation_runs (place + 1 + 1) base held order (pos 0) s based (omega arith) fit (record { is = refl }) r stands.1.1 in
       let whole = runs_from g (value_on g held (place + 1 + 1 + 1)) 2 _ _ (give (value.Number (truth (relates r order (pos 0))))) s

@@ -325,24 +325,24 @@ abbrev pub StmtRuns : Stmt → Type 0
 StmtRuns s = (g : Setting) → CallsRun g.depth → repeats s ≤ g.slack → ExecutesAs g (stmt_code s) (stmt_depth s) (is_well_formed_stmt (outline g) g.number s)
     (effect_of s)
 
+abbrev bare : List ((s : Stmt) × StmtRuns s) → List Stmt
+bare ss = map (λ x. x.0) ss
+
 each_statement : (g : Setting) (known : CallsRun g.depth) (ss : List ((s : Stmt) × StmtRuns s)) (before : ℕ)
-    → fold max before (map repeats (map (λ x. x.0) ss)) ≤ g.slack → Each
-    (λ s. ExecutesAs g (stmt_code s) (stmt_depth s) (is_well_formed_stmt (outline g) g.number s) (effect_of s))
-    (map (λ x. x.0) ss)
+    → fold max before (map repeats (bare ss)) ≤ g.slack
+    → Each (λ s. ExecutesAs g (stmt_code s) (stmt_depth s) (is_well_formed_stmt (outline g) g.number s) (effect_of s)) (bare ss)
 each_statement g known [] before few = tt
 each_statement g known (s ∷ ss) before few =
-    let least = start_within (max before (repeats s.0)) (map repeats (map (λ x. x.0) ss)) in
+    let least = start_within (max before (repeats s.0)) (map repeats (bare ss)) in
     (s.1 g known (omega arith), each_statement g known ss (max before (repeats s.0)) few)
 
 compound_runs : (g : Setting) (known : CallsRun g.depth) (number : ℕ) (ss : List ((s : Stmt) × StmtRuns s))
-    → greatest (map repeats (map (λ x. x.0) ss)) ≤ g.slack
-    → ExecutesAs g (λ scope place. placed (map (λ code. code scope) (map stmt_code (map (λ x. x.0) ss))) place)
-    (greatest (map stmt_depth (map (λ x. x.0) ss)))
-    (all_hold (map (is_well_formed_stmt (outline g) g.number) (map (λ x. x.0) ss)))
-    (λ e. effect.enter number e.visible >>= λ _. all_of (map effect_of (map (λ x. x.0) ss)) e)
+    → greatest (map repeats (bare ss)) ≤ g.slack
+    → ExecutesAs g (λ scope place. placed (map (λ code. code scope) (map stmt_code (bare ss))) place)
+    (greatest (map stmt_depth (bare ss))) (all_hold (map (is_well_formed_stmt (outline g) g.number) (bare ss)))
+    (λ e. effect.enter number e.visible >>= λ _. all_of (map effect_of (bare ss)) e)
 compound_runs g known number ss few place base held s stands good based high deep =
-    all_run g (known g refl) stmt_code stmt_depth (is_well_formed_stmt (outline g) g.number) effect_of ((exact_around g).statements)
-    (map (λ x. x.0) ss)
+    all_run g (known g refl) stmt_code stmt_depth (is_well_formed_stmt (outline g) g.number) effect_of ((exact_around g).statements) (bare ss)
     (each_statement g known ss 0 few) 0 place base held (entered g number s) stands good based high deep
 
 empty_runs : (g : Setting) (known : CallsRun g.depth) (number : ℕ) → ExecutesAs g (λ _ _. []) 0 true (λ e. effect.enter number e.visible)
@@ -449,16 +449,16 @@ while_runs g known number condition body few place base held s stands good based
 
 -- a repeat statement
 repeat_runs : (g : Setting) (known : CallsRun g.depth) (number : ℕ) (condition : Expr) (ss : List ((s : Stmt) × StmtRuns s))
-    → greatest (map repeats (map (λ x. x.0) ss)) + 1 ≤ g.slack
-    → ExecutesAs g (λ scope. repeat_code (placed (map (λ code. code scope) (map stmt_code (map (λ x. x.0) ss)))) (expr_code scope condition))
-    (max (greatest (map stmt_depth (map (λ x. x.0) ss))) (expr_depth condition))
-    (all_hold (map (is_well_formed_stmt (outline g) g.number) (map (λ x. x.0) ss)) && is_well_formed_expr (outline g) g.number condition)
-    (λ e. effect.enter number e.visible >>= λ _. effect.looped (repeat_round (all_of (map effect_of (map (λ x. x.0) ss))) (value_of condition) e) tt)
+    → greatest (map repeats (bare ss)) + 1 ≤ g.slack
+    → ExecutesAs g (λ scope. repeat_code (placed (map (λ code. code scope) (map stmt_code (bare ss)))) (expr_code scope condition))
+    (max (greatest (map stmt_depth (bare ss))) (expr_depth condition))
+    (all_hold (map (is_well_formed_stmt (outline g) g.number) (bare ss)) && is_well_formed_expr (outline g) g.number condition)
+    (λ e. effect.enter number e.visible >>= λ _. effect.looped (repeat_round (all_of (map effect_of (bare ss))) (value_of condition) e) tt)
 repeat_runs g known number condition ss few place base held s stands good based high deep =
     let s1 = entered g number s in
     let h = reset g (g.slack - 1) g.scope.height in
     let known_there = known h refl in
-    let code = placed (map (λ c. c g.scope) (map stmt_code (map (λ x. x.0) ss))) place in
+    let code = placed (map (λ c. c g.scope) (map stmt_code (bare ss))) place in
     let test = expr_code g.scope condition in
     let last = place + length code in
     let end = last + length test + 1 in
@@ -466,10 +466,10 @@ repeat_runs g known number condition ss few place base held s stands good based 
     let behind = stands_back g.target place code (test ++ back) stands in
     let jump = stands_back g.target last test back behind in
     let e : end ≡ place + length (code ++ (test ++ back)) = omega (arith, length-append code (test ++ back), length-append test back) in
-    let parts = and_parts (all_hold (map (is_well_formed_stmt (outline g) g.number) (map (λ x. x.0) ss)))
+    let parts = and_parts (all_hold (map (is_well_formed_stmt (outline g) g.number) (bare ss)))
     (is_well_formed_expr (outline g) g.number condition) good in
     let hold : Unit {0} → List Cell = λ _. held in
-    let statements = all_of (map effect_of (map (λ x. x.0) ss)) in
+    let statements = all_of (map effect_of (bare ss)) in
     let round : Round (Unit {0}) = repeat_round statements (value_of condition) (around g) in
     let until : Value → Action (Option (Unit {0})) = λ v. give (if is_so v then None else Some tt) in
     let rest : Action (Option (Unit {0})) = statements (around g) >>= λ _. value_of condition (around g) >>= until in
@@ -478,9 +478,8 @@ repeat_runs g known number condition ss few place base held s stands good based 
     → Rounds h (λ _. Unit {0}) hold place end held 1 (suc left) (on g (base2 ++ held) place t.output) rest t =
     λ left base2 t is based2.
     then_runs h (kept_on h held last) (aim (suc left)) _ (statements (around g)) (λ _. value_of condition (around g) >>= until) t
-    (exact_statements (around g) (exact_around g) (map (λ x. x.0) ss))
-    (all_run h known_there stmt_code stmt_depth (is_well_formed_stmt (outline g) g.number) effect_of ((exact_around g).statements)
-    (map (λ x. x.0) ss)
+    (exact_statements (around g) (exact_around g) (bare ss))
+    (all_run h known_there stmt_code stmt_depth (is_well_formed_stmt (outline g) g.number) effect_of ((exact_around g).statements) (bare ss)
     (each_statement h known ss 0 (omega arith)) 0 place base2 held t (stands_front g.target place code (test ++ back) stands) parts.0 based2 high (omega arith))
     (λ _ u x fewer.
     then_runs h (value_on h held (last + length test)) (aim (suc left)) _ (value_of condition (around g)) until u ((exact_around g).values condition)
@@ -503,9 +502,9 @@ repeat_runs g known number condition ss few place base held s stands good based 
     (rounds_from_reset g (g.slack - 1) g.scope.height (λ _. Unit {0}) hold place end held left _ rest (record t { turns = left }) (omega arith) refl
     (inside left base2 (record t { turns = left }) refl
     (to_reset g (g.slack - 1) g.scope.height (record t { turns = left }) base2 (later g left t base2 (omega (arith, is)) based2))))) in
-    let goes = (goes_around g).repeats (map (λ x. x.0) ss) condition in
+    let goes = (goes_around g).repeats (bare ss) condition in
     subst (λ p. Executes g (on g (base ++ held) place s.output) held p (effect.looped round tt) s1) e
-    (loops g (λ _. Unit {0}) hold place end held round goes (λ start. exact_repeat_round (around g) (exact_around g) (map (λ x. x.0) ss) condition) runs tt
+    (loops g (λ _. Unit {0}) hold place end held round goes (λ start. exact_repeat_round (around g) (exact_around g) (bare ss) condition) runs tt
     base s1 tt based)
 
 -- ---- a for statement
@@ -808,15 +807,15 @@ module _ (g : Setting) (known : CallsRun g.depth) (site : ℕ) (within : site < 
   no_arm place base s stands = inr (fails g (instr.Fail site) (base ++ index) place site s.output _ refl refl s.turns stands.0 within refl)
 
   arms_run : (rows : List (Vec ℤ)) (arms : List ((s : Stmt) × StmtRuns s)) (before place : ℕ) (base : List Cell) (s : effect.State)
-      → fold max before (map repeats (map (λ x. x.0) arms)) ≤ g.slack
-      → all_hold (map (is_well_formed_stmt (outline g) g.number) (map (λ x. x.0) arms)) ≡ true
-      → g.below + length held + max 3 (arms_depth rows (map stmt_depth (map (λ x. x.0) arms)) + 1) ≤ g.limit → Based g s base
-      → Stands g.target place (arms_code g.scope out rows (map stmt_code (map (λ x. x.0) arms)) place ++ (instr.Fail site ∷ behind))
-      → Executes g (on g (base ++ index) place s.output) index out (arm_of site rows (map effect_of (map (λ x. x.0) arms)) n (around g)) s
+      → fold max before (map repeats (bare arms)) ≤ g.slack
+      → all_hold (map (is_well_formed_stmt (outline g) g.number) (bare arms)) ≡ true
+      → g.below + length held + max 3 (arms_depth rows (map stmt_depth (bare arms)) + 1) ≤ g.limit → Based g s base
+      → Stands g.target place (arms_code g.scope out rows (map stmt_code (bare arms)) place ++ (instr.Fail site ∷ behind))
+      → Executes g (on g (base ++ index) place s.output) index out (arm_of site rows (map effect_of (bare arms)) n (around g)) s
   arms_run [] arms before place base s few good deep based stands = no_arm place base s stands
   arms_run (row ∷ rows) [] before place base s few good deep based stands = no_arm place base s stands
   arms_run (row ∷ rows) (arm ∷ arms) before place base s few good deep based stands =
-      let others = map (λ (x : (s : Stmt) × StmtRuns s). x.0) arms in
+      let others = bare arms in
       let least = start_within (max before (repeats arm.0)) (map repeats others) in
       let inside = place + length (row_code g.scope 0 row.items) + 1 in
       let code = stmt_code arm.0 (holding 1 g.scope) inside in
@@ -858,16 +857,16 @@ module _ (g : Setting) (known : CallsRun g.depth) (site : ℕ) (within : site < 
 
 case_runs : (g : Setting) (known : CallsRun g.depth) (number site : ℕ) (index : Expr) (rows : List (Vec ℤ)) (arms : List ((s : Stmt) × StmtRuns s))
     (well : Bool)
-    → greatest (map repeats (map (λ x. x.0) arms)) ≤ g.slack
-    → ExecutesAs g (λ scope. case_code site (expr_code scope index) rows (map stmt_code (map (λ x. x.0) arms)) scope)
-    (max (expr_depth index) (max 3 (arms_depth rows (map stmt_depth (map (λ x. x.0) arms)) + 1)))
+    → greatest (map repeats (bare arms)) ≤ g.slack
+    → ExecutesAs g (λ scope. case_code site (expr_code scope index) rows (map stmt_code (bare arms)) scope)
+    (max (expr_depth index) (max 3 (arms_depth rows (map stmt_depth (bare arms)) + 1)))
     (nat_lt site (sites g) && (is_well_formed_expr (outline g) g.number index && (well && all_hold (map
-    (is_well_formed_stmt (outline g) g.number) (map (λ x. x.0) arms)))))
-    (λ e. effect.enter number e.visible >>= λ _. value_of index e >>= λ v. arm_of site rows (map effect_of (map (λ x. x.0) arms)) (number_of v) e)
+    (is_well_formed_stmt (outline g) g.number) (bare arms)))))
+    (λ e. effect.enter number e.visible >>= λ _. value_of index e >>= λ v. arm_of site rows (map effect_of (bare arms)) (number_of v) e)
 case_runs g known number site index rows arms well few place base held s stands good based high deep =
     let s1 = entered g number s in
     let test = expr_code g.scope index in
-    let codes = map stmt_code (map (λ (x : (s : Stmt) × StmtRuns s). x.0) arms) in
+    let codes = map stmt_code (bare arms) in
     let first = place + length test in
     let out = first + length (arms_code g.scope 0 rows codes first) + 1 in
     let all = arms_code g.scope out rows codes first in
@@ -875,9 +874,9 @@ case_runs g known number site index rows arms well few place base held s stands 
     let same : first + length all + 1 ≡ out = ap (λ m. first + m + 1) (length-arms g.scope rows codes out 0 first) in
     let p1 = and_parts (nat_lt site (sites g)) _ good in
     let p2 = and_parts (is_well_formed_expr (outline g) g.number index) _ p1.1 in
-    let p3 = and_parts well (all_hold (map (is_well_formed_stmt (outline g) g.number) (map (λ x. x.0) arms))) p2.1 in
+    let p3 = and_parts well (all_hold (map (is_well_formed_stmt (outline g) g.number) (bare arms))) p2.1 in
     let within = ltb-true site (sites g) p1.0 in
-    let next : Value → Action (Unit {0}) = λ v. arm_of site rows (map effect_of (map (λ x. x.0) arms)) (number_of v) (around g) in
+    let next : Value → Action (Unit {0}) = λ v. arm_of site rows (map effect_of (bare arms)) (number_of v) (around g) in
     expr_then g (known g refl) (kept_on g held) index (all ++ (instr.Fail site ∷ pop)) place base held next s1 stands p2.0 based (omega arith)
     (λ base2 v t from_arms based2 fit room2.
     let n = number_of v in

@@ -32,7 +32,7 @@ use Rattle.code_generator.proofs.Acts.{framed, pushes}
 use Rattle.code_generator.proofs.Addressing.{loads_many, all_defined, row_place_is, stores_at}
 use Rattle.stack_machine.specs.Addresses.{store_many}
 use Rattle.code_generator.proofs.Evaluating.{sites}
-use Rattle.code_generator.proofs.Held.{scalar_kept}
+use Rattle.code_generator.proofs.Held.{pushes_number, scalar_kept}
 use Rattle.code_generator.proofs.Reach.{Stands, StandsAt, Comes, comes_less, comes_on, stays_here}
 use Rattle.code_generator.proofs.Setting.{Setting, outline, around, on, Based, linked, acts, passes, fails, entered}
 use Rattle.code_generator.proofs.Alike.{LiesIn, cell_of, HasFit, alike_above}
@@ -236,8 +236,7 @@ module _ (g : Setting) where
       let long = length_one cells (Number (pos c)) in
       let rest = value_cells (characters_of characters) in
       let e : place + 1 + length characters ≡ place + length (c ∷ characters) = omega arith in
-      let first = acts g (instr.LoadConstant (pos c)) cells one place output _ stands.0 refl
-      (pushes g.frame g.limit g.size cells (pos c) (omega arith)) in
+      let first = pushes_number g cells (pos c) place output stands.0 (omega arith) in
       let others = characters_come characters (place + 1) one output stands.1 (omega arith) in
       let all = comes_less g.target 0 (1 + 0) _ _ (omega arith) (comes_on g.target 1 0 _ _ _ first others) in
       subst (λ cs. Comes g.target 0 (on g cells place output) (on g cs (place + length (c ∷ characters)) output))
