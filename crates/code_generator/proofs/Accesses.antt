@@ -2,7 +2,7 @@
 use Rattle.code_generator.proofs.Words.{◌≡◌, ℕ, zero, suc, ◌+◌, ◌-◌, ◌*◌, ◌<◌, ◌≤◌, max, List, [], ◌∷◌, ◌++◌, length, map, Option, Some, None, Ok, refl, sym}
 use Rattle.code_generator.proofs.Words.{ap, ◌∙◌, subst, append_assoc, arith, length-append, Bool, true, inr, ℤ, pos, ◌-ℤ◌, int_le, ◌&&◌, nat_lt, slice_get}
 use Rattle.code_generator.proofs.Words.{list_all, option_and_then, and_parts, eqb-true, ltb-true, false≢true, same_Some, slice_get_within, length-map, Instr}
-use Rattle.code_generator.proofs.Words.{TypeId, cells_of, is_ordinal, Expr, RangeTest, Variable, all_hold, is_well_formed_expr, Value, Place, stored, Reply}
+use Rattle.code_generator.proofs.Words.{TypeId, cells_of, is_ordinal, Expr, RangeTest, Variable, all_hold, is_well_formed_expr, Value, Place, stored}
 use Rattle.code_generator.proofs.Words.{Gives, Action, ◌>>=◌, number_of, require, value_of, UsesTurnsExactly, Cell, Number, State, expr_code, Home, expr_depth}
 use Rattle.code_generator.proofs.Words.{row_length, links_to, variable_home, start_within}
 use Rattle.std.proofs.Common.{if◌then◌else◌}
@@ -30,7 +30,7 @@ use Rattle.code_generator.proofs.Acts.{loads}
 use Rattle.code_generator.proofs.Addressing.{loads_address, increases, indexes as element_indexed, loads_indirect}
 use Rattle.code_generator.proofs.Alike.{LiesIn, Leads, cell_of, cell_within, alike_above, base_is, keeps_above}
 use Rattle.code_generator.proofs.Evaluating.{ExprRuns, fetched_runs, frames_of, one_held, sites, range_then}
-use Rattle.code_generator.proofs.Numbers.{Fits, same_range}
+use Rattle.code_generator.proofs.Numbers.{same_range}
 use Rattle.code_generator.proofs.Parts.{inner, IsPart, element_part, field_part, is_element, is_field_of, led_on, ordinal_part, part_later, part_up_to}
 use Rattle.code_generator.proofs.Reach.{Stands, StandsAt, stands_front, stands_back, Comes, comes_less, stays_here}
 use Rattle.code_generator.proofs.Exact.{exact_selected}

@@ -70,7 +70,7 @@ use Rattle.code_generator.proofs.Accesses.{Indexes, expressions, wells, as_many_
 use Rattle.code_generator.proofs.Accesses.{address_runs, exact_found, frame_found, address_on, at_address}
 use Rattle.code_generator.proofs.Evaluating.{same_four, sites, frames_of, RunsAs, CombinesAs, ExprRuns, LinkRuns, one_held, range_then}
 use Rattle.code_generator.proofs.Wholes.{copied_cells, few_components, same_type, whole_runs, row_on, row_then}
-use Rattle.code_generator.proofs.Acts.{pushes, on_one_is, is_in_range, is_not_zero, squares, sums, differs, multiplies, on_two_is, divides, leaves}
+use Rattle.code_generator.proofs.Acts.{on_one_is, is_in_range, is_not_zero, squares, sums, differs, multiplies, on_two_is, divides, leaves}
 use Rattle.code_generator.proofs.Numbers.{Fits, sum_is, difference_is, product_is, fits_negated, negated_is, fits_magnitude, magnitude_is, fits_quotient}
 use Rattle.code_generator.proofs.Numbers.{quotient_is, fits_remainder, fits_truth, same_truth, same_test, same_positive, fits_next, fits_previous, same_range}
 use Rattle.code_generator.proofs.Running.{Aim, Evaluates, Runs, gives, instr_then, runs_from, runs_same, then_code, then_runs, value_on, value_then}

@@ -3,7 +3,7 @@
 use Rattle.code_generator.proofs.Words.{◌≡◌, ℕ, ◌+◌, ◌<◌, ◌≤◌, List, [], ◌∷◌, ◌++◌, length, Option, Some, None, Ok, refl, sym, ap, ◌∙◌, subst, arith}
 use Rattle.code_generator.proofs.Words.{append-nil, append_assoc, length-append, Bool, true, false, and_parts, eqb-true, false≢true, nat_eq, slice_get}
 use Rattle.code_generator.proofs.Words.{slice_set, ℤ, pos, not, ◌&&◌, ◌||◌, if◌then◌else◌, same_Some, slice_get_within, Instr, is_ordinal, Variable}
-use Rattle.code_generator.proofs.Words.{VariableKind, is_variable_kind, Value, Place, stored, Action, ◌>>=◌, number_of, require, deed_of, Cell, Undefined}
+use Rattle.code_generator.proofs.Words.{VariableKind, is_variable_kind, Value, Place, stored, number_of, deed_of, Cell, Undefined}
 use Rattle.code_generator.proofs.Words.{Number, is_true, Home, links_to, variable_home}
 use Rattle.std.specs.Prelude.{◌-◌}
 use Rattle.std.specs.Ordering.{int_eq}

@@ -1,7 +1,7 @@
 -- Loops: a head where each round begins, and a round that comes back to it or leaves the loop. Each round behind which
 -- another follows uses a turn, so a run with as many turns as a bound takes no more rounds than that.
 use Rattle.code_generator.proofs.Words.{◌≡◌, ℕ, zero, suc, ◌+◌, ◌-◌, ◌<◌, ◌≤◌, ◌⊎◌, List, ◌++◌, Option, Some, None, inl, inr, refl, arith, Ending, Reply, Gives}
-use Rattle.code_generator.proofs.Words.{Action, ◌>>=◌, number_of, UsesTurnsExactly, Cell, State}
+use Rattle.code_generator.proofs.Words.{Action, ◌>>=◌, UsesTurnsExactly, Cell, State}
 use Rattle.meaning.specs.declared.outcome.Ending.TheVariants as ending
 use Rattle.meaning.specs.Effect as effect
 use Rattle.meaning.specs.Effect.{Round, use_turn}

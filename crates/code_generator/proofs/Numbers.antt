@@ -1,7 +1,7 @@
 -- Numbers of type integer: what the machine's operations give of them, in 32 bits, is what the program means, and all
 -- but a checked result is of type integer again.
 use Rattle.code_generator.proofs.Words.{◌≡◌, ℕ, zero, suc, ◌<◌, ◌≤◌, refl, sym, ap, ◌∙◌, subst, arith, Bool, true, false, ℤ, pos, ◌-ℤ◌, int_le, ◌&&◌}
-use Rattle.code_generator.proofs.Words.{if◌then◌else◌, w32, and_parts, Value, number_of, is_true}
+use Rattle.code_generator.proofs.Words.{if◌then◌else◌, w32, and_parts, Value, number_of}
 use Rattle.std.specs.Prelude.{negsuc, neg_ℤ, ◌+ℤ◌, ◌*ℤ◌, ◌/◌, ◌%◌, ◌-◌, int_div, unsigned_abs}
 use Rattle.std.specs.Int.{cast_signed, int_rem_euclid, int_wrapping_add, int_wrapping_sub, int_wrapping_mul, int_wrapping_div, int_wrapping_neg}
 use Rattle.std.specs.Int.RustNames.{FitsSigned}

@@ -2,7 +2,7 @@
 -- and of a call, that the machine comes back with the result on top of what was held.
 use Rattle.code_generator.proofs.Words.{◌≡◌, ℕ, suc, ◌+◌, ◌-◌, ◌<◌, ◌≤◌, inr, List, [], ◌∷◌, ◌++◌, length, Some, None, refl, subst, arith, append-nil, Bool}
 use Rattle.code_generator.proofs.Words.{true, false, slice_get, ℤ, pos, Instr, cells_of, is_ordinal, Block, Variable, heading_of, is_variable_kind, Value}
-use Rattle.code_generator.proofs.Words.{Reply, Gives, Action, ◌>>=◌, number_of, UsesTurnsExactly, Argument, OfValue, OfRow, OfPlace, Cell, Undefined, Number}
+use Rattle.code_generator.proofs.Words.{Gives, Action, ◌>>=◌, number_of, UsesTurnsExactly, Argument, OfValue, OfRow, OfPlace, Cell, Undefined, Number}
 use Rattle.code_generator.proofs.Words.{State, called_routine, links_to, row_length}
 use Rattle.pcode_assembler.specs.declared.instr.Instr.TheVariants as instr
 use Rattle.typed_tree.specs.declared.tree.Passed.{Passed}

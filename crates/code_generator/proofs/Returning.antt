@@ -3,7 +3,7 @@
 use Rattle.code_generator.proofs.Words.{◌≡◌, ℕ, zero, suc, ◌+◌, ◌-◌, ◌<◌, ◌≤◌, inr, List, [], ◌∷◌, ◌++◌, length, map, take, drop, Option, Some, None, Ok, refl}
 use Rattle.code_generator.proofs.Words.{sym, ap, ◌∙◌, subst, arith, Bool, true, false, length-append, append-nil, append_assoc, if◌then◌else◌, nat_eq, nat_lt}
 use Rattle.code_generator.proofs.Words.{slice_get, ℤ, pos, ◌&&◌, option_and_then, drop-append_seam, and_parts, eqb-true, false≢true, ltb-true, same_Some}
-use Rattle.code_generator.proofs.Words.{slice_get_within, is_ordinal, Block, Variable, VariableKind, is_variable_kind, roots_where, stored, Action, give}
+use Rattle.code_generator.proofs.Words.{slice_get_within, is_ordinal, Block, Variable, VariableKind, is_variable_kind, roots_where, stored}
 use Rattle.code_generator.proofs.Words.{Argument, Cell, Number, State, block_depth, called_routine, links_to, other_cells, parameter_cells, variable_home}
 use Rattle.std.proofs.lemmas.List.{take-append-le}
 use Rattle.pcode_assembler.specs.declared.instr.Instr.TheVariants as instr

@@ -2,7 +2,7 @@
 -- program does.
 use Rattle.code_generator.proofs.Words.{◌≡◌, ℕ, suc, ◌+◌, ◌-◌, ◌<◌, ◌≤◌, ◌⊎◌, inl, inr, List, [], ◌∷◌, ◌++◌, length, Some, None, Ok, Err, refl, sym, ap, subst}
 use Rattle.code_generator.proofs.Words.{arith, length-append, Bool, true, false, ◌∙◌, slice_get, ℤ, pos, if◌then◌else◌, Instr, Tree, Block, Variable}
-use Rattle.code_generator.proofs.Words.{IsWellFormed, cells_of, Ending, Value, Place, stored, Reply, Gives, Action, ◌>>=◌, number_of, UsesTurnsExactly, Cell}
+use Rattle.code_generator.proofs.Words.{IsWellFormed, cells_of, Ending, Value, Place, stored, Gives, Action, ◌>>=◌, UsesTurnsExactly, Cell}
 use Rattle.code_generator.proofs.Words.{Undefined, Number, deed_of, Frames, Attempt, is_true, State, moved, routines_of, block_depth, living_need, Scope}
 use Rattle.code_generator.proofs.Words.{links_to, other_cells, parameter_cells, variable_home}
 use Rattle.pcode_assembler.specs.declared.instr.Instr.TheVariants as instr

@@ -4,7 +4,7 @@ use Rattle.code_generator.proofs.Words.{◌≡◌, ℕ, zero, suc, ◌+◌, ◌-
 use Rattle.code_generator.proofs.Words.{Some, None, refl, sym, ap, ◌∙◌, subst, arith, Bool, true, false, length-append, append_assoc, replicate, if◌then◌else◌}
 use Rattle.code_generator.proofs.Words.{nat_eq, slice_get, pos, drop-append_seam, cases_lt, eqb-true, and_parts, false≢true, length-map, none-some, same_Some}
 use Rattle.code_generator.proofs.Words.{components_of, Form, Block, Variable, VariableKind, is_parameter_kind, is_variable_kind, roots_where, Place, stored}
-use Rattle.code_generator.proofs.Words.{Gives, Action, ◌>>=◌, number_of, Argument, OfValue, OfRow, OfPlace, Cell, Undefined, Number, block_depth}
+use Rattle.code_generator.proofs.Words.{Gives, number_of, Argument, OfValue, OfRow, OfPlace, Cell, Undefined, Number, block_depth}
 use Rattle.code_generator.proofs.Words.{called_routine, cells_where, is_parameter_of, links_to, other_cells, parameter_cells, slot_cells, variable_home}
 use Rattle.std.proofs.Math.Seq.{take-append_seam}
 use Rattle.typed_tree.specs.declared.tree.VariableKind.TheVariants as kinds

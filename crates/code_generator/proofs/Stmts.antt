@@ -2,7 +2,7 @@
 use Rattle.code_generator.proofs.Words.{◌≡◌, ℕ, suc, ◌+◌, ◌<◌, ◌≤◌, max, Option, List, [], ◌∷◌, ◌++◌, length, map, Some, None, Ok, inr, refl, sym, ap, ◌∙◌}
 use Rattle.code_generator.proofs.Words.{subst, arith, length-append, append_assoc, append-nil, Bool, true, false, slice_set, ℤ, pos, ◌-ℤ◌, int_le, not, nat_lt}
 use Rattle.code_generator.proofs.Words.{◌&&◌, if◌then◌else◌, ltb-true, and_parts, Instr, RangeTest, Expr, Value, UsesTurnsExactly, Action, ◌>>=◌, number_of}
-use Rattle.code_generator.proofs.Words.{require, give, value_of, deed_of, Cell, Undefined, Number, Attempt, State, Scope, count, row_length, expr_code}
+use Rattle.code_generator.proofs.Words.{require, give, value_of, deed_of, Cell, Undefined, Number, Attempt, Scope, count, row_length, expr_code}
 use Rattle.code_generator.proofs.Words.{expr_depth, all_hold, is_well_formed_expr, start_within}
 use Rattle.std.specs.Prelude.{negsuc, ◌+ℤ◌, ◌-◌, replicate, take, codes, fold}
 use Rattle.std.specs.Global.{Vec}

@@ -3,7 +3,7 @@
 use Rattle.code_generator.proofs.Words.{◌≡◌, ℕ, zero, suc, ◌+◌, ◌-◌, ◌<◌, ◌≤◌, ◌⊎◌, inl, inr, List, [], ◌∷◌, ◌++◌, length, map, take, drop, Option, Some, None}
 use Rattle.code_generator.proofs.Words.{Ok, refl, sym, ap, ◌∙◌, subst, arith, length-append, append_assoc, append-nil, Bool, true, false, slice_get, slice_set}
 use Rattle.code_generator.proofs.Words.{pos, nat_eq, nat_lt, not, ◌&&◌, list_all, and_parts, eqb-true, ltb-true, length-map, all_hold, Instr, TypeId}
-use Rattle.code_generator.proofs.Words.{components_of, Form, cells_of, is_ordinal, Value, Place, stored, UsesTurnsExactly, Reply, Gives, Action, ◌>>=◌}
+use Rattle.code_generator.proofs.Words.{components_of, Form, cells_of, is_ordinal, Value, Place, stored, UsesTurnsExactly, Gives, Action, ◌>>=◌}
 use Rattle.code_generator.proofs.Words.{number_of, value_of, Cell, Number, State, row_length, start_within}
 use Rattle.std.specs.Prelude.{nat_le}
 use Rattle.std.proofs.lemmas.Bool.{leb-true}
@@ -28,7 +28,7 @@ use Rattle.code_scheme.specs.Code.{address_code, whole_code}
 use Rattle.code_scheme.specs.Depth.{whole_depth}
 use Rattle.code_generator.proofs.Accesses.{Indexes, expressions, wells, codes, depths, PartAt, leads, begins, found as place_found, exact_found, address_runs}
 use Rattle.code_generator.proofs.Accesses.{address_then}
-use Rattle.code_generator.proofs.Acts.{framed, pushes}
+use Rattle.code_generator.proofs.Acts.{framed}
 use Rattle.code_generator.proofs.Addressing.{loads_many, all_defined, row_place_is, stores_at}
 use Rattle.stack_machine.specs.Addresses.{store_many}
 use Rattle.code_generator.proofs.Evaluating.{sites}
