@@ -36,6 +36,7 @@ use Rattle.code_generator.proofs.Reach.{Stands, StandsAt, stands_front, stands_b
 use Rattle.code_generator.proofs.Exact.{exact_selected}
 use Rattle.code_generator.proofs.Setting.{Setting, Shown, Way, Direct, ByAddress, Reaches, outline, around, exact_around, on, Based, linked, limit_far, acts}
 use Rattle.code_generator.proofs.Setting.{entered}
+use Rattle.code_generator.proofs.Running.{beside, number_cell, IsValue}
 use Rattle.code_generator.proofs.Running.{Aim, Arrives, Evaluates, Runs, instr_then, runs_from, then_code, value_on, value_then}
 use Rattle.code_generator.proofs.Lists.{slice_get-front, length_one}
 
@@ -224,20 +225,17 @@ module _ (g : Setting) where
       let chosen_by : Value → Action (Option Place) = λ v.
       selected selectors (map value_of (expressions indexes)) (around g) (Some (inner p (step.Element (number_of v) ∷ []))) in
       let next : Value → Action (Option Place) = λ v. require (effect.is_in fits.range v) fits.site >>= λ _. chosen_by v in
-      let end = place + length (c ++ (range_check fits ∷ indexing)) in
-      subst (λ cells. Addresses (on g cells place s.output) held end last (value_of index.0 (around g) >>= next) s)
-      (one_held g base held (pos d))
-      (value_then g (address_on held last) c (range_check fits ∷ indexing) place _ above (value_of index.0 (around g)) next s
-      ((exact_around g).values index.0) stands (λ front. index.1 place base above s front parts.0 based (omega arith))
-      (λ base2 v s2 rest based2 fit2 room2.
+      beside g (IsValue g above) (number_cell g) (address_on held last) c (range_check fits ∷ indexing) place base held (Number (pos d) ∷ [])
+      (value_of index.0 (around g)) next s ((exact_around g).values index.0) stands
+      (λ front. index.1 place base above s front parts.0 based (omega arith))
+      (λ base2 v s2 rest based2 so.
+      let fit2 = so.0 in
       let n = number_of v in
       let from = place + length c in
       let one = (base2 ++ held) ++ Number (pos d) ∷ [] in
       let in_frame = linked g s2 base2 held based2 in
       let e : from + 1 + length indexing ≡ from + length (range_check fits ∷ indexing) = omega arith in
-      subst (λ cs. Addresses (on g (cs ++ Number n ∷ []) from s2.output) held (from + length (range_check fits ∷ indexing)) last (next v) s2)
-      (sym (one_held g base2 held (pos d)))
-      (subst (λ there. Addresses (on g (one ++ Number n ∷ []) from s2.output) held there last (next v) s2) e
+      subst (λ there. Addresses (on g (one ++ Number n ∷ []) from s2.output) held there last (next v) s2) e
       (range_then g (address_on held last (from + 1 + length indexing)) fits v one from s2 (chosen_by v) rest.0
       (ltb-true fits.site (sites g) test_parts.0) (omega (arith, in_frame, length_one (base2 ++ held) (Number (pos d)))) fit2
       (λ holds.
@@ -259,7 +257,7 @@ module _ (g : Setting) where
       instr_then g (address_on held last) 1 (instr.IndexAddress fits.range.first (row_length cells)) (selectors_code selectors (codes indexes)) (from + 1) _ _
       (chosen_by v) s2 reached
       (selectors_run selectors indexes (max depth (expr_depth index.0 + 1)) (from + 1 + 1) (d + far.0 * cells) base2 held
-      (inner p (step.Element n ∷ [])) on_led.0 last s2 rest.1.1 parts.1 selector_parts.1 (omega arith) on_led.2 lies.0 based2 deep (omega arith)))))))
+      (inner p (step.Element n ∷ [])) on_led.0 last s2 rest.1.1 parts.1 selector_parts.1 (omega arith) on_led.2 lies.0 based2 deep (omega arith)))))
 
   -- ---- an access
 

@@ -32,8 +32,9 @@ use Rattle.code_generator.proofs.Parts.{ordinal_part}
 use Rattle.code_generator.proofs.Reach.{Comes, Stands}
 use Rattle.code_generator.proofs.Rows.{cells_of as value_cells, length-cells_of}
 use Rattle.code_generator.proofs.Setting.{Setting, outline, around, exact_around, on, Based, linked, Here, acts, entered}
-use Rattle.code_generator.proofs.Wholes.{set_row, set_row_front, stores_many, stored_all, store_all_is, row_kept, whole_runs, copied_cells, few_components}
+use Rattle.code_generator.proofs.Wholes.{IsRow, set_row, set_row_front, stores_many, stored_all, store_all_is, row_kept, whole_runs, copied_cells, few_components}
 use Rattle.code_generator.proofs.Wholes.{same_type, AllFit, row_then}
+use Rattle.code_generator.proofs.Running.{beside}
 use Rattle.code_generator.proofs.Running.{Aim, Arrives, Executes, Runs, done, kept_on}
 use Rattle.code_generator.proofs.Lists.{set_front, length_one}
 
@@ -279,19 +280,15 @@ module _ (g : Setting) (known : CallsAt g) where
         (exact_found g target indexes led_to.last start one.0 led_to.counts) stands
         (λ front. address_runs g target indexes led_to.last start one.0 led_to.counts place base held s2 front based (omega arith))
         (λ base1 a p s1 rest based1 part1 room1.
-        let above = held ++ Number (pos a) ∷ [] in
         let taller = length_one held (Number (pos a)) in
         let part = subst (λ t. PartAt g p t a) its part1 in
-        let stored : List Value → Action (Unit {0}) = λ values. store_all (Some p) (components_of g.tree.types type_id) values in
-        subst (λ cs. Executes g (on g cs from s1.output) held (from + length (d ++ store)) (next g.tree.types (Some p)) s1) (one_held g base1 held (pos a))
-        (row_then g (kept_on g held) d store from _ above n (whole_of v (map value_of (expressions g value_indexes)) (around g)) stored s1
+        beside g (IsRow g n) value_cells (kept_on g held) d store from base1 held (Number (pos a) ∷ []) (whole_of v (map value_of
+        (expressions g value_indexes)) (around g)) (λ values. store_all (Some p) (components_of g.tree.types type_id) values) s1
         ((exact_around g).wholes v (expressions g value_indexes)) rest
-        (λ front. whole_runs g v value_indexes from base1 above s1 front four.0 four.1 based1 (omega arith))
-        (λ base2 values t storing based2 long fit.
-        subst (λ cs. Executes g (on g (cs ++ value_cells values) there t.output) held (there + 1) (stored values) t)
-        (sym (one_held g base2 held (pos a)))
-        (row_stored p type_id a n there base2 held values t part cells long fit
-        (subst (λ k. Stands g.target there (instr.StoreMany k ∷ [])) (sym same) storing) based2))))))
+        (λ front. whole_runs g v value_indexes from base1 (held ++ Number (pos a) ∷ []) s1 front four.0 four.1 based1 (omega arith))
+        (λ base2 values t storing based2 so.
+        row_stored p type_id a n there base2 held values t part cells so.0 so.1
+        (subst (λ k. Stands g.target there (instr.StoreMany k ∷ [])) (sym same) storing) based2))))
 
     pub copy_runs : (es vs : List Expr) → CopyRuns es vs
     copy_runs es vs =

@@ -69,11 +69,11 @@ use Rattle.code_generator.proofs.Setting.{Setting, outline, around, exact_around
 use Rattle.code_generator.proofs.Accesses.{Indexes, expressions, wells, as_many_wells, codes, depths, leads, begins, fetch_runs, found as place_found, PartAt}
 use Rattle.code_generator.proofs.Accesses.{address_runs, exact_found, frame_found, address_on, at_address}
 use Rattle.code_generator.proofs.Evaluating.{same_four, sites, frames_of, RunsAs, CombinesAs, ExprRuns, LinkRuns, one_held, range_then}
-use Rattle.code_generator.proofs.Wholes.{copied_cells, few_components, same_type, whole_runs, row_on, row_then}
+use Rattle.code_generator.proofs.Wholes.{IsRow, copied_cells, few_components, same_type, whole_runs, row_on, row_then}
 use Rattle.code_generator.proofs.Acts.{on_one_is, is_in_range, is_not_zero, squares, sums, differs, multiplies, on_two_is, divides, leaves}
 use Rattle.code_generator.proofs.Numbers.{Fits, sum_is, difference_is, product_is, fits_negated, negated_is, fits_magnitude, magnitude_is, fits_quotient}
 use Rattle.code_generator.proofs.Numbers.{quotient_is, fits_remainder, fits_truth, same_truth, same_test, same_positive, fits_next, fits_previous, same_range}
-use Rattle.code_generator.proofs.Running.{Aim, Evaluates, Runs, gives, instr_then, runs_from, runs_same, then_code, then_runs, value_on, value_then}
+use Rattle.code_generator.proofs.Running.{beside, number_cell, IsValue, Aim, Evaluates, Runs, gives, instr_then, runs_from, runs_same, then_code, then_runs, value_on, value_then}
 use Rattle.code_generator.proofs.Held.{pushes_number}
 use Rattle.code_generator.proofs.Lists.{length_one}
 
@@ -429,17 +429,14 @@ module _ (g : Setting) where
       ((exact_around g).wholes left (expressions g left_indexes)) stands
       (λ front. whole_runs g left left_indexes place base held s front one.0 left_well based (omega arith))
       (λ base2 vs s2 rest based2 long fits.
-      let above = held ++ cells_of vs in
       let high = length-append held (cells_of vs) in
       let wide = length-cells_of vs in
-      subst (λ cells. Evaluates g (on g cells there s2.output) held (there + length (d ++ last)) (next vs) s2) (sym (append_assoc base2 held (cells_of vs)))
-      (row_then g (value_on g held) d last there _ above (length_of right) meant (next' vs) (entered g number s2)
+      beside g (IsRow g (length_of right)) cells_of (value_on g held) d last there base2 held (cells_of vs) meant (next' vs) (entered g number s2)
       ((exact_around g).wholes right (expressions g right_indexes)) rest
-      (λ front. whole_runs g right right_indexes there base2 above (entered g number s2) front three.0 right_well based2 (omega arith))
-      (λ base3 ws s4 ordering based4 long' fits'.
-      subst (λ cells. Evaluates g (on g (cells ++ cells_of ws) (there + length d) s4.output) held (there + length d + 3) (next' vs ws) s4)
-      (append_assoc base3 held (cells_of vs))
-      (ordered_runs r (row_length n) (there + length d) base3 held vs ws s4 (long ∙ same) (long' ∙ sym as_long ∙ same) ordering based4 (omega arith)))))
+      (λ front.
+      whole_runs g right right_indexes there base2 (held ++ cells_of vs) (entered g number s2) front three.0 right_well based2 (omega arith))
+      (λ base3 ws s4 ordering based4 so.
+      ordered_runs r (row_length n) (there + length d) base3 held vs ws s4 (long ∙ same) (so.0 ∙ sym as_long ∙ same) ordering based4 (omega arith)))
 
   -- an operator and its right operand
   link_runs : (number : ℕ) (operation : Dyadic) (c : List Instr) (depth : ℕ) (well : Bool) (v : Evaluation) → UsesTurnsExactly (v (around g))
@@ -448,20 +445,16 @@ module _ (g : Setting) where
       (meaning.link_step (record { number = number; operation = operation; operand = v }))
   link_runs number operation c depth well v exact runs place base held left s stands good based room fit =
       let a = number_of left in
-      let s' = entered g number s in
       let parts = and_parts (dyadic_is_well_formed (outline g) g.number operation) well good in
-      let above = held ++ Number a ∷ [] in
+      let row = Number a ∷ [] in
       let one = length_one held (Number a) in
       let next : Value → Action Value = λ w. as_value (combined operation a (number_of w)) in
-      subst (λ cells. Evaluates g (on g cells place s.output) held (place + length (c ++ dyadic_code operation)) (v (around g) >>= next) s')
-      (one_held g base held a)
-      (value_then g (value_on g held) c (dyadic_code operation) place _ above (v (around g)) next s' exact stands
-      (λ front. runs place base above s' front parts.1 based (omega arith))
-      (λ base2 w s2 rest based2 fit2 room2.
-      let b = number_of w in
-      subst (λ cells. Evaluates g (on g (cells ++ Number b ∷ []) (place + length c) s2.output) held (place + length c + length (dyadic_code operation))
-      (next w) s2) (sym (one_held g base2 held a))
-      (combined_runs (place + length c) base2 held a b s2 based2 (omega arith) fit fit2 operation rest parts.0)))
+      beside g (IsValue g (held ++ row)) (number_cell g) (value_on g held) c (dyadic_code operation) place base held row (v (around g)) next
+      (entered g number s) exact stands
+      (λ front. runs place base (held ++ row) (entered g number s) front parts.1 based (omega arith))
+      (λ base2 w t rest based2 so.
+      let room2 = so.1 in
+      combined_runs (place + length c) base2 held a (number_of w) t based2 (omega arith) fit so.0 operation rest parts.0)
 
   -- the operators of a chain, from left to right
   links_run : (links : List ((l : Link) × LinkRuns g l)) (depth place : ℕ) (base held : List Cell) (left : Value) (s : effect.State)
@@ -544,9 +537,9 @@ module _ (g : Setting) where
       (whole_runs g v indexes place base held s stands one.0 well based deep)
       (λ vs t x le.
       let cells = cells_of vs in
-      let long : length cells ≡ n = length-cells_of vs ∙ x.2 in
+      let long : length cells ≡ n = length-cells_of vs ∙ x.2.0 in
       subst (λ k. Passes g (on g ((x.0 ++ held) ++ cells) (place + length c) t.output) held (place + length c) k callee position (give (OfRow vs)) t) long
-      (inr (passes_it g 0 _ x.0 held cells (place + length c) callee position (OfRow vs) formal.0 t x.1 formal.1 (takes.0, x.2 ∙ sym many, x.3, refl)
+      (inr (passes_it g 0 _ x.0 held cells (place + length c) callee position (OfRow vs) formal.0 t x.1 formal.1 (takes.0, x.2.0 ∙ sym many, x.2.1, refl)
       (stays_here g.target _))))
 
   reference_is_passed : (type_id : TypeId) (access : Access) (indexes : Indexes g)

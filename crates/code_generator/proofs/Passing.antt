@@ -109,14 +109,14 @@ module _ (g : Setting) where
       → Returns m held place true action s
   evaluated_returns m held place action s e =
       runs_to g (value_on g held place) (return_on held true place) m action s (omega arith) e
-      (λ v t x. ((x.0, x.1, x.2), stays_here g.target _))
+      (λ v t x. ((x.0, x.1, x.2.0), stays_here g.target _))
 
   -- the call of a function is a value
   pub function_evaluates : (m : State) (held : List Cell) (place : ℕ) (action : Action Value) (s : effect.State) → g.below + length held < g.limit
       → Returns m held place true action s → Evaluates g m held place action s
   function_evaluates m held place action s room e =
       runs_to g (return_on held true place) (value_on g held place) m action s (omega arith) e
-      (λ v t x. ((x.0, x.1, x.2, room), stays_here g.target _))
+      (λ v t x. ((x.0, x.1, (x.2, room)), stays_here g.target _))
 
   -- the call of a procedure is a statement
   pub returns_executes : (m : State) (held : List Cell) (place : ℕ) (action : Action Value) (s : effect.State) → UsesTurnsExactly action

@@ -39,7 +39,7 @@ use Rattle.code_generator.proofs.Alike.{LiesIn, cell_of, HasFit, alike_above}
 use Rattle.code_generator.proofs.Numbers.{Fits, fits_by_abs}
 use Rattle.code_generator.proofs.Parts.{inner}
 use Rattle.code_generator.proofs.Rows.{cells_of as value_cells, length-cells_of, numbers_of, same_byte}
-use Rattle.code_generator.proofs.Running.{Aim, Arrives, Runs, runs_from, then_code}
+use Rattle.code_generator.proofs.Running.{top_on, Aim, Arrives, Runs, runs_from, then_code}
 use Rattle.code_generator.proofs.Lists.{set_front, take_drop, take_set, drop_set, row_at, length_one}
 
 -- values whose numbers are of type integer
@@ -191,13 +191,12 @@ module _ (g : Setting) where
 
   -- ---- the code of a whole value
 
-  -- the row of its components comes on top of what is held, over cells alike to the store
+  -- the row of its components is as long as it is to be, and all are of type integer
+  abbrev pub IsRow : ℕ → List Value → Type 0
+  IsRow count vs = (length vs ≡ count) × AllFit vs
+
   abbrev pub row_on : List Cell → ℕ → ℕ → Aim (List Value)
-  row_on held count place = record {
-    Holds = λ vs s. (base : List Cell) × Based g s base × (length vs ≡ count) × AllFit vs;
-    there = λ vs s h. on g ((h.0 ++ held) ++ value_cells vs) place s.output;
-    gain = 0;
-  }
+  row_on held count = top_on g (IsRow count) value_cells held
 
   abbrev pub Pushes : State → List Cell → ℕ → ℕ → Action (List Value) → effect.State → Type 0
   Pushes m held place count action s = Runs g (row_on held count place) m action s
@@ -207,7 +206,7 @@ module _ (g : Setting) where
       → Comes g.target least m (on g ((base ++ held) ++ value_cells vs) place s.output) → length vs ≡ count → AllFit vs
       → Arrives g (row_on held count place) s.turns m (Gives vs s)
   pushes_row least m base held place count vs s based l long fit =
-      ((base, based, long, fit), comes_less g.target (s.turns - s.turns + 0) least m _ (omega arith) l, omega arith)
+      ((base, based, (long, fit)), comes_less g.target (s.turns - s.turns + 0) least m _ (omega arith) l, omega arith)
 
   -- a row, and the code behind it
   pub row_then : {A : Type 0} (aim : ℕ → Aim A) (c c' : List Instr) (place : ℕ) (m : State) (held : List Cell) (count : ℕ) (first : Action (List Value))
@@ -217,7 +216,7 @@ module _ (g : Setting) where
       → Runs g (aim (place + length c + length c')) (on g ((base ++ held) ++ value_cells vs) (place + length c) u.output) (next vs) u)
       → Runs g (aim (place + length (c ++ c'))) m (first >>= next) s
   row_then aim c c' place m held count first next s exact stands runs h =
-      then_code g (row_on held count) aim c c' place m first next s exact stands runs (λ vs u x rest. h x.0 vs u rest x.1 x.2 x.3)
+      then_code g (row_on held count) aim c c' place m first next s exact stands runs (λ vs u x rest. h x.0 vs u rest x.1 x.2.0 x.2.1)
 
   -- characters as values
   abbrev characters_of : List ℕ → List Value
