@@ -29,15 +29,14 @@ use Rattle.check_remover.specs.Strip.{stays}
 use Rattle.code_generator.proofs.Acts.{loads}
 use Rattle.code_generator.proofs.Addressing.{loads_address, increases, indexes as element_indexed, loads_indirect}
 use Rattle.code_generator.proofs.Alike.{LiesIn, Leads, cell_of, cell_within, alike_above, base_is, keeps_above}
-use Rattle.code_generator.proofs.Evaluating.{ExprRuns, fetched_runs, frames_of, one_held, sites, range_then}
+use Rattle.code_generator.proofs.Evaluating.{ExprRuns, fetched_runs, frames_of, sites, range_then}
 use Rattle.code_generator.proofs.Numbers.{same_range}
 use Rattle.code_generator.proofs.Parts.{inner, IsPart, element_part, field_part, is_element, is_field_of, led_on, ordinal_part, part_later, part_up_to}
 use Rattle.code_generator.proofs.Reach.{Stands, StandsAt, stands_front, stands_back, Comes, comes_less, stays_here}
 use Rattle.code_generator.proofs.Exact.{exact_selected}
 use Rattle.code_generator.proofs.Setting.{Setting, Shown, Way, Direct, ByAddress, Reaches, outline, around, exact_around, on, Based, linked, limit_far, acts}
 use Rattle.code_generator.proofs.Setting.{entered}
-use Rattle.code_generator.proofs.Running.{beside, number_cell, IsValue}
-use Rattle.code_generator.proofs.Running.{Aim, Arrives, Evaluates, Runs, instr_then, runs_from, then_code, value_on, value_then}
+use Rattle.code_generator.proofs.Running.{beside, number_cell, IsValue, Aim, Arrives, Evaluates, Runs, instr_then, runs_from, then_code, value_on}
 use Rattle.code_generator.proofs.Lists.{slice_get-front, length_one}
 
 -- how far a number lies above another

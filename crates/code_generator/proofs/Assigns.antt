@@ -32,10 +32,9 @@ use Rattle.code_generator.proofs.Parts.{ordinal_part}
 use Rattle.code_generator.proofs.Reach.{Comes, Stands}
 use Rattle.code_generator.proofs.Rows.{cells_of as value_cells, length-cells_of}
 use Rattle.code_generator.proofs.Setting.{Setting, outline, around, exact_around, on, Based, linked, Here, acts, entered}
-use Rattle.code_generator.proofs.Wholes.{IsRow, set_row, set_row_front, stores_many, stored_all, store_all_is, row_kept, whole_runs, copied_cells, few_components}
-use Rattle.code_generator.proofs.Wholes.{same_type, AllFit, row_then}
-use Rattle.code_generator.proofs.Running.{beside}
-use Rattle.code_generator.proofs.Running.{Aim, Arrives, Executes, Runs, done, kept_on}
+use Rattle.code_generator.proofs.Wholes.{IsRow, set_row, set_row_front, stores_many, stored_all, store_all_is, row_kept, whole_runs, copied_cells}
+use Rattle.code_generator.proofs.Wholes.{few_components, same_type, AllFit}
+use Rattle.code_generator.proofs.Running.{beside, Aim, Arrives, Executes, Runs, done, kept_on}
 use Rattle.code_generator.proofs.Lists.{set_front, length_one}
 
 module _ (g : Setting) (known : CallsAt g) where

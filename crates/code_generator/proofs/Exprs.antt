@@ -68,12 +68,13 @@ use Rattle.code_generator.proofs.Rows.{cells_of, length-cells_of, compares, numb
 use Rattle.code_generator.proofs.Setting.{Setting, outline, around, exact_around, on, Based, linked, Here, acts, passes, fails, as_value, entered}
 use Rattle.code_generator.proofs.Accesses.{Indexes, expressions, wells, as_many_wells, codes, depths, leads, begins, fetch_runs, found as place_found, PartAt}
 use Rattle.code_generator.proofs.Accesses.{address_runs, exact_found, frame_found, address_on, at_address}
-use Rattle.code_generator.proofs.Evaluating.{same_four, sites, frames_of, RunsAs, CombinesAs, ExprRuns, LinkRuns, one_held, range_then}
+use Rattle.code_generator.proofs.Evaluating.{same_four, sites, frames_of, RunsAs, CombinesAs, ExprRuns, LinkRuns, range_then}
 use Rattle.code_generator.proofs.Wholes.{IsRow, copied_cells, few_components, same_type, whole_runs, row_on, row_then}
 use Rattle.code_generator.proofs.Acts.{on_one_is, is_in_range, is_not_zero, squares, sums, differs, multiplies, on_two_is, divides, leaves}
 use Rattle.code_generator.proofs.Numbers.{Fits, sum_is, difference_is, product_is, fits_negated, negated_is, fits_magnitude, magnitude_is, fits_quotient}
 use Rattle.code_generator.proofs.Numbers.{quotient_is, fits_remainder, fits_truth, same_truth, same_test, same_positive, fits_next, fits_previous, same_range}
-use Rattle.code_generator.proofs.Running.{beside, number_cell, IsValue, Aim, Evaluates, Runs, gives, instr_then, runs_from, runs_same, then_code, then_runs, value_on, value_then}
+use Rattle.code_generator.proofs.Running.{beside, number_cell, IsValue, Aim, Evaluates, Runs, gives, instr_then, runs_from, runs_same, then_code, then_runs}
+use Rattle.code_generator.proofs.Running.{value_on, value_then}
 use Rattle.code_generator.proofs.Held.{pushes_number}
 use Rattle.code_generator.proofs.Lists.{length_one}
 

@@ -1,8 +1,8 @@
 -- What the code of a piece of the program does: it comes to where it is to come with what the piece gives, or stops as the
 -- piece does. Code runs behind other code, whatever each is to come to.
 use Rattle.code_generator.proofs.Words.{◌≡◌, ℕ, ◌+◌, ◌-◌, ◌<◌, ◌≤◌, ◌⊎◌, inl, inr, List, [], ◌∷◌, ◌++◌, length, Ok, refl, sym, subst, arith, length-append}
-use Rattle.code_generator.proofs.Words.{append_assoc, Bool, true, false, ℤ, Instr, Value, Reply, Gives, Action, ◌>>=◌, number_of, require, UsesTurnsExactly, deed_of, Cell}
-use Rattle.code_generator.proofs.Words.{Number, Attempt, Frames, State, moved, is_true}
+use Rattle.code_generator.proofs.Words.{append_assoc, Bool, true, false, ℤ, Instr, Value, Reply, Gives, Action, ◌>>=◌, number_of, require, UsesTurnsExactly}
+use Rattle.code_generator.proofs.Words.{deed_of, Cell, Number, Attempt, Frames, State, moved, is_true}
 use Rattle.pcode_assembler.specs.declared.instr.Instr.TheVariants as instr
 use Rattle.meaning.specs.declared.store.Value.TheVariants as value
 use Rattle.meaning.specs.Effect as effect

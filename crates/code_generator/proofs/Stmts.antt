@@ -48,9 +48,8 @@ use Rattle.code_scheme.specs.Code.{Placed, placed, if_code, if_else_code, while_
 use Rattle.code_scheme.specs.Code.{order_instr, next_instr, row_code, arms_code, case_code, width_code, write_instr, parameter_code, line_end_code, call_code}
 use Rattle.code_scheme.specs.Code.{passed_code, write_code, stmt_code, stmt_step, default_width, ordinal_instr, ordinal_width, whole_code}
 use Rattle.code_scheme.specs.Depth.{call_depth, greatest, passed_depth, stmt_depth, stmt_depth_step, arms_depth, parameter_depth, width_depth, whole_depth}
-use Rattle.typed_tree.specs.WellFormed.{is_well_formed_width, is_well_formed_parameter, is_well_formed_test, is_well_formed_stmt, fits_target}
+use Rattle.typed_tree.specs.WellFormed.{is_well_formed_width, is_well_formed_parameter, is_well_formed_test, is_well_formed_stmt, fits_target, whole_indexes}
 use Rattle.typed_tree.specs.WellFormed.{stmt_is_well_formed, is_control, is_well_formed_call, is_well_formed_passed, is_well_formed_whole, length_of}
-use Rattle.typed_tree.specs.WellFormed.{whole_indexes}
 use Rattle.code_generator.proofs.Reach.{Stands, StandsAt, stands_front, stands_back, Comes, comes_less, comes_on, stays_here}
 use Rattle.code_generator.proofs.Setting.{branched, goes_around, Setting, outline, around, exact_around, on, Based, later, linked, limit_far, Here, goes_on}
 use Rattle.code_generator.proofs.Setting.{jumps, fails, entered}
