@@ -1,59 +1,42 @@
 -- The code of an access: it leaves the address of the part that selectors lead to on top, or stops as an index does.
-use Rattle.std.proofs.Common.{◌≡◌, ℕ, zero, suc, ◌+◌, ◌-◌, ◌*◌, ◌<◌, ◌≤◌, max, List, [], ◌∷◌, ◌++◌, length, map, Option, Some, None, Ok, refl, sym, ap, ◌∙◌}
-use Rattle.std.proofs.Common.{subst, append_assoc}
-use Rattle.std.proofs.Common.{arith, length-append, Bool, true, inr, if◌then◌else◌}
-use Rattle.std.specs.Prelude.{ℤ, pos, negsuc, ◌-ℤ◌, ◌≤ℤ◌, int_le, ◌&&◌, fold, nat_lt, slice_get}
-use Rattle.std.specs.List.{list_all}
-use Rattle.std.specs.Option.{option_and_then}
-use Rattle.std.proofs.lemmas.Bool.{and_parts, eqb-true, ltb-true, false≢true}
+use Rattle.code_generator.proofs.Words.{◌≡◌, ℕ, zero, suc, ◌+◌, ◌-◌, ◌*◌, ◌<◌, ◌≤◌, max, List, [], ◌∷◌, ◌++◌, length, map, Option, Some, None, Ok, refl, sym}
+use Rattle.code_generator.proofs.Words.{ap, ◌∙◌, subst, append_assoc, arith, length-append, Bool, true, inr, ℤ, pos, ◌-ℤ◌, int_le, ◌&&◌, nat_lt, slice_get}
+use Rattle.code_generator.proofs.Words.{list_all, option_and_then, and_parts, eqb-true, ltb-true, false≢true, same_Some, slice_get_within, length-map, Instr}
+use Rattle.code_generator.proofs.Words.{TypeId, cells_of, is_ordinal, Expr, RangeTest, Variable, all_hold, is_well_formed_expr, Value, Place, stored}
+use Rattle.code_generator.proofs.Words.{Gives, Action, ◌>>=◌, number_of, require, value_of, UsesTurnsExactly, Cell, Number, State, expr_code, Home, expr_depth}
+use Rattle.code_generator.proofs.Words.{row_length, links_to, variable_home, start_within}
+use Rattle.std.proofs.Common.{if◌then◌else◌}
+use Rattle.std.specs.Prelude.{negsuc, ◌≤ℤ◌, fold}
 use Rattle.std.proofs.lemmas.Int.{ints}
-use Rattle.std.proofs.lemmas.Option.{same_Some, slice_get_within}
-use Rattle.std.proofs.lemmas.List.{length-map}
-use Rattle.pcode_assembler.specs.declared.instr.Instr.{Instr}
 use Rattle.pcode_assembler.specs.declared.instr.Instr.TheVariants as instr
 use Rattle.types.specs.declared.form.Step.TheVariants as step
-use Rattle.types.specs.declared.form.TypeId.{TypeId}
-use Rattle.types.specs.Types.{cells_of, is_ordinal}
 use Rattle.typed_tree.specs.declared.tree.Access.{Access}
-use Rattle.typed_tree.specs.declared.tree.Expr.{Expr}
-use Rattle.typed_tree.specs.declared.tree.RangeTest.{RangeTest}
 use Rattle.typed_tree.specs.declared.tree.Selector.{Selector}
 use Rattle.typed_tree.specs.declared.tree.Selector.TheVariants.{Element, Field}
-use Rattle.typed_tree.specs.declared.tree.Variable.{Variable}
-use Rattle.typed_tree.specs.Accesses.{index_count, led, is_type}
-use Rattle.typed_tree.specs.Accesses.{selected as chosen}
-use Rattle.typed_tree.specs.WellFormed.{is_visible, all_hold, is_well_formed_expr, is_well_formed_selector, is_well_formed_test, is_whole, leads_to}
-use Rattle.meaning.specs.declared.store.Value.{Value}
-use Rattle.meaning.specs.Store.{Place, stored}
+use Rattle.typed_tree.specs.Accesses.{index_count, led, is_type, selected as chosen}
+use Rattle.typed_tree.specs.WellFormed.{is_visible, is_well_formed_selector, is_well_formed_test, is_whole, leads_to}
 use Rattle.meaning.specs.Effect as effect
-use Rattle.meaning.specs.Effect.{Reply, Gives, Action, ◌>>=◌, fetch, number_of, require}
-use Rattle.meaning.specs.Meaning.{Evaluation, selected, value_of}
-use Rattle.meaning.specs.Laws.{UsesTurnsExactly}
+use Rattle.meaning.specs.Effect.{fetch}
+use Rattle.meaning.specs.Meaning.{Evaluation, selected}
 use Rattle.meaning.specs.Meaning as meaning
-use Rattle.stack_machine.specs.declared.cell.Cell.{Cell}
-use Rattle.stack_machine.specs.declared.cell.Cell.TheVariants.{Number}
 use Rattle.stack_machine.specs.Addresses.{element}
 use Rattle.stack_machine.specs.Frames.{on_two, base as base_of}
-use Rattle.stack_machine.specs.Machine.{State}
-use Rattle.code_scheme.specs.Code.{Reached, At, By, address_code, address_of, expr_code, fetch_code, field_code, range_check, reached, reached_from}
-use Rattle.code_scheme.specs.Code.{selectors_code, variable_code}
-use Rattle.code_scheme.specs.declared.home.Home.{Home}
-use Rattle.code_scheme.specs.Depth.{access_depth, expr_depth}
-use Rattle.code_scheme.specs.Scopes.{offset, row_length, access_offset, behind_fields, fields_offset, links_to, variable_home}
+use Rattle.code_scheme.specs.Code.{Reached, At, By, address_code, address_of, fetch_code, field_code, range_check, reached, reached_from, selectors_code}
+use Rattle.code_scheme.specs.Code.{variable_code}
+use Rattle.code_scheme.specs.Depth.{access_depth}
+use Rattle.code_scheme.specs.Scopes.{offset, access_offset, behind_fields, fields_offset}
 use Rattle.check_remover.specs.Strip.{stays}
-use Rattle.code_scheme.proofs.Pieces.{start_within}
 use Rattle.code_generator.proofs.Acts.{loads}
 use Rattle.code_generator.proofs.Addressing.{loads_address, increases, indexes as element_indexed, loads_indirect}
 use Rattle.code_generator.proofs.Alike.{LiesIn, Leads, cell_of, cell_within, alike_above, base_is, keeps_above}
-use Rattle.code_generator.proofs.Evaluating.{ExprRuns, fetched_runs, frames_of, one_held, sites}
-use Rattle.code_generator.proofs.Numbers.{Fits, same_range}
+use Rattle.code_generator.proofs.Evaluating.{ExprRuns, fetched_runs, frames_of, sites, range_then}
+use Rattle.code_generator.proofs.Numbers.{same_range}
 use Rattle.code_generator.proofs.Parts.{inner, IsPart, element_part, field_part, is_element, is_field_of, led_on, ordinal_part, part_later, part_up_to}
 use Rattle.code_generator.proofs.Reach.{Stands, StandsAt, stands_front, stands_back, Comes, comes_less, stays_here}
 use Rattle.code_generator.proofs.Exact.{exact_selected}
 use Rattle.code_generator.proofs.Setting.{Setting, Shown, Way, Direct, ByAddress, Reaches, outline, around, exact_around, on, Based, linked, limit_far, acts}
-use Rattle.code_generator.proofs.Running.{Aim, Arrives, Evaluates, Runs, instr_then, runs_from, then_code, value_on, value_then}
 use Rattle.code_generator.proofs.Setting.{entered}
-use Rattle.code_generator.proofs.Evaluating.{range_then}
+use Rattle.code_generator.proofs.Running.{beside, number_cell, IsValue, Aim, Arrives, Evaluates, Runs, instr_then, runs_from, then_code, value_on}
 use Rattle.code_generator.proofs.Lists.{slice_get-front, length_one}
 
 -- how far a number lies above another
@@ -199,43 +182,7 @@ module _ (g : Setting) where
       → Addresses (on g ((base ++ held) ++ Number (pos d) ∷ []) place s.output) held (place + length (selectors_code selectors (codes indexes))) last
       (selected selectors (map value_of (expressions indexes)) (around g) (Some p)) s
 
-  -- an index in the range of its test: the address of the element, and what is selected from there
-  indexed_by : (fits : RangeTest) (cells : ℕ) (selectors : List Selector) (indexes : Indexes) (depth place d : ℕ) (base held : List Cell) (n : ℤ)
-      (p : Place) (t part last : TypeId) (s : effect.State) → (int_le fits.range.first n && int_le n fits.range.last) ≡ true → SelectorsRun selectors indexes
-      → Stands g.target place (instr.IndexAddress fits.range.first (row_length cells) ∷ selectors_code selectors (codes indexes))
-      → are_well_formed_indexes indexes ≡ true → is_whole fits.range.first ≡ true → are_selectors selectors ≡ true
-      → length (expressions indexes) ≡ index_count selectors → chosen g.tree.types (Element fits cells) t ≡ Some part
-      → led g.tree.types selectors part ≡ Some last
-      → PartAt p t d → Based g s base → g.below + length held + fold max depth (map (λ i. i + 1) (depths indexes)) ≤ g.limit
-      → g.below + length held < g.limit → Fits n
-      → Addresses (on g (((base ++ held) ++ Number (pos d) ∷ []) ++ Number n ∷ []) place s.output) held
-      (place + length (instr.IndexAddress fits.range.first (row_length cells) ∷ selectors_code selectors (codes indexes))) last
-      (selected selectors (map value_of (expressions indexes)) (around g) (Some (inner p (step.Element n ∷ [])))) s
-  indexed_by fits cells selectors indexes depth place d base held n p t part last s holds runs stands wells whole_bound well counts is ends whole based deep
-      room fit =
-      let below = base ++ held in
-      let one = below ++ Number (pos d) ∷ [] in
-      let both = and_parts (int_le fits.range.first n) (int_le n fits.range.last) holds in
-      let low : fits.range.first ≤ℤ n = omega (arith, ints, both.0) in
-      let high : n ≤ℤ fits.range.last = omega (arith, ints, both.1) in
-      let far = counted (n -ℤ fits.range.first) (omega (arith, ints, low)) in
-      let lies = element_at_part fits cells d far.0 n p t part is low high far.1 whole in
-      let small = lies.1 in
-      let same : row_length cells ≡ cells = omega arith in
-      let inside = lies.0.within in
-      let full = based.full in
-      let limit = limit_far g in
-      let long = length-append base held in
-      let there = below ++ Number (pos (d + far.0 * cells)) ∷ [] in
-      let reached = acts g (instr.IndexAddress fits.range.first (row_length cells)) (one ++ Number n ∷ []) there place s.output _ stands.0 refl
-      (ap (λ size. on_two (element fits.range.first size) (frames_of g (one ++ Number n ∷ []))) same
-      ∙ element_indexed g.frame g.limit g.size below (linked g s base held based) fits.range.first n cells d far.0 (omega arith)
-      (record { is = whole_bound }) fit far.1 small (omega arith)) in
-      instr_then g (address_on held last) 1 (instr.IndexAddress fits.range.first (row_length cells)) (selectors_code selectors (codes indexes)) place _ _
-      (selected selectors (map value_of (expressions indexes)) (around g) (Some (inner p (step.Element n ∷ [])))) s reached
-      (runs depth (place + 1) (d + far.0 * cells) base held (inner p (step.Element n ∷ [])) part last s stands.1 wells well counts ends lies.0 based
-      deep room)
-
+  -- a field is a step further; an index is evaluated, tested and gives way to the address of its element
   pub selectors_run : (selectors : List Selector) (indexes : Indexes) → SelectorsRun selectors indexes
   selectors_run [] indexes depth place d base held p t last s stands wells well counts ends whole based deep room =
       let here : place ≡ place + 0 = omega arith in
@@ -277,26 +224,39 @@ module _ (g : Setting) where
       let chosen_by : Value → Action (Option Place) = λ v.
       selected selectors (map value_of (expressions indexes)) (around g) (Some (inner p (step.Element (number_of v) ∷ []))) in
       let next : Value → Action (Option Place) = λ v. require (effect.is_in fits.range v) fits.site >>= λ _. chosen_by v in
-      let end = place + length (c ++ (range_check fits ∷ indexing)) in
-      subst (λ cells. Addresses (on g cells place s.output) held end last (value_of index.0 (around g) >>= next) s)
-      (one_held g base held (pos d))
-      (value_then g (address_on held last) c (range_check fits ∷ indexing) place _ above (value_of index.0 (around g)) next s
-      ((exact_around g).values index.0) stands (λ front. index.1 place base above s front parts.0 based (omega arith))
-      (λ base2 v s2 rest based2 fit2 room2.
+      beside g (IsValue g above) (number_cell g) (address_on held last) c (range_check fits ∷ indexing) place base held (Number (pos d) ∷ [])
+      (value_of index.0 (around g)) next s ((exact_around g).values index.0) stands
+      (λ front. index.1 place base above s front parts.0 based (omega arith))
+      (λ base2 v s2 rest based2 so.
+      let fit2 = so.0 in
       let n = number_of v in
       let from = place + length c in
       let one = (base2 ++ held) ++ Number (pos d) ∷ [] in
       let in_frame = linked g s2 base2 held based2 in
       let e : from + 1 + length indexing ≡ from + length (range_check fits ∷ indexing) = omega arith in
-      subst (λ cs. Addresses (on g (cs ++ Number n ∷ []) from s2.output) held (from + length (range_check fits ∷ indexing)) last (next v) s2)
-      (sym (one_held g base2 held (pos d)))
-      (subst (λ there. Addresses (on g (one ++ Number n ∷ []) from s2.output) held there last (next v) s2) e
+      subst (λ there. Addresses (on g (one ++ Number n ∷ []) from s2.output) held there last (next v) s2) e
       (range_then g (address_on held last (from + 1 + length indexing)) fits v one from s2 (chosen_by v) rest.0
       (ltb-true fits.site (sites g) test_parts.0) (omega (arith, in_frame, length_one (base2 ++ held) (Number (pos d)))) fit2
       (λ holds.
-      indexed_by fits cells selectors indexes (max depth (expr_depth index.0 + 1)) (from + 1) d base2 held n p t on_led.0 last s2
-      (sym (same_range fits.range v fit2) ∙ holds) (selectors_run selectors indexes) rest.1 parts.1 whole_bound selector_parts.1 (omega arith)
-      on_led.1 on_led.2 whole based2 deep (omega arith) fit2)))))
+      let both = and_parts (int_le fits.range.first n) (int_le n fits.range.last) (sym (same_range fits.range v fit2) ∙ holds) in
+      let low : fits.range.first ≤ℤ n = omega (arith, ints, both.0) in
+      let far = counted (n -ℤ fits.range.first) (omega (arith, ints, low)) in
+      let lies = element_at_part fits cells d far.0 n p t on_led.0 on_led.1 low (omega (arith, ints, both.1)) far.1 whole in
+      let small = lies.1 in
+      let same : row_length cells ≡ cells = omega arith in
+      let inside = lies.0.within in
+      let full = based2.full in
+      let limit = limit_far g in
+      let long = length-append base2 held in
+      let reached = acts g (instr.IndexAddress fits.range.first (row_length cells)) (one ++ Number n ∷ [])
+      ((base2 ++ held) ++ Number (pos (d + far.0 * cells)) ∷ []) (from + 1) s2.output _ rest.1.0 refl
+      (ap (λ size. on_two (element fits.range.first size) (frames_of g (one ++ Number n ∷ []))) same
+      ∙ element_indexed g.frame g.limit g.size (base2 ++ held) in_frame fits.range.first n cells d far.0 (omega arith)
+      (record { is = whole_bound }) fit2 far.1 small (omega arith)) in
+      instr_then g (address_on held last) 1 (instr.IndexAddress fits.range.first (row_length cells)) (selectors_code selectors (codes indexes)) (from + 1) _ _
+      (chosen_by v) s2 reached
+      (selectors_run selectors indexes (max depth (expr_depth index.0 + 1)) (from + 1 + 1) (d + far.0 * cells) base2 held
+      (inner p (step.Element n ∷ [])) on_led.0 last s2 rest.1.1 parts.1 selector_parts.1 (omega arith) on_led.2 lies.0 based2 deep (omega arith)))))
 
   -- ---- an access
 

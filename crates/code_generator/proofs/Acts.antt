@@ -1,19 +1,16 @@
 -- What each instruction does to a store whose topmost cells are known, in a frame that begins anywhere.
-use Rattle.std.proofs.Common.{◌≡◌, ℕ, ◌+◌, ◌-◌, ◌<◌, ◌≤◌, List, [], ◌∷◌, ◌++◌, length, take, drop, Some, None, Ok, Err, ap, ◌∙◌, arith, append_assoc}
-use Rattle.std.proofs.Common.{length-append, Bool, true}
-use Rattle.std.specs.Prelude.{slice_get, slice_set, ℤ, pos, ◌+ℤ◌, ◌-ℤ◌, ◌*ℤ◌, int_le, ◌&&◌, if◌then◌else◌}
-use Rattle.std.specs.Int.{w32, int_wrapping_div, int_rem_euclid}
-use Rattle.std.specs.List.{list_all}
-use Rattle.std.proofs.lemmas.Bool.{lt-ltb, le-leb}
-use Rattle.std.proofs.Math.Seq.{get_or-append_seam, take-append_seam, drop-append_seam}
-use Rattle.std.proofs.lemmas.Option.{slice_get-get_or}
-use Rattle.stack_machine.specs.declared.cell.Cell.{Cell}
-use Rattle.stack_machine.specs.declared.cell.Cell.TheVariants.{Undefined, Number}
+use Rattle.code_generator.proofs.Words.{◌≡◌, ℕ, ◌+◌, ◌-◌, ◌<◌, ◌≤◌, List, [], ◌∷◌, ◌++◌, length, take, drop, Some, None, Ok, Err, ap, ◌∙◌, arith, append_assoc}
+use Rattle.code_generator.proofs.Words.{Bool, true, slice_get, slice_set, ℤ, pos, ◌-ℤ◌, int_le, ◌&&◌, if◌then◌else◌, w32, list_all, lt-ltb, drop-append_seam}
+use Rattle.code_generator.proofs.Words.{Cell, Undefined, Number, Frames, Attempt, is_true}
+use Rattle.std.specs.Prelude.{◌+ℤ◌, ◌*ℤ◌}
+use Rattle.std.specs.Int.{int_wrapping_div, int_rem_euclid}
+use Rattle.std.proofs.lemmas.Bool.{le-leb}
+use Rattle.std.proofs.Math.Seq.{take-append_seam}
 use Rattle.stack_machine.specs.declared.stop.MachineFault.TheVariants.{Underflow, OutOfBounds, WrongDivisor}
 use Rattle.stack_machine.specs.Deeds.{jumped_if_false}
-use Rattle.stack_machine.specs.Frames.{Frames, Attempt, ◌>>=◌, unless_fault, has, has_room_after, number, number_at, base, popped, pushed, in_use, variable}
-use Rattle.stack_machine.specs.Frames.{cell_at, load_constant, load, store, two_numbers, on_one, operands, on_two, divide, modulo, top_two, is_integer, is_true}
-use Rattle.stack_machine.specs.Frames.{is_defined, top_is_in_range, top_is_not_zero, top_is_defined, sum_is_integer, difference_is_integer, product_is_integer}
+use Rattle.stack_machine.specs.Frames.{◌>>=◌, unless_fault, has, has_room_after, number, number_at, base, popped, pushed, in_use, variable, cell_at}
+use Rattle.stack_machine.specs.Frames.{load_constant, load, store, two_numbers, on_one, operands, on_two, divide, modulo, top_two, is_integer, is_defined}
+use Rattle.stack_machine.specs.Frames.{top_is_in_range, top_is_not_zero, top_is_defined, sum_is_integer, difference_is_integer, product_is_integer}
 use Rattle.stack_machine.specs.Frames.{square_is_integer}
 use Rattle.code_generator.proofs.Lists.{slice_get_seam, length_two, length_one}
 

@@ -1,25 +1,18 @@
 -- What the instructions for addresses do to a store on top of which they are known: the address of a variable, of an
 -- element and of a field, the cell at an address, and the row of cells from one on.
-use Rattle.std.proofs.Common.{◌≡◌, ℕ, zero, suc, ◌+◌, ◌-◌, ◌*◌, ◌<◌, ◌≤◌, List, [], ◌∷◌, ◌++◌, length, take, drop, Some, None, Ok, sym, ap, ◌∙◌, arith}
-use Rattle.std.proofs.Common.{length-append, append_assoc}
-use Rattle.std.specs.Prelude.{slice_get, slice_set, ℤ, pos, ◌-ℤ◌}
-use Rattle.std.specs.Int.{w32, cast_signed, int_wrap, int_wrapping_add, int_wrapping_sub, int_wrapping_mul}
-use Rattle.std.specs.List.{list_all}
+use Rattle.code_generator.proofs.Words.{◌≡◌, ℕ, zero, suc, ◌+◌, ◌-◌, ◌*◌, ◌<◌, ◌≤◌, List, [], ◌∷◌, ◌++◌, length, take, drop, Some, None, Ok, sym, ap, ◌∙◌}
+use Rattle.code_generator.proofs.Words.{arith, length-append, append_assoc, slice_get, slice_set, ℤ, pos, ◌-ℤ◌, w32, list_all, lt-ltb, drop-append_seam, Cell}
+use Rattle.code_generator.proofs.Words.{Undefined, Number, Frames, Attempt}
+use Rattle.std.specs.Int.{cast_signed, int_wrap, int_wrapping_add, int_wrapping_sub, int_wrapping_mul}
 use Rattle.std.proofs.lemmas.Int.{int_wrap_fits, to_z_pos, wrapping_sub_is, wrapping_mul_is, int_wrap-mul_left, SFits-int_wrap}
-use Rattle.std.proofs.lemmas.Bool.{lt-ltb}
-use Rattle.std.proofs.Math.Seq.{drop-append_seam}
-use Rattle.stack_machine.specs.declared.cell.Cell.{Cell}
-use Rattle.stack_machine.specs.declared.cell.Cell.TheVariants.{Undefined, Number}
 use Rattle.stack_machine.specs.declared.stop.MachineFault.TheVariants.{OutOfBounds}
 use Rattle.stack_machine.specs.Addresses.{further, element, row_place, has_room_for, with_row, load_address, load_indirect, store_indirect, load_many}
 use Rattle.stack_machine.specs.Addresses.{store_many}
-use Rattle.stack_machine.specs.Frames.{Frames, Attempt, ◌>>=◌, unless_fault, has, has_room_after, number, number_at, base, address_of, in_use, cell_at}
-use Rattle.stack_machine.specs.Frames.{popped, pushed}
+use Rattle.stack_machine.specs.Frames.{◌>>=◌, unless_fault, has, has_room_after, number, number_at, base, address_of, in_use, cell_at, popped, pushed}
 use Rattle.stack_machine.specs.Frames.{is_defined, top_is_defined, on_one, on_two}
 use Rattle.stack_machine.specs.Rows.{row}
-use Rattle.code_generator.proofs.Acts.{framed, has_some, has_room, in_use_is, top_at, one_popped, has_one, on_one_is, on_two_is}
-use Rattle.code_generator.proofs.Acts.{left_at, has_two}
-use Rattle.code_generator.proofs.Acts.{two_popped, right_at}
+use Rattle.code_generator.proofs.Acts.{framed, has_some, has_room, in_use_is, top_at, one_popped, has_one, on_one_is, on_two_is, left_at, has_two, two_popped}
+use Rattle.code_generator.proofs.Acts.{right_at}
 use Rattle.code_generator.proofs.Rows.{popped_is, top_row_is}
 use Rattle.code_generator.proofs.Numbers.{Fits, fits_by_abs, sum_is, fits_signed}
 use Rattle.code_generator.proofs.Lists.{slice_get_seam, slice_get-front, length_one}

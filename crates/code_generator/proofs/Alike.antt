@@ -1,17 +1,12 @@
 -- How the store of a program's meaning and the cells of the machine agree, over all the activations that live: each scalar of
 -- a variable lies in a cell that holds the same. The other cells, as links, addresses and what is held, may be fixed
 -- meanwhile; static links lead from frame to frame over such cells. It says nothing of cells that are neither.
-use Rattle.std.proofs.Common.{◌≡◌, ℕ, zero, suc, ◌+◌, ◌<◌, ◌≤◌, ◌⊎◌, List, [], ◌∷◌, ◌++◌, length, Option, Some, None, Ok, Err, refl, sym, ap, ◌∙◌, subst}
-use Rattle.std.proofs.Common.{⊎_elim, arith, length-append, Bool, true, false}
-use Rattle.std.specs.Prelude.{slice_get, slice_set, pos, if◌then◌else◌}
-use Rattle.std.proofs.lemmas.Bool.{cases_eq, lt-ltb}
-use Rattle.std.proofs.lemmas.Option.{slice_get_within}
-use Rattle.meaning.specs.declared.store.Value.{Value}
-use Rattle.meaning.specs.Effect.{number_of}
+use Rattle.code_generator.proofs.Words.{◌≡◌, ℕ, zero, suc, ◌+◌, ◌<◌, ◌≤◌, ◌⊎◌, List, [], ◌∷◌, ◌++◌, length, Option, Some, None, Ok, Err, refl, sym, ap, ◌∙◌}
+use Rattle.code_generator.proofs.Words.{subst, ⊎_elim, arith, length-append, Bool, true, false, slice_get, slice_set, pos, if◌then◌else◌, lt-ltb}
+use Rattle.code_generator.proofs.Words.{slice_get_within, Value, number_of, Place, stored, Cell, Undefined, Number}
+use Rattle.std.proofs.lemmas.Bool.{cases_eq}
 use Rattle.types.specs.Components.{Steps}
-use Rattle.meaning.specs.Store.{Place, Store, place_eq, stored}
-use Rattle.stack_machine.specs.declared.cell.Cell.{Cell}
-use Rattle.stack_machine.specs.declared.cell.Cell.TheVariants.{Undefined, Number}
+use Rattle.meaning.specs.Store.{Store, place_eq}
 use Rattle.stack_machine.specs.declared.stop.MachineFault.TheVariants.{OutOfBounds}
 use Rattle.stack_machine.specs.Frames.{◌>>=◌, number, address_of, base}
 use Rattle.code_generator.proofs.Numbers.{Fits}

@@ -1,56 +1,40 @@
 -- The code of an assignment, to an ordinal or of a whole value: the target is accessed first, then comes the value, and the
 -- components of the target get it; or it stops as the assignment does.
-use Rattle.std.proofs.Common.{◌≡◌, ℕ, ◌+◌, ◌<◌, ◌≤◌, max, List, [], ◌∷◌, ◌++◌, length, map, Option, Some, Ok, inr, refl, sym, ap, ◌∙◌, subst, arith}
-use Rattle.std.proofs.Common.{length-append, append_assoc, Bool, true}
-use Rattle.std.specs.Prelude.{slice_set, ℤ, pos, nat_lt, not, ◌&&◌}
-use Rattle.std.proofs.lemmas.Bool.{and_parts, ltb-true}
-use Rattle.pcode_assembler.specs.declared.instr.Instr.{Instr}
+use Rattle.code_generator.proofs.Words.{◌≡◌, ℕ, ◌+◌, ◌<◌, ◌≤◌, max, List, [], ◌∷◌, ◌++◌, length, map, Option, Some, Ok, inr, refl, sym, ap, ◌∙◌, subst, arith}
+use Rattle.code_generator.proofs.Words.{length-append, append_assoc, Bool, true, slice_set, ℤ, pos, nat_lt, not, ◌&&◌, and_parts, ltb-true, Instr, Form, TypeId}
+use Rattle.code_generator.proofs.Words.{components_of, cells_of, is_ordinal, Expr, RangeTest, all_hold, is_well_formed_expr, Value, Place, Action, ◌>>=◌}
+use Rattle.code_generator.proofs.Words.{number_of, require, value_of, Cell, Number, expr_code, expr_depth, row_length, start_within}
 use Rattle.pcode_assembler.specs.declared.instr.Instr.TheVariants as instr
-use Rattle.types.specs.Forms.{Form}
-use Rattle.types.specs.declared.form.TypeId.{TypeId}
-use Rattle.types.specs.Components.{components_of}
-use Rattle.types.specs.Types.{cells_of, is_ordinal, is_same}
+use Rattle.types.specs.Types.{is_same}
 use Rattle.typed_tree.specs.declared.tree.Access.{Access}
-use Rattle.typed_tree.specs.declared.tree.Expr.{Expr}
-use Rattle.typed_tree.specs.declared.tree.RangeTest.{RangeTest}
 use Rattle.typed_tree.specs.declared.tree.Whole.{Whole}
 use Rattle.typed_tree.specs.Accesses.{index_count}
-use Rattle.typed_tree.specs.WellFormed.{all_hold, fits_target, is_well_formed_expr, is_well_formed_test, is_well_formed_whole, is_whole}
-use Rattle.typed_tree.specs.WellFormed.{leads_to_ordinal, leads_to_whole, length_of, may_copy, source_of, whole_indexes}
-use Rattle.meaning.specs.declared.store.Value.{Value}
-use Rattle.meaning.specs.Store.{Place, kept}
+use Rattle.typed_tree.specs.WellFormed.{fits_target, is_well_formed_test, is_well_formed_whole, is_whole, leads_to_ordinal, leads_to_whole, length_of, may_copy}
+use Rattle.typed_tree.specs.WellFormed.{source_of, whole_indexes}
+use Rattle.meaning.specs.Store.{kept}
 use Rattle.meaning.specs.Effect as effect
-use Rattle.meaning.specs.Effect.{Action, ◌>>=◌, number_of, require, store_all}
-use Rattle.meaning.specs.Meaning.{accessed, selected, value_of, whole_of}
-use Rattle.stack_machine.specs.declared.cell.Cell.{Cell}
-use Rattle.stack_machine.specs.declared.cell.Cell.TheVariants.{Number}
-use Rattle.code_scheme.specs.Code.{Reached, At, By, address_code, address_of, expr_code, range_check, reached, selectors_code, store_code, whole_code}
-use Rattle.code_scheme.specs.Depth.{access_depth, expr_depth, store_depth, whole_depth}
-use Rattle.code_scheme.specs.Scopes.{row_length}
-use Rattle.code_scheme.proofs.Pieces.{start_within}
+use Rattle.meaning.specs.Effect.{store_all}
+use Rattle.meaning.specs.Meaning.{accessed, selected, whole_of}
+use Rattle.code_scheme.specs.Code.{Reached, At, By, address_code, address_of, range_check, reached, selectors_code, store_code, whole_code}
+use Rattle.code_scheme.specs.Depth.{access_depth, store_depth, whole_depth}
 use Rattle.code_generator.proofs.Accesses.{Indexes, Addresses, Begins, IsReached, expressions, wells, codes, depths, are_well_formed_indexes, PartAt}
-use Rattle.code_generator.proofs.Accesses.{address_is, address_runs, begins, exact_found, frame_found, found as place_found}
-use Rattle.code_generator.proofs.Accesses.{leads, pushed_runs, scalar_there}
+use Rattle.code_generator.proofs.Accesses.{address_is, address_runs, begins, exact_found, frame_found, found as place_found, leads, pushed_runs, scalar_there}
+use Rattle.code_generator.proofs.Accesses.{address_then}
 use Rattle.code_generator.proofs.Acts.{stores}
 use Rattle.code_generator.proofs.Addressing.{stores_indirect}
 use Rattle.code_generator.proofs.Alike.{Leads, LiesIn, cell_within}
 use Rattle.code_generator.proofs.Passing.{CallsAt}
-use Rattle.code_generator.proofs.Evaluating.{sites, ExecutesAs, frames_of, one_held}
-use Rattle.code_generator.proofs.Exprs.{expr_runs}
+use Rattle.code_generator.proofs.Evaluating.{sites, ExecutesAs, frames_of, one_held, range_then}
+use Rattle.code_generator.proofs.Exprs.{expr_runs, expr_then}
 use Rattle.code_generator.proofs.Held.{scalar_kept}
 use Rattle.code_generator.proofs.Numbers.{Fits}
 use Rattle.code_generator.proofs.Parts.{ordinal_part}
 use Rattle.code_generator.proofs.Reach.{Comes, Stands}
 use Rattle.code_generator.proofs.Rows.{cells_of as value_cells, length-cells_of}
-use Rattle.code_generator.proofs.Setting.{Setting, outline, around, exact_around, on, Based, linked, Here, acts}
-use Rattle.code_generator.proofs.Wholes.{set_row, set_row_front, stores_many, stored_all, store_all_is, row_kept, whole_runs}
-use Rattle.code_generator.proofs.Wholes.{copied_cells, few_components, same_type, AllFit}
-use Rattle.code_generator.proofs.Running.{Aim, Arrives, Executes, Runs, done, kept_on}
-use Rattle.code_generator.proofs.Accesses.{address_then}
-use Rattle.code_generator.proofs.Setting.{entered}
-use Rattle.code_generator.proofs.Exprs.{expr_then}
-use Rattle.code_generator.proofs.Evaluating.{range_then}
-use Rattle.code_generator.proofs.Wholes.{row_then}
+use Rattle.code_generator.proofs.Setting.{Setting, outline, around, exact_around, on, Based, linked, Here, acts, entered}
+use Rattle.code_generator.proofs.Wholes.{IsRow, set_row, set_row_front, stores_many, stored_all, store_all_is, row_kept, whole_runs, copied_cells}
+use Rattle.code_generator.proofs.Wholes.{few_components, same_type, AllFit}
+use Rattle.code_generator.proofs.Running.{beside, Aim, Arrives, Executes, Runs, done, kept_on}
 use Rattle.code_generator.proofs.Lists.{set_front, length_one}
 
 module _ (g : Setting) (known : CallsAt g) where
@@ -295,19 +279,15 @@ module _ (g : Setting) (known : CallsAt g) where
         (exact_found g target indexes led_to.last start one.0 led_to.counts) stands
         (λ front. address_runs g target indexes led_to.last start one.0 led_to.counts place base held s2 front based (omega arith))
         (λ base1 a p s1 rest based1 part1 room1.
-        let above = held ++ Number (pos a) ∷ [] in
         let taller = length_one held (Number (pos a)) in
         let part = subst (λ t. PartAt g p t a) its part1 in
-        let stored : List Value → Action (Unit {0}) = λ values. store_all (Some p) (components_of g.tree.types type_id) values in
-        subst (λ cs. Executes g (on g cs from s1.output) held (from + length (d ++ store)) (next g.tree.types (Some p)) s1) (one_held g base1 held (pos a))
-        (row_then g (kept_on g held) d store from _ above n (whole_of v (map value_of (expressions g value_indexes)) (around g)) stored s1
+        beside g (IsRow g n) value_cells (kept_on g held) d store from base1 held (Number (pos a) ∷ []) (whole_of v (map value_of
+        (expressions g value_indexes)) (around g)) (λ values. store_all (Some p) (components_of g.tree.types type_id) values) s1
         ((exact_around g).wholes v (expressions g value_indexes)) rest
-        (λ front. whole_runs g v value_indexes from base1 above s1 front four.0 four.1 based1 (omega arith))
-        (λ base2 values t storing based2 long fit.
-        subst (λ cs. Executes g (on g (cs ++ value_cells values) there t.output) held (there + 1) (stored values) t)
-        (sym (one_held g base2 held (pos a)))
-        (row_stored p type_id a n there base2 held values t part cells long fit
-        (subst (λ k. Stands g.target there (instr.StoreMany k ∷ [])) (sym same) storing) based2))))))
+        (λ front. whole_runs g v value_indexes from base1 (held ++ Number (pos a) ∷ []) s1 front four.0 four.1 based1 (omega arith))
+        (λ base2 values t storing based2 so.
+        row_stored p type_id a n there base2 held values t part cells so.0 so.1
+        (subst (λ k. Stands g.target there (instr.StoreMany k ∷ [])) (sym same) storing) based2))))
 
     pub copy_runs : (es vs : List Expr) → CopyRuns es vs
     copy_runs es vs =

@@ -1,40 +1,26 @@
 -- A routine that was called: its activation is the latest, its frame begins behind what its caller holds, and all that stands
 -- below it but the scalars is fixed while it runs.
-use Rattle.std.proofs.Common.{◌≡◌, ℕ, zero, suc, ◌+◌, ◌-◌, ◌<◌, ◌≤◌, ◌⊎◌, inl, inr, ⊎_elim, List, [], ◌∷◌, ◌++◌, length, map, take, Option, Some, None}
-use Rattle.std.proofs.Common.{refl, sym, ap, ◌∙◌, subst, arith, Bool, true, false, length-append, append_assoc, replicate, eq-eqb}
-use Rattle.std.specs.Prelude.{if◌then◌else◌, nat_eq, nat_lt, slice_get, pos, ◌&&◌, ◌||◌}
-use Rattle.std.specs.List.{list_all}
-use Rattle.std.proofs.lemmas.Bool.{and_parts, eqb-true, false≢true, false_from_ne_true, ltb-true}
-use Rattle.std.proofs.lemmas.List.{length-map}
-use Rattle.std.proofs.lemmas.List.Sums.{sum_by-cons}
-use Rattle.std.proofs.lemmas.Option.{none-some, same_Some, slice_get_within}
-use Rattle.types.specs.Components.{components_of}
-use Rattle.types.specs.Types.{cells_of}
-use Rattle.typed_tree.specs.declared.tree.Block.{Block}
-use Rattle.typed_tree.specs.declared.tree.Variable.{Variable}
-use Rattle.typed_tree.specs.declared.tree.VariableKind.{VariableKind}
+use Rattle.code_generator.proofs.Words.{◌≡◌, ℕ, suc, ◌+◌, ◌-◌, ◌<◌, ◌≤◌, ◌⊎◌, inl, inr, ⊎_elim, List, [], ◌∷◌, ◌++◌, length, map, take, Option, Some, None}
+use Rattle.code_generator.proofs.Words.{refl, sym, ap, ◌∙◌, subst, arith, Bool, true, false, length-append, append_assoc, replicate, eq-eqb, if◌then◌else◌}
+use Rattle.code_generator.proofs.Words.{nat_eq, nat_lt, slice_get, pos, ◌&&◌, ◌||◌, eqb-true, false≢true, ltb-true, length-map, sum_by-cons, slice_get_within}
+use Rattle.code_generator.proofs.Words.{components_of, cells_of, Block, Variable, VariableKind, heading_of, is_parameter_kind, is_variable_kind, roots_where}
+use Rattle.code_generator.proofs.Words.{Place, Argument, OfValue, OfRow, OfPlace, Cell, Undefined, Number, Home, routines_of, block_depth, living_need, Scope}
+use Rattle.code_generator.proofs.Words.{block_scope, called_routine, cells_where, count, is_parameter_of, links_to, other_cells, parameter_cells, slot_cells}
+use Rattle.code_generator.proofs.Words.{variable_home}
+use Rattle.std.proofs.lemmas.Bool.{false_from_ne_true}
 use Rattle.typed_tree.specs.declared.tree.VariableKind.TheVariants as kinds
-use Rattle.typed_tree.specs.WellFormed.{encloses, heading_of, is_one_of, is_parameter_kind, is_round, is_variable_kind, is_visible, of_one}
-use Rattle.typed_tree.specs.WellFormed.{outline_of, roots_where}
-use Rattle.meaning.specs.Store.{Environment, Place, place_eq}
-use Rattle.meaning.specs.Meaning.{Activation as Begun, Argument, OfValue, OfRow, OfPlace, environment_of, home_of as home_in, own_place, place_for}
-use Rattle.meaning.specs.Meaning.{place_passed}
-use Rattle.meaning.specs.Meaning.{seen_from}
-use Rattle.stack_machine.specs.declared.cell.Cell.{Cell}
-use Rattle.stack_machine.specs.declared.cell.Cell.TheVariants.{Undefined, Number}
-use Rattle.code_scheme.specs.declared.home.Home.{Home}
+use Rattle.typed_tree.specs.WellFormed.{encloses, is_one_of, is_round, is_visible, of_one, outline_of}
+use Rattle.meaning.specs.Store.{Environment, place_eq}
+use Rattle.meaning.specs.Meaning.{Activation as Begun, environment_of, home_of as home_in, own_place, place_for, place_passed, seen_from}
 use Rattle.code_scheme.specs.declared.routine.Routine.{Routine}
-use Rattle.code_scheme.specs.Code.{routine_at, routines_of}
-use Rattle.code_scheme.specs.Depth.{block_depth}
-use Rattle.code_scheme.specs.Need.{block_need, living_need}
-use Rattle.code_scheme.specs.Scopes.{Scope, block_level, block_scope, called_routine, cells_where, count, home_of, is_other_of, is_parameter_of, level_of}
-use Rattle.code_scheme.specs.Scopes.{links}
-use Rattle.code_scheme.specs.Scopes.{links_to, offset, other_cells, parameter_cells, routine_or_none, slot_cells, start_of, variable_home}
+use Rattle.code_scheme.specs.Code.{routine_at}
+use Rattle.code_scheme.specs.Need.{block_need}
+use Rattle.code_scheme.specs.Scopes.{block_level, home_of, is_other_of, level_of, links, offset, routine_or_none, start_of}
 use Rattle.code_scheme.proofs.Depths.{block_within}
 use Rattle.code_scheme.proofs.Routines.{block_stands}
 use Rattle.code_generator.proofs.Alike.{Activation, World, Lives, Fixed, Lies, LiesIn, IsApart, Leads, leads_above, leads_once, leads_split, leads_within}
-use Rattle.code_generator.proofs.Cells.{Owned, home_is, lies_inside, other_ends, others_few, own_scalars, owned, owned_back, owned_in, parameter_ends}
-use Rattle.code_generator.proofs.Cells.{slot_of, small_block, start_near, starts_as_other, starts_as_parameter, variable_ends}
+use Rattle.code_generator.proofs.Cells.{Owned, home_is, lies_inside, other_ends, others_few, own_scalars, owned, owned_back, owned_in, parameter_ends, slot_of}
+use Rattle.code_generator.proofs.Cells.{small_block, start_near, starts_as_other, starts_as_parameter, variable_ends}
 use Rattle.code_generator.proofs.Laying.{Laid, fitted_length, found, marked, marked_long, no_reference}
 use Rattle.code_generator.proofs.Nesting.{Callable, heading_at, shallow, well_block}
 use Rattle.code_generator.proofs.Parts.{IsPart, part_above}

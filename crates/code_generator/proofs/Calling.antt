@@ -1,18 +1,15 @@
 -- What the instructions of calls do to a store: the mark of a new frame, the jump to a routine, the beginning of its frame, and
 -- the return.
-use Rattle.std.proofs.Common.{◌≡◌, ℕ, suc, ◌+◌, ◌-◌, ◌<◌, ◌≤◌, List, [], ◌∷◌, ◌++◌, length, take, drop, replicate, Option, Some, None, Ok, Err, ap}
-use Rattle.std.proofs.Common.{◌∙◌, arith, length-append, refl}
-use Rattle.std.specs.Prelude.{if◌then◌else◌, pos, slice_get, slice_set}
-use Rattle.std.specs.Int.{w32, cast_signed}
+use Rattle.code_generator.proofs.Words.{◌≡◌, ℕ, ◌+◌, ◌-◌, ◌<◌, ◌≤◌, List, [], ◌∷◌, ◌++◌, length, take, drop, replicate, Option, Some, None, Ok, Err, ap, ◌∙◌}
+use Rattle.code_generator.proofs.Words.{arith, length-append, if◌then◌else◌, pos, slice_get, w32, lt-ltb, Cell, Undefined, Number, Attempt}
+use Rattle.std.specs.Int.{cast_signed}
 use Rattle.std.proofs.Math.Nat.{mod-eq_of_lt}
-use Rattle.std.proofs.lemmas.Bool.{le-leb, lt-leb, lt-ltb}
+use Rattle.std.proofs.lemmas.Bool.{le-leb, lt-leb}
 use Rattle.std.proofs.lemmas.Int.{to_z_pos}
-use Rattle.stack_machine.specs.declared.cell.Cell.{Cell}
-use Rattle.stack_machine.specs.declared.cell.Cell.TheVariants.{Undefined, Number}
 use Rattle.stack_machine.specs.declared.stop.MachineFault.TheVariants.{OutOfBounds}
 use Rattle.stack_machine.specs.declared.store.calls.Caller.{Caller}
 use Rattle.stack_machine.specs.Calls.{back_in, begun_at, called, caller, index_number, left, link_below, links, marked, not_outside}
-use Rattle.stack_machine.specs.Frames.{Attempt, ◌>>=◌, base, entered, unless_fault}
+use Rattle.stack_machine.specs.Frames.{◌>>=◌, base, entered, unless_fault}
 use Rattle.code_generator.proofs.Acts.{framed, has_some}
 use Rattle.code_generator.proofs.Lists.{set_third}
 

@@ -1,32 +1,24 @@
 -- Calls: from the jump to a routine's code on the machine does what the call does, in as many activations in one another as one
 -- likes, or its store is full.
-use Rattle.std.proofs.Common.{◌≡◌, ℕ, zero, suc, ◌+◌, ◌-◌, ◌<◌, ◌≤◌, ◌⊎◌, inl, inr, List, [], ◌∷◌, ◌++◌, length, Some, Ok}
-use Rattle.std.proofs.Common.{refl, sym, ap, ◌∙◌, subst, arith, Bool, true, length-append, append-nil, append_assoc, replicate}
-use Rattle.std.specs.Prelude.{slice_get, pos, nat_eq}
-use Rattle.std.specs.Option.{option_and_then}
-use Rattle.std.proofs.lemmas.Bool.{and_parts, cases_lt, eqb-true}
-use Rattle.std.proofs.lemmas.List.Sums.{sum_by-cons}
+use Rattle.code_generator.proofs.Words.{◌≡◌, ℕ, zero, suc, ◌+◌, ◌-◌, ◌<◌, ◌≤◌, ◌⊎◌, inl, inr, List, [], ◌∷◌, ◌++◌, length, Some, Ok, refl, sym, ap, ◌∙◌, subst}
+use Rattle.code_generator.proofs.Words.{arith, Bool, true, length-append, append-nil, append_assoc, replicate, slice_get, pos, nat_eq, option_and_then}
+use Rattle.code_generator.proofs.Words.{and_parts, cases_lt, eqb-true, sum_by-cons, Block, heading_of, Ending, Value, Reply, Gives, Action, ◌>>=◌, give}
+use Rattle.code_generator.proofs.Words.{number_of, Argument, Cell, Undefined, Number, State, routines_of, block_depth, living_need, block_scope, called_routine}
+use Rattle.code_generator.proofs.Words.{count, links_to, other_cells, parameter_cells, row_length}
 use Rattle.pcode_assembler.specs.declared.instr.Instr.TheVariants as instr
-use Rattle.typed_tree.specs.declared.tree.Block.{Block}
 use Rattle.typed_tree.specs.declared.tree.Heading.{Heading}
-use Rattle.typed_tree.specs.WellFormed.{heading_of, is_callable, is_kind_of}
-use Rattle.meaning.specs.declared.outcome.Ending.{Ending}
+use Rattle.typed_tree.specs.WellFormed.{is_callable, is_kind_of}
 use Rattle.meaning.specs.declared.outcome.Ending.TheVariants as ending
-use Rattle.meaning.specs.declared.store.Value.{Value}
 use Rattle.meaning.specs.Effect as effect
-use Rattle.meaning.specs.Effect.{Reply, Gives, Action, ◌>>=◌, give, number_of}
-use Rattle.meaning.specs.Meaning.{Activation as Begun, Argument, activated, assign_all, calls_of, effect_of, executed, result_of}
+use Rattle.meaning.specs.Meaning.{Activation as Begun, activated, assign_all, calls_of, effect_of, executed, result_of}
 use Rattle.stack_machine.specs.declared.stop.Stop.TheVariants as stop
-use Rattle.stack_machine.specs.declared.cell.Cell.{Cell}
-use Rattle.stack_machine.specs.declared.cell.Cell.TheVariants.{Undefined, Number}
 use Rattle.stack_machine.specs.Calls.{called}
 use Rattle.stack_machine.specs.Frames.{entered}
-use Rattle.stack_machine.specs.Machine.{State, and_then, at_place, with_frame}
-use Rattle.code_scheme.specs.Code.{block_code, end_code, return_code, routine_at, routines_of, stmt_code}
+use Rattle.stack_machine.specs.Machine.{and_then, at_place, with_frame}
+use Rattle.code_scheme.specs.Code.{block_code, end_code, return_code, routine_at, stmt_code}
 use Rattle.code_scheme.specs.declared.routine.Routine.{Routine}
-use Rattle.code_scheme.specs.Depth.{block_depth}
-use Rattle.code_scheme.specs.Need.{block_need, living_need}
-use Rattle.code_scheme.specs.Scopes.{block_scope, called_routine, count, links_to, other_cells, parameter_cells, routine_or_none, row_length}
+use Rattle.code_scheme.specs.Need.{block_need}
+use Rattle.code_scheme.specs.Scopes.{routine_or_none}
 use Rattle.code_scheme.proofs.Depths.{block_within}
 use Rattle.code_scheme.proofs.Routines.{block_stands}
 use Rattle.code_generator.proofs.Acts.{framed}
@@ -35,7 +27,7 @@ use Rattle.code_generator.proofs.Calling.{begins_frame, enters, full, index_is}
 use Rattle.code_generator.proofs.Cells.{small_block}
 use Rattle.code_generator.proofs.Laying.{Laid, laid_cells, laid_from}
 use Rattle.code_generator.proofs.Nesting.{Callable, callable as may_be_called, heading_at, well_block}
-use Rattle.code_generator.proofs.Passing.{AllFitted, CallsRun, Returns, left_by, links_of}
+use Rattle.code_generator.proofs.Passing.{AllFitted, CallsRun, Returns, left_by, links_of, return_on}
 use Rattle.code_generator.proofs.Reach.{Comes, Stands, StandsAt, Stops, comes_at_rate, comes_by, comes_less, comes_on, stands_back, stands_front, stays_here}
 use Rattle.code_generator.proofs.Reach.{stops_by, stops_on}
 use Rattle.code_generator.proofs.Returning.{back_based, back_comes, back_place, count_of, finish, restored}
@@ -43,7 +35,6 @@ use Rattle.code_generator.proofs.Setting.{exact_around, Setting, Based, Ends, St
 use Rattle.code_generator.proofs.Starting.{assigned, begun_state, h, started}
 use Rattle.code_generator.proofs.Stmts.{stmt_runs}
 use Rattle.code_generator.proofs.Running.{Arrives, Executes, gives_then, kept_on, runs_from, then_runs}
-use Rattle.code_generator.proofs.Passing.{return_on}
 
 module _ (g : Setting) (depth : ℕ) (known : CallsRun depth) (depth_is : g.depth ≡ suc depth) (is_function : Bool) (number : ℕ) (block : Block)
     (outer place : ℕ) (base held cells : List Cell) (arguments : List Argument) (s : effect.State)

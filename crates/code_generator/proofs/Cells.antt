@@ -1,24 +1,16 @@
 -- Where the variables of a block lie in its frame: each behind those before it, within the cells that the block has.
-use Rattle.std.proofs.Common.{◌≡◌, ℕ, zero, suc, ◌+◌, ◌<◌, ◌≤◌, ◌⊎◌, inl, inr, ⊎_elim, List, [], ◌∷◌, length, take, Option, Some, None, refl, sym, ap, ◌∙◌}
-use Rattle.std.proofs.Common.{subst, arith, Bool, true, false, eq-eqb}
-use Rattle.std.specs.Prelude.{filter, if◌then◌else◌, nat_eq, nat_lt, not, slice_get, sum_by, ◌&&◌}
-use Rattle.std.proofs.lemmas.Bool.{and_parts, cases_eq, cases_lt, eqb-true, false≢true, ltb-false, or_parts}
-use Rattle.std.proofs.lemmas.List.Sums.{sum_by-cons}
-use Rattle.std.proofs.lemmas.Option.{cond_some, none-some, same_Some, slice_get_within}
-use Rattle.types.specs.Components.{components_of}
-use Rattle.types.specs.Forms.{Form}
-use Rattle.types.specs.Types.{cells_of}
-use Rattle.typed_tree.specs.declared.tree.Block.{Block}
-use Rattle.typed_tree.specs.declared.tree.Tree.{Tree}
-use Rattle.typed_tree.specs.declared.tree.Variable.{Variable}
-use Rattle.typed_tree.specs.declared.tree.VariableKind.{VariableKind}
+use Rattle.code_generator.proofs.Words.{◌≡◌, ℕ, zero, suc, ◌+◌, ◌<◌, ◌≤◌, ◌⊎◌, inl, inr, ⊎_elim, List, [], ◌∷◌, length, take, Option, Some, None, refl, sym, ap}
+use Rattle.code_generator.proofs.Words.{◌∙◌, subst, arith, Bool, true, false, eq-eqb, if◌then◌else◌, nat_eq, nat_lt, not, slice_get, ◌&&◌, and_parts, cases_lt}
+use Rattle.code_generator.proofs.Words.{eqb-true, false≢true, sum_by-cons, none-some, same_Some, slice_get_within, components_of, Form, cells_of, Block, Tree}
+use Rattle.code_generator.proofs.Words.{Variable, VariableKind, IsWellFormed, is_parameter_kind, is_variable_kind, Place, Home, block_depth, Scope, cells_where}
+use Rattle.code_generator.proofs.Words.{is_parameter_of, other_cells, parameter_cells, slot_cells, variable_home}
+use Rattle.std.specs.Prelude.{filter, sum_by}
+use Rattle.std.proofs.lemmas.Bool.{cases_eq, ltb-false, or_parts}
+use Rattle.std.proofs.lemmas.Option.{cond_some}
 use Rattle.typed_tree.specs.declared.tree.VariableKind.TheVariants as kinds
-use Rattle.typed_tree.specs.WellFormed.{IsWellFormed, is_parameter_kind, is_variable_kind, variables_of}
-use Rattle.meaning.specs.Store.{Place, place_eq}
-use Rattle.code_scheme.specs.declared.home.Home.{Home}
-use Rattle.code_scheme.specs.Depth.{block_depth}
-use Rattle.code_scheme.specs.Scopes.{Scope, cells_where, home_of, home_or_none, homes_from, homes_of, is_other_of, is_parameter_of, offset, other_cells}
-use Rattle.code_scheme.specs.Scopes.{parameter_cells, slot_cells, start_of, variable_home}
+use Rattle.typed_tree.specs.WellFormed.{variables_of}
+use Rattle.meaning.specs.Store.{place_eq}
+use Rattle.code_scheme.specs.Scopes.{home_of, home_or_none, homes_from, homes_of, is_other_of, offset, start_of}
 use Rattle.code_generator.specs.Known.{Known}
 use Rattle.code_generator.specs.Large.{frame_cells, has_large_frame, is_large_block, is_too_large}
 use Rattle.code_generator.proofs.Alike.{Activation, Extent, Lies}

@@ -1,20 +1,13 @@
 -- The code of a program ends with an instruction that is no call: behind each call another instruction follows. And for how
 -- many turns an instruction makes up.
-use Rattle.std.proofs.Common.{◌≡◌, ℕ, zero, suc, ◌+◌, ◌<◌, ◌≤◌, ⊎_elim, List, [], ◌∷◌, ◌++◌, length, max, take, Option, Some, None, refl, sym, ap, ◌∙◌}
-use Rattle.std.proofs.Common.{subst, arith, length-append, append_assoc, Bool}
-use Rattle.std.specs.Prelude.{slice_get, count_by, if◌then◌else◌}
-use Rattle.std.proofs.lemmas.Bool.{cases_lt}
-use Rattle.std.proofs.lemmas.List.Sums.{sum_by-cons}
-use Rattle.std.proofs.lemmas.Option.{none-some, same_Some, slice_get_within}
-use Rattle.pcode_assembler.specs.declared.instr.Instr.{Instr}
+use Rattle.code_generator.proofs.Words.{◌≡◌, ℕ, zero, suc, ◌+◌, ◌<◌, ◌≤◌, ⊎_elim, List, [], ◌∷◌, ◌++◌, length, max, take, Option, Some, None, refl, sym, ap}
+use Rattle.code_generator.proofs.Words.{◌∙◌, subst, arith, length-append, append_assoc, Bool, slice_get, if◌then◌else◌, cases_lt, sum_by-cons, none-some}
+use Rattle.code_generator.proofs.Words.{same_Some, slice_get_within, Instr, Block, Tree, routines_of, block_depth, Scope, block_scope, count, other_cells}
+use Rattle.std.specs.Prelude.{count_by}
 use Rattle.pcode_assembler.specs.declared.instr.Instr.TheVariants as instr
-use Rattle.typed_tree.specs.declared.tree.Block.{Block}
 use Rattle.typed_tree.specs.declared.tree.FunctionResult.{FunctionResult}
-use Rattle.typed_tree.specs.declared.tree.Tree.{Tree}
 use Rattle.code_scheme.specs.declared.routine.Routine.{Routine}
-use Rattle.code_scheme.specs.Code.{block_code, blocks_code, end_code, program_code, return_code, routines_of, stmt_code}
-use Rattle.code_scheme.specs.Depth.{block_depth}
-use Rattle.code_scheme.specs.Scopes.{Scope, block_scope, count, other_cells}
+use Rattle.code_scheme.specs.Code.{block_code, blocks_code, end_code, program_code, return_code, stmt_code}
 use Rattle.code_generator.proofs.Repeats.{repeats}
 use Rattle.code_generator.proofs.Lists.{slice_behind}
 

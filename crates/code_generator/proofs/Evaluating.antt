@@ -1,35 +1,23 @@
 -- What is shown of the code of an expression: it leaves the expression's value on top, or stops as the expression does; and
 -- of a statement: it keeps store and cells alike, or stops as the statement does.
-use Rattle.std.proofs.Common.{subst, ◌≡◌, ℕ, ◌+◌, ◌<◌, ◌≤◌, List, [], ◌∷◌, ◌++◌, length, Option, Some, None, refl, sym, append_assoc, Bool, true, inr}
-use Rattle.std.specs.Prelude.{ℤ}
-use Rattle.pcode_assembler.specs.declared.instr.Instr.{Instr}
+use Rattle.code_generator.proofs.Words.{subst, ◌≡◌, ℕ, ◌+◌, ◌<◌, ◌≤◌, List, [], ◌∷◌, ◌++◌, length, Option, Some, None, refl, sym, append_assoc, Bool, true, inr}
+use Rattle.code_generator.proofs.Words.{ℤ, Instr, Expr, is_well_formed_expr, Value, number_of, UsesTurnsExactly, value_of, Cell, Undefined, Number, State}
+use Rattle.code_generator.proofs.Words.{expr_code, expr_depth, ap, ◌∙◌, Ok, Action, ◌>>=◌, require, RangeTest}
 use Rattle.pcode_assembler.specs.declared.instr.Instr.TheVariants as instr
-use Rattle.typed_tree.specs.declared.tree.Expr.{Expr}
 use Rattle.typed_tree.specs.declared.tree.Link.{Link}
-use Rattle.typed_tree.specs.WellFormed.{is_well_formed_expr, is_well_formed_link}
-use Rattle.meaning.specs.declared.store.Value.{Value}
+use Rattle.typed_tree.specs.WellFormed.{is_well_formed_link}
 use Rattle.meaning.specs.Effect as effect
-use Rattle.meaning.specs.Effect.{fetched, number_of}
-use Rattle.meaning.specs.Laws.{UsesTurnsExactly}
-use Rattle.meaning.specs.Meaning.{Evaluation, Combination, Execution, value_of, link_of}
-use Rattle.stack_machine.specs.declared.cell.Cell.{Cell}
-use Rattle.stack_machine.specs.declared.cell.Cell.TheVariants.{Undefined, Number}
+use Rattle.meaning.specs.Effect.{fetched}
+use Rattle.meaning.specs.Meaning.{Evaluation, Combination, Execution, link_of}
 use Rattle.stack_machine.specs.Frames as frames
-use Rattle.stack_machine.specs.Machine.{State}
-use Rattle.code_scheme.specs.Code.{Placed, expr_code, link_code}
-use Rattle.code_scheme.specs.Depth.{expr_depth, link_depth}
-use Rattle.code_generator.proofs.Acts.{framed, defines}
+use Rattle.code_scheme.specs.Code.{Placed, link_code, range_check}
+use Rattle.code_scheme.specs.Depth.{link_depth}
+use Rattle.code_generator.proofs.Acts.{framed, defines, is_in_range}
 use Rattle.code_generator.proofs.Alike.{cell_of, HasFit}
-use Rattle.code_generator.proofs.Numbers.{Fits}
+use Rattle.code_generator.proofs.Numbers.{Fits, same_range}
 use Rattle.code_generator.proofs.Reach.{StandsAt, Stands}
 use Rattle.code_generator.proofs.Setting.{Setting, outline, around, on, Based, linked, passes, fails}
 use Rattle.code_generator.proofs.Running.{Aim, Evaluates, Executes, Runs, check_then, gives}
-use Rattle.std.proofs.Common.{ap, ◌∙◌, Ok}
-use Rattle.meaning.specs.Effect.{Action, ◌>>=◌, require}
-use Rattle.code_generator.proofs.Acts.{is_in_range}
-use Rattle.code_generator.proofs.Numbers.{same_range}
-use Rattle.code_scheme.specs.Code.{range_check}
-use Rattle.typed_tree.specs.declared.tree.RangeTest.{RangeTest}
 
 -- what is shown of the like is shown of these
 pub same_four : {A B C D : Type 0} (IsShown : A → B → C → D → Type 0) {a a' : A} {b b' : B} {c c' : C} {d d' : D} → a ≡ a' → b ≡ b' → c ≡ c' → d ≡ d'

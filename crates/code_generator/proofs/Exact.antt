@@ -1,23 +1,23 @@
 -- Pieces of a program use their turns exactly: where one gave a value, the turns that it used are enough for that. Of most
 -- pieces a law of the meaning says so; the others are made of those.
-use Rattle.std.proofs.Common.{◌≡◌, ℕ, ◌+◌, List, [], ◌∷◌, Option, Some, None, map, Bool, true, false, ℤ, if◌then◌else◌, refl, ap, ◌∙◌, arith}
+use Rattle.code_generator.proofs.Words.{◌≡◌, ℕ, ◌+◌, List, [], ◌∷◌, Option, Some, None, map, Bool, true, false, refl, ap, ◌∙◌, arith, Expr, Value, Place, Reply}
+use Rattle.code_generator.proofs.Words.{Gives, Action, ◌>>=◌, give, number_of, require, UsesTurnsExactly, value_of}
+use Rattle.std.proofs.Common.{ℤ, if◌then◌else◌}
 use Rattle.types.specs.declared.form.Step.TheVariants as step
 use Rattle.typed_tree.specs.declared.tree.Direction.{Direction}
 use Rattle.typed_tree.specs.declared.tree.Dyadic.{Dyadic}
-use Rattle.typed_tree.specs.declared.tree.Expr.{Expr}
 use Rattle.typed_tree.specs.declared.tree.Passed.{Passed}
 use Rattle.typed_tree.specs.declared.tree.Selector.{Selector}
 use Rattle.typed_tree.specs.declared.tree.Selector.TheVariants.{Element, Field}
 use Rattle.typed_tree.specs.declared.tree.Stmt.{Stmt}
 use Rattle.typed_tree.specs.declared.tree.WriteParameter.{WriteParameter}
-use Rattle.meaning.specs.declared.store.Value.{Value}
 use Rattle.meaning.specs.declared.store.Value.TheVariants.{Number}
 use Rattle.meaning.specs.Counting.{value_behind}
-use Rattle.meaning.specs.Store.{Place, part}
-use Rattle.meaning.specs.Effect.{Reply, Gives, Stops, Action, ◌>>=◌, and_then, enter, give, is_in, number_of, require, store, use_turn}
-use Rattle.meaning.specs.Laws.{AllUseTurnsExactly, UsedTurns, UsesTurnsExactly, state_after}
-use Rattle.meaning.specs.Meaning.{Evaluation, Surroundings, all_of, all_passed, combined, effect_of, link_step, parameter_of, passing_of, selected, value_of}
-use Rattle.meaning.specs.Meaning.{for_round, is_so, repeat_round, turn_if, while_round}
+use Rattle.meaning.specs.Store.{part}
+use Rattle.meaning.specs.Effect.{Stops, and_then, enter, is_in, store, use_turn}
+use Rattle.meaning.specs.Laws.{AllUseTurnsExactly, UsedTurns, state_after}
+use Rattle.meaning.specs.Meaning.{Evaluation, Surroundings, all_of, all_passed, combined, effect_of, link_step, parameter_of, passing_of, selected, for_round}
+use Rattle.meaning.specs.Meaning.{is_so, repeat_round, turn_if, while_round}
 
 pub exact_give : {A : Type 0} (a : A) → UsesTurnsExactly (give a)
 exact_give a s t b is =

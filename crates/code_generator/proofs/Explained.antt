@@ -1,15 +1,11 @@
 -- What is known of a run of the machine, where one knows how a longer one ends.
-use Rattle.std.proofs.Common.{◌≡◌, ℕ, ◌<◌, ◌≤◌, ◌⊎◌, ⊎_elim, List, ◌++◌, append_assoc, sym, ap, ◌∙◌, subst, arith}
-use Rattle.std.proofs.lemmas.Bool.{cases_lt}
+use Rattle.code_generator.proofs.Words.{◌≡◌, ℕ, ◌<◌, ◌≤◌, ◌⊎◌, ⊎_elim, List, ◌++◌, append_assoc, sym, ap, ◌∙◌, subst, arith, cases_lt, Instr, Tree, Ending}
+use Rattle.code_generator.proofs.Words.{State}
 use Rattle.pcode_assembler.specs.declared.code.Site.{Site as Plain}
-use Rattle.pcode_assembler.specs.declared.instr.Instr.{Instr}
-use Rattle.typed_tree.specs.declared.tree.Tree.{Tree}
-use Rattle.meaning.specs.declared.outcome.Ending.{Ending}
 use Rattle.meaning.specs.declared.outcome.Ending.TheVariants as ending
 use Rattle.meaning.specs.Meaning.{meaning}
 use Rattle.stack_machine.specs.declared.stop.Stop.{Stop}
 use Rattle.stack_machine.specs.declared.stop.Stop.TheVariants as stop
-use Rattle.stack_machine.specs.Machine.{State}
 use Rattle.stack_machine.specs.Run.{Outcome, steps}
 use Rattle.code_generator.specs.Follows.{BeginsWith, StopsAs, DoesAll, DoesAsMuch, IsExplained, IsFullAtStart, IsFullAtCall}
 use Rattle.code_generator.proofs.Reach.{IsOver, WritesOn, begins_itself, longer, one_end, grows_to}

@@ -1,18 +1,16 @@
 -- The code of an expression leaves its value on top, or stops as the expression does.
-use Rattle.std.proofs.Common.{◌≡◌, ℕ, ◌+◌, ◌<◌, ◌≤◌, max, List, [], ◌∷◌, ◌++◌, length, map, Option, Some, None, Ok, inr, refl, sym, ap, ◌∙◌, subst, arith}
-use Rattle.std.proofs.Common.{length-append, append_assoc, append-nil, ◌-◌, suc, zero, Bool, true, false}
-use Rattle.std.specs.Prelude.{ℤ, pos, neg_ℤ, ◌+ℤ◌, ◌-ℤ◌, ◌*ℤ◌, int_le, int_lt, int_div, slice_get, unsigned_abs, nat_eq, nat_lt, not, ◌&&◌, ◌||◌, fold}
-use Rattle.std.specs.Int.{w32, cast_signed, int_rem_euclid, int_wrapping_add, int_wrapping_sub, int_wrapping_mul, int_wrapping_div, int_wrapping_neg}
+use Rattle.code_generator.proofs.Words.{◌≡◌, ℕ, ◌+◌, ◌<◌, ◌≤◌, max, List, [], ◌∷◌, ◌++◌, length, map, Option, Some, None, Ok, inr, refl, sym, ap, ◌∙◌, subst}
+use Rattle.code_generator.proofs.Words.{arith, length-append, append_assoc, append-nil, ◌-◌, suc, zero, Bool, true, false, ℤ, pos, ◌-ℤ◌, int_le, slice_get}
+use Rattle.code_generator.proofs.Words.{nat_eq, nat_lt, not, ◌&&◌, ◌||◌, w32, eqb-true, ltb-true, and_parts, length-map, none-some, same_Some, Instr, TypeId}
+use Rattle.code_generator.proofs.Words.{is_ordinal, Form, Expr, Block, RangeTest, Value, Place, UsesTurnsExactly, Action, ◌>>=◌, number_of, require, give}
+use Rattle.code_generator.proofs.Words.{value_of, Argument, OfValue, OfRow, OfPlace, deed_of, Cell, Number, Attempt, expr_code, expr_depth, called_routine}
+use Rattle.code_generator.proofs.Words.{links_to, row_length, all_hold, is_well_formed_expr, heading_of, moved, start_within}
+use Rattle.std.specs.Prelude.{neg_ℤ, ◌+ℤ◌, ◌*ℤ◌, int_lt, int_div, unsigned_abs, fold}
+use Rattle.std.specs.Int.{cast_signed, int_rem_euclid, int_wrapping_add, int_wrapping_sub, int_wrapping_mul, int_wrapping_div, int_wrapping_neg}
 use Rattle.std.specs.Ordering.{int_eq}
-use Rattle.std.proofs.lemmas.Bool.{eqb-true, ltb-true, and_parts}
-use Rattle.std.proofs.lemmas.List.{length-map}
-use Rattle.std.proofs.lemmas.Option.{none-some, same_Some}
-use Rattle.pcode_assembler.specs.declared.instr.Instr.{Instr}
 use Rattle.pcode_assembler.specs.declared.instr.Instr.TheVariants as instr
 use Rattle.types.specs.declared.form.OrdinalRange.{OrdinalRange}
-use Rattle.types.specs.declared.form.TypeId.{TypeId}
-use Rattle.types.specs.Types.{is_ordinal, is_same, cells_of as type_cells}
-use Rattle.types.specs.Forms.{Form}
+use Rattle.types.specs.Types.{is_same, cells_of as type_cells}
 use Rattle.typed_tree.specs.declared.tree.Access.{Access}
 use Rattle.typed_tree.specs.declared.tree.Variable.{Variable as DeclaredVariable}
 use Rattle.typed_tree.specs.declared.tree.Monadic.{Monadic}
@@ -28,77 +26,56 @@ use Rattle.typed_tree.specs.declared.tree.Relation.TheVariants as relation
 use Rattle.typed_tree.specs.declared.tree.Width.{Width}
 use Rattle.typed_tree.specs.declared.tree.Written.{Written}
 use Rattle.typed_tree.specs.declared.tree.Whole.{Whole}
-use Rattle.typed_tree.specs.declared.tree.Expr.{Expr}
 use Rattle.typed_tree.specs.declared.tree.Link.{Link}
-use Rattle.typed_tree.specs.declared.tree.Block.{Block}
 use Rattle.typed_tree.specs.declared.tree.Call.{Call}
 use Rattle.typed_tree.specs.declared.tree.Heading.{Heading}
 use Rattle.typed_tree.specs.declared.tree.Passed.{Passed}
-use Rattle.typed_tree.specs.declared.tree.RangeTest.{RangeTest}
 use Rattle.typed_tree.specs.declared.tree.Expr.TheOpen.{Expr-F, Passed-F, Link-F}
 use Rattle.typed_tree.specs.declared.tree.Expr.TheOpen.Passed-F.{Value as PassedValue, Whole as PassedWhole, Reference}
 use Rattle.typed_tree.specs.declared.tree.Expr.TheOpen.Expr-F.{Constant, Variable, Monadic as MonadicOf, Chain, Compare, Call as CallOf}
 use Rattle.typed_tree.specs.declared.tree.Expr.TheViews.{roll-Expr, roll-Passed, roll-Link}
-use Rattle.typed_tree.specs.declared.tree.Expr.TheFolds.{map-Expr, map-Passed, map-Link, fold-roll-Expr, fold-roll-Passed, fold-roll-Link}
-use Rattle.typed_tree.specs.declared.tree.Expr.TheFolds.{ind-Expr, ind-Passed}
-use Rattle.meaning.specs.declared.store.Value.{Value}
+use Rattle.typed_tree.specs.declared.tree.Expr.TheFolds.{map-Expr, map-Passed, map-Link, fold-roll-Expr, fold-roll-Passed, fold-roll-Link, ind-Expr, ind-Passed}
 use Rattle.meaning.specs.declared.store.Value.TheVariants as value
-use Rattle.meaning.specs.Store.{Place}
 use Rattle.meaning.specs.Effect as effect
-use Rattle.meaning.specs.Laws.{UsesTurnsExactly}
-use Rattle.meaning.specs.Effect.{Action, ◌>>=◌, fetch, number_of, require, give}
-use Rattle.meaning.specs.Meaning.{Evaluation, Combination, value_of, link_of, value_step, operated, combined, relates, in_turn, width_of, order_of}
-use Rattle.meaning.specs.Meaning.{calculated, overflow_of, shifted, unless_overflow}
+use Rattle.meaning.specs.Effect.{fetch}
+use Rattle.meaning.specs.Meaning.{Evaluation, Combination, link_of, value_step, operated, combined, relates, in_turn, width_of, order_of, calculated}
+use Rattle.meaning.specs.Meaning.{overflow_of, shifted, unless_overflow, Passing, all_passed, calls_of, passing_of}
 use Rattle.meaning.proofs.Replies.{and_then-and_then}
-use Rattle.meaning.specs.Meaning.{Argument, OfValue, OfRow, OfPlace, Passing, all_passed, calls_of, passing_of}
 use Rattle.meaning.specs.Meaning as meaning
 use Rattle.meaning.specs.Integers.{magnitude, truth}
-use Rattle.stack_machine.specs.Deeds.{Acts, Tests, deed_of}
-use Rattle.stack_machine.specs.declared.cell.Cell.{Cell}
-use Rattle.stack_machine.specs.declared.cell.Cell.TheVariants.{Number}
+use Rattle.stack_machine.specs.Deeds.{Acts, Tests}
 use Rattle.stack_machine.specs.Frames as frames
-use Rattle.stack_machine.specs.Frames.{Attempt}
 use Rattle.stack_machine.specs.Rows as rows
 use Rattle.machine_arithmetic.specs.Arithmetic.{is_odd}
-use Rattle.code_scheme.specs.Code.{calculation_code, monadic_code, shift_code}
-use Rattle.code_scheme.specs.Code.{joined, dyadic_code, relation_instr, variable_code, width_code, check_positive, expr_code, link_code}
-use Rattle.code_scheme.specs.Code.{address_code, call_code, expr_step, passed_code, passed_step as passed_code_step, range_check}
-use Rattle.code_scheme.specs.Code.{link_step, compare_code, default_width, whole_code}
-use Rattle.code_scheme.specs.Depth.{access_depth, expr_depth, link_depth, expr_depth_step, link_depth_step, width_depth, monadic_depth, whole_depth}
-use Rattle.code_scheme.specs.Depth.{PassedDepth, actuals_depth, call_depth, passed_depth, passed_depth_step, shift_depth}
-use Rattle.code_scheme.specs.Scopes.{called_routine, links_to, row_length}
-use Rattle.typed_tree.specs.WellFormed.{calculation_is_well_formed, shift_is_well_formed}
-use Rattle.typed_tree.specs.WellFormed.{all_hold, monadic_is_well_formed, dyadic_is_well_formed, expr_is_well_formed, link_is_well_formed, is_well_formed_expr}
-use Rattle.typed_tree.specs.WellFormed.{is_well_formed_link, is_well_formed_width, is_well_formed_whole, is_whole, leads_to_ordinal, length_of, whole_indexes}
-use Rattle.typed_tree.specs.WellFormed.{formal_of, heading_of, is_callable, is_passed_to, is_well_formed_call, is_well_formed_passed, is_well_formed_test}
-use Rattle.typed_tree.specs.WellFormed.{leads_to_type, may_call, may_copy, passed_is_well_formed, passes_value, passes_variable, passes_whole}
-use Rattle.typed_tree.specs.WellFormed.{placed as placed_for, source_of, takes_value, takes_variable, takes_whole}
-use Rattle.check_remover.specs.Strip.{moved}
-use Rattle.code_scheme.proofs.Pieces.{start_within}
+use Rattle.code_scheme.specs.Code.{calculation_code, monadic_code, shift_code, joined, dyadic_code, relation_instr, variable_code, width_code, check_positive}
+use Rattle.code_scheme.specs.Code.{link_code, address_code, call_code, expr_step, passed_code, passed_step as passed_code_step, range_check, link_step}
+use Rattle.code_scheme.specs.Code.{compare_code, default_width, whole_code}
+use Rattle.code_scheme.specs.Depth.{access_depth, link_depth, expr_depth_step, link_depth_step, width_depth, monadic_depth, whole_depth, PassedDepth}
+use Rattle.code_scheme.specs.Depth.{actuals_depth, call_depth, passed_depth, passed_depth_step, shift_depth}
+use Rattle.typed_tree.specs.WellFormed.{calculation_is_well_formed, shift_is_well_formed, monadic_is_well_formed, dyadic_is_well_formed, expr_is_well_formed}
+use Rattle.typed_tree.specs.WellFormed.{link_is_well_formed, is_well_formed_link, is_well_formed_width, is_well_formed_whole, is_whole, leads_to_ordinal}
+use Rattle.typed_tree.specs.WellFormed.{length_of, whole_indexes, formal_of, is_callable, is_passed_to, is_well_formed_call, is_well_formed_passed}
+use Rattle.typed_tree.specs.WellFormed.{is_well_formed_test, leads_to_type, may_call, may_copy, passed_is_well_formed, passes_value, passes_variable}
+use Rattle.typed_tree.specs.WellFormed.{passes_whole, placed as placed_for, source_of, takes_value, takes_variable, takes_whole}
 use Rattle.code_generator.proofs.Alike.{Leads, leads_split}
 use Rattle.code_generator.proofs.Calling.{marks}
 use Rattle.code_generator.proofs.Exact.{exact_link, exact_passed}
 use Rattle.code_generator.proofs.Nesting.{one_there}
-use Rattle.code_generator.proofs.Passing.{AllPass, CallsAt, PassedRuns, Passes, PassesAs, Returns, function_evaluates, links_of}
+use Rattle.code_generator.proofs.Passing.{AllPass, CallsAt, PassedRuns, Passes, PassesAs, Returns, function_evaluates, links_of, all_on, passed_on, passes_it}
+use Rattle.code_generator.proofs.Passing.{return_on}
 use Rattle.code_generator.proofs.Reach.{StandsAt, Stands, Comes, comes_less, comes_on, stays_here}
 use Rattle.code_generator.proofs.Rows.{cells_of, length-cells_of, compares, numbers_of, same_order, order_fits}
-use Rattle.code_generator.proofs.Setting.{Setting, outline, around, exact_around, on, Based, linked, Here, acts, passes, fails}
-use Rattle.code_generator.proofs.Setting.{as_value}
-use Rattle.code_generator.proofs.Accesses.{Indexes, expressions, wells, as_many_wells, codes, depths, leads, begins, fetch_runs, found as place_found}
-use Rattle.code_generator.proofs.Accesses.{PartAt, address_runs, exact_found, frame_found}
-use Rattle.code_generator.proofs.Evaluating.{same_four}
-use Rattle.code_generator.proofs.Evaluating.{sites, frames_of, RunsAs, CombinesAs, ExprRuns, LinkRuns, one_held}
-use Rattle.code_generator.proofs.Wholes.{copied_cells, few_components, same_type, whole_runs}
-use Rattle.code_generator.proofs.Acts.{pushes, on_one_is, is_in_range, is_not_zero, squares, sums, differs, multiplies}
-use Rattle.code_generator.proofs.Acts.{on_two_is, divides, leaves}
+use Rattle.code_generator.proofs.Setting.{Setting, outline, around, exact_around, on, Based, linked, Here, acts, passes, fails, as_value, entered}
+use Rattle.code_generator.proofs.Accesses.{Indexes, expressions, wells, as_many_wells, codes, depths, leads, begins, fetch_runs, found as place_found, PartAt}
+use Rattle.code_generator.proofs.Accesses.{address_runs, exact_found, frame_found, address_on, at_address}
+use Rattle.code_generator.proofs.Evaluating.{same_four, sites, frames_of, RunsAs, CombinesAs, ExprRuns, LinkRuns, range_then}
+use Rattle.code_generator.proofs.Wholes.{IsRow, copied_cells, few_components, same_type, whole_runs, row_on, row_then}
+use Rattle.code_generator.proofs.Acts.{on_one_is, is_in_range, is_not_zero, squares, sums, differs, multiplies, on_two_is, divides, leaves}
 use Rattle.code_generator.proofs.Numbers.{Fits, sum_is, difference_is, product_is, fits_negated, negated_is, fits_magnitude, magnitude_is, fits_quotient}
 use Rattle.code_generator.proofs.Numbers.{quotient_is, fits_remainder, fits_truth, same_truth, same_test, same_positive, fits_next, fits_previous, same_range}
-use Rattle.code_generator.proofs.Running.{Aim, Evaluates, Runs, gives, instr_then, runs_from, runs_same, then_code, then_runs, value_on, value_then}
-use Rattle.code_generator.proofs.Accesses.{address_on, at_address}
-use Rattle.code_generator.proofs.Passing.{all_on, passed_on, passes_it, return_on}
-use Rattle.code_generator.proofs.Setting.{entered}
-use Rattle.code_generator.proofs.Evaluating.{range_then}
-use Rattle.code_generator.proofs.Wholes.{row_on, row_then}
+use Rattle.code_generator.proofs.Running.{beside, number_cell, IsValue, Aim, Evaluates, Runs, gives, instr_then, runs_from, runs_same, then_code, then_runs}
+use Rattle.code_generator.proofs.Running.{value_on, value_then}
+use Rattle.code_generator.proofs.Held.{pushes_number}
 use Rattle.code_generator.proofs.Lists.{length_one}
 
 -- a heading of a table is that of a block
@@ -127,8 +104,7 @@ module _ (g : Setting) where
       let full = based.full in
       let long = length-append base held in
       inr (gives g 1 _ base held (place + 1) (value.Number n) s based
-      (acts g (instr.LoadConstant n) (base ++ held) ((base ++ held) ++ Number n ∷ []) place s.output _ here refl
-      (pushes g.frame g.limit g.size (base ++ held) n (omega arith))) fit (omega arith))
+      (pushes_number g (base ++ held) n place s.output here (omega arith)) fit (omega arith))
 
   -- a constant
   constant_runs : (number : ℕ) (n : ℤ) → RunsAs g (expr_step g.scope (Constant number n)) (expr_depth_step (Constant number n))
@@ -236,8 +212,7 @@ module _ (g : Setting) where
     stepped_runs step f c at1 at2 rule same fit' deep =
         let full = based.full in
         let two = one ++ Number (pos 1) ∷ [] in
-        let pushed = acts g (instr.LoadConstant (pos 1)) one two place s.output _ at1 refl
-        (pushes g.frame g.limit g.size one (pos 1) (omega (arith, length_one cells (Number n), length-append base held))) in
+        let pushed = pushes_number g one (pos 1) place s.output at1 (omega (arith, length_one cells (Number n), length-append base held)) in
         let p : place + 1 + 1 ≡ place + 2 = omega arith in
         subst (λ q. Evaluates g (on g one place s.output) held q (give (value.Number c)) s) p
         (runs_from g (value_on g held (place + 1 + 1)) 1 _ _ (give (value.Number c)) s pushed
@@ -414,8 +389,7 @@ module _ (g : Setting) where
       same_order left right (length-map vs number_of ∙ long ∙ sym as_long ∙ sym (length-map ws number_of)) in
       let compared = acts g (instr.Compare count) both ordered place s.output _ stands.0 refl
       (compares g.frame g.limit g.size cells (linked g s base held based) vs ws count long as_long (omega arith)) in
-      let zero = acts g (instr.LoadConstant (pos 0)) ordered (ordered ++ Number (pos 0) ∷ []) (place + 1) s.output _ stands.1.0 refl
-      (pushes g.frame g.limit g.size ordered (pos 0) (omega (arith, length_one cells (Number order)))) in
+      let zero = pushes_number g ordered (pos 0) (place + 1) s.output stands.1.0 (omega (arith, length_one cells (Number order))) in
       let fit : Fits order = subst Fits (sym is_order) (order_fits left right) in
       let related = relation_runs (place + 1 + 1) base held order (pos 0) s based (omega arith) fit (record { is = refl }) r stands.1.1 in
       let whole = runs_from g (value_on g held (place + 1 + 1 + 1)) 2 _ _ (give (value.Number (truth (relates r order (pos 0))))) s
@@ -456,17 +430,14 @@ module _ (g : Setting) where
       ((exact_around g).wholes left (expressions g left_indexes)) stands
       (λ front. whole_runs g left left_indexes place base held s front one.0 left_well based (omega arith))
       (λ base2 vs s2 rest based2 long fits.
-      let above = held ++ cells_of vs in
       let high = length-append held (cells_of vs) in
       let wide = length-cells_of vs in
-      subst (λ cells. Evaluates g (on g cells there s2.output) held (there + length (d ++ last)) (next vs) s2) (sym (append_assoc base2 held (cells_of vs)))
-      (row_then g (value_on g held) d last there _ above (length_of right) meant (next' vs) (entered g number s2)
+      beside g (IsRow g (length_of right)) cells_of (value_on g held) d last there base2 held (cells_of vs) meant (next' vs) (entered g number s2)
       ((exact_around g).wholes right (expressions g right_indexes)) rest
-      (λ front. whole_runs g right right_indexes there base2 above (entered g number s2) front three.0 right_well based2 (omega arith))
-      (λ base3 ws s4 ordering based4 long' fits'.
-      subst (λ cells. Evaluates g (on g (cells ++ cells_of ws) (there + length d) s4.output) held (there + length d + 3) (next' vs ws) s4)
-      (append_assoc base3 held (cells_of vs))
-      (ordered_runs r (row_length n) (there + length d) base3 held vs ws s4 (long ∙ same) (long' ∙ sym as_long ∙ same) ordering based4 (omega arith)))))
+      (λ front.
+      whole_runs g right right_indexes there base2 (held ++ cells_of vs) (entered g number s2) front three.0 right_well based2 (omega arith))
+      (λ base3 ws s4 ordering based4 so.
+      ordered_runs r (row_length n) (there + length d) base3 held vs ws s4 (long ∙ same) (so.0 ∙ sym as_long ∙ same) ordering based4 (omega arith)))
 
   -- an operator and its right operand
   link_runs : (number : ℕ) (operation : Dyadic) (c : List Instr) (depth : ℕ) (well : Bool) (v : Evaluation) → UsesTurnsExactly (v (around g))
@@ -475,20 +446,16 @@ module _ (g : Setting) where
       (meaning.link_step (record { number = number; operation = operation; operand = v }))
   link_runs number operation c depth well v exact runs place base held left s stands good based room fit =
       let a = number_of left in
-      let s' = entered g number s in
       let parts = and_parts (dyadic_is_well_formed (outline g) g.number operation) well good in
-      let above = held ++ Number a ∷ [] in
+      let row = Number a ∷ [] in
       let one = length_one held (Number a) in
       let next : Value → Action Value = λ w. as_value (combined operation a (number_of w)) in
-      subst (λ cells. Evaluates g (on g cells place s.output) held (place + length (c ++ dyadic_code operation)) (v (around g) >>= next) s')
-      (one_held g base held a)
-      (value_then g (value_on g held) c (dyadic_code operation) place _ above (v (around g)) next s' exact stands
-      (λ front. runs place base above s' front parts.1 based (omega arith))
-      (λ base2 w s2 rest based2 fit2 room2.
-      let b = number_of w in
-      subst (λ cells. Evaluates g (on g (cells ++ Number b ∷ []) (place + length c) s2.output) held (place + length c + length (dyadic_code operation))
-      (next w) s2) (sym (one_held g base2 held a))
-      (combined_runs (place + length c) base2 held a b s2 based2 (omega arith) fit fit2 operation rest parts.0)))
+      beside g (IsValue g (held ++ row)) (number_cell g) (value_on g held) c (dyadic_code operation) place base held row (v (around g)) next
+      (entered g number s) exact stands
+      (λ front. runs place base (held ++ row) (entered g number s) front parts.1 based (omega arith))
+      (λ base2 w t rest based2 so.
+      let room2 = so.1 in
+      combined_runs (place + length c) base2 held a (number_of w) t based2 (omega arith) fit so.0 operation rest parts.0)
 
   -- the operators of a chain, from left to right
   links_run : (links : List ((l : Link) × LinkRuns g l)) (depth place : ℕ) (base held : List Cell) (left : Value) (s : effect.State)
@@ -571,9 +538,9 @@ module _ (g : Setting) where
       (whole_runs g v indexes place base held s stands one.0 well based deep)
       (λ vs t x le.
       let cells = cells_of vs in
-      let long : length cells ≡ n = length-cells_of vs ∙ x.2 in
+      let long : length cells ≡ n = length-cells_of vs ∙ x.2.0 in
       subst (λ k. Passes g (on g ((x.0 ++ held) ++ cells) (place + length c) t.output) held (place + length c) k callee position (give (OfRow vs)) t) long
-      (inr (passes_it g 0 _ x.0 held cells (place + length c) callee position (OfRow vs) formal.0 t x.1 formal.1 (takes.0, x.2 ∙ sym many, x.3, refl)
+      (inr (passes_it g 0 _ x.0 held cells (place + length c) callee position (OfRow vs) formal.0 t x.1 formal.1 (takes.0, x.2.0 ∙ sym many, x.2.1, refl)
       (stays_here g.target _))))
 
   reference_is_passed : (type_id : TypeId) (access : Access) (indexes : Indexes g)

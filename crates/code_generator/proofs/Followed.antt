@@ -1,22 +1,20 @@
 -- What code that follows a program has, whoever made it.
-use Rattle.std.proofs.Common.{◌≡◌, ℕ, ◌+◌, ◌<◌, ◌≤◌, ◌⊎◌, List, [], ◌∷◌, ◌++◌, length, Some, None, inl, inr, ap, ◌∙◌, subst, ⊎_elim, arith}
-use Rattle.std.specs.Prelude.{slice_get, replicate, if◌then◌else◌}
-use Rattle.std.proofs.lemmas.Bool.{cases_lt, le-ltb, lt-leb}
+use Rattle.code_generator.proofs.Words.{◌≡◌, ℕ, ◌+◌, ◌<◌, ◌≤◌, ◌⊎◌, List, [], ◌∷◌, ◌++◌, length, Some, None, inl, inr, ap, ◌∙◌, subst, ⊎_elim, arith, slice_get}
+use Rattle.code_generator.proofs.Words.{if◌then◌else◌, cases_lt, Tree, Ending, Undefined, living_need}
+use Rattle.std.specs.Prelude.{replicate}
+use Rattle.std.proofs.lemmas.Bool.{le-ltb, lt-leb}
 use Rattle.pcode_assembler.specs.declared.code.Code.{Code}
 use Rattle.pcode_assembler.specs.declared.instr.Instr.TheVariants.{Enter}
-use Rattle.typed_tree.specs.declared.tree.Tree.{Tree}
-use Rattle.meaning.specs.declared.outcome.Ending.{Ending}
 use Rattle.meaning.specs.declared.outcome.Ending.TheVariants as ending
 use Rattle.meaning.specs.Meaning.{meaning}
 use Rattle.stack_machine.specs.declared.stop.Stop.{Stop}
 use Rattle.stack_machine.specs.declared.stop.Stop.TheVariants as stop
-use Rattle.stack_machine.specs.declared.cell.Cell.TheVariants.{Undefined}
 use Rattle.stack_machine.specs.Frames.{first_frames}
 use Rattle.stack_machine.specs.Machine.{with_frame, taken}
 use Rattle.stack_machine.specs.Run.{Outcome, machine, steps, first_state, outcome_of}
 use Rattle.code_generator.specs.Follows.{DoesAll, DoesAsMuch, IsExplained, Follows, IsFullAtStart, IsFullAtCall, most_cells}
 use Rattle.code_generator.specs.Laws.{FramesFit, ErrorsCome, starved_in}
-use Rattle.code_scheme.specs.Need.{block_need, living_need}
+use Rattle.code_scheme.specs.Need.{block_need}
 
 -- a run that finds its store full has fewer cells than its first frame or the activations that last may need
 full_has_fewer : (tree : Tree) (code : Code) (input : List ℕ) (cells budget : ℕ) → Follows code tree → cells ≤ most_cells

@@ -1,44 +1,35 @@
 -- The cells that are held above the variables, in a frame that runs: what is loaded from them and stored into them; and
 -- what the instructions of a for statement do with the two bounds that are held.
-use Rattle.std.proofs.Common.{◌≡◌, ℕ, zero, suc, ◌+◌, ◌<◌, ◌≤◌, List, [], ◌∷◌, ◌++◌, length, Option, Some, None, Ok, refl, sym, ap, ◌∙◌, subst, arith}
-use Rattle.std.proofs.Common.{append-nil}
-use Rattle.std.proofs.Common.{append_assoc, length-append, Bool, true, false}
-use Rattle.std.proofs.lemmas.Bool.{and_parts, eqb-true, false≢true}
-use Rattle.std.specs.Prelude.{◌-◌, nat_eq, slice_get, slice_set, ℤ, pos, not, ◌&&◌, ◌||◌, if◌then◌else◌}
+use Rattle.code_generator.proofs.Words.{◌≡◌, ℕ, ◌+◌, ◌<◌, ◌≤◌, List, [], ◌∷◌, ◌++◌, length, Option, Some, None, Ok, refl, sym, ap, ◌∙◌, subst, arith}
+use Rattle.code_generator.proofs.Words.{append-nil, append_assoc, length-append, Bool, true, false, and_parts, eqb-true, false≢true, nat_eq, slice_get}
+use Rattle.code_generator.proofs.Words.{slice_set, ℤ, pos, not, ◌&&◌, ◌||◌, if◌then◌else◌, same_Some, slice_get_within, Instr, is_ordinal, Variable}
+use Rattle.code_generator.proofs.Words.{VariableKind, is_variable_kind, Value, Place, stored, number_of, deed_of, Cell, Undefined}
+use Rattle.code_generator.proofs.Words.{Number, is_true, Home, links_to, variable_home}
+use Rattle.std.specs.Prelude.{◌-◌}
 use Rattle.std.specs.Ordering.{int_eq}
 use Rattle.std.proofs.lemmas.Int.{ints}
 use Rattle.std.proofs.lemmas.List.{length-set}
-use Rattle.std.proofs.lemmas.Option.{same_Some, slice_get_within}
-use Rattle.pcode_assembler.specs.declared.instr.Instr.{Instr}
 use Rattle.pcode_assembler.specs.declared.instr.Instr.TheVariants as instr
 use Rattle.typed_tree.specs.declared.tree.Direction.{Direction}
 use Rattle.typed_tree.specs.declared.tree.Direction.TheVariants as direction
-use Rattle.types.specs.Types.{is_ordinal}
-use Rattle.typed_tree.specs.declared.tree.Variable.{Variable}
-use Rattle.typed_tree.specs.declared.tree.VariableKind.{VariableKind}
 use Rattle.typed_tree.specs.declared.tree.VariableKind.TheVariants as kinds
-use Rattle.typed_tree.specs.WellFormed.{is_control, is_declared, is_local_kind, is_variable_kind, leads_to_ordinal, of_one}
+use Rattle.typed_tree.specs.WellFormed.{is_control, is_declared, is_local_kind, leads_to_ordinal, of_one}
 use Rattle.meaning.specs.declared.store.Value.TheVariants as value
-use Rattle.meaning.specs.declared.store.Value.{Value}
-use Rattle.meaning.specs.Store.{Place, kept, forgotten, stored}
+use Rattle.meaning.specs.Store.{kept, forgotten}
 use Rattle.meaning.specs.Counting.{has_values, next_value}
 use Rattle.meaning.specs.Meaning.{is_among}
 use Rattle.meaning.specs.Effect as effect
-use Rattle.meaning.specs.Effect.{Action, ◌>>=◌, number_of, require}
-use Rattle.stack_machine.specs.Deeds.{Acts, deed_of}
-use Rattle.stack_machine.specs.declared.cell.Cell.{Cell}
-use Rattle.stack_machine.specs.declared.cell.Cell.TheVariants.{Undefined, Number}
+use Rattle.stack_machine.specs.Deeds.{Acts}
 use Rattle.machine_arithmetic.specs.declared.arithmetic.Dyadic.TheVariants as dyadic
 use Rattle.stack_machine.specs.Frames as frames
-use Rattle.stack_machine.specs.Frames.{is_true, truth, on_two}
+use Rattle.stack_machine.specs.Frames.{truth, on_two}
 use Rattle.code_scheme.specs.Code.{control_offset, row_code}
-use Rattle.code_scheme.specs.declared.home.Home.{Home}
-use Rattle.code_scheme.specs.Scopes.{block_level, held_offset, links, links_to, variable_home}
+use Rattle.code_scheme.specs.Scopes.{block_level, held_offset, links}
 use Rattle.code_generator.proofs.Accesses.{LeadsTo, frame_found, leads}
 use Rattle.code_generator.proofs.Reach.{Comes, Stands, StandsAt, comes_on, comes_less, stays_here}
 use Rattle.code_generator.proofs.Numbers.{Fits}
-use Rattle.code_generator.proofs.Setting.{Setting, Shown, Way, Direct, ByAddress, Reaches, outline, on, Based, linked, limit_far, Here, acts}
-use Rattle.code_generator.proofs.Setting.{branches_on, jumps}
+use Rattle.code_generator.proofs.Setting.{Setting, Shown, Way, Direct, ByAddress, Reaches, outline, on, Based, linked, limit_far, Here, acts, branches_on}
+use Rattle.code_generator.proofs.Setting.{jumps}
 use Rattle.code_generator.proofs.Acts.{framed, pushes, loads, stores, on_two_is}
 use Rattle.code_generator.proofs.Alike.{LiesIn, Leads, HasFit, alike_set, cell_of, cell_within, keeps_set}
 use Rattle.code_generator.proofs.Parts.{ordinal_part}

@@ -1,13 +1,9 @@
 -- Frames that are larger than a machine, as loops over variables and blocks go on.
-use Rattle.std.proofs.Common.{◌≡◌, ℕ, ◌+◌, ◌≤◌, Bool, true, false, ◌&&◌, ◌||◌, nat_eq, List, [], ◌∷◌, if◌then◌else◌, ap, sym, ◌∙◌, arith}
-use Rattle.std.specs.Prelude.{filter, not, suc, sum_by}
-use Rattle.std.proofs.lemmas.List.Sums.{sum_by-cons}
-use Rattle.types.specs.Forms.{Form}
-use Rattle.typed_tree.specs.declared.tree.Block.{Block}
-use Rattle.typed_tree.specs.declared.tree.Tree.{Tree}
-use Rattle.typed_tree.specs.declared.tree.Variable.{Variable}
-use Rattle.typed_tree.specs.WellFormed.{is_parameter_kind}
-use Rattle.code_scheme.specs.Scopes.{cells_where, is_other_of, is_parameter_of, slot_cells}
+use Rattle.code_generator.proofs.Words.{◌≡◌, ℕ, ◌+◌, ◌≤◌, Bool, true, false, List, [], ◌∷◌, ap, sym, ◌∙◌, arith, not, sum_by-cons, Form, Block, Tree, Variable}
+use Rattle.code_generator.proofs.Words.{is_parameter_kind, cells_where, is_parameter_of, slot_cells}
+use Rattle.std.proofs.Common.{◌&&◌, ◌||◌, nat_eq, if◌then◌else◌}
+use Rattle.std.specs.Prelude.{filter, suc, sum_by}
+use Rattle.code_scheme.specs.Scopes.{is_other_of}
 use Rattle.code_generator.specs.Large.{has_large_frame, is_large_block}
 
 -- the cells of a block's variables are among those of all

@@ -1,21 +1,14 @@
 -- The cells of what is passed to a routine are those of its parameters: one behind the other, in the order in which the
 -- parameters are declared.
-use Rattle.std.proofs.Common.{◌≡◌, ℕ, zero, suc, ◌+◌, List, [], ◌∷◌, ◌++◌, length, map, take, drop, Some, None, refl, sym, ap, ◌∙◌, subst}
-use Rattle.std.proofs.Common.{arith, Bool, true, false, length-append, append_assoc, eq-eqb}
-use Rattle.std.specs.Prelude.{if◌then◌else◌, nat_eq, slice_get}
-use Rattle.std.specs.Option.{option_and_then}
-use Rattle.std.proofs.Math.Seq.{take-append_seam, drop-append_seam}
-use Rattle.std.proofs.lemmas.Bool.{false≢true, false_from_ne_true, eqb-true}
-use Rattle.std.proofs.lemmas.List.{length-map}
-use Rattle.std.proofs.lemmas.Option.{none-some, same_Some}
-use Rattle.types.specs.Types.{cells_of}
-use Rattle.typed_tree.specs.declared.tree.Variable.{Variable}
-use Rattle.typed_tree.specs.declared.tree.VariableKind.{VariableKind}
+use Rattle.code_generator.proofs.Words.{◌≡◌, ℕ, zero, suc, ◌+◌, List, [], ◌∷◌, ◌++◌, length, map, take, drop, Some, None, refl, sym, ap, ◌∙◌, subst, arith}
+use Rattle.code_generator.proofs.Words.{Bool, true, false, length-append, append_assoc, eq-eqb, if◌then◌else◌, nat_eq, slice_get, option_and_then}
+use Rattle.code_generator.proofs.Words.{drop-append_seam, false≢true, eqb-true, length-map, none-some, same_Some, cells_of, Variable, VariableKind}
+use Rattle.code_generator.proofs.Words.{is_variable_kind, roots_where, Argument, OfValue, OfRow, OfPlace, Cell, cells_where, is_parameter_of, slot_cells}
+use Rattle.std.proofs.Math.Seq.{take-append_seam}
+use Rattle.std.proofs.lemmas.Bool.{false_from_ne_true}
 use Rattle.typed_tree.specs.declared.tree.VariableKind.TheVariants as kinds
-use Rattle.typed_tree.specs.WellFormed.{formal_of, is_value_kind, is_variable_kind, roots_where}
-use Rattle.meaning.specs.Meaning.{Argument, OfValue, OfRow, OfPlace, place_for, place_passed}
-use Rattle.stack_machine.specs.declared.cell.Cell.{Cell}
-use Rattle.code_scheme.specs.Scopes.{cells_where, is_parameter_of, slot_cells}
+use Rattle.typed_tree.specs.WellFormed.{formal_of, is_value_kind}
+use Rattle.meaning.specs.Meaning.{place_for, place_passed}
 use Rattle.code_generator.proofs.Cells.{where_cons}
 use Rattle.code_generator.proofs.Passing.{AllFitted, Fitted}
 use Rattle.code_generator.proofs.Rows.{length-cells_of}

@@ -1,10 +1,8 @@
 -- Elements of lists: one that is found before, behind or among others, and one that is set.
-use Rattle.std.proofs.Common.{◌≡◌, ℕ, zero, suc, ◌+◌, ◌<◌, ◌≤◌, List, [], ◌∷◌, ◌++◌, length, map, take, drop, Option, Some, refl, sym, ap, ◌∙◌, arith}
-use Rattle.std.proofs.Common.{length-append, Bool, true}
-use Rattle.std.specs.Prelude.{slice_get, slice_set, replicate}
-use Rattle.std.specs.List.{list_all}
-use Rattle.std.proofs.lemmas.Bool.{and_parts}
-use Rattle.std.proofs.lemmas.Option.{none-some, same_Some, slice_get-get_or, slice_get_within}
+use Rattle.code_generator.proofs.Words.{◌≡◌, ℕ, zero, suc, ◌+◌, ◌<◌, List, [], ◌∷◌, ◌++◌, length, map, take, drop, Some, refl, sym, ap, ◌∙◌, arith}
+use Rattle.code_generator.proofs.Words.{length-append, Bool, true, slice_get, slice_set, list_all, and_parts, none-some, same_Some, slice_get_within}
+use Rattle.std.specs.Prelude.{replicate}
+use Rattle.std.proofs.lemmas.Option.{slice_get-get_or}
 use Rattle.std.proofs.Math.Seq.{get_or-append_seam}
 
 -- the element behind the first ones

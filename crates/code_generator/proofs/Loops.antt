@@ -1,13 +1,11 @@
 -- Loops: a head where each round begins, and a round that comes back to it or leaves the loop. Each round behind which
 -- another follows uses a turn, so a run with as many turns as a bound takes no more rounds than that.
-use Rattle.std.proofs.Common.{◌≡◌, ℕ, zero, suc, ◌+◌, ◌-◌, ◌<◌, ◌≤◌, ◌⊎◌, List, ◌++◌, Option, Some, None, inl, inr, refl, arith}
-use Rattle.meaning.specs.declared.outcome.Ending.{Ending}
+use Rattle.code_generator.proofs.Words.{◌≡◌, ℕ, zero, suc, ◌+◌, ◌-◌, ◌<◌, ◌≤◌, ◌⊎◌, List, ◌++◌, Option, Some, None, inl, inr, refl, arith, Ending, Reply, Gives}
+use Rattle.code_generator.proofs.Words.{Action, ◌>>=◌, UsesTurnsExactly, Cell, State}
 use Rattle.meaning.specs.declared.outcome.Ending.TheVariants as ending
 use Rattle.meaning.specs.Effect as effect
-use Rattle.meaning.specs.Effect.{Reply, Gives, Action, Round, ◌>>=◌, number_of, use_turn}
-use Rattle.meaning.specs.Laws.{GoesRoundByRound, UsesTurnsExactly}
-use Rattle.stack_machine.specs.declared.cell.Cell.{Cell}
-use Rattle.stack_machine.specs.Machine.{State}
+use Rattle.meaning.specs.Effect.{Round, use_turn}
+use Rattle.meaning.specs.Laws.{GoesRoundByRound}
 use Rattle.code_generator.proofs.Reach.{Comes, comes_less, stays_here}
 use Rattle.code_generator.proofs.Setting.{Setting, on, Based, Halts, Ends, Starves, starves_on}
 use Rattle.code_generator.proofs.Running.{Aim, Arrives, Executes, Runs, arrives_on, done, kept_on, runs_same, then_runs}

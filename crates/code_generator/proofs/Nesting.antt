@@ -1,22 +1,19 @@
 -- Blocks in one another: what a well formed tree says of each of its blocks, of those round it, and of a routine that may be
 -- called in it.
-use Rattle.std.proofs.Common.{◌≡◌, ℕ, zero, suc, ◌+◌, ◌<◌, ◌≤◌, ◌⊎◌, inl, inr, ⊎_elim, List, [], ◌∷◌, ◌++◌, length, map, Option, Some, None, refl, sym, ap, ◌∙◌}
-use Rattle.std.proofs.Common.{subst, arith, Bool, true, false, length-append}
-use Rattle.std.specs.Prelude.{slice_get, nat_eq, sum_by, ◌&&◌, ◌||◌}
+use Rattle.code_generator.proofs.Words.{◌≡◌, ℕ, zero, suc, ◌+◌, ◌<◌, ◌≤◌, ◌⊎◌, inl, inr, ⊎_elim, List, [], ◌∷◌, ◌++◌, length, map, Option, Some, None, refl}
+use Rattle.code_generator.proofs.Words.{sym, ap, ◌∙◌, subst, arith, Bool, true, false, length-append, slice_get, nat_eq, ◌&&◌, ◌||◌, and_parts, eqb-true}
+use Rattle.code_generator.proofs.Words.{false≢true, ltb-true, none-some, same_Some, cells_of, Block, Tree, Variable, IsWellFormed, heading_of}
+use Rattle.code_generator.proofs.Words.{is_parameter_kind, roots_where}
+use Rattle.std.specs.Prelude.{sum_by}
 use Rattle.std.specs.Cmp.Lexicographic.{pointwise}
-use Rattle.std.proofs.lemmas.Bool.{and_parts, eqb-true, false≢true, ltb-true, leb-true}
+use Rattle.std.proofs.lemmas.Bool.{leb-true}
 use Rattle.std.proofs.lemmas.Bool.Decides.{Decides-eqb}
 use Rattle.std.proofs.lemmas.List.Folds.{list_any-append}
-use Rattle.std.proofs.lemmas.Option.{none-some, same_Some}
 use Rattle.std.proofs.lemmas.Slice.Eq.{slice_eq-Decides}
-use Rattle.types.specs.Types.{cells_of}
-use Rattle.typed_tree.specs.declared.tree.Block.{Block}
 use Rattle.typed_tree.specs.declared.tree.Heading.{Heading}
-use Rattle.typed_tree.specs.declared.tree.Tree.{Tree}
-use Rattle.typed_tree.specs.declared.tree.Variable.{Variable}
-use Rattle.typed_tree.specs.WellFormed.{IsWellFormed, Outline, are_all, are_few_cells, are_well_formed_blocks, declarer, encloses, heading_of, is_callable}
-use Rattle.typed_tree.specs.WellFormed.{is_declared_by, is_heading, is_one_of, is_parameter_kind, is_placed, is_result_kind, is_result_or_none}
-use Rattle.typed_tree.specs.WellFormed.{is_round, is_well_formed_block, is_well_formed_stmt, of_one, outline_of, result_roots, roots_where, variables_of}
+use Rattle.typed_tree.specs.WellFormed.{Outline, are_all, are_few_cells, are_well_formed_blocks, declarer, encloses, is_callable, is_declared_by, is_heading}
+use Rattle.typed_tree.specs.WellFormed.{is_one_of, is_placed, is_result_kind, is_result_or_none, is_round, is_well_formed_block, is_well_formed_stmt, of_one}
+use Rattle.typed_tree.specs.WellFormed.{outline_of, result_roots, variables_of}
 
 -- the same numbers
 pub same_numbers : (xs ys : List ℕ) → pointwise nat_eq xs ys ≡ true → xs ≡ ys

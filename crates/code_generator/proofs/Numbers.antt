@@ -1,19 +1,18 @@
 -- Numbers of type integer: what the machine's operations give of them, in 32 bits, is what the program means, and all
 -- but a checked result is of type integer again.
-use Rattle.std.proofs.Common.{◌≡◌, ℕ, zero, suc, ◌<◌, ◌≤◌, refl, sym, ap, ◌∙◌, subst, arith, Bool, true, false}
-use Rattle.std.specs.Prelude.{ℤ, pos, negsuc, neg_ℤ, ◌+ℤ◌, ◌-ℤ◌, ◌*ℤ◌, ◌/◌, ◌%◌, ◌-◌, int_le, int_div, unsigned_abs, ◌&&◌, if◌then◌else◌}
-use Rattle.std.specs.Int.{w32, cast_signed, int_rem_euclid, int_wrapping_add, int_wrapping_sub, int_wrapping_mul, int_wrapping_div, int_wrapping_neg}
+use Rattle.code_generator.proofs.Words.{◌≡◌, ℕ, zero, suc, ◌<◌, ◌≤◌, refl, sym, ap, ◌∙◌, subst, arith, Bool, true, false, ℤ, pos, ◌-ℤ◌, int_le, ◌&&◌}
+use Rattle.code_generator.proofs.Words.{if◌then◌else◌, w32, and_parts, Value, number_of}
+use Rattle.std.specs.Prelude.{negsuc, neg_ℤ, ◌+ℤ◌, ◌*ℤ◌, ◌/◌, ◌%◌, ◌-◌, int_div, unsigned_abs}
+use Rattle.std.specs.Int.{cast_signed, int_rem_euclid, int_wrapping_add, int_wrapping_sub, int_wrapping_mul, int_wrapping_div, int_wrapping_neg}
 use Rattle.std.specs.Int.RustNames.{FitsSigned}
 use Rattle.std.proofs.Math.Nat.{div-le_self, mod-lt}
-use Rattle.std.proofs.lemmas.Bool.{and_parts}
 use Rattle.std.proofs.lemmas.Int.{ints, int_wrap_fits, to_z-of_z, to_z_pos, wrapping_add_is, wrapping_sub_is, wrapping_mul_is, wrapping_neg_is}
 use Rattle.types.specs.declared.form.OrdinalRange.{OrdinalRange}
-use Rattle.meaning.specs.declared.store.Value.{Value}
 use Rattle.meaning.specs.declared.store.Value.TheVariants as value
-use Rattle.meaning.specs.Effect.{is_in, number_of}
+use Rattle.meaning.specs.Effect.{is_in}
 use Rattle.meaning.specs.Integers.{is_integer_number, is_within, magnitude, maxint}
 use Rattle.meaning.specs.Integers as meant
-use Rattle.stack_machine.specs.Frames.{is_integer, is_true}
+use Rattle.stack_machine.specs.Frames.{is_integer}
 use Rattle.stack_machine.specs.Frames as frames
 
 -- a number of the type integer

@@ -1,28 +1,25 @@
 -- Parts of variables: a place of an array or a record, all of whose scalar components lie one behind another from a cell
 -- on. Each selector leads from such a part to another one. It says nothing of what the components hold.
-use Rattle.std.proofs.Common.{◌≡◌, ℕ, zero, suc, ◌+◌, ◌*◌, ◌≤◌, ◌≤ℤ◌, List, [], ◌∷◌, ◌++◌, Option, Some, None, refl, sym, ap, ◌∙◌, subst, arith, inr}
-use Rattle.std.proofs.Common.{append-nil, append_assoc}
-use Rattle.std.specs.Prelude.{slice_get, ℤ, pos, ◌-ℤ◌, true, ◌&&◌, nat_eq}
-use Rattle.std.specs.Option.{option_map, option_and_then}
+use Rattle.code_generator.proofs.Words.{◌≡◌, ℕ, zero, suc, ◌+◌, ◌*◌, ◌≤◌, List, [], ◌∷◌, ◌++◌, Option, Some, None, refl, sym, ap, ◌∙◌, subst, arith, inr}
+use Rattle.code_generator.proofs.Words.{append-nil, append_assoc, slice_get, ℤ, pos, ◌-ℤ◌, ◌&&◌, nat_eq, option_and_then, and_parts, eqb-true, none-some}
+use Rattle.code_generator.proofs.Words.{slice_get_within, Form, TypeId, components_of, cells_of, is_ordinal, RangeTest, Place}
+use Rattle.std.proofs.Common.{◌≤ℤ◌}
+use Rattle.std.specs.Prelude.{true}
+use Rattle.std.specs.Option.{option_map}
 use Rattle.std.specs.Ordering.{int_eq}
-use Rattle.std.proofs.lemmas.Bool.{and_parts, eqb-true}
 use Rattle.std.proofs.lemmas.Bool.Decides.{Decides-int_eq}
-use Rattle.std.proofs.lemmas.Option.{none-some, cond_some, slice_get-get_or, slice_get_within}
+use Rattle.std.proofs.lemmas.Option.{cond_some, slice_get-get_or}
 use Rattle.types.specs.declared.form.ArrayElement.{ArrayElement}
 use Rattle.types.specs.declared.form.OrdinalRange.{OrdinalRange}
 use Rattle.types.specs.declared.form.RecordField.{RecordField}
 use Rattle.types.specs.declared.form.Step.{Step}
 use Rattle.types.specs.declared.form.Step.TheVariants.{Element, Field}
-use Rattle.types.specs.Forms.{Form}
-use Rattle.types.specs.declared.form.TypeId.{TypeId}
-use Rattle.types.specs.Components.{Steps, components_of}
+use Rattle.types.specs.Components.{Steps}
 use Rattle.types.specs.Laws.{HasElements, HasField}
-use Rattle.types.specs.Types.{cells_of, element_of, field_at, is_ordinal}
-use Rattle.typed_tree.specs.declared.tree.RangeTest.{RangeTest}
+use Rattle.types.specs.Types.{element_of, field_at}
 use Rattle.typed_tree.specs.declared.tree.Selector.{Selector}
 use Rattle.typed_tree.specs.declared.tree.Selector.TheVariants as selector
 use Rattle.typed_tree.specs.Accesses.{are_values_of, element_type, field_type, selected, led}
-use Rattle.meaning.specs.Store.{Place}
 use Rattle.code_generator.specs.Known.{Known}
 use Rattle.code_generator.proofs.Alike.{Activation, World, LiesIn}
 

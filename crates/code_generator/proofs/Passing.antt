@@ -1,35 +1,24 @@
 -- Actual parameters, and calls: what is shown of the code of an actual parameter, that it leaves the cells of what is passed;
 -- and of a call, that the machine comes back with the result on top of what was held.
-use Rattle.std.proofs.Common.{◌≡◌, ℕ, suc, ◌+◌, ◌-◌, ◌<◌, ◌≤◌, inr, List, [], ◌∷◌, ◌++◌, length, Some, None, refl, subst}
-use Rattle.std.proofs.Common.{arith, append-nil, Bool, true, false}
-use Rattle.std.specs.Prelude.{slice_get, ℤ, pos}
-use Rattle.pcode_assembler.specs.declared.instr.Instr.{Instr}
+use Rattle.code_generator.proofs.Words.{◌≡◌, ℕ, suc, ◌+◌, ◌-◌, ◌<◌, ◌≤◌, inr, List, [], ◌∷◌, ◌++◌, length, Some, None, refl, subst, arith, append-nil, Bool}
+use Rattle.code_generator.proofs.Words.{true, false, slice_get, ℤ, pos, Instr, cells_of, is_ordinal, Block, Variable, heading_of, is_variable_kind, Value}
+use Rattle.code_generator.proofs.Words.{Gives, Action, ◌>>=◌, number_of, UsesTurnsExactly, Argument, OfValue, OfRow, OfPlace, Cell, Undefined, Number}
+use Rattle.code_generator.proofs.Words.{State, called_routine, links_to, row_length}
 use Rattle.pcode_assembler.specs.declared.instr.Instr.TheVariants as instr
-use Rattle.types.specs.Types.{cells_of, is_ordinal}
-use Rattle.typed_tree.specs.declared.tree.Block.{Block}
 use Rattle.typed_tree.specs.declared.tree.Passed.{Passed}
-use Rattle.typed_tree.specs.declared.tree.Variable.{Variable}
-use Rattle.typed_tree.specs.WellFormed.{formal_of, heading_of, is_callable, is_value_kind, is_variable_kind, is_well_formed_passed}
-use Rattle.meaning.specs.declared.store.Value.{Value}
+use Rattle.typed_tree.specs.WellFormed.{formal_of, is_callable, is_value_kind, is_well_formed_passed}
 use Rattle.meaning.specs.Effect as effect
-use Rattle.meaning.specs.Effect.{Reply, Gives, Action, ◌>>=◌, number_of}
-use Rattle.meaning.specs.Laws.{UsesTurnsExactly}
-use Rattle.meaning.specs.Meaning.{Argument, OfValue, OfRow, OfPlace, Passing, calls_of, passing_of}
-use Rattle.stack_machine.specs.declared.cell.Cell.{Cell}
-use Rattle.stack_machine.specs.declared.cell.Cell.TheVariants.{Undefined, Number}
-use Rattle.stack_machine.specs.Machine.{State}
+use Rattle.meaning.specs.Meaning.{Passing, calls_of, passing_of}
 use Rattle.code_scheme.specs.Code.{passed_code}
 use Rattle.code_scheme.specs.Depth.{PassedDepth, passed_depth}
-use Rattle.code_scheme.specs.Scopes.{called_routine, links_to, row_length}
 use Rattle.code_generator.proofs.Accesses.{PartAt}
 use Rattle.code_generator.proofs.Alike.{Leads}
 use Rattle.code_generator.proofs.Numbers.{Fits}
-use Rattle.code_generator.proofs.Reach.{Stands, StandsAt, Comes, comes_less}
+use Rattle.code_generator.proofs.Reach.{Stands, StandsAt, Comes, comes_less, stays_here}
 use Rattle.code_generator.proofs.Rows.{cells_of as value_cells}
 use Rattle.code_generator.proofs.Setting.{Setting, outline, around, on, Based}
 use Rattle.code_generator.proofs.Wholes.{AllFit}
 use Rattle.code_generator.proofs.Running.{Aim, Arrives, Evaluates, Executes, Runs, done, kept_on, runs_to, then_runs, value_on}
-use Rattle.code_generator.proofs.Reach.{stays_here}
 
 module _ (g : Setting) where
   -- ---- what is passed
@@ -120,14 +109,14 @@ module _ (g : Setting) where
       → Returns m held place true action s
   evaluated_returns m held place action s e =
       runs_to g (value_on g held place) (return_on held true place) m action s (omega arith) e
-      (λ v t x. ((x.0, x.1, x.2), stays_here g.target _))
+      (λ v t x. ((x.0, x.1, x.2.0), stays_here g.target _))
 
   -- the call of a function is a value
   pub function_evaluates : (m : State) (held : List Cell) (place : ℕ) (action : Action Value) (s : effect.State) → g.below + length held < g.limit
       → Returns m held place true action s → Evaluates g m held place action s
   function_evaluates m held place action s room e =
       runs_to g (return_on held true place) (value_on g held place) m action s (omega arith) e
-      (λ v t x. ((x.0, x.1, x.2, room), stays_here g.target _))
+      (λ v t x. ((x.0, x.1, (x.2, room)), stays_here g.target _))
 
   -- the call of a procedure is a statement
   pub returns_executes : (m : State) (held : List Cell) (place : ℕ) (action : Action Value) (s : effect.State) → UsesTurnsExactly action

@@ -1,15 +1,15 @@
 -- Places that are told apart: by their activations, their variables, and the steps to their components.
-use Rattle.std.proofs.Common.{◌≡◌, ℕ, ℤ, refl, ap, true, false, eq-eqb}
-use Rattle.std.specs.Prelude.{nat_eq, ◌&&◌}
+use Rattle.code_generator.proofs.Words.{◌≡◌, ℕ, refl, ap, true, false, eq-eqb, nat_eq, ◌&&◌, eqb-true, and_parts, false≢true, Place}
+use Rattle.std.proofs.Common.{ℤ}
 use Rattle.std.specs.Bool.{Decides}
 use Rattle.std.specs.Cmp.Lexicographic.{pointwise}
-use Rattle.std.proofs.lemmas.Bool.{eqb-true, and_from, and_parts, false_from_ne_true, false≢true}
+use Rattle.std.proofs.lemmas.Bool.{and_from, false_from_ne_true}
 use Rattle.std.proofs.lemmas.Bool.Decides.{Decides-int_eq}
 use Rattle.std.proofs.lemmas.Slice.Eq.{slice_eq-Decides}
 use Rattle.types.specs.declared.form.Step.{Step}
 use Rattle.types.specs.declared.form.Step.TheVariants.{Element, Field}
 use Rattle.types.specs.Components.{Steps}
-use Rattle.meaning.specs.Store.{Place, step_eq, place_eq}
+use Rattle.meaning.specs.Store.{step_eq, place_eq}
 
 step_decided : (s t : Step) → Decides (step_eq s t) (s ≡ t)
 step_decided (Element i) (Element j) =

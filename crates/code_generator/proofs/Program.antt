@@ -1,39 +1,32 @@
 -- The code of a well formed tree follows its program, in full and without the checks of sites at which it never errs.
-use Rattle.std.proofs.Common.{◌≡◌, ℕ, suc, ◌+◌, ◌-◌, ◌*◌, ◌<◌, ◌≤◌, ◌⊎◌, inl, inr, ⊎_elim, List, [], ◌∷◌, ◌++◌, length, Option, Some, None, refl}
-use Rattle.std.proofs.Common.{sym, ap, ◌∙◌, subst, arith, length-append, append_assoc, append-nil, Bool, true, false, replicate}
-use Rattle.std.specs.Prelude.{nat_lt, slice_get, if◌then◌else◌, pos, take}
+use Rattle.code_generator.proofs.Words.{◌≡◌, ℕ, suc, ◌+◌, ◌-◌, ◌*◌, ◌<◌, ◌≤◌, ◌⊎◌, inl, inr, ⊎_elim, List, [], ◌∷◌, ◌++◌, length, Option, Some, None, refl, sym}
+use Rattle.code_generator.proofs.Words.{ap, ◌∙◌, subst, arith, length-append, append_assoc, append-nil, Bool, true, false, replicate, nat_lt, slice_get}
+use Rattle.code_generator.proofs.Words.{if◌then◌else◌, pos, slice_get_within, cases_lt, lt-ltb, Instr, Block, Tree, IsWellFormed, Ending, Action, Reply, Gives}
+use Rattle.code_generator.proofs.Words.{Cell, Undefined, Number, State, moved, routines_of, block_depth, living_need, Scope, block_scope, count, other_cells}
+use Rattle.code_generator.proofs.Words.{parameter_cells}
+use Rattle.std.specs.Prelude.{take}
 use Rattle.std.specs.Option.{option_map_or}
 use Rattle.std.proofs.Math.Nat.{mul-add}
 use Rattle.std.proofs.Math.Seq.{get_or-append_seam}
 use Rattle.std.proofs.lemmas.List.Sums.{count_by_more_yes, count_by_more_no, count_by-le-length}
-use Rattle.std.proofs.lemmas.Option.{slice_get-get_or, get_or_from_slice_get, slice_get_within}
-use Rattle.std.proofs.lemmas.Bool.{or_parts, cases_lt, lt-ltb, ltb-false, le-ltb}
+use Rattle.std.proofs.lemmas.Option.{slice_get-get_or, get_or_from_slice_get}
+use Rattle.std.proofs.lemmas.Bool.{or_parts, ltb-false, le-ltb}
 use Rattle.pcode_assembler.specs.declared.code.Code.{Code}
 use Rattle.pcode_assembler.specs.declared.code.Site.{Site as Plain}
-use Rattle.pcode_assembler.specs.declared.instr.Instr.{Instr}
 use Rattle.pcode_assembler.specs.declared.instr.Instr.TheVariants as instr
-use Rattle.typed_tree.specs.declared.tree.Block.{Block}
-use Rattle.typed_tree.specs.declared.tree.Tree.{Tree}
-use Rattle.typed_tree.specs.WellFormed.{IsWellFormed}
-use Rattle.meaning.specs.declared.outcome.Ending.{Ending}
 use Rattle.meaning.specs.declared.outcome.Ending.TheVariants as ending
 use Rattle.meaning.specs.Effect as effect
-use Rattle.meaning.specs.Effect.{Action, Reply, Gives}
 use Rattle.meaning.specs.Laws.{state_after}
 use Rattle.meaning.specs.Meaning as meant
 use Rattle.meaning.specs.Meaning.{Meaning, effect_of, ended, meaning}
-use Rattle.stack_machine.specs.declared.cell.Cell.{Cell}
-use Rattle.stack_machine.specs.declared.cell.Cell.TheVariants.{Undefined, Number}
 use Rattle.stack_machine.specs.declared.stop.Stop.TheVariants as stop
 use Rattle.stack_machine.specs.Frames.{entered}
-use Rattle.stack_machine.specs.Machine.{State, with_frame}
+use Rattle.stack_machine.specs.Machine.{with_frame}
 use Rattle.stack_machine.specs.Run as runs
 use Rattle.stack_machine.specs.Run.{Outcome, machine, steps}
-use Rattle.check_remover.specs.Strip.{check_site, is_among, stays, moved, moved_place, KeepsInstructions}
-use Rattle.code_scheme.specs.Code.{block_code, blocks_code, program_code, routines_of, stmt_code}
-use Rattle.code_scheme.specs.Depth.{block_depth}
-use Rattle.code_scheme.specs.Need.{block_need, living_need}
-use Rattle.code_scheme.specs.Scopes.{Scope, block_scope, count, other_cells, parameter_cells}
+use Rattle.check_remover.specs.Strip.{check_site, is_among, stays, moved_place, KeepsInstructions}
+use Rattle.code_scheme.specs.Code.{block_code, blocks_code, program_code, stmt_code}
+use Rattle.code_scheme.specs.Need.{block_need}
 use Rattle.code_scheme.proofs.Depths.{block_within}
 use Rattle.code_generator.specs.Follows.{BeginsWith, StopsAs, DoesAll, DoesAsMuch, IsExplained, IsFullAtCall, Follows, most_cells}
 use Rattle.code_generator.specs.Known.{Known}
@@ -45,12 +38,11 @@ use Rattle.code_generator.proofs.Calling.{enters, full}
 use Rattle.code_generator.proofs.Calls.{calls_run}
 use Rattle.code_generator.proofs.Cells.{small_block}
 use Rattle.code_generator.proofs.Closing.{Closes, closing, count_grows, first_block, more_behind, most_repeats, repeats_within, take_short}
-use Rattle.code_generator.proofs.Explained.{as_much, as_much_more, end_over, explained_done, explained_full, explained_more, leads_before}
-use Rattle.code_generator.proofs.Explained.{leads_to, stops_end}
+use Rattle.code_generator.proofs.Explained.{as_much, as_much_more, end_over, explained_done, explained_full, explained_more, leads_before, leads_to, stops_end}
 use Rattle.code_generator.proofs.Nesting.{well_block}
 use Rattle.code_generator.proofs.ProgramStart as started
-use Rattle.code_generator.proofs.Reach.{Target, StandsAt, Stands, stands_front, stands_back, Comes, IsOver, Stops, comes_by, comes_on, comes_less}
-use Rattle.code_generator.proofs.Reach.{WritesOn, begins_itself, stops_on, stops_by}
+use Rattle.code_generator.proofs.Reach.{Target, StandsAt, Stands, stands_front, stands_back, Comes, IsOver, Stops, comes_by, comes_on, comes_less, WritesOn}
+use Rattle.code_generator.proofs.Reach.{begins_itself, stops_on, stops_by}
 use Rattle.code_generator.proofs.Repeats.{repeats}
 use Rattle.code_generator.proofs.Running as running
 use Rattle.code_generator.proofs.Setting.{Setting, on, around, Halts, Ends, Starves}

@@ -1,35 +1,24 @@
 -- The program's block as it runs: its activation is the only one, its frame the first, and nothing of it is defined.
-use Rattle.std.proofs.Common.{◌≡◌, ℕ, zero, suc, ◌+◌, ◌-◌, ◌<◌, ◌≤◌, inl, ⊎_elim, List, [], ◌∷◌, ◌++◌, length, map, Option, Some, None}
-use Rattle.std.proofs.Common.{refl, sym, ap, ◌∙◌, subst, arith, Bool, true, false, replicate, eq-eqb}
-use Rattle.std.specs.Prelude.{if◌then◌else◌, nat_eq, slice_get, pos, ◌&&◌, ◌||◌}
-use Rattle.std.proofs.lemmas.Bool.{and_parts, or_parts, eqb-true, false≢true, ltb-true}
-use Rattle.std.proofs.lemmas.Option.{none-some, same_Some}
+use Rattle.code_generator.proofs.Words.{◌≡◌, ℕ, zero, suc, ◌+◌, ◌-◌, ◌<◌, ◌≤◌, inl, ⊎_elim, List, [], ◌∷◌, ◌++◌, length, map, Option, Some, None, refl, sym, ap}
+use Rattle.code_generator.proofs.Words.{◌∙◌, subst, arith, Bool, true, false, replicate, eq-eqb, if◌then◌else◌, nat_eq, slice_get, pos, ◌&&◌, ◌||◌, and_parts}
+use Rattle.code_generator.proofs.Words.{eqb-true, false≢true, ltb-true, none-some, same_Some, components_of, Form, cells_of, Block, Tree, Variable}
+use Rattle.code_generator.proofs.Words.{VariableKind, IsWellFormed, heading_of, is_parameter_kind, is_variable_kind, roots_where, Place, Cell, Undefined}
+use Rattle.code_generator.proofs.Words.{Number, Home, routines_of, block_depth, Scope, block_scope, cells_where, is_parameter_of, links_to, other_cells}
+use Rattle.code_generator.proofs.Words.{parameter_cells, slot_cells, variable_home}
+use Rattle.std.proofs.lemmas.Bool.{or_parts}
 use Rattle.pcode_assembler.specs.declared.instr.Instr.TheVariants as instr
-use Rattle.types.specs.Components.{components_of}
-use Rattle.types.specs.Forms.{Form}
-use Rattle.types.specs.Types.{cells_of}
-use Rattle.typed_tree.specs.declared.tree.Block.{Block}
-use Rattle.typed_tree.specs.declared.tree.Tree.{Tree}
-use Rattle.typed_tree.specs.declared.tree.Variable.{Variable}
-use Rattle.typed_tree.specs.declared.tree.VariableKind.{VariableKind}
 use Rattle.typed_tree.specs.declared.tree.VariableKind.TheVariants as kinds
-use Rattle.typed_tree.specs.WellFormed.{IsWellFormed, encloses, heading_of, is_one_of, is_parameter_kind, is_value_kind, is_variable_kind, is_visible, of_one}
-use Rattle.typed_tree.specs.WellFormed.{is_round, outline_of, roots_where}
-use Rattle.meaning.specs.Store.{Environment, Place}
+use Rattle.typed_tree.specs.WellFormed.{encloses, is_one_of, is_value_kind, is_visible, of_one, is_round, outline_of}
+use Rattle.meaning.specs.Store.{Environment}
 use Rattle.meaning.specs.Meaning.{Activation as Begun, environment_of, first_state, home_of as home_in, own_place, program_activation, seen_from}
-use Rattle.stack_machine.specs.declared.cell.Cell.{Cell}
-use Rattle.stack_machine.specs.declared.cell.Cell.TheVariants.{Undefined, Number}
-use Rattle.code_scheme.specs.declared.home.Home.{Home}
-use Rattle.code_scheme.specs.Code.{program_code, routines_of}
-use Rattle.code_scheme.specs.Depth.{block_depth}
-use Rattle.code_scheme.specs.Scopes.{Scope, block_level, block_scope, cells_where, home_of, is_parameter_of, level_of, links_to, offset}
-use Rattle.code_scheme.specs.Scopes.{other_cells, parameter_cells, slot_cells, start_of, variable_home}
+use Rattle.code_scheme.specs.Code.{program_code}
+use Rattle.code_scheme.specs.Scopes.{block_level, home_of, level_of, offset, start_of}
 use Rattle.code_generator.specs.Known.{Known}
 use Rattle.code_generator.specs.Large.{is_too_large}
 use Rattle.code_generator.specs.Tables.{site_table}
 use Rattle.code_generator.proofs.Alike.{Activation, World, Fixed, Lies, LiesIn, IsApart, Leads}
-use Rattle.code_generator.proofs.Cells.{home_is, lies_inside, others_few, own_scalars, owned_back, owned_in, slot_of, small_block, start_near}
-use Rattle.code_generator.proofs.Cells.{other_ends, starts_as_other, where_cons}
+use Rattle.code_generator.proofs.Cells.{home_is, lies_inside, others_few, own_scalars, owned_back, owned_in, slot_of, small_block, start_near, other_ends}
+use Rattle.code_generator.proofs.Cells.{starts_as_other, where_cons}
 use Rattle.code_generator.proofs.Nesting.{heading_at, nothing_round_program, same_numbers, well_block}
 use Rattle.code_generator.proofs.Parts.{IsPart}
 use Rattle.code_generator.proofs.Reach.{Target, Stands}

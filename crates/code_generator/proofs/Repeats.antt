@@ -1,5 +1,5 @@
 -- How many repeats stand in each other in a statement: so many turns are used before an instruction comes.
-use Rattle.std.proofs.Common.{ℕ, ◌+◌, max, Option, Some, None}
+use Rattle.code_generator.proofs.Words.{ℕ, ◌+◌, max, Option, Some, None}
 use Rattle.std.specs.declared.alloc.Global.{Global}
 use Rattle.std.specs.declared.boxed.Box.{Box}
 use Rattle.typed_tree.specs.declared.tree.Stmt.{Stmt}

@@ -1,32 +1,22 @@
 -- A routine ends: its result is pushed, and the machine is back in its caller's frame, where what the caller held is as it was,
 -- over cells that are alike to the store.
-use Rattle.std.proofs.Common.{◌≡◌, ℕ, zero, suc, ◌+◌, ◌-◌, ◌<◌, ◌≤◌, inr, List, [], ◌∷◌, ◌++◌, length, map, take, drop, Option, Some, None, Ok}
-use Rattle.std.proofs.Common.{refl, sym, ap, ◌∙◌, subst, arith, Bool, true, false, length-append, append-nil, append_assoc}
-use Rattle.std.specs.Prelude.{if◌then◌else◌, nat_eq, nat_lt, slice_get, ℤ, pos, ◌&&◌}
-use Rattle.std.specs.Option.{option_and_then}
-use Rattle.std.proofs.Math.Seq.{drop-append_seam}
-use Rattle.std.proofs.lemmas.Bool.{and_parts, eqb-true, false≢true, ltb-true}
+use Rattle.code_generator.proofs.Words.{◌≡◌, ℕ, zero, suc, ◌+◌, ◌-◌, ◌<◌, ◌≤◌, inr, List, [], ◌∷◌, ◌++◌, length, map, take, drop, Option, Some, None, Ok, refl}
+use Rattle.code_generator.proofs.Words.{sym, ap, ◌∙◌, subst, arith, Bool, true, false, length-append, append-nil, append_assoc, if◌then◌else◌, nat_eq, nat_lt}
+use Rattle.code_generator.proofs.Words.{slice_get, ℤ, pos, ◌&&◌, option_and_then, drop-append_seam, and_parts, eqb-true, false≢true, ltb-true, same_Some}
+use Rattle.code_generator.proofs.Words.{slice_get_within, is_ordinal, Block, Variable, VariableKind, is_variable_kind, roots_where, stored}
+use Rattle.code_generator.proofs.Words.{Argument, Cell, Number, State, block_depth, called_routine, links_to, other_cells, parameter_cells, variable_home}
 use Rattle.std.proofs.lemmas.List.{take-append-le}
-use Rattle.std.proofs.lemmas.Option.{same_Some, slice_get_within}
 use Rattle.pcode_assembler.specs.declared.instr.Instr.TheVariants as instr
-use Rattle.types.specs.Types.{is_ordinal}
-use Rattle.typed_tree.specs.declared.tree.Block.{Block}
 use Rattle.typed_tree.specs.declared.tree.FunctionResult.{FunctionResult}
-use Rattle.typed_tree.specs.declared.tree.Variable.{Variable}
-use Rattle.typed_tree.specs.declared.tree.VariableKind.{VariableKind}
 use Rattle.typed_tree.specs.declared.tree.VariableKind.TheVariants as kinds
 use Rattle.typed_tree.specs.Accesses.{accessed, is_type}
-use Rattle.typed_tree.specs.WellFormed.{is_kind_of, is_result_kind, is_result_or_none, is_variable_kind, result_roots, roots_where}
-use Rattle.meaning.specs.Store.{stored}
+use Rattle.typed_tree.specs.WellFormed.{is_kind_of, is_result_kind, is_result_or_none, result_roots}
 use Rattle.meaning.specs.Effect as effect
-use Rattle.meaning.specs.Effect.{Action, fetch, give}
-use Rattle.meaning.specs.Meaning.{Argument, home_of as home_in, own_place, result_of}
-use Rattle.stack_machine.specs.declared.cell.Cell.{Cell}
-use Rattle.stack_machine.specs.declared.cell.Cell.TheVariants.{Number}
-use Rattle.stack_machine.specs.Machine.{State, and_then, at_place}
+use Rattle.meaning.specs.Effect.{fetch}
+use Rattle.meaning.specs.Meaning.{home_of as home_in, own_place, result_of}
+use Rattle.stack_machine.specs.Machine.{and_then, at_place}
 use Rattle.code_scheme.specs.Code.{return_code}
-use Rattle.code_scheme.specs.Depth.{block_depth, result_depth}
-use Rattle.code_scheme.specs.Scopes.{called_routine, links_to, other_cells, parameter_cells, variable_home}
+use Rattle.code_scheme.specs.Depth.{result_depth}
 use Rattle.code_generator.proofs.Acts.{framed, loads}
 use Rattle.code_generator.proofs.Alike.{Fixed, Keeps, Leads, LiesIn, alike_above, cell_of, cell_within}
 use Rattle.code_generator.proofs.Callee.{link_at, outer_fixed, own_part, seen}

@@ -1,19 +1,15 @@
 -- Rows of values in cells: what the instructions that take them do to a store on top of which they are known, and that
 -- they compare and write them as the program does.
-use Rattle.std.proofs.Common.{◌≡◌, ℕ, ◌+◌, ◌-◌, ◌*◌, ◌<◌, ◌≤◌, List, [], ◌∷◌, ◌++◌, length, map, take, drop, Ok, refl, sym, ap, ◌∙◌, arith}
-use Rattle.std.proofs.Common.{append_assoc, append-nil, length-append, Bool, true, false}
-use Rattle.std.specs.Prelude.{ℤ, pos, negsuc, int_lt, if◌then◌else◌}
-use Rattle.std.proofs.Math.Seq.{take-append_seam, drop-append_seam}
-use Rattle.std.proofs.lemmas.List.{length-map}
+use Rattle.code_generator.proofs.Words.{◌≡◌, ℕ, ◌+◌, ◌-◌, ◌*◌, ◌<◌, ◌≤◌, List, [], ◌∷◌, ◌++◌, length, map, take, drop, Ok, refl, sym, ap, ◌∙◌, arith}
+use Rattle.code_generator.proofs.Words.{append_assoc, append-nil, length-append, Bool, true, false, ℤ, pos, if◌then◌else◌, drop-append_seam, length-map, Value}
+use Rattle.code_generator.proofs.Words.{number_of, Cell, Number, Frames, Attempt}
+use Rattle.std.specs.Prelude.{negsuc, int_lt}
+use Rattle.std.proofs.Math.Seq.{take-append_seam}
 use Rattle.std.proofs.lemmas.Int.{ints}
-use Rattle.meaning.specs.declared.store.Value.{Value}
-use Rattle.meaning.specs.Effect.{number_of}
 use Rattle.meaning.specs.Meaning.{order_of}
 use Rattle.meaning.specs.Integers as meant
-use Rattle.stack_machine.specs.declared.cell.Cell.{Cell}
-use Rattle.stack_machine.specs.declared.cell.Cell.TheVariants.{Number}
 use Rattle.stack_machine.specs.Deeds.{string_written}
-use Rattle.stack_machine.specs.Frames.{Frames, Attempt, has_room_after, ◌>>=◌, number, number_at, popped, pushed}
+use Rattle.stack_machine.specs.Frames.{has_room_after, ◌>>=◌, number, number_at, popped, pushed}
 use Rattle.stack_machine.specs.Rows as rows
 use Rattle.stack_machine.specs.Texts as texts
 use Rattle.code_generator.proofs.Acts.{framed, has_some, has_room, top_at}

@@ -1,31 +1,19 @@
 -- What the code of a piece of the program does: it comes to where it is to come with what the piece gives, or stops as the
 -- piece does. Code runs behind other code, whatever each is to come to.
-use Rattle.std.proofs.Common.{◌≡◌, ℕ, ◌+◌, ◌-◌, ◌<◌, ◌≤◌, ◌⊎◌, inl, inr, List, [], ◌∷◌, ◌++◌, length, Ok, refl, sym, subst, arith, length-append}
-use Rattle.std.proofs.Common.{Bool, true, false}
-use Rattle.std.specs.Prelude.{ℤ}
-use Rattle.pcode_assembler.specs.declared.instr.Instr.{Instr}
+use Rattle.code_generator.proofs.Words.{◌≡◌, ℕ, ◌+◌, ◌-◌, ◌<◌, ◌≤◌, ◌⊎◌, inl, inr, List, [], ◌∷◌, ◌++◌, length, Ok, refl, sym, subst, arith, length-append}
+use Rattle.code_generator.proofs.Words.{append_assoc, Bool, true, false, ℤ, Instr, Value, Reply, Gives, Action, ◌>>=◌, number_of, require, UsesTurnsExactly}
+use Rattle.code_generator.proofs.Words.{deed_of, Cell, Number, Attempt, Frames, State, moved, is_true}
 use Rattle.pcode_assembler.specs.declared.instr.Instr.TheVariants as instr
-use Rattle.meaning.specs.declared.store.Value.{Value}
 use Rattle.meaning.specs.declared.store.Value.TheVariants as value
 use Rattle.meaning.specs.Effect as effect
-use Rattle.meaning.specs.Effect.{Reply, Gives, Action, ◌>>=◌, number_of, require}
-use Rattle.meaning.specs.Laws.{UsesTurnsExactly}
 use Rattle.meaning.proofs.Replies.{and_then-and_then}
-use Rattle.stack_machine.specs.Deeds.{Tests, deed_of}
+use Rattle.stack_machine.specs.Deeds.{Tests}
 use Rattle.code_generator.proofs.Acts.{framed}
-use Rattle.stack_machine.specs.declared.cell.Cell.{Cell}
-use Rattle.stack_machine.specs.declared.cell.Cell.TheVariants.{Number}
-use Rattle.stack_machine.specs.Frames.{Attempt, Frames}
-use Rattle.stack_machine.specs.Machine.{State}
-use Rattle.check_remover.specs.Strip.{moved}
 use Rattle.code_generator.proofs.Exact.{exact_give, exact_then}
 use Rattle.code_generator.proofs.Numbers.{Fits}
-use Rattle.code_generator.proofs.Reach.{Stands, StandsAt, Comes, comes_on, comes_less, stands_front, stands_back}
-use Rattle.code_generator.proofs.Setting.{Setting, on, Based, Ends, ends_on, Starves, starves_on, starves_same, starves_first, starves_behind}
-use Rattle.code_generator.proofs.Setting.{as_value, passes, fails}
-use Rattle.code_generator.proofs.Reach.{stays_here}
-use Rattle.stack_machine.specs.Frames.{is_true}
-use Rattle.code_generator.proofs.Setting.{branched}
+use Rattle.code_generator.proofs.Reach.{Stands, StandsAt, Comes, comes_on, comes_less, stands_front, stands_back, stays_here}
+use Rattle.code_generator.proofs.Setting.{Setting, on, Based, Ends, ends_on, Starves, starves_on, starves_same, starves_first, starves_behind, as_value, passes}
+use Rattle.code_generator.proofs.Setting.{fails, branched}
 
 -- where code is to come with what a piece gives: what holds then, the machine there, and for how many turns more than the
 -- piece used its instructions make up
@@ -156,15 +144,42 @@ module _ (g : Setting) where
       branched g (λ b. Runs aim (on g (below ++ Number n ∷ []) place s.output) (next b) s) target below n place s.output stands in_frame
       (λ came. runs_from aim 1 _ _ (next true) s came so) (λ came. runs_from aim 1 _ _ (next false) s came not_so)
 
-  -- ---- the code of an expression
+  -- ---- what comes on top of the cells that are held
 
-  -- its value comes on top of what is held, over cells alike to the store
-  abbrev pub value_on : List Cell → ℕ → Aim Value
-  value_on held place = record {
-    Holds = λ v s. (base : List Cell) × Based g s base × Fits (number_of v) × (g.below + length held < g.limit);
-    there = λ v s h. on g ((h.0 ++ held) ++ Number (number_of v) ∷ []) place s.output;
+  -- over cells alike to the store
+  abbrev pub top_on : {A : Type 0} → (A → Type 0) → (A → List Cell) → List Cell → ℕ → Aim A
+  top_on IsSo top held place = record {
+    Holds = λ v s. (base : List Cell) × Based g s base × IsSo v;
+    there = λ v s h. on g ((h.0 ++ held) ++ top v) place s.output;
     gain = 0;
   }
+
+  -- what comes beside a row that is held too, and the code behind it
+  pub beside : {A B : Type 0} (IsSo : A → Type 0) (top : A → List Cell) (aim : ℕ → Aim B) (c c' : List Instr) (place : ℕ) (base held row : List Cell)
+      (first : Action A) (next : A → Action B) (s : effect.State) → UsesTurnsExactly first → Stands g.target place (c ++ c')
+      → (Stands g.target place c
+      → Runs (top_on IsSo top (held ++ row) (place + length c)) (on g (base ++ (held ++ row)) place s.output) first s)
+      → ((base2 : List Cell) (v : A) (t : effect.State) → Stands g.target (place + length c) c' → Based g t base2 → IsSo v
+      → Runs (aim (place + length c + length c')) (on g (((base2 ++ held) ++ row) ++ top v) (place + length c) t.output) (next v) t)
+      → Runs (aim (place + length (c ++ c'))) (on g ((base ++ held) ++ row) place s.output) (first >>= next) s
+  beside IsSo top aim c c' place base held row first next s exact stands runs h =
+      subst (λ cells. Runs (aim (place + length (c ++ c'))) (on g cells place s.output) (first >>= next) s) (sym (append_assoc base held row))
+      (then_code (top_on IsSo top (held ++ row)) aim c c' place _ first next s exact stands runs
+      (λ v t x rest.
+      subst (λ cells. Runs (aim (place + length c + length c')) (on g (cells ++ top v) (place + length c) t.output) (next v) t)
+      (append_assoc x.0 held row) (h x.0 v t rest x.1 x.2)))
+
+  -- ---- the code of an expression
+
+  -- its value is of type integer
+  abbrev pub IsValue : List Cell → Value → Type 0
+  IsValue held v = Fits (number_of v) × (g.below + length held < g.limit)
+
+  abbrev pub number_cell : Value → List Cell
+  number_cell v = Number (number_of v) ∷ []
+
+  abbrev pub value_on : List Cell → ℕ → Aim Value
+  value_on held = top_on (IsValue held) number_cell held
 
   abbrev pub Evaluates : State → List Cell → ℕ → Action Value → effect.State → Type 0
   Evaluates m held place action s = Runs (value_on held place) m action s
@@ -174,7 +189,7 @@ module _ (g : Setting) where
       → Comes g.target least m (on g ((base ++ held) ++ Number (number_of v) ∷ []) place s.output) → Fits (number_of v) → g.below + length held < g.limit
       → Arrives (value_on held place) s.turns m (Gives v s)
   gives least m base held place v s based l fit room =
-      ((base, based, fit, room), comes_less g.target (s.turns - s.turns + 0) least m _ (omega arith) l, omega arith)
+      ((base, based, (fit, room)), comes_less g.target (s.turns - s.turns + 0) least m _ (omega arith) l, omega arith)
 
   -- a value, and the code behind it
   pub value_then : {A : Type 0} (aim : ℕ → Aim A) (c c' : List Instr) (place : ℕ) (m : State) (held : List Cell) (first : Action Value)
@@ -185,7 +200,7 @@ module _ (g : Setting) where
       → Runs (aim (place + length c + length c')) (on g ((base ++ held) ++ Number (number_of v) ∷ []) (place + length c) t.output) (next v) t)
       → Runs (aim (place + length (c ++ c'))) m (first >>= next) s
   value_then aim c c' place m held first next s exact stands runs h =
-      then_code (value_on held) aim c c' place m first next s exact stands runs (λ v t x rest. h x.0 v t rest x.1 x.2 x.3)
+      then_code (value_on held) aim c c' place m first next s exact stands runs (λ v t x rest. h x.0 v t rest x.1 x.2.0 x.2.1)
 
   -- a number
   pub number_then : {A : Type 0} (aim : ℕ → Aim A) (c c' : List Instr) (place : ℕ) (m : State) (held : List Cell) (first : Action ℤ)

@@ -1,37 +1,25 @@
 -- One activation of a block, whose code runs: what stays as it is meanwhile, and what the machine does of what the
 -- program does.
-use Rattle.std.proofs.Common.{◌≡◌, ℕ, zero, suc, ◌+◌, ◌-◌, ◌<◌, ◌≤◌, ◌⊎◌, inl, inr, List, [], ◌∷◌, ◌++◌, length, map, Some, None, Ok, Err, refl, sym, ap}
-use Rattle.std.proofs.Common.{subst, arith, length-append, Bool, true, false, ◌∙◌}
-use Rattle.std.specs.Prelude.{slice_get, ℤ, pos, if◌then◌else◌}
-use Rattle.pcode_assembler.specs.declared.instr.Instr.{Instr}
+use Rattle.code_generator.proofs.Words.{◌≡◌, ℕ, suc, ◌+◌, ◌-◌, ◌<◌, ◌≤◌, ◌⊎◌, inl, inr, List, [], ◌∷◌, ◌++◌, length, Some, None, Ok, Err, refl, sym, ap, subst}
+use Rattle.code_generator.proofs.Words.{arith, length-append, Bool, true, false, ◌∙◌, slice_get, ℤ, pos, if◌then◌else◌, Instr, Tree, Block, Variable}
+use Rattle.code_generator.proofs.Words.{IsWellFormed, cells_of, Ending, Value, Place, stored, Gives, Action, ◌>>=◌, UsesTurnsExactly, Cell}
+use Rattle.code_generator.proofs.Words.{Undefined, Number, deed_of, Frames, Attempt, is_true, State, moved, routines_of, block_depth, living_need, Scope}
+use Rattle.code_generator.proofs.Words.{links_to, other_cells, parameter_cells, variable_home}
 use Rattle.pcode_assembler.specs.declared.instr.Instr.TheVariants as instr
-use Rattle.typed_tree.specs.declared.tree.Tree.{Tree}
-use Rattle.typed_tree.specs.declared.tree.Block.{Block}
-use Rattle.typed_tree.specs.declared.tree.Variable.{Variable}
-use Rattle.typed_tree.specs.WellFormed.{IsWellFormed, Outline, is_visible, outline_of}
-use Rattle.types.specs.Types.{cells_of}
-use Rattle.meaning.specs.declared.outcome.Ending.{Ending}
+use Rattle.typed_tree.specs.WellFormed.{Outline, is_visible, outline_of}
 use Rattle.meaning.specs.declared.outcome.Ending.TheVariants as ending
-use Rattle.meaning.specs.declared.store.Value.{Value}
 use Rattle.meaning.specs.declared.store.Value.TheVariants as value
 use Rattle.meaning.specs.Store as meant
-use Rattle.meaning.specs.Store.{Environment, Place, stored}
+use Rattle.meaning.specs.Store.{Environment}
 use Rattle.meaning.specs.Effect as effect
-use Rattle.meaning.specs.Effect.{Reply, Gives, Action, ◌>>=◌, number_of}
-use Rattle.meaning.specs.Laws.{AllGoRoundByRound, AllUseTurnsExactly, UsesTurnsExactly}
+use Rattle.meaning.specs.Laws.{AllGoRoundByRound, AllUseTurnsExactly}
 use Rattle.meaning.specs.Meaning.{Surroundings, calls_of}
 use Rattle.stack_machine.specs.declared.stop.Stop.{Stop}
 use Rattle.stack_machine.specs.declared.stop.Stop.TheVariants as stop
-use Rattle.stack_machine.specs.declared.cell.Cell.{Cell}
-use Rattle.stack_machine.specs.declared.cell.Cell.TheVariants.{Undefined, Number}
-use Rattle.stack_machine.specs.Deeds.{Acts, Tests, deed_of, jumped_if_false}
-use Rattle.stack_machine.specs.Frames.{Frames, Attempt, is_true}
-use Rattle.stack_machine.specs.Machine.{State, Next, carried_out, and_then, checked, with_frames, with_place, error_of}
-use Rattle.check_remover.specs.Strip.{moved}
-use Rattle.code_scheme.specs.Code.{program_code, routines_of}
-use Rattle.code_scheme.specs.Depth.{block_depth}
-use Rattle.code_scheme.specs.Need.{living_need}
-use Rattle.code_scheme.specs.Scopes.{Scope, block_level, home_of, links_to, other_cells, parameter_cells, variable_home}
+use Rattle.stack_machine.specs.Deeds.{Acts, Tests, jumped_if_false}
+use Rattle.stack_machine.specs.Machine.{Next, carried_out, and_then, checked, with_frames, with_place, error_of}
+use Rattle.code_scheme.specs.Code.{program_code}
+use Rattle.code_scheme.specs.Scopes.{block_level, home_of}
 use Rattle.code_generator.specs.Follows.{StopsAs}
 use Rattle.code_generator.specs.Known.{Known}
 use Rattle.code_generator.specs.Large.{is_too_large}

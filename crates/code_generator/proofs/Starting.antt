@@ -1,32 +1,19 @@
 -- The block of a routine begins: its parameters get what was passed, its other variables are undefined, and the cells of its frame
 -- are alike to that.
-use Rattle.std.proofs.Common.{◌≡◌, ℕ, zero, suc, ◌+◌, ◌-◌, ◌<◌, ◌≤◌, ◌⊎◌, inl, inr, ⊎_elim, List, [], ◌∷◌, ◌++◌, length, map, take, drop, Option, Some, None}
-use Rattle.std.proofs.Common.{refl, sym, ap, ◌∙◌, subst, arith, Bool, true, false, length-append, append_assoc, replicate}
-use Rattle.std.specs.Prelude.{if◌then◌else◌, nat_eq, slice_get, slice_set, pos}
-use Rattle.std.proofs.Math.Seq.{take-append_seam, drop-append_seam}
-use Rattle.std.proofs.lemmas.Bool.{cases_lt, eqb-true, and_parts, false≢true}
-use Rattle.std.proofs.lemmas.List.{length-map}
-use Rattle.std.proofs.lemmas.Option.{none-some, same_Some}
-use Rattle.types.specs.Components.{components_of}
-use Rattle.types.specs.Forms.{Form}
-use Rattle.typed_tree.specs.declared.tree.Block.{Block}
-use Rattle.typed_tree.specs.declared.tree.Variable.{Variable}
-use Rattle.typed_tree.specs.declared.tree.VariableKind.{VariableKind}
+use Rattle.code_generator.proofs.Words.{◌≡◌, ℕ, zero, suc, ◌+◌, ◌-◌, ◌<◌, ◌≤◌, ◌⊎◌, inl, inr, ⊎_elim, List, [], ◌∷◌, ◌++◌, length, map, take, drop, Option}
+use Rattle.code_generator.proofs.Words.{Some, None, refl, sym, ap, ◌∙◌, subst, arith, Bool, true, false, length-append, append_assoc, replicate, if◌then◌else◌}
+use Rattle.code_generator.proofs.Words.{nat_eq, slice_get, pos, drop-append_seam, cases_lt, eqb-true, and_parts, false≢true, length-map, none-some, same_Some}
+use Rattle.code_generator.proofs.Words.{components_of, Form, Block, Variable, VariableKind, is_parameter_kind, is_variable_kind, roots_where, Place, stored}
+use Rattle.code_generator.proofs.Words.{Gives, number_of, Argument, OfValue, OfRow, OfPlace, Cell, Undefined, Number, block_depth}
+use Rattle.code_generator.proofs.Words.{called_routine, cells_where, is_parameter_of, links_to, other_cells, parameter_cells, slot_cells, variable_home}
+use Rattle.std.proofs.Math.Seq.{take-append_seam}
 use Rattle.typed_tree.specs.declared.tree.VariableKind.TheVariants as kinds
-use Rattle.typed_tree.specs.WellFormed.{is_parameter_kind, is_value_kind, is_variable_kind, roots_where}
+use Rattle.typed_tree.specs.WellFormed.{is_value_kind}
 use Rattle.meaning.specs.Store as meant
-use Rattle.meaning.specs.Store.{Place, stored}
 use Rattle.meaning.specs.Effect as effect
-use Rattle.meaning.specs.Effect.{Gives, Action, ◌>>=◌, number_of}
-use Rattle.meaning.specs.Meaning.{Argument, OfValue, OfRow, OfPlace, assign, assign_all, home_of as home_in, own_place}
-use Rattle.stack_machine.specs.declared.cell.Cell.{Cell}
-use Rattle.stack_machine.specs.declared.cell.Cell.TheVariants.{Undefined, Number}
-use Rattle.code_scheme.specs.Depth.{block_depth}
-use Rattle.code_scheme.specs.Scopes.{called_routine, cells_where, is_parameter_of, links_to, other_cells, parameter_cells, slot_cells}
-use Rattle.code_scheme.specs.Scopes.{variable_home}
+use Rattle.meaning.specs.Meaning.{assign, assign_all, home_of as home_in, own_place}
 use Rattle.code_generator.proofs.Alike.{Activation, Lives, Fixed, Lies, LiesIn, HasFit, Keeps, Leads, cell_of}
-use Rattle.code_generator.proofs.Callee.{callee, fixed_mark, new_activation, own_filled, own_part, seen}
-use Rattle.code_generator.proofs.Callee.{its_start}
+use Rattle.code_generator.proofs.Callee.{callee, fixed_mark, new_activation, own_filled, own_part, seen, its_start}
 use Rattle.code_generator.proofs.Cells.{starts_as_parameter, where_cons}
 use Rattle.code_generator.proofs.Held.{scalar_kept}
 use Rattle.code_generator.proofs.Laying.{Laid, Takes, fitted_length, marked, marked_by, marked_first, marked_long, no_reference}

@@ -1,18 +1,18 @@
 -- The code of a statement keeps the program's store and the cells of its frame alike, or stops as the statement does.
-use Rattle.std.proofs.Common.{◌≡◌, ℕ, suc, ◌+◌, ◌<◌, ◌≤◌, max, Option, List, [], ◌∷◌, ◌++◌, length, map, Some, None, Ok, inr, refl, sym, ap, ◌∙◌, subst, arith}
-use Rattle.std.proofs.Common.{length-append, append_assoc, append-nil, Bool, true, false}
-use Rattle.std.specs.Prelude.{slice_set, ℤ, pos, negsuc, ◌+ℤ◌, ◌-ℤ◌, int_le, not, nat_lt, ◌-◌, ◌&&◌, replicate, take, codes, if◌then◌else◌, fold}
+use Rattle.code_generator.proofs.Words.{◌≡◌, ℕ, suc, ◌+◌, ◌<◌, ◌≤◌, max, Option, List, [], ◌∷◌, ◌++◌, length, map, Some, None, Ok, inr, refl, sym, ap, ◌∙◌}
+use Rattle.code_generator.proofs.Words.{subst, arith, length-append, append_assoc, append-nil, Bool, true, false, slice_set, ℤ, pos, ◌-ℤ◌, int_le, not, nat_lt}
+use Rattle.code_generator.proofs.Words.{◌&&◌, if◌then◌else◌, ltb-true, and_parts, Instr, RangeTest, Expr, Value, UsesTurnsExactly, Action, ◌>>=◌, number_of}
+use Rattle.code_generator.proofs.Words.{require, give, value_of, deed_of, Cell, Undefined, Number, Attempt, Scope, count, row_length, expr_code}
+use Rattle.code_generator.proofs.Words.{expr_depth, all_hold, is_well_formed_expr, start_within}
+use Rattle.std.specs.Prelude.{negsuc, ◌+ℤ◌, ◌-◌, replicate, take, codes, fold}
 use Rattle.std.specs.Global.{Vec}
 use Rattle.std.specs.List.{flat_map}
 use Rattle.std.specs.Ordering.{int_eq}
 use Rattle.check_remover.specs.Strip.{stays}
 use Rattle.std.specs.Fmt.{signed_decimal}
-use Rattle.std.proofs.lemmas.Bool.{ltb-true, and_parts}
-use Rattle.pcode_assembler.specs.declared.instr.Instr.{Instr}
 use Rattle.pcode_assembler.specs.declared.instr.Instr.TheVariants as instr
 use Rattle.typed_tree.specs.declared.tree.Call.{Call}
 use Rattle.typed_tree.specs.declared.tree.Passed.{Passed}
-use Rattle.typed_tree.specs.declared.tree.RangeTest.{RangeTest}
 use Rattle.typed_tree.specs.declared.tree.Direction.{Direction}
 use Rattle.typed_tree.specs.declared.tree.Direction.TheVariants as direction
 use Rattle.typed_tree.specs.declared.tree.Representation.{Representation}
@@ -22,71 +22,55 @@ use Rattle.typed_tree.specs.declared.tree.WriteParameter.{WriteParameter}
 use Rattle.typed_tree.specs.declared.tree.Written.{Written}
 use Rattle.typed_tree.specs.declared.tree.Written.TheVariants.{Ordinal, String}
 use Rattle.typed_tree.specs.declared.tree.Whole.{Whole}
-use Rattle.typed_tree.specs.declared.tree.Expr.{Expr}
 use Rattle.typed_tree.specs.declared.tree.Stmt.{Stmt}
 use Rattle.typed_tree.specs.declared.tree.Stmt.TheOpen.{Stmt-F}
 use Rattle.typed_tree.specs.declared.tree.Stmt.TheOpen.Stmt-F.{Empty, Assign, Copy, Write, Compound, If, While, Repeat, For, Case, Call as Calling}
 use Rattle.typed_tree.specs.declared.tree.Stmt.TheViews.{roll-Stmt}
 use Rattle.typed_tree.specs.declared.tree.Stmt.TheFolds.{fold-Stmt, map-Stmt, fold-roll-Stmt, ind-Stmt}
 use Rattle.meaning.specs.declared.outcome.Ending.TheVariants as ending
-use Rattle.meaning.specs.declared.store.Value.{Value}
 use Rattle.meaning.specs.declared.store.Value.TheVariants as value
 use Rattle.meaning.specs.Store.{kept, forgotten}
 use Rattle.meaning.specs.Counting.{has_values, next_value, value_behind}
 use Rattle.meaning.specs.Effect as effect
-use Rattle.meaning.specs.Laws.{GoesRoundByRound, UsesTurnsExactly}
-use Rattle.meaning.specs.Effect.{Action, Round, ◌>>=◌, number_of, require, give}
+use Rattle.meaning.specs.Laws.{GoesRoundByRound}
+use Rattle.meaning.specs.Effect.{Round}
 use Rattle.meaning.specs.Meaning.{Execution, is_so, turn_if, while_round, repeat_round, for_round, for_rounds, for_between, is_among, arm_of, whole_of}
-use Rattle.meaning.specs.Meaning.{alternative_of, value_of, width_of, effect_of, effect_step, parameter_of, all_of, line_ended}
-use Rattle.meaning.specs.Meaning.{call_of, passing_of, default_width as default_width_of}
-use Rattle.stack_machine.specs.Deeds.{Writes, deed_of}
-use Rattle.stack_machine.specs.declared.cell.Cell.{Cell}
-use Rattle.stack_machine.specs.declared.cell.Cell.TheVariants.{Undefined, Number}
+use Rattle.meaning.specs.Meaning.{alternative_of, width_of, effect_of, effect_step, parameter_of, all_of, line_ended, call_of, passing_of}
+use Rattle.meaning.specs.Meaning.{default_width as default_width_of}
+use Rattle.stack_machine.specs.Deeds.{Writes}
 use Rattle.machine_arithmetic.specs.declared.arithmetic.Dyadic.TheVariants as dyadic
 use Rattle.stack_machine.specs.Frames as frames
-use Rattle.stack_machine.specs.Frames.{Attempt}
 use Rattle.stack_machine.specs.Machine as machine
-use Rattle.stack_machine.specs.Machine.{State, with_text}
+use Rattle.stack_machine.specs.Machine.{with_text}
 use Rattle.stack_machine.specs.Texts as texts
-use Rattle.code_scheme.specs.Scopes.{Scope, count, held_offset, holding, row_length}
+use Rattle.code_scheme.specs.Scopes.{held_offset, holding}
 use Rattle.code_scheme.specs.Code.{Placed, placed, if_code, if_else_code, while_code, repeat_code, for_code, for_entry, for_begin, for_next, for_end}
-use Rattle.code_scheme.specs.Code.{order_instr, next_instr, row_code, arms_code, case_code, expr_code, width_code, write_instr, parameter_code, line_end_code}
-use Rattle.code_scheme.specs.Code.{call_code, passed_code, write_code, stmt_code, stmt_step, default_width, ordinal_instr, ordinal_width, whole_code}
-use Rattle.code_scheme.specs.Depth.{call_depth, greatest, passed_depth, stmt_depth, stmt_depth_step, arms_depth, expr_depth, parameter_depth, width_depth}
-use Rattle.code_scheme.specs.Depth.{whole_depth}
-use Rattle.typed_tree.specs.WellFormed.{all_hold, is_well_formed_expr, is_well_formed_width, is_well_formed_parameter, is_well_formed_test, is_well_formed_stmt}
-use Rattle.typed_tree.specs.WellFormed.{fits_target, stmt_is_well_formed, is_control, is_well_formed_call, is_well_formed_passed, is_well_formed_whole}
-use Rattle.typed_tree.specs.WellFormed.{length_of, whole_indexes}
+use Rattle.code_scheme.specs.Code.{order_instr, next_instr, row_code, arms_code, case_code, width_code, write_instr, parameter_code, line_end_code, call_code}
+use Rattle.code_scheme.specs.Code.{passed_code, write_code, stmt_code, stmt_step, default_width, ordinal_instr, ordinal_width, whole_code}
+use Rattle.code_scheme.specs.Depth.{call_depth, greatest, passed_depth, stmt_depth, stmt_depth_step, arms_depth, parameter_depth, width_depth, whole_depth}
+use Rattle.typed_tree.specs.WellFormed.{is_well_formed_width, is_well_formed_parameter, is_well_formed_test, is_well_formed_stmt, fits_target, whole_indexes}
+use Rattle.typed_tree.specs.WellFormed.{stmt_is_well_formed, is_control, is_well_formed_call, is_well_formed_passed, is_well_formed_whole, length_of}
 use Rattle.code_generator.proofs.Reach.{Stands, StandsAt, stands_front, stands_back, Comes, comes_less, comes_on, stays_here}
-use Rattle.code_generator.proofs.Setting.{branched}
-use Rattle.code_generator.proofs.Setting.{goes_around}
-use Rattle.code_generator.proofs.Setting.{Setting, outline, around, exact_around, on, Based, later, linked, limit_far, Here, goes_on, jumps}
-use Rattle.code_generator.proofs.Setting.{fails}
-use Rattle.code_generator.proofs.Loops.{Rounds, RoundsBehind, RoundRuns, rounds_later, turned, loops, reset, to_reset}
-use Rattle.code_generator.proofs.Loops.{rounds_from_reset, executes_from_reset}
+use Rattle.code_generator.proofs.Setting.{branched, goes_around, Setting, outline, around, exact_around, on, Based, later, linked, limit_far, Here, goes_on}
+use Rattle.code_generator.proofs.Setting.{jumps, fails, entered}
+use Rattle.code_generator.proofs.Loops.{Rounds, RoundsBehind, RoundRuns, rounds_later, turned, loops, reset, to_reset, rounds_from_reset, executes_from_reset}
+use Rattle.code_generator.proofs.Loops.{round_on}
 use Rattle.code_generator.proofs.Accesses.{Indexes, expressions, wells, codes as index_codes}
 use Rattle.code_generator.proofs.Assigns.{told, told_back, assign_runs, copy_runs}
-use Rattle.code_generator.proofs.Evaluating.{same_four}
-use Rattle.code_generator.proofs.Evaluating.{sites, ExecutesAs, fetched_at, frames_of, one_held}
+use Rattle.code_generator.proofs.Evaluating.{same_four, sites, ExecutesAs, fetched_at, frames_of, one_held, range_then}
 use Rattle.code_generator.proofs.Exact.{exact_for_round, exact_parameters, exact_repeat_round, exact_statements, exact_while_round}
 use Rattle.code_generator.proofs.Passing.{CallsAt, CallsRun, returns_executes}
 use Rattle.code_generator.proofs.Repeats.{repeats, repeats_step}
-use Rattle.code_generator.proofs.Wholes.{AllFit, few_components, fitting_bytes, whole_runs}
-use Rattle.code_generator.proofs.Held.{slot, IsScalar, is_scalar, variable_kept, variable_forgotten, loads_held, stores_held, decides}
-use Rattle.code_generator.proofs.Held.{begins, steps, leaves}
+use Rattle.code_generator.proofs.Wholes.{AllFit, few_components, fitting_bytes, whole_runs, row_then}
+use Rattle.code_generator.proofs.Held.{slot, IsScalar, is_scalar, variable_kept, variable_forgotten, loads_held, stores_held, decides, begins, steps, leaves}
 use Rattle.code_generator.proofs.Held.{compares_row, last_is, next_fits, one_fits}
-use Rattle.code_scheme.proofs.Pieces.{length-For, start_within}
+use Rattle.code_scheme.proofs.Pieces.{length-For}
 use Rattle.code_generator.proofs.Acts.{writes}
 use Rattle.code_generator.proofs.Numbers.{Fits, fits_by_abs, sum_is, difference_is}
 use Rattle.code_generator.proofs.Rows.{cells_of, length-cells_of, numbers_of, same_byte, writes_string}
-use Rattle.code_generator.proofs.Exprs.{call_runs, expr_runs, width_runs}
+use Rattle.code_generator.proofs.Exprs.{call_runs, expr_runs, width_runs, expr_then}
 use Rattle.code_generator.proofs.Running.{Aim, Executes, Runs, behind_executes, branch_then, done, done_then, kept_on, number_then, runs_from, then_runs}
 use Rattle.code_generator.proofs.Running.{value_on}
-use Rattle.code_generator.proofs.Setting.{entered}
-use Rattle.code_generator.proofs.Exprs.{expr_then}
-use Rattle.code_generator.proofs.Evaluating.{range_then}
-use Rattle.code_generator.proofs.Loops.{round_on}
-use Rattle.code_generator.proofs.Wholes.{row_then}
 use Rattle.code_generator.proofs.Lists.{length_one}
 
 -- what the machine writes in a width is what the program writes
@@ -340,24 +324,24 @@ abbrev pub StmtRuns : Stmt → Type 0
 StmtRuns s = (g : Setting) → CallsRun g.depth → repeats s ≤ g.slack → ExecutesAs g (stmt_code s) (stmt_depth s) (is_well_formed_stmt (outline g) g.number s)
     (effect_of s)
 
+abbrev bare : List ((s : Stmt) × StmtRuns s) → List Stmt
+bare ss = map (λ x. x.0) ss
+
 each_statement : (g : Setting) (known : CallsRun g.depth) (ss : List ((s : Stmt) × StmtRuns s)) (before : ℕ)
-    → fold max before (map repeats (map (λ x. x.0) ss)) ≤ g.slack → Each
-    (λ s. ExecutesAs g (stmt_code s) (stmt_depth s) (is_well_formed_stmt (outline g) g.number s) (effect_of s))
-    (map (λ x. x.0) ss)
+    → fold max before (map repeats (bare ss)) ≤ g.slack
+    → Each (λ s. ExecutesAs g (stmt_code s) (stmt_depth s) (is_well_formed_stmt (outline g) g.number s) (effect_of s)) (bare ss)
 each_statement g known [] before few = tt
 each_statement g known (s ∷ ss) before few =
-    let least = start_within (max before (repeats s.0)) (map repeats (map (λ x. x.0) ss)) in
+    let least = start_within (max before (repeats s.0)) (map repeats (bare ss)) in
     (s.1 g known (omega arith), each_statement g known ss (max before (repeats s.0)) few)
 
 compound_runs : (g : Setting) (known : CallsRun g.depth) (number : ℕ) (ss : List ((s : Stmt) × StmtRuns s))
-    → greatest (map repeats (map (λ x. x.0) ss)) ≤ g.slack
-    → ExecutesAs g (λ scope place. placed (map (λ code. code scope) (map stmt_code (map (λ x. x.0) ss))) place)
-    (greatest (map stmt_depth (map (λ x. x.0) ss)))
-    (all_hold (map (is_well_formed_stmt (outline g) g.number) (map (λ x. x.0) ss)))
-    (λ e. effect.enter number e.visible >>= λ _. all_of (map effect_of (map (λ x. x.0) ss)) e)
+    → greatest (map repeats (bare ss)) ≤ g.slack
+    → ExecutesAs g (λ scope place. placed (map (λ code. code scope) (map stmt_code (bare ss))) place)
+    (greatest (map stmt_depth (bare ss))) (all_hold (map (is_well_formed_stmt (outline g) g.number) (bare ss)))
+    (λ e. effect.enter number e.visible >>= λ _. all_of (map effect_of (bare ss)) e)
 compound_runs g known number ss few place base held s stands good based high deep =
-    all_run g (known g refl) stmt_code stmt_depth (is_well_formed_stmt (outline g) g.number) effect_of ((exact_around g).statements)
-    (map (λ x. x.0) ss)
+    all_run g (known g refl) stmt_code stmt_depth (is_well_formed_stmt (outline g) g.number) effect_of ((exact_around g).statements) (bare ss)
     (each_statement g known ss 0 few) 0 place base held (entered g number s) stands good based high deep
 
 empty_runs : (g : Setting) (known : CallsRun g.depth) (number : ℕ) → ExecutesAs g (λ _ _. []) 0 true (λ e. effect.enter number e.visible)
@@ -464,16 +448,16 @@ while_runs g known number condition body few place base held s stands good based
 
 -- a repeat statement
 repeat_runs : (g : Setting) (known : CallsRun g.depth) (number : ℕ) (condition : Expr) (ss : List ((s : Stmt) × StmtRuns s))
-    → greatest (map repeats (map (λ x. x.0) ss)) + 1 ≤ g.slack
-    → ExecutesAs g (λ scope. repeat_code (placed (map (λ code. code scope) (map stmt_code (map (λ x. x.0) ss)))) (expr_code scope condition))
-    (max (greatest (map stmt_depth (map (λ x. x.0) ss))) (expr_depth condition))
-    (all_hold (map (is_well_formed_stmt (outline g) g.number) (map (λ x. x.0) ss)) && is_well_formed_expr (outline g) g.number condition)
-    (λ e. effect.enter number e.visible >>= λ _. effect.looped (repeat_round (all_of (map effect_of (map (λ x. x.0) ss))) (value_of condition) e) tt)
+    → greatest (map repeats (bare ss)) + 1 ≤ g.slack
+    → ExecutesAs g (λ scope. repeat_code (placed (map (λ code. code scope) (map stmt_code (bare ss)))) (expr_code scope condition))
+    (max (greatest (map stmt_depth (bare ss))) (expr_depth condition))
+    (all_hold (map (is_well_formed_stmt (outline g) g.number) (bare ss)) && is_well_formed_expr (outline g) g.number condition)
+    (λ e. effect.enter number e.visible >>= λ _. effect.looped (repeat_round (all_of (map effect_of (bare ss))) (value_of condition) e) tt)
 repeat_runs g known number condition ss few place base held s stands good based high deep =
     let s1 = entered g number s in
     let h = reset g (g.slack - 1) g.scope.height in
     let known_there = known h refl in
-    let code = placed (map (λ c. c g.scope) (map stmt_code (map (λ x. x.0) ss))) place in
+    let code = placed (map (λ c. c g.scope) (map stmt_code (bare ss))) place in
     let test = expr_code g.scope condition in
     let last = place + length code in
     let end = last + length test + 1 in
@@ -481,10 +465,10 @@ repeat_runs g known number condition ss few place base held s stands good based 
     let behind = stands_back g.target place code (test ++ back) stands in
     let jump = stands_back g.target last test back behind in
     let e : end ≡ place + length (code ++ (test ++ back)) = omega (arith, length-append code (test ++ back), length-append test back) in
-    let parts = and_parts (all_hold (map (is_well_formed_stmt (outline g) g.number) (map (λ x. x.0) ss)))
+    let parts = and_parts (all_hold (map (is_well_formed_stmt (outline g) g.number) (bare ss)))
     (is_well_formed_expr (outline g) g.number condition) good in
     let hold : Unit {0} → List Cell = λ _. held in
-    let statements = all_of (map effect_of (map (λ x. x.0) ss)) in
+    let statements = all_of (map effect_of (bare ss)) in
     let round : Round (Unit {0}) = repeat_round statements (value_of condition) (around g) in
     let until : Value → Action (Option (Unit {0})) = λ v. give (if is_so v then None else Some tt) in
     let rest : Action (Option (Unit {0})) = statements (around g) >>= λ _. value_of condition (around g) >>= until in
@@ -493,9 +477,8 @@ repeat_runs g known number condition ss few place base held s stands good based 
     → Rounds h (λ _. Unit {0}) hold place end held 1 (suc left) (on g (base2 ++ held) place t.output) rest t =
     λ left base2 t is based2.
     then_runs h (kept_on h held last) (aim (suc left)) _ (statements (around g)) (λ _. value_of condition (around g) >>= until) t
-    (exact_statements (around g) (exact_around g) (map (λ x. x.0) ss))
-    (all_run h known_there stmt_code stmt_depth (is_well_formed_stmt (outline g) g.number) effect_of ((exact_around g).statements)
-    (map (λ x. x.0) ss)
+    (exact_statements (around g) (exact_around g) (bare ss))
+    (all_run h known_there stmt_code stmt_depth (is_well_formed_stmt (outline g) g.number) effect_of ((exact_around g).statements) (bare ss)
     (each_statement h known ss 0 (omega arith)) 0 place base2 held t (stands_front g.target place code (test ++ back) stands) parts.0 based2 high (omega arith))
     (λ _ u x fewer.
     then_runs h (value_on h held (last + length test)) (aim (suc left)) _ (value_of condition (around g)) until u ((exact_around g).values condition)
@@ -518,9 +501,9 @@ repeat_runs g known number condition ss few place base held s stands good based 
     (rounds_from_reset g (g.slack - 1) g.scope.height (λ _. Unit {0}) hold place end held left _ rest (record t { turns = left }) (omega arith) refl
     (inside left base2 (record t { turns = left }) refl
     (to_reset g (g.slack - 1) g.scope.height (record t { turns = left }) base2 (later g left t base2 (omega (arith, is)) based2))))) in
-    let goes = (goes_around g).repeats (map (λ x. x.0) ss) condition in
+    let goes = (goes_around g).repeats (bare ss) condition in
     subst (λ p. Executes g (on g (base ++ held) place s.output) held p (effect.looped round tt) s1) e
-    (loops g (λ _. Unit {0}) hold place end held round goes (λ start. exact_repeat_round (around g) (exact_around g) (map (λ x. x.0) ss) condition) runs tt
+    (loops g (λ _. Unit {0}) hold place end held round goes (λ start. exact_repeat_round (around g) (exact_around g) (bare ss) condition) runs tt
     base s1 tt based)
 
 -- ---- a for statement
@@ -823,15 +806,15 @@ module _ (g : Setting) (known : CallsRun g.depth) (site : ℕ) (within : site < 
   no_arm place base s stands = inr (fails g (instr.Fail site) (base ++ index) place site s.output _ refl refl s.turns stands.0 within refl)
 
   arms_run : (rows : List (Vec ℤ)) (arms : List ((s : Stmt) × StmtRuns s)) (before place : ℕ) (base : List Cell) (s : effect.State)
-      → fold max before (map repeats (map (λ x. x.0) arms)) ≤ g.slack
-      → all_hold (map (is_well_formed_stmt (outline g) g.number) (map (λ x. x.0) arms)) ≡ true
-      → g.below + length held + max 3 (arms_depth rows (map stmt_depth (map (λ x. x.0) arms)) + 1) ≤ g.limit → Based g s base
-      → Stands g.target place (arms_code g.scope out rows (map stmt_code (map (λ x. x.0) arms)) place ++ (instr.Fail site ∷ behind))
-      → Executes g (on g (base ++ index) place s.output) index out (arm_of site rows (map effect_of (map (λ x. x.0) arms)) n (around g)) s
+      → fold max before (map repeats (bare arms)) ≤ g.slack
+      → all_hold (map (is_well_formed_stmt (outline g) g.number) (bare arms)) ≡ true
+      → g.below + length held + max 3 (arms_depth rows (map stmt_depth (bare arms)) + 1) ≤ g.limit → Based g s base
+      → Stands g.target place (arms_code g.scope out rows (map stmt_code (bare arms)) place ++ (instr.Fail site ∷ behind))
+      → Executes g (on g (base ++ index) place s.output) index out (arm_of site rows (map effect_of (bare arms)) n (around g)) s
   arms_run [] arms before place base s few good deep based stands = no_arm place base s stands
   arms_run (row ∷ rows) [] before place base s few good deep based stands = no_arm place base s stands
   arms_run (row ∷ rows) (arm ∷ arms) before place base s few good deep based stands =
-      let others = map (λ (x : (s : Stmt) × StmtRuns s). x.0) arms in
+      let others = bare arms in
       let least = start_within (max before (repeats arm.0)) (map repeats others) in
       let inside = place + length (row_code g.scope 0 row.items) + 1 in
       let code = stmt_code arm.0 (holding 1 g.scope) inside in
@@ -873,16 +856,16 @@ module _ (g : Setting) (known : CallsRun g.depth) (site : ℕ) (within : site < 
 
 case_runs : (g : Setting) (known : CallsRun g.depth) (number site : ℕ) (index : Expr) (rows : List (Vec ℤ)) (arms : List ((s : Stmt) × StmtRuns s))
     (well : Bool)
-    → greatest (map repeats (map (λ x. x.0) arms)) ≤ g.slack
-    → ExecutesAs g (λ scope. case_code site (expr_code scope index) rows (map stmt_code (map (λ x. x.0) arms)) scope)
-    (max (expr_depth index) (max 3 (arms_depth rows (map stmt_depth (map (λ x. x.0) arms)) + 1)))
+    → greatest (map repeats (bare arms)) ≤ g.slack
+    → ExecutesAs g (λ scope. case_code site (expr_code scope index) rows (map stmt_code (bare arms)) scope)
+    (max (expr_depth index) (max 3 (arms_depth rows (map stmt_depth (bare arms)) + 1)))
     (nat_lt site (sites g) && (is_well_formed_expr (outline g) g.number index && (well && all_hold (map
-    (is_well_formed_stmt (outline g) g.number) (map (λ x. x.0) arms)))))
-    (λ e. effect.enter number e.visible >>= λ _. value_of index e >>= λ v. arm_of site rows (map effect_of (map (λ x. x.0) arms)) (number_of v) e)
+    (is_well_formed_stmt (outline g) g.number) (bare arms)))))
+    (λ e. effect.enter number e.visible >>= λ _. value_of index e >>= λ v. arm_of site rows (map effect_of (bare arms)) (number_of v) e)
 case_runs g known number site index rows arms well few place base held s stands good based high deep =
     let s1 = entered g number s in
     let test = expr_code g.scope index in
-    let codes = map stmt_code (map (λ (x : (s : Stmt) × StmtRuns s). x.0) arms) in
+    let codes = map stmt_code (bare arms) in
     let first = place + length test in
     let out = first + length (arms_code g.scope 0 rows codes first) + 1 in
     let all = arms_code g.scope out rows codes first in
@@ -890,9 +873,9 @@ case_runs g known number site index rows arms well few place base held s stands 
     let same : first + length all + 1 ≡ out = ap (λ m. first + m + 1) (length-arms g.scope rows codes out 0 first) in
     let p1 = and_parts (nat_lt site (sites g)) _ good in
     let p2 = and_parts (is_well_formed_expr (outline g) g.number index) _ p1.1 in
-    let p3 = and_parts well (all_hold (map (is_well_formed_stmt (outline g) g.number) (map (λ x. x.0) arms))) p2.1 in
+    let p3 = and_parts well (all_hold (map (is_well_formed_stmt (outline g) g.number) (bare arms))) p2.1 in
     let within = ltb-true site (sites g) p1.0 in
-    let next : Value → Action (Unit {0}) = λ v. arm_of site rows (map effect_of (map (λ x. x.0) arms)) (number_of v) (around g) in
+    let next : Value → Action (Unit {0}) = λ v. arm_of site rows (map effect_of (bare arms)) (number_of v) (around g) in
     expr_then g (known g refl) (kept_on g held) index (all ++ (instr.Fail site ∷ pop)) place base held next s1 stands p2.0 based (omega arith)
     (λ base2 v t from_arms based2 fit room2.
     let n = number_of v in

@@ -1,59 +1,45 @@
 -- The code of a whole value leaves the row of its components on top, or stops as the value does; and a row of cells that is
 -- stored from an address on is what the program writes to the components there.
-use Rattle.std.proofs.Common.{◌≡◌, ℕ, zero, suc, ◌+◌, ◌-◌, ◌<◌, ◌≤◌, ◌⊎◌, inl, inr, List, [], ◌∷◌, ◌++◌, length, map, take, drop, Option, Some}
-use Rattle.std.proofs.Common.{None, Ok}
-use Rattle.std.proofs.Common.{refl, sym, ap, ◌∙◌, subst, arith, length-append, append_assoc, append-nil, Bool, true, false}
-use Rattle.std.specs.Prelude.{slice_get, slice_set, pos, nat_eq, nat_le, nat_lt, not, ◌&&◌}
-use Rattle.std.specs.List.{list_all}
-use Rattle.std.proofs.lemmas.Bool.{and_parts, eqb-true, leb-true, ltb-true}
-use Rattle.std.proofs.lemmas.List.{length-map, length-set}
-use Rattle.std.proofs.lemmas.Option.{none-some, same_Some}
+use Rattle.code_generator.proofs.Words.{◌≡◌, ℕ, zero, suc, ◌+◌, ◌-◌, ◌<◌, ◌≤◌, ◌⊎◌, inl, inr, List, [], ◌∷◌, ◌++◌, length, map, take, drop, Option, Some, None}
+use Rattle.code_generator.proofs.Words.{Ok, refl, sym, ap, ◌∙◌, subst, arith, length-append, append_assoc, append-nil, Bool, true, false, slice_get, slice_set}
+use Rattle.code_generator.proofs.Words.{pos, nat_eq, nat_lt, not, ◌&&◌, list_all, and_parts, eqb-true, ltb-true, length-map, all_hold, Instr, TypeId}
+use Rattle.code_generator.proofs.Words.{components_of, Form, cells_of, is_ordinal, Value, Place, stored, UsesTurnsExactly, Gives, Action, ◌>>=◌}
+use Rattle.code_generator.proofs.Words.{number_of, value_of, Cell, Number, State, row_length, start_within}
+use Rattle.std.specs.Prelude.{nat_le}
+use Rattle.std.proofs.lemmas.Bool.{leb-true}
+use Rattle.std.proofs.lemmas.List.{length-set}
 use Rattle.typed_tree.specs.declared.tree.Whole.{Whole}
 use Rattle.typed_tree.specs.declared.tree.Whole.TheVariants.{Text, Variable as VariableOf}
-use Rattle.typed_tree.specs.WellFormed.{all_hold, is_character, is_value_of, is_well_formed_whole, leads_to_whole}
-use Rattle.typed_tree.specs.WellFormed.{is_alike, length_of, may_copy, whole_indexes}
-use Rattle.pcode_assembler.specs.declared.instr.Instr.{Instr}
+use Rattle.typed_tree.specs.WellFormed.{is_character, is_value_of, is_well_formed_whole, leads_to_whole, is_alike, length_of, may_copy, whole_indexes}
 use Rattle.pcode_assembler.specs.declared.instr.Instr.TheVariants as instr
-use Rattle.types.specs.declared.form.TypeId.{TypeId}
-use Rattle.types.specs.Components.{Steps, components_of}
-use Rattle.types.specs.Forms.{Form}
-use Rattle.types.specs.Types.{cells_of, is_ordinal, is_same, is_structured}
+use Rattle.types.specs.Components.{Steps}
+use Rattle.types.specs.Types.{is_same, is_structured}
 use Rattle.meaning.specs.declared.outcome.Ending.TheVariants as ending
-use Rattle.meaning.specs.declared.store.Value.{Value}
 use Rattle.meaning.specs.declared.store.Value.TheVariants as value
 use Rattle.meaning.specs.Store as meant
-use Rattle.meaning.specs.Store.{Place, stored, written}
+use Rattle.meaning.specs.Store.{written}
 use Rattle.meaning.specs.Effect as effect
-use Rattle.meaning.specs.Laws.{UsesTurnsExactly}
-use Rattle.meaning.specs.Effect.{Reply, Gives, Action, ◌>>=◌, fetched, fetch_all, number_of, store_all}
-use Rattle.meaning.specs.Meaning.{value_of, whole_of}
-use Rattle.stack_machine.specs.declared.cell.Cell.{Cell}
-use Rattle.stack_machine.specs.declared.cell.Cell.TheVariants.{Number}
+use Rattle.meaning.specs.Effect.{fetched, fetch_all, store_all}
+use Rattle.meaning.specs.Meaning.{whole_of}
 use Rattle.stack_machine.specs.Frames.{is_defined}
-use Rattle.stack_machine.specs.Machine.{State}
 use Rattle.stack_machine.specs.Texts as texts
 use Rattle.meaning.specs.Integers as integers
 use Rattle.code_scheme.specs.Code.{address_code, whole_code}
 use Rattle.code_scheme.specs.Depth.{whole_depth}
-use Rattle.code_scheme.specs.Scopes.{row_length}
-use Rattle.code_scheme.proofs.Pieces.{start_within}
-use Rattle.code_generator.proofs.Accesses.{Indexes, expressions, wells, codes, depths, PartAt, leads, begins}
-use Rattle.code_generator.proofs.Accesses.{found as place_found, exact_found}
-use Rattle.code_generator.proofs.Accesses.{address_runs}
-use Rattle.code_generator.proofs.Acts.{framed, pushes}
+use Rattle.code_generator.proofs.Accesses.{Indexes, expressions, wells, codes, depths, PartAt, leads, begins, found as place_found, exact_found, address_runs}
+use Rattle.code_generator.proofs.Accesses.{address_then}
+use Rattle.code_generator.proofs.Acts.{framed}
 use Rattle.code_generator.proofs.Addressing.{loads_many, all_defined, row_place_is, stores_at}
 use Rattle.stack_machine.specs.Addresses.{store_many}
 use Rattle.code_generator.proofs.Evaluating.{sites}
-use Rattle.code_generator.proofs.Held.{scalar_kept}
+use Rattle.code_generator.proofs.Held.{pushes_number, scalar_kept}
 use Rattle.code_generator.proofs.Reach.{Stands, StandsAt, Comes, comes_less, comes_on, stays_here}
-use Rattle.code_generator.proofs.Setting.{Setting, outline, around, on, Based, linked, acts, passes, fails}
+use Rattle.code_generator.proofs.Setting.{Setting, outline, around, on, Based, linked, acts, passes, fails, entered}
 use Rattle.code_generator.proofs.Alike.{LiesIn, cell_of, HasFit, alike_above}
 use Rattle.code_generator.proofs.Numbers.{Fits, fits_by_abs}
 use Rattle.code_generator.proofs.Parts.{inner}
 use Rattle.code_generator.proofs.Rows.{cells_of as value_cells, length-cells_of, numbers_of, same_byte}
-use Rattle.code_generator.proofs.Running.{Aim, Arrives, Runs, runs_from, then_code}
-use Rattle.code_generator.proofs.Accesses.{address_then}
-use Rattle.code_generator.proofs.Setting.{entered}
+use Rattle.code_generator.proofs.Running.{top_on, Aim, Arrives, Runs, runs_from, then_code}
 use Rattle.code_generator.proofs.Lists.{set_front, take_drop, take_set, drop_set, row_at, length_one}
 
 -- values whose numbers are of type integer
@@ -205,13 +191,12 @@ module _ (g : Setting) where
 
   -- ---- the code of a whole value
 
-  -- the row of its components comes on top of what is held, over cells alike to the store
+  -- the row of its components is as long as it is to be, and all are of type integer
+  abbrev pub IsRow : ℕ → List Value → Type 0
+  IsRow count vs = (length vs ≡ count) × AllFit vs
+
   abbrev pub row_on : List Cell → ℕ → ℕ → Aim (List Value)
-  row_on held count place = record {
-    Holds = λ vs s. (base : List Cell) × Based g s base × (length vs ≡ count) × AllFit vs;
-    there = λ vs s h. on g ((h.0 ++ held) ++ value_cells vs) place s.output;
-    gain = 0;
-  }
+  row_on held count = top_on g (IsRow count) value_cells held
 
   abbrev pub Pushes : State → List Cell → ℕ → ℕ → Action (List Value) → effect.State → Type 0
   Pushes m held place count action s = Runs g (row_on held count place) m action s
@@ -221,7 +206,7 @@ module _ (g : Setting) where
       → Comes g.target least m (on g ((base ++ held) ++ value_cells vs) place s.output) → length vs ≡ count → AllFit vs
       → Arrives g (row_on held count place) s.turns m (Gives vs s)
   pushes_row least m base held place count vs s based l long fit =
-      ((base, based, long, fit), comes_less g.target (s.turns - s.turns + 0) least m _ (omega arith) l, omega arith)
+      ((base, based, (long, fit)), comes_less g.target (s.turns - s.turns + 0) least m _ (omega arith) l, omega arith)
 
   -- a row, and the code behind it
   pub row_then : {A : Type 0} (aim : ℕ → Aim A) (c c' : List Instr) (place : ℕ) (m : State) (held : List Cell) (count : ℕ) (first : Action (List Value))
@@ -231,7 +216,7 @@ module _ (g : Setting) where
       → Runs g (aim (place + length c + length c')) (on g ((base ++ held) ++ value_cells vs) (place + length c) u.output) (next vs) u)
       → Runs g (aim (place + length (c ++ c'))) m (first >>= next) s
   row_then aim c c' place m held count first next s exact stands runs h =
-      then_code g (row_on held count) aim c c' place m first next s exact stands runs (λ vs u x rest. h x.0 vs u rest x.1 x.2 x.3)
+      then_code g (row_on held count) aim c c' place m first next s exact stands runs (λ vs u x rest. h x.0 vs u rest x.1 x.2.0 x.2.1)
 
   -- characters as values
   abbrev characters_of : List ℕ → List Value
@@ -250,8 +235,7 @@ module _ (g : Setting) where
       let long = length_one cells (Number (pos c)) in
       let rest = value_cells (characters_of characters) in
       let e : place + 1 + length characters ≡ place + length (c ∷ characters) = omega arith in
-      let first = acts g (instr.LoadConstant (pos c)) cells one place output _ stands.0 refl
-      (pushes g.frame g.limit g.size cells (pos c) (omega arith)) in
+      let first = pushes_number g cells (pos c) place output stands.0 (omega arith) in
       let others = characters_come characters (place + 1) one output stands.1 (omega arith) in
       let all = comes_less g.target 0 (1 + 0) _ _ (omega arith) (comes_on g.target 1 0 _ _ _ first others) in
       subst (λ cs. Comes g.target 0 (on g cells place output) (on g cs (place + length (c ∷ characters)) output))
