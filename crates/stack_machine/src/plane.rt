@@ -57,6 +57,18 @@ impl Plane {
         self.words[place / BITS] = written(word, 1 << (place % BITS), bit);
     }
 
+    /// Sets the bit of this place. It is looked at first, since it mostly is set.
+    pub fn set(&mut self, place: usize)
+        requires { place < 64 * length self.old }
+        ensures long { length self.new ≡ length self.old }
+        ensures this { is_set self.new place ≡ true }
+        ensures others { (other : ℕ) → other ≢ place → is_set self.new other ≡ is_set self.old other }
+    {
+        if !self.is_set(place) {
+            self.put(place, true);
+        }
+    }
+
     /// Sets or clears the bits from the first place to before the second.
     pub fn fill(&mut self, first: usize, end: usize, bit: bool)
         requires ordered { first ≤ end }
@@ -97,6 +109,9 @@ impl Plane {
         requires within { end < 64 * length self.now }
         ensures { IsTrue result ↔ ((place : ℕ) → first ≤ place → place < end → is_set self.now place ≡ true) }
     {
+        if end - first == 1 {
+            return self.is_set(first);
+        }
         all_set_in(self.words.as_slice(), first, end)
     }
 }
