@@ -1,10 +1,12 @@
 pub mod Addressed
 pub mod Written
 pub mod Called
-pub mod Cells
+pub mod Used
 pub mod Characters
 pub mod Examples
 mod ExamplesOfCalls
 mod ExamplesOfRows
 pub mod Steps
 pub mod Growing
+pub mod Bits
+pub mod Seen

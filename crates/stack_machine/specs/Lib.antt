@@ -1,5 +1,6 @@
 pub mod Addresses
 pub mod Calls
+pub mod Cells
 pub mod Deeds
 pub mod Does
 pub mod Failures

@@ -2,12 +2,14 @@
 #![tactic(auto)]
 
 pub mod cell;
+mod cells;
 mod form;
 mod halt;
 mod input;
 pub mod laws;
 pub mod machine;
 mod output;
+mod plane;
 mod rows;
 pub mod stop;
 mod store;

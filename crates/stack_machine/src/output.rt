@@ -2,11 +2,11 @@ ghost use Rattle.std.specs.Prelude.{◌≡◌, ◌+◌, ◌^◌, ◌-◌, ◌<�
 ghost use Rattle.std.specs.Prelude.{vec_len};
 ghost use Rattle.stack_machine.specs.declared.output.TheConstants.{PIECE};
 ghost use Rattle.stack_machine.specs.Halts.{failures_in};
-ghost use Rattle.stack_machine.specs.Texts as words;
+ghost use Rattle.stack_machine.specs.Texts as texts;
 ghost use Rattle.stack_machine.specs.Texts.{characters};
 ghost use Rattle.stack_machine.specs.Ports.{AppendsOrLoses, Offers, PassesOrLoses, piece_of};
 
-use crate::cell::Cell;
+use crate::cells::number_of;
 use crate::form::Form;
 use crate::halt::Halt;
 use byte_ports::bytes::Sink;
@@ -121,7 +121,7 @@ impl Output {
         ensures only { IsOkUnless result Halt.WriteFailed }
         ensures failures { W.failures writer.new ≡ W.failures writer.old + failures_in result }
         ensures bytes { PassesOrLoses result (ports (W.contents writer.old) (W.offered writer.old) self.old)
-            (ports (W.contents writer.new) (W.offered writer.new) self.new) (words.text_of form value width) }
+            (ports (W.contents writer.new) (W.offered writer.new) self.new) (texts.text_of form value width) }
     {
         match form {
             Form::Integer => {
@@ -140,11 +140,11 @@ impl Output {
         }
     }
 
-    /// Takes the string of the characters in these cells, set right in as many places as the width says, or its
+    /// Takes the string of the characters in these words, set right in as many places as the width says, or its
     /// first characters where it is longer (ISO 7185:1990, 6.9.3.6).
     pub fn put_string<W: Sink>(
         &mut self,
-        cells: &[Cell],
+        words: &[u128],
         width: i32,
         writer: &mut W,
     ) -> Result<(), Halt>
@@ -153,12 +153,12 @@ impl Output {
         ensures failures { W.failures writer.new ≡ W.failures writer.old + failures_in result }
         ensures bytes { PassesOrLoses result (ports (W.contents writer.old) (W.offered writer.old) self.old)
             (ports (W.contents writer.new) (W.offered writer.new) self.new)
-            (words.string_text (characters cells.now) width) }
+            (texts.string_text (characters words.now) width) }
     {
-        let shown = cells.len().min(places_of(width));
-        self.put_blanks(blanks_before(cells.len(), width), writer)?;
-        for cell in &cells[..shown] {
-            self.put(byte_of(cell.value()), writer)?;
+        let shown = words.len().min(places_of(width));
+        self.put_blanks(blanks_before(words.len(), width), writer)?;
+        for word in &words[..shown] {
+            self.put(byte_of(number_of(*word)), writer)?;
         }
         Ok(())
     }
@@ -200,28 +200,28 @@ fn write_all<W: Sink>(piece: &[u8], writer: &mut W) -> Result<(), Halt>
 
 /// How many blanks stand before a text of this length in so many places.
 fn blanks_before(length: usize, width: i32) -> usize
-    ensures { result ≡ words.blanks_of length width }
+    ensures { result ≡ texts.blanks_of length width }
 {
     places_of(width).saturating_sub(length)
 }
 
 /// The string of a Boolean value, `true` for every number but 0 (ISO 7185:1990, 6.9.3.5).
 fn word_of(value: i32) -> &'static str
-    ensures { result.now ≡ words.word_of value }
+    ensures { result.now ≡ texts.word_of value }
 {
     if is_true(value) { "true" } else { "false" }
 }
 
 /// The byte of a character: the lowest 8 bits of its number.
 fn byte_of(value: i32) -> u8
-    ensures { result ≡ words.byte_of value }
+    ensures { result ≡ texts.byte_of value }
 {
     (value.cast_unsigned() & 0xff) as u8
 }
 
 /// How many places a width has: none where it is below 1.
 fn places_of(width: i32) -> usize
-    ensures { result ≡ words.places_of width }
+    ensures { result ≡ texts.places_of width }
 {
     usize::try_from(width).unwrap_or(0)
 }

@@ -1,14 +1,15 @@
-ghost use Rattle.std.specs.Prelude.{◌≡◌, ◌+◌, ◌-◌, ◌<◌, ◌≤◌, ◌++◌, nat_le, if◌then◌else◌, replicate, take, IfOk};
-ghost use Rattle.std.specs.Prelude.{vec_len, MatchResult, Ok, Err};
-ghost use Rattle.stack_machine.specs.declared.cell.Cell.TheVariants.{Undefined};
+ghost use Rattle.std.specs.Prelude.{◌≡◌, ◌+◌, ◌-◌, ◌<◌, ◌≤◌, nat_le, if◌then◌else◌, length, take, IfOk};
+ghost use Rattle.std.specs.Prelude.{MatchResult, Ok, Err};
 ghost use Rattle.stack_machine.specs.Frames as frames;
+ghost use Rattle.stack_machine.specs.Cells.{values};
 ghost use Rattle.stack_machine.specs.Rows as rows;
 
 mod addresses;
 mod calls;
 
 use crate::cell::Cell;
-use crate::rows::{all_defined, only_numbers, order};
+use crate::cells::Cells;
+use crate::rows::order;
 use crate::stop::MachineFault;
 use machine_arithmetic::arithmetic::{Dyadic, Monadic, is_true, product};
 use std::alloc::{AllocError, Global};
@@ -24,7 +25,7 @@ const LINKS: usize = 4;
 #[derive(Drop)]
 pub struct Store {
     /// At least as many as the first frame's links.
-    cells: Vec<Cell>,
+    cells: Cells,
     /// How many of them a run may use.
     size: usize,
     /// How many cells are in use, from the first.
@@ -33,10 +34,10 @@ pub struct Store {
     frame: usize,
     /// Where the frame's pushes end.
     limit: usize,
-    ghost small: { vec_len cells ≤ 16777216 },
-    ghost size_in_store: { size ≤ vec_len cells },
-    ghost used_in_store: { used ≤ vec_len cells },
-    ghost limit_in_store: { limit ≤ vec_len cells },
+    ghost small: { length cells ≤ 16777216 },
+    ghost size_in_store: { size ≤ length cells },
+    ghost used_in_store: { used ≤ length cells },
+    ghost limit_in_store: { limit ≤ length cells },
     ghost frame_in_use: { frame + 4 ≤ used },
 }
 
@@ -50,7 +51,7 @@ impl Store {
     {
         let size = cells as usize;
         Ok(Store {
-            cells: vec![in alloc; Cell::Undefined; size.max(LINKS)]?,
+            cells: Cells::new(alloc, size.max(LINKS))?,
             size,
             used: LINKS,
             frame: 0,
@@ -64,10 +65,9 @@ impl Store {
         ensures frames { view self.new ≡ frames.first_frames self.old.size }
         ensures size { self.new.size ≡ self.old.size }
     {
-        self.cells[0] = Cell::Number(0);
-        self.cells[1] = Cell::Number(0);
-        self.cells[2] = Cell::Undefined;
-        self.cells[3] = Cell::Undefined;
+        self.cells.put_number(0, 0);
+        self.cells.put_number(1, 0);
+        self.cells.undefine(2, LINKS);
         self.frame = 0;
         self.used = LINKS;
         self.limit = LINKS;
@@ -86,7 +86,7 @@ impl Store {
         if limit > self.size {
             return false;
         }
-        self.undefine(first, end);
+        self.cells.undefine(first, end);
         self.used = end;
         self.limit = limit;
         true
@@ -108,7 +108,7 @@ impl Store {
         self.has_room_after(0)?;
         let used = self.used;
         let address = self.address(level, offset, used)?;
-        let cell = self.cells[address];
+        let cell = self.cells.get(address);
         self.replace(0, cell);
         Ok(())
     }
@@ -120,7 +120,8 @@ impl Store {
         self.has(1)?;
         let used = self.used - 1;
         let address = self.address(level, offset, used)?;
-        self.cells[address] = self.cells[used];
+        let cell = self.cells.get(used);
+        self.cells.put(address, cell);
         self.used = used;
         Ok(())
     }
@@ -176,26 +177,23 @@ impl Store {
         let length = length as usize;
         self.has(2 * length)?;
         self.has_room_after(2 * length)?;
-        let left = self.row(2 * length, length);
-        let right = self.row(length, length);
-        only_numbers(left)?;
-        only_numbers(right)?;
+        let left = self.numbers(2 * length, length)?;
+        let right = self.numbers(length, length)?;
         let order = order(left, right);
         self.replace(2 * length, Cell::Number(order));
         Ok(())
     }
 
     /// `wrs`: the string on top, so many characters, and the width above it.
-    pub fn string(&self, length: u32) -> Result<(&[Cell], i32), MachineFault>
+    pub fn string(&self, length: u32) -> Result<(&[u128], i32), MachineFault>
         ensures within { IfOk result (λ _. self.now.frame + 4 + (length + 1) ≤ self.now.used) }
         ensures value { MatchResult result
-            (λ found. rows.string length (view self.now) ≡ Ok (rows.values found.0.now, found.1))
+            (λ found. rows.string length (view self.now) ≡ Ok (values found.0.now, found.1))
             (λ fault. rows.string length (view self.now) ≡ Err fault) }
     {
         let length = length as usize;
         self.has(length + 1)?;
-        let characters = self.row(length + 1, length);
-        only_numbers(characters)?;
+        let characters = self.numbers(length + 1, length)?;
         let width = self.number_at(1)?;
         Ok((characters, width))
     }
@@ -234,7 +232,7 @@ impl Store {
     {
         let length = length as usize;
         self.has(length)?;
-        Ok(all_defined(self.row(length, length)))
+        Ok(self.cells.all_defined(self.used - length, length))
     }
 
     /// `cka`: whether the sum of the topmost two numbers is an integer.
@@ -299,17 +297,20 @@ impl Store {
         requires in_use { count ≤ self.now.used }
         ensures { result ≡ frames.number_at count (view self.now) }
     {
-        number(self.cells[self.used - count])
+        self.cells.number(self.used - count)
     }
 
-    /// So many cells, the first of which is so many from the top.
-    fn row(&self, place: usize, count: usize) -> &[Cell]
+    /// The words of so many cells, the first of which is so many from the top; they have to be numbers. Kept out of the
+    /// run loop, whose registers it would take.
+    #[inline(never)]
+    fn numbers(&self, place: usize, count: usize) -> Result<&[u128], MachineFault>
         requires in_use { place ≤ self.now.used }
         requires within { count ≤ place }
-        ensures { result.now ≡ rows.row place count (view self.now) }
+        ensures { MatchResult result
+            (λ words. rows.numbers (rows.row place count (view self.now)) ≡ Ok (values words.now))
+            (λ fault. rows.numbers (rows.row place count (view self.now)) ≡ Err fault) }
     {
-        let first = self.used - place;
-        &self.cells.as_slice()[first..first + count]
+        self.cells.numbers(self.used - place, count)
     }
 
     /// The topmost two numbers, which another may replace.
@@ -350,7 +351,7 @@ impl Store {
         ensures size { self.new.size ≡ self.old.size }
     {
         let place = self.used - count;
-        self.cells[place] = cell;
+        self.cells.put(place, cell);
         self.used = place + 1;
     }
 
@@ -361,7 +362,7 @@ impl Store {
         requires in_frame { self.now.frame < used }
         ensures within { IfOk result (λ address. address < used) }
         ensures value { result ≡ frames.variable level offset
-            (record (view self.now) { cells = take used self.now.cells.items }) }
+            (record (view self.now) { cells = take used self.now.cells }) }
     {
         let base = self.base(level, used)?;
         in_use(base + offset as usize, used)
@@ -372,7 +373,7 @@ impl Store {
         requires in_use { used ≤ self.now.used }
         requires in_frame { self.now.frame < used }
         ensures within { IfOk result (λ base. base < used) }
-        ensures value { result ≡ frames.base level self.now.frame (take used self.now.cells.items) }
+        ensures value { result ≡ frames.base level self.now.frame (take used self.now.cells) }
     {
         let mut base = self.frame;
         for _link in 0..level {
@@ -386,37 +387,10 @@ impl Store {
         requires in_use { used ≤ self.now.used }
         requires in_frame { frame < used }
         ensures within { IfOk result (λ base. base < used) }
-        ensures value { result ≡ frames.linked frame (take used self.now.cells.items) }
+        ensures value { result ≡ frames.linked frame (take used self.now.cells) }
     {
-        let link = number(self.cells[frame])?;
+        let link = self.cells.number(frame)?;
         address_of(link, used)
-    }
-
-    /// Makes the cells from the first place to before the second undefined.
-    fn undefine(&mut self, first: usize, end: usize)
-        requires within { end ≤ vec_len self.old.cells }
-        requires ordered { first ≤ end }
-        ensures undefined { take end self.new.cells.items
-            ≡ take first self.old.cells.items ++ replicate (end - first) Undefined }
-        ensures cells { vec_len self.new.cells ≡ vec_len self.old.cells }
-        ensures used { self.new.used ≡ self.old.used }
-        ensures frame { self.new.frame ≡ self.old.frame }
-        ensures limit { self.new.limit ≡ self.old.limit }
-        ensures size { self.new.size ≡ self.old.size }
-    {
-        for place in first..end {
-            self.cells[place] = Cell::Undefined;
-        }
-    }
-}
-
-/// The number in a cell.
-fn number(cell: Cell) -> Result<i32, MachineFault>
-    ensures { result ≡ frames.number (Some cell) }
-{
-    match cell {
-        Cell::Number(value) => Ok(value),
-        Cell::Undefined => Err(MachineFault::WrongKind),
     }
 }
 

@@ -1,5 +1,4 @@
-ghost use Rattle.std.specs.Prelude.{◌≡◌, ◌+◌, ◌<◌, ◌≤◌, length, IfOk};
-ghost use Rattle.std.specs.List.{copy_within};
+ghost use Rattle.std.specs.Prelude.{◌≡◌, ◌+◌, ◌<◌, ◌≤◌, IfOk};
 ghost use Rattle.stack_machine.specs.Addresses as addresses;
 ghost use Rattle.stack_machine.specs.Frames as frames;
 
@@ -51,7 +50,7 @@ impl Store {
         self.has_room_after(1)?;
         let address = self.number_at(1)?;
         let place = address_of(address.wrapping_add_unsigned(offset), self.used - 1)?;
-        let cell = self.cells[place];
+        let cell = self.cells.get(place);
         self.replace(1, cell);
         Ok(())
     }
@@ -64,7 +63,8 @@ impl Store {
         let used = self.used - 2;
         let address = self.number_at(2)?;
         let place = address_of(address, used)?;
-        self.cells[place] = self.cells[used + 1];
+        let cell = self.cells.get(used + 1);
+        self.cells.put(place, cell);
         self.used = used;
         Ok(())
     }
@@ -81,7 +81,7 @@ impl Store {
         }
         let address = self.number_at(1)?;
         let place = row_place(address, count, used)?;
-        copy_row(self.cells.as_mut_slice(), place, count, used);
+        self.cells.copy_row(place, count, used);
         self.used = used + count;
         Ok(())
     }
@@ -95,7 +95,7 @@ impl Store {
         let first = self.used - count;
         let address = self.number_at(count + 1)?;
         let place = row_place(address, count, first - 1)?;
-        copy_row(self.cells.as_mut_slice(), first, count, place);
+        self.cells.copy_row(first, count, place);
         self.used = first - 1;
         Ok(())
     }
@@ -113,13 +113,4 @@ fn row_place(address: i32, count: usize, used: usize) -> Result<usize, MachineFa
     let place = address_of(address, used)?;
     in_use(place + (count - 1), used)?;
     Ok(place)
-}
-
-/// Copies so many cells from one place to another. Kept out of the run loop, whose registers it would take.
-#[inline(never)]
-fn copy_row(cells: &mut [Cell], from: usize, count: usize, to: usize)
-    requires { (from + count ≤ length cells.old) × (to + count ≤ length cells.old) }
-    ensures { cells.new ≡ copy_within cells.old from (from + count) to }
-{
-    cells.copy_within(from..from + count, to);
 }

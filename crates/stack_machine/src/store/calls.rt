@@ -1,10 +1,10 @@
 ghost use Rattle.std.specs.Prelude.{◌≡◌, ℕ, ◌+◌, ◌-◌, ◌^◌, ◌<◌, ◌≤◌, ◌++◌, length, take, drop, IfOk};
-ghost use Rattle.std.specs.Prelude.{vec_len, MatchResult, Some, Ok, Err};
+ghost use Rattle.std.specs.Prelude.{MatchResult, Some, Ok, Err};
 ghost use Rattle.stack_machine.specs.Calls as calls;
 
 use crate::cell::Cell;
 use crate::stop::MachineFault;
-use crate::store::{LINKS, Store, address_of, number};
+use crate::store::{LINKS, Store, address_of};
 
 /// Where a return goes.
 #[derive(Clone, Copy)]
@@ -29,10 +29,10 @@ impl Store {
             return Err(MachineFault::OutOfBounds);
         }
         let outer = self.base(level, first)?;
-        self.cells[first] = Cell::Number(outer as i32);
-        self.cells[first + 1] = Cell::Number(self.frame as i32);
-        self.cells[first + 2] = Cell::Undefined;
-        self.cells[first + 3] = Cell::Number(self.limit as i32);
+        self.cells.put_number(first, outer as i32);
+        self.cells.put_number(first + 1, self.frame as i32);
+        self.cells.undefine(first + 2, first + 3);
+        self.cells.put_number(first + 3, self.limit as i32);
         self.used = first + LINKS;
         Ok(())
     }
@@ -47,7 +47,7 @@ impl Store {
         let count = count as usize + LINKS;
         self.has(count)?;
         self.frame = self.used - count;
-        self.cells[self.frame + 2] = Cell::Number(index_number(next));
+        self.cells.put_number(self.frame + 2, index_number(next));
         Ok(())
     }
 
@@ -61,8 +61,7 @@ impl Store {
     {
         let results = results as usize;
         self.has(results)?;
-        let cells = &self.cells.as_slice()[..self.used];
-        let caller = caller_of(cells, self.frame, self.size, count)?;
+        let caller = self.caller(count)?;
         self.take_along(results);
         self.used = self.frame + results;
         self.frame = caller.frame;
@@ -70,50 +69,43 @@ impl Store {
         Ok(caller.place)
     }
 
+    /// Where this frame was called from, in code of so many instructions. A number outside is told before a link that
+    /// is no number. Kept out of the run loop, whose registers it would take.
+    #[inline(never)]
+    fn caller(&self, count: usize) -> Result<Caller, MachineFault>
+        ensures within { IfOk result (λ caller. (caller.frame + 4 ≤ self.now.frame) × (caller.limit ≤ self.now.size)) }
+        ensures value { result ≡ calls.caller count self.now.size self.now.frame (view self.now).cells }
+    {
+        let (back, backs) = (self.cells.get(self.frame + 1), self.frame.saturating_sub(3));
+        let place = self.cells.get(self.frame + 2);
+        let (limit, limits) = (self.cells.get(self.frame + 3), self.size + 1);
+        not_outside(back, backs)?;
+        not_outside(place, count)?;
+        not_outside(limit, limits)?;
+        Ok(Caller {
+            frame: link_below(back, backs)?,
+            place: link_below(place, count)?,
+            limit: link_below(limit, limits)?,
+        })
+    }
+
     /// Copies so many of the topmost cells to where the frame begins.
     fn take_along(&mut self, results: usize)
         requires { self.old.frame + 4 + results ≤ self.old.used }
-        ensures cells { take (self.old.frame + results) self.new.cells.items
-            ≡ take self.old.frame self.old.cells.items
-            ++ take results (drop (self.old.used - results) self.old.cells.items) }
-        ensures length { vec_len self.new.cells ≡ vec_len self.old.cells }
+        ensures cells { take (self.old.frame + results) self.new.cells
+            ≡ take self.old.frame self.old.cells
+            ++ take results (drop (self.old.used - results) self.old.cells) }
+        ensures length { length self.new.cells ≡ length self.old.cells }
         ensures used { self.new.used ≡ self.old.used }
         ensures frame { self.new.frame ≡ self.old.frame }
         ensures size { self.new.size ≡ self.old.size }
     {
         let first = self.used - results;
         for offset in 0..results {
-            self.cells[self.frame + offset] = self.cells[first + offset];
+            let cell = self.cells.get(first + offset);
+            self.cells.put(self.frame + offset, cell);
         }
     }
-}
-
-/// Where the frame was called from that begins at this cell, in a store of so many cells and code of so many
-/// instructions. A number outside is told before a link that is no number. Kept out of the run loop, whose registers it
-/// would take.
-#[inline(never)]
-fn caller_of(
-    cells: &[Cell],
-    frame: usize,
-    size: usize,
-    count: usize,
-) -> Result<Caller, MachineFault>
-    requires in_use { frame + 4 ≤ length cells.now }
-    requires small { size < 2 ^ 32 }
-    ensures within { IfOk result (λ caller. (caller.frame + 4 ≤ frame) × (caller.limit ≤ size)) }
-    ensures value { result ≡ calls.caller count size frame cells.now }
-{
-    let (back, backs) = (cells[frame + 1], frame.saturating_sub(3));
-    let place = cells[frame + 2];
-    let (limit, limits) = (cells[frame + 3], size + 1);
-    not_outside(back, backs)?;
-    not_outside(place, count)?;
-    not_outside(limit, limits)?;
-    Ok(Caller {
-        frame: link_below(back, backs)?,
-        place: link_below(place, count)?,
-        limit: link_below(limit, limits)?,
-    })
 }
 
 /// The index of an instruction as a number of 32 bits.
@@ -138,5 +130,8 @@ fn link_below(link: Cell, bound: usize) -> Result<usize, MachineFault>
     ensures within { IfOk result (λ place. place < bound) }
     ensures value { result ≡ calls.link_below bound (Some link) }
 {
-    address_of(number(link)?, bound)
+    match link {
+        Cell::Number(number) => address_of(number, bound),
+        Cell::Undefined => Err(MachineFault::WrongKind),
+    }
 }

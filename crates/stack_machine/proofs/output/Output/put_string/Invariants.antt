@@ -4,8 +4,8 @@ use Rattle.stack_machine.specs.Ports.{Passes}
 use Rattle.stack_machine.specs.Texts.{characters}
 use Rattle.stack_machine.proofs.output.Output.put_string.Given as goal
 
-abbrev pub invariant-loop-cell : goal.invariant-loop-cell
-invariant-loop-cell g l =
+abbrev pub invariant-loop-word : goal.invariant-loop-word
+invariant-loop-word g l =
     (g.W.Sink.failures l.writer ≡ g.W.Sink.failures l.initial.writer) × Passes
     (ports (g.W.Sink.contents l.initial.writer) (g.W.Sink.offered l.initial.writer) l.initial.self)
-    (ports (g.W.Sink.contents l.writer) (g.W.Sink.offered l.writer) l.self) (take l.cell-index (characters l.cell-items))
+    (ports (g.W.Sink.contents l.writer) (g.W.Sink.offered l.writer) l.self) (take l.word-index (characters l.word-items))

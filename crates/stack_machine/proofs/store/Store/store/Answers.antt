@@ -1,13 +1,15 @@
-use Rattle.std.proofs.Common.{arith, refl, ◌≤◌, length}
-use Rattle.stack_machine.proofs.Cells.{store-used}
+use Rattle.std.proofs.Common.{arith, refl, ◌≤◌, length, ◌∙◌, ◌-◌, ap, sym, take, Ok}
+use Rattle.stack_machine.specs.View.{view}
+use Rattle.stack_machine.proofs.Used.{store-used}
 use Rattle.stack_machine.proofs.store.Store.store.Goals as goal
 
 pub returns : goal.returns
 returns c =
     let s = c.args.self.now in
-    let in_row : s.used ≤ length s.cells.items = omega arith in
+    let in_row : s.used ≤ length s.cells = omega arith in
     let some : 1 ≤ s.used = omega arith in (
-      store-used s.cells.items s.used s.frame s.limit s.size c.args.level c.args.offset c.in_ok-address.address c.index.result.now in_row some
-          c.in_ok-address.ensures.within c.in_ok-has.ensures.value c.in_ok-address.ensures.value c.index.ensures,
+      store-used s.cells s.used s.frame s.limit s.size c.args.level c.args.offset c.in_ok-address.address c.get-cell.result in_row some
+          c.in_ok-address.ensures.within c.in_ok-has.ensures.value c.in_ok-address.ensures.value c.get-cell.ensures
+          ∙ ap (λ cs. Ok (record (view s) { cells = take (s.used - 1) cs })) (sym c.put.ensures),
       refl,
     )

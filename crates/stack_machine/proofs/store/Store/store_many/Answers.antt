@@ -1,7 +1,5 @@
-use Rattle.std.proofs.Common.{◌≡◌, arith, ap, refl, rules, sym, ◌∙◌, ◌+◌, ◌-◌, ◌≤◌, length, take, Ok}
-use Rattle.std.specs.List.{copy_within}
+use Rattle.std.proofs.Common.{arith, ap, refl, rules, sym, ◌∙◌, ◌+◌, ◌-◌, ◌≤◌, length, take, Ok}
 use Rattle.std.proofs.lemmas.Int.{to_z-of_z}
-use Rattle.std.proofs.lemmas.List.{with_items_is}
 use Rattle.std.specs.Int.{w32}
 use mir.Val.{SFits}
 use Rattle.stack_machine.specs.View.{view}
@@ -14,14 +12,11 @@ returns c =
     let count = c.args.count in
     let address = c.in_ok-address.address in
     let fits : SFits w32 address = search rules in
-    let in_row : s.used ≤ length s.cells.items = omega arith in
+    let in_row : s.used ≤ length s.cells = omega arith in
     let first = s.used - count in
-    let same : length c.copy_row.new.cells ≡ s.cells.len = search rules in
-    let copied = with_items_is s.cells c.copy_row.new.cells same
-    ∙ c.copy_row.ensures ∙ ap (λ xs. copy_within xs first (first + count) c.in_ok-place.place) c.as_mut_slice.ensures.value in
     let some : count + 1 ≤ s.used = omega (arith, c.in_ok-has.ensures.within) in (
-      store_many-used s.cells.items s.used s.frame s.limit s.size count c.in_ok-place.place address in_row some
+      store_many-used s.cells s.used s.frame s.limit s.size count c.in_ok-place.place address in_row some
           c.in_ok-place.ensures.within c.in_ok-has.ensures.value c.in_ok-address.ensures (simp to_z-of_z at c.in_ok-place.ensures.value)
-          ∙ ap (λ cs. Ok (record (view s) { cells = take (s.used - count - 1) cs })) (sym copied),
+          ∙ ap (λ cs. Ok (record (view s) { cells = take (s.used - count - 1) cs })) (sym c.copy_row.ensures),
       refl,
     )

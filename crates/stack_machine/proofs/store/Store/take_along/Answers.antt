@@ -1,5 +1,7 @@
-use Rattle.std.proofs.Common.{arith, ◌≡◌, ◌+◌, ◌-◌, ◌<◌, length}
+use Rattle.std.proofs.Common.{arith, ap, ◌≡◌, ◌∙◌, ◌+◌, ◌-◌, ◌<◌, drop, length, take}
+use Rattle.std.proofs.lemmas.List.{length-set}
 use Rattle.stack_machine.proofs.Called.{along_more, still_there}
+use Rattle.stack_machine.proofs.Used.{read_cell}
 use Rattle.stack_machine.proofs.store.Store.take_along.Goals as goal
 
 pub loop-offset-preserved : goal.loop-offset-preserved
@@ -9,15 +11,16 @@ loop-offset-preserved c =
     let now = c.loop-offset.self in
     let offset = c.loop-offset.offset in
     let first = old.used - c.args.results in
-    let cell = c.index.result.now in
-    let long : length now.cells.items ≡ length old.cells.items = omega (arith, kept.0) in
+    let cell = c.get-cell.result in
+    let long : length now.cells ≡ length old.cells = omega (arith, kept.0) in
     let below : now.frame < first = omega (arith, kept.2) in
-    let within : first + offset < length old.cells.items = omega (arith, c.loop-offset-test.true) in (
-      kept.0,
+    let within : first + offset < length old.cells = omega (arith, c.loop-offset-test.true) in (
+      ap length c.put.ensures ∙ length-set now.cells (now.frame + offset) cell ∙ kept.0,
       kept.1,
       kept.2,
       kept.3,
       kept.4,
-      along_more old.cells.items now.cells.items now.frame first offset cell long below within kept.5 kept.6 c.index.ensures,
-      still_there old.cells.items now.cells.items now.frame first offset cell below kept.6,
+      ap (take (now.frame + (offset + 1))) c.put.ensures
+          ∙ along_more old.cells now.cells now.frame first offset cell long below within kept.5 kept.6 (read_cell now.cells (first + offset) cell (omega (arith, long, within)) c.get-cell.ensures),
+      ap (drop (first + (offset + 1))) c.put.ensures ∙ still_there old.cells now.cells now.frame first offset cell below kept.6,
     )
