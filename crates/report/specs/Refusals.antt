@@ -1,6 +1,6 @@
--- Why a source is refused: the fault of the first layer that refuses, for nothing else but memory. Of syntax it is where
--- the rules of reading stop, of names and types the first rule that the program breaks, with its place, and so it is of
--- a certificate.
+-- Why a source is refused: the fault of the first layer that refuses, for nothing else but memory. Of syntax it stands
+-- where the rules of reading stop; of names and types it is the first rule that the program breaks, with its place, and
+-- so it is of a certificate.
 use Rattle.std.specs.Prelude.{◌≡◌, ℕ, List, [], Option, Some, None, Err, true, map, codes}
 use denote.Ref.{Bor}
 use Rattle.lexer.specs.declared.token.Token.{Token}

@@ -1,5 +1,5 @@
-ghost use Rattle.std.specs.Prelude.{◌≡◌, ◌≢◌, ◌↔◌, ◌⊎◌, ℕ, ◌+◌, ◌*◌, ◌/◌, ◌<◌, ◌≤◌, ◌^◌, ◌==◌, List, length, take, drop, IfOk, IsTrue};
-ghost use Rattle.std.specs.Prelude.{true, false};
+ghost use Rattle.std.specs.Prelude.{◌≡◌, ◌≢◌, ◌↔◌, ◌⊎◌, ℕ, ◌+◌, ◌*◌, ◌/◌, ◌<◌, ◌≤◌, ◌^◌, ◌==◌};
+ghost use Rattle.std.specs.Prelude.{List, length, take, drop, IfOk, IsTrue, true, false};
 ghost use Rattle.std.specs.Int.{bit_at};
 ghost use Rattle.std.specs.List.{list_all};
 ghost use Rattle.stack_machine.specs.Cells.{is_full, is_set};
@@ -75,7 +75,8 @@ impl Plane {
         requires within { end < 64 * length self.old }
         ensures long { length self.new ≡ length self.old }
         ensures inside { (place : ℕ) → first ≤ place → place < end → is_set self.new place ≡ bit }
-        ensures outside { (place : ℕ) → (place < first) ⊎ (end ≤ place) → is_set self.new place ≡ is_set self.old place }
+        ensures outside { (place : ℕ) → (place < first) ⊎ (end ≤ place)
+            → is_set self.new place ≡ is_set self.old place }
     {
         for index in first / BITS..end / BITS + 1 {
             let word = self.words[index];
