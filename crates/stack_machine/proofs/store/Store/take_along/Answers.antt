@@ -14,13 +14,14 @@ loop-offset-preserved c =
     let cell = c.get-cell.result in
     let long : length now.cells ≡ length old.cells = omega (arith, kept.0) in
     let below : now.frame < first = omega (arith, kept.2) in
-    let within : first + offset < length old.cells = omega (arith, c.loop-offset-test.true) in (
+    let within : first + offset < length old.cells = omega (arith, c.loop-offset-test.true) in
+    let read = read_cell now.cells (first + offset) cell (omega (arith, long, within)) c.get-cell.ensures in (
       ap length c.put.ensures ∙ length-set now.cells (now.frame + offset) cell ∙ kept.0,
       kept.1,
       kept.2,
       kept.3,
       kept.4,
       ap (take (now.frame + (offset + 1))) c.put.ensures
-          ∙ along_more old.cells now.cells now.frame first offset cell long below within kept.5 kept.6 (read_cell now.cells (first + offset) cell (omega (arith, long, within)) c.get-cell.ensures),
+          ∙ along_more old.cells now.cells now.frame first offset cell long below within kept.5 kept.6 read,
       ap (drop (first + (offset + 1))) c.put.ensures ∙ still_there old.cells now.cells now.frame first offset cell below kept.6,
     )
