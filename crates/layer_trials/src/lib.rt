@@ -41,6 +41,8 @@ mod sources;
 #[cfg(test)]
 mod sparse_lists;
 #[cfg(test)]
+mod stretches;
+#[cfg(test)]
 mod structured_types;
 #[cfg(test)]
 mod syntax;
