@@ -25,15 +25,15 @@ use Rattle.reading.specs.Statements.{constant, parts_to_end, compound, statement
 unfoldable pub name : Reading Outline
 name = expect_name >>= (λ n. pure (kept n))
 
--- names = name {"," name}
+-- names = name {"," name} (6.4.2.3)
 unfoldable pub names : Reading (List Outline)
 names = separated symbol.Comma name
 
--- field_names = names ":"
+-- field_names = names ":" (6.4.3.3, 6.5.1, 6.6.3.1)
 unfoldable pub field_names : Reading (List Outline)
 field_names = names >>= (λ found. expect_symbol symbol.Colon >> pure found)
 
--- part = [word item {item}], each of which begins with a name
+-- part = [word item {item}] (6.2.1), each of which begins with a name
 unfoldable pub part : Word → Reading Outline → Reading (List Outline)
 part w item =
     on (word_taken w)
@@ -95,7 +95,7 @@ module _ (denoter : Reading Outline) where
     element ← denoter
     pure (place, indexes, element)
 
-  -- fields = field_names denoter
+  -- fields = field_names denoter (6.4.3.3)
   unfoldable pub fields : Reading Outline
   fields = field_names >>= (λ found. denoter >>= (λ d. pure (form.fields found d)))
 
@@ -152,7 +152,7 @@ variables levels = part word.Var (group levels)
 
 -- ---- procedures and functions (6.6)
 
--- passing = ["var"]
+-- passing = ["var"] (6.6.3.1)
 unfoldable pub passing : Reading Bool
 passing = word_taken word.Var >>= (λ place. pure (is_some place))
 
@@ -184,7 +184,7 @@ procedure = do
   expect_symbol symbol.Semicolon
   pure (form.procedure_heading n found, true)
 
--- signature = formals ":" name ";"
+-- signature = formals ":" name ";" (6.6.2)
 unfoldable pub signature : Reading (List Outline × Lexeme)
 signature = do
   found ← formals
@@ -201,7 +201,7 @@ function = do
   (on (symbol_taken symbol.Semicolon) (λ _. pure (form.resumed_heading n, false))
       (signature >>= (λ s. pure (form.function_heading n s.0 s.1, true))))
 
--- heading = procedure | function
+-- heading = procedure | function (6.6.1, 6.6.2)
 unfoldable pub heading : Reading Headed
 heading = peek >>= (λ next. if is_kind (kind.Word word.Procedure) next then procedure else function)
 
@@ -209,7 +209,7 @@ abbrev pub begins_routine : Option Kind → Bool
 begins_routine next = is_kind (kind.Word word.Procedure) next || is_kind (kind.Word word.Function) next
 
 module _ (block : Below) where
-  -- body = "forward" | block
+  -- body = "forward" | block (6.6.1, 6.6.2)
   unfoldable pub body : Bool → Reading Outline
   body may_forward =
       on (if may_forward then forward_taken else pure None) (λ _. pure (form.directive may_forward))
@@ -248,7 +248,7 @@ block (suc levels) = block_of (suc levels) (λ at. block levels)
 
 -- ---- programs (6.10)
 
--- parameters = ["(" names ")"]
+-- parameters = ["(" names ")"] (6.10)
 unfoldable pub parameters : Reading (List Outline)
 parameters =
     on (symbol_taken symbol.OpenParenthesis)
@@ -259,11 +259,11 @@ abbrev pub finish : Reading (Unit {0})
 finish [] = Ok (tt, [])
 finish (token ∷ others) = Err (NoProgram, token ∷ others)
 
--- period_at_end = ".", behind which nothing stands
+-- period_at_end = "." (6.10), behind which nothing stands
 abbrev pub period_at_end : Reading (Unit {0})
 period_at_end = expect_symbol symbol.Period >> finish
 
--- program = "program" name parameters ";" block "."
+-- program = "program" name parameters ";" block "." (6.10)
 unfoldable pub program : ℕ → Reading Outline
 program levels = do
   expect_word word.Program

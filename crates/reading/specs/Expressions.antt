@@ -18,18 +18,18 @@ abbrev pub Below : Type 0
 Below = Option Place → Reading Outline
 
 module _ (inner : Below) where
-  -- index = expression
+  -- index = expression (6.5.3.2)
   unfoldable pub index : Reading Outline
   index = here >>= inner
 
-  -- unjoined = ["[" index | "." name]
+  -- unjoined = ["[" index | "." name] (6.5.3.2, 6.5.3.3)
   unfoldable pub unjoined : Bool → Reading (Turn Bool Outline Outline)
   unjoined within =
       on (symbol_taken symbol.OpenBracket) (λ place. index >>= (λ i. pure (more true (form.index within place i))))
       (on (symbol_taken symbol.Period) (λ _. expect_name >>= (λ name. pure (more false (form.field within name))))
       (pure (ends (form.closing within))))
 
-  -- selector = unjoined, or behind an index "," index | "]" unjoined
+  -- selector = unjoined, or behind an index "," index | "]" unjoined (6.5.3.2, 6.5.3.3)
   abbrev pub selector : Bool → Reading (Turn Bool Outline Outline)
   selector false = unjoined false
   selector true =
@@ -62,7 +62,7 @@ module _ (inner : Below) where
       given ← actuals
       pure (if has_items given then form.call name given else form.named name))
 
-  -- parenthesized = "(" expression ")"
+  -- parenthesized = "(" expression ")" (6.7.1)
   unfoldable pub parenthesized : Reading Outline
   parenthesized = do
     place ← expect_symbol symbol.OpenParenthesis
@@ -70,7 +70,7 @@ module _ (inner : Below) where
     expect_symbol symbol.CloseParenthesis
     pure (form.parenthesized place e)
 
-  -- negated = "not" factor
+  -- negated = "not" factor (6.7.1)
   unfoldable pub negated : Below → Place → Reading Outline
   negated operand place = here >>= operand >>= (λ o. pure (form.negated place o))
 
@@ -92,19 +92,19 @@ chain level first operand = do
   links ← loop (link_turn level operand) tt
   pure (form.chain f links.0)
 
--- term = factor {("*" | "div" | "mod" | "and") factor}
+-- term = factor {("*" | "div" | "mod" | "and") factor} (6.7.1)
 abbrev pub term_of : Reading Outline → Reading Outline
 term_of factor = chain product_level factor factor
 
--- signed = [sign] term
+-- signed = [sign] term (6.7.1)
 unfoldable pub signed : Reading Outline → Reading Outline
 signed term = on sign_taken (λ s. term >>= (λ t. pure (form.signed s.0 s.1 t))) term
 
--- simple = signed {("+" | "-" | "or") term}
+-- simple = signed {("+" | "-" | "or") term} (6.7.1)
 abbrev pub simple_of : Reading Outline → Reading Outline
 simple_of term = chain sum_level (signed term) term
 
--- relation = simple [("=" | "<>" | "<" | ">" | "<=" | ">=") simple]
+-- relation = simple [("=" | "<>" | "<" | ">" | "<=" | ">=") simple] (6.7.1)
 unfoldable pub relation_of : Reading Outline → Reading Outline
 relation_of simple = do
   left ← simple
@@ -125,7 +125,7 @@ term levels = term_of (factor levels)
 abbrev pub simple : ℕ → Reading Outline
 simple levels = simple_of (term levels)
 
--- expression = relation
+-- expression = relation (6.7.1)
 abbrev pub expression : ℕ → Reading Outline
 expression levels = relation_of (simple levels)
 

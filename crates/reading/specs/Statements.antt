@@ -19,15 +19,15 @@ use Rattle.reading.specs.Expressions.{expression, expression_below, selectors, a
 
 -- ---- constants (6.3)
 
--- sign = ["+" | "-"]
+-- sign = ["+" | "-"] (6.1.5)
 unfoldable pub sign : Reading Outline
 sign = on sign_taken (λ s. pure (kept (of_kind_at (sign_kind s.0) s.1))) (pure nothing)
 
--- value = number | name
+-- value = number | name (6.3)
 unfoldable pub value : Reading Lexeme
 value = on number_taken (λ n. pure (of_kind_at (kind.Number n.0) n.1)) expect_name
 
--- constant = string | sign value
+-- constant = string | sign value (6.3)
 unfoldable pub constant : Reading Outline
 constant =
     on (text_taken kind.Text) (λ text. pure (form.constant nothing text)) (do
@@ -35,11 +35,12 @@ constant =
       v ← value
       pure (form.constant s v))
 
--- row = constant {"," constant} ":"
+-- row = constant {"," constant} ":" (6.8.3.5)
 unfoldable pub row : Reading (List Outline)
 row = separated symbol.Comma constant >>= (λ constants. expect_symbol symbol.Colon >> pure constants)
 
--- behind_arm = ";" | [";"] "end": whether a semicolon stands before the `end`, or nothing where no `end` comes
+-- behind_arm = ";" | [";"] "end" (6.8.3.5, 6.4.3.3): whether a semicolon stands before the `end`, or nothing where no
+-- `end` comes
 unfoldable pub behind_arm : Reading (Option Bool)
 behind_arm =
     on (symbol_taken symbol.Semicolon) (λ _. on (word_taken word.End) (λ _. pure (Some true)) (pure None))
@@ -50,7 +51,7 @@ unfoldable pub arm_turn : Reading Outline → Unit {0} → Reading (Turn (Unit {
 arm_turn part state =
     behind_arm >>= (λ end. choose end (λ semicolon. pure (ends semicolon)) (part >>= (λ a. pure (more tt a))))
 
--- parts = part {";" part} [";"] "end"
+-- parts = part {";" part} [";"] "end" (6.8.3.5, 6.4.3.3)
 unfoldable pub parts_to_end : Reading Outline → Reading (List Outline × Bool)
 parts_to_end part = do
   one ← part
@@ -59,11 +60,11 @@ parts_to_end part = do
 
 -- ---- statements
 
--- guard = expression word
+-- guard = expression word (6.8.3.4, 6.8.3.5, 6.8.3.8)
 unfoldable pub guard : ℕ → Word → Reading Outline
 guard levels w = expression levels >>= (λ e. expect_word w >> pure e)
 
--- control = "for" name ":="
+-- control = "for" name ":=" (6.8.3.9)
 unfoldable pub control : Reading (Place × Lexeme)
 control = do
   place ← expect_word word.For
@@ -71,7 +72,7 @@ control = do
   expect_symbol symbol.Becomes
   pure (place, variable)
 
--- initial = expression ("to" | "downto")
+-- initial = expression ("to" | "downto") (6.8.3.9)
 unfoldable pub initial : ℕ → Reading (Outline × Direction)
 initial levels = do
   first ← expression levels
@@ -98,7 +99,7 @@ compound statement = do
   pure (statements, end)
 
 module _ (levels : ℕ) (statement : Reading Outline) where
-  -- alternative = ["else" statement]
+  -- alternative = ["else" statement] (6.8.3.4)
   unfoldable pub alternative : Reading (Option Outline)
   alternative = on (word_taken word.Else) (λ _. statement >>= (λ a. pure (Some a))) (pure None)
 
@@ -138,7 +139,7 @@ module _ (levels : ℕ) (statement : Reading Outline) where
     body ← statement
     pure (form.for_loop head.0 head.1 first.0 first.1 last body)
 
-  -- arm = row statement
+  -- arm = row statement (6.8.3.5)
   unfoldable pub arm : Reading Outline
   arm = do
     constants ← row
@@ -153,7 +154,8 @@ module _ (levels : ℕ) (statement : Reading Outline) where
     found ← parts_to_end arm
     pure (form.case place index found.0 found.1)
 
-  -- statement = [simple | compound | conditional | while_loop | repeat_loop | for_loop | case_of], by what comes next
+  -- statement = [simple | compound | conditional | while_loop | repeat_loop | for_loop | case_of] (6.8.1), by what
+  -- comes next
   abbrev pub statement_by : Option Kind → Reading Outline
   statement_by (Some kind.Identifier) = simple levels
   statement_by (Some (kind.Word word.Begin)) = compound statement >>= (λ c. pure (form.compound c.0))
