@@ -76,46 +76,46 @@ numbers_chosen condition look rest first second one two =
 numbers_layer : (y : Stmt-F Numbered)
     → loops_of_look (statement_look (map-Stmt Stmt Look look_stmt (bare_stmt y))) ≡ numbers (statement_inside (map-Stmt Stmt Inside inside_of (bare_stmt y)))
 numbers_layer (Empty number) = refl
-numbers_layer (Assign number becomes target indexes fits value) =
-    let does = Target target.root target.selectors.items (length indexes.items) in
-    let end = FitsMark target.root target.selectors.items fits in
-    behind (look_access target indexes.items does) (look_expr value ++ (end ∷ [])) (quiet_accessed target indexes.items does (refl, refl)).0
-    ∙ ended (look_expr value) end refl ∙ (quiet_expr value).0
-numbers_layer (Copy number becomes target indexes type_id value value_indexes) =
-    let does = WholeTarget target.root target.selectors.items (length indexes.items) type_id in
-    let end = Copied type_id (source_of value) (length_of value) in
-    behind (look_access target indexes.items does) (look_whole value value_indexes.items ++ (end ∷ []))
-    (quiet_accessed target indexes.items does (refl, refl)).0
-    ∙ ended (look_whole value value_indexes.items) end refl
-    ∙ (quiet_value value value_indexes.items).0
-numbers_layer (Write number name parameters ends_line) =
-    ended (flat_map look_parameter parameters.items) Ends refl ∙ (quiet_parameters parameters.items).0
-numbers_layer (Calling call actuals) = (quiet_called false call actuals.items).0
+numbers_layer (Assign assignment) =
+    let does = Target assignment.target.root assignment.target.selectors.items (length assignment.indexes.items) in
+    let end = FitsMark assignment.target.root assignment.target.selectors.items assignment.fits in
+    behind (look_access assignment.target assignment.indexes.items does) (look_expr assignment.value ++ (end ∷ [])) (quiet_accessed assignment.target assignment.indexes.items does (refl, refl)).0
+    ∙ ended (look_expr assignment.value) end refl ∙ (quiet_expr assignment.value).0
+numbers_layer (Copy copying) =
+    let does = WholeTarget copying.target.root copying.target.selectors.items (length copying.indexes.items) copying.type_id in
+    let end = Copied copying.type_id (source_of copying.value) (length_of copying.value) in
+    behind (look_access copying.target copying.indexes.items does) (look_whole copying.value copying.value_indexes.items ++ (end ∷ []))
+    (quiet_accessed copying.target copying.indexes.items does (refl, refl)).0
+    ∙ ended (look_whole copying.value copying.value_indexes.items) end refl
+    ∙ (quiet_value copying.value copying.value_indexes.items).0
+numbers_layer (Write writing) =
+    ended (flat_map look_parameter writing.parameters.items) Ends refl ∙ (quiet_parameters writing.parameters.items).0
+numbers_layer (Calling calling) = (quiet_called false calling.call calling.actuals.items).0
 numbers_layer (Compound number statements) = ended (joined (map look_stmt (map (λ s. s.0) statements.items))) Ends refl ∙ numbers_joined statements.items
 numbers_layer (If number condition consequence None) =
     numbers_chosen condition (look_stmt consequence.value.0) [] (inside_of consequence.value.0) (record { loops = []; controls = [] }) consequence.value.1 refl
 numbers_layer (If number condition consequence (Some other)) =
     numbers_chosen condition (look_stmt consequence.value.0) (Else ∷ look_stmt other.value.0) (inside_of consequence.value.0) (inside_of other.value.0)
     consequence.value.1 other.value.1
-numbers_layer (While number loop_number place condition body) =
-    ap (λ more. loop_number ∷ more)
-    (behind (look_expr condition) (Do ∷ (look_stmt body.value.0 ++ (Ends ∷ []))) ((quiet_expr condition).0) ∙ ended (look_stmt body.value.0) Ends refl
+numbers_layer (While head body) =
+    ap (λ more. head.loop_number ∷ more)
+    (behind (look_expr head.condition) (Do ∷ (look_stmt body.value.0 ++ (Ends ∷ []))) ((quiet_expr head.condition).0) ∙ ended (look_stmt body.value.0) Ends refl
     ∙ body.value.1)
-numbers_layer (Repeat number loop_number place statements condition) =
+numbers_layer (Repeat head statements) =
     let rows = joined (map look_stmt (map (λ s. s.0) statements.items)) in
-    ap (λ more. loop_number ∷ more)
-    (flat_map-append mark_loops rows (Until ∷ (look_expr condition ++ (Ends ∷ [])))
-    ∙ ap₂ (λ a b. a ++ b) (numbers_joined statements.items) (ended (look_expr condition) Ends refl ∙ (quiet_expr condition).0)
+    ap (λ more. head.loop_number ∷ more)
+    (flat_map-append mark_loops rows (Until ∷ (look_expr head.condition ++ (Ends ∷ [])))
+    ∙ ap₂ (λ a b. a ++ b) (numbers_joined statements.items) (ended (look_expr head.condition) Ends refl ∙ (quiet_expr head.condition).0)
     ∙ append-nil _)
-numbers_layer (For number loop_number place control first first_fits direction last last_fits body) =
-    let inside = FitsMark control [] last_fits ∷ Controls control ∷ (look_stmt body.value.0 ++ (ForEnds ∷ [])) in
-    ap (λ more. loop_number ∷ more)
-    (behind (look_expr first) (FitsMark control [] first_fits ∷ (look_expr last ++ inside)) ((quiet_expr first).0)
-    ∙ behind (look_expr last) inside ((quiet_expr last).0)
+numbers_layer (For head body) =
+    let inside = FitsMark head.control [] head.last.fits ∷ Controls head.control ∷ (look_stmt body.value.0 ++ (ForEnds ∷ [])) in
+    ap (λ more. head.loop_number ∷ more)
+    (behind (look_expr head.first.value) (FitsMark head.control [] head.first.fits ∷ (look_expr head.last.value ++ inside)) ((quiet_expr head.first.value).0)
+    ∙ behind (look_expr head.last.value) inside ((quiet_expr head.last.value).0)
     ∙ ended (look_stmt body.value.0) ForEnds refl ∙ body.value.1)
-numbers_layer (Case number site index constants arms) =
-    let inside = arms_look constants.items (map look_stmt (map (λ s. s.0) arms.items)) in
-    behind (look_expr index) (inside ++ (Ends ∷ [])) ((quiet_expr index).0) ∙ ended inside Ends refl ∙ numbers_arms constants.items arms.items
+numbers_layer (Case head arms) =
+    let inside = arms_look head.constants.items (map look_stmt (map (λ s. s.0) arms.items)) in
+    behind (look_expr head.index) (inside ++ (Ends ∷ [])) ((quiet_expr head.index).0) ∙ ended inside Ends refl ∙ numbers_arms head.constants.items arms.items
 
 numbers_stmt : (s : Stmt) → loops_of_look (look_stmt s) ≡ numbers (inside_of s)
 numbers_stmt =

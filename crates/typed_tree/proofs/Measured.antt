@@ -325,31 +325,31 @@ entries_stmt_layer : (y : Stmt-F (ToldStmt entries_of_look statement_entries))
     → entries_of_look (statement_look (map-Stmt Stmt Look look_stmt (stmt_opened entries_of_look statement_entries y)))
     ≡ statement_entries (map-Stmt Stmt (List ℕ) entries_of_statement (stmt_opened entries_of_look statement_entries y))
 entries_stmt_layer (Empty number) = refl
-entries_stmt_layer (Assign number becomes target indexes fits value) =
-    let does = Target target.root target.selectors.items (length indexes.items) in
-    let end = FitsMark target.root target.selectors.items fits in
-    ap (λ entries. number ∷ entries)
-    (flat_map-append mark_entries (look_access target indexes.items does) (look_expr value ++ (end ∷ []))
+entries_stmt_layer (Assign assignment) =
+    let does = Target assignment.target.root assignment.target.selectors.items (length assignment.indexes.items) in
+    let end = FitsMark assignment.target.root assignment.target.selectors.items assignment.fits in
+    ap (λ entries. assignment.number ∷ entries)
+    (flat_map-append mark_entries (look_access assignment.target assignment.indexes.items does) (look_expr assignment.value ++ (end ∷ []))
     ∙ ap₂ (λ a b. a ++ b)
-    (entries_access target (map look_expr indexes.items) (map entries_of_expression indexes.items) does (entries_indexes indexes.items) refl)
-    (entries_ended (look_expr value) end refl ∙ entries_expr value))
-entries_stmt_layer (Copy number becomes target indexes type_id value value_indexes) =
-    let does = WholeTarget target.root target.selectors.items (length indexes.items) type_id in
-    let copied = look_whole value value_indexes.items in
-    let end = Copied type_id (source_of value) (length_of value) in
-    ap (λ entries. number ∷ entries)
-    (flat_map-append mark_entries (look_access target indexes.items does) (copied ++ (end ∷ []))
+    (entries_access assignment.target (map look_expr assignment.indexes.items) (map entries_of_expression assignment.indexes.items) does (entries_indexes assignment.indexes.items) refl)
+    (entries_ended (look_expr assignment.value) end refl ∙ entries_expr assignment.value))
+entries_stmt_layer (Copy copying) =
+    let does = WholeTarget copying.target.root copying.target.selectors.items (length copying.indexes.items) copying.type_id in
+    let copied = look_whole copying.value copying.value_indexes.items in
+    let end = Copied copying.type_id (source_of copying.value) (length_of copying.value) in
+    ap (λ entries. copying.number ∷ entries)
+    (flat_map-append mark_entries (look_access copying.target copying.indexes.items does) (copied ++ (end ∷ []))
     ∙ ap₂ (λ a b. a ++ b)
-    (entries_access target (map look_expr indexes.items) (map entries_of_expression indexes.items) does (entries_indexes indexes.items) refl)
+    (entries_access copying.target (map look_expr copying.indexes.items) (map entries_of_expression copying.indexes.items) does (entries_indexes copying.indexes.items) refl)
     (entries_ended copied end refl
-    ∙ entries_whole value (map look_expr value_indexes.items) (map entries_of_expression value_indexes.items)
-    (entries_indexes value_indexes.items)))
-entries_stmt_layer (Write number name parameters ends_line) =
-    ap (λ entries. number ∷ entries)
-    (entries_ended (flat_map look_parameter parameters.items) Ends refl
-    ∙ entries_mapped look_parameter entries_of_parameter entries_parameter parameters.items)
-entries_stmt_layer (Calling call actuals) =
-    entries_call false call (map look_passed actuals.items) (map entries_of_passed actuals.items) (entries_actuals actuals.items call.block 0)
+    ∙ entries_whole copying.value (map look_expr copying.value_indexes.items) (map entries_of_expression copying.value_indexes.items)
+    (entries_indexes copying.value_indexes.items)))
+entries_stmt_layer (Write writing) =
+    ap (λ entries. writing.number ∷ entries)
+    (entries_ended (flat_map look_parameter writing.parameters.items) Ends refl
+    ∙ entries_mapped look_parameter entries_of_parameter entries_parameter writing.parameters.items)
+entries_stmt_layer (Calling calling) =
+    entries_call false calling.call (map look_passed calling.actuals.items) (map entries_of_passed calling.actuals.items) (entries_actuals calling.actuals.items calling.call.block 0)
 entries_stmt_layer (Compound number statements) =
     let rows = joined (map look_stmt (map (λ s. s.0) statements.items)) in
     ap (λ entries. number ∷ entries) (entries_ended rows Ends refl ∙ entries_joined look_stmt entries_of_statement statements.items)
@@ -359,28 +359,28 @@ entries_stmt_layer (If number condition consequence None) =
 entries_stmt_layer (If number condition consequence (Some other)) =
     entries_chosen number condition (look_stmt consequence.value.0) (Else ∷ look_stmt other.value.0)
     ∙ ap₂ (λ row rest. number ∷ (entries_of_expression condition ++ (row ++ rest))) consequence.value.1 other.value.1
-entries_stmt_layer (While number loop_number place condition body) =
-    ap (λ entries. number ∷ entries)
-    (flat_map-append mark_entries (look_expr condition) (Do ∷ (look_stmt body.value.0 ++ (Ends ∷ [])))
-    ∙ ap₂ (λ a b. a ++ b) (entries_expr condition) (entries_ended (look_stmt body.value.0) Ends refl ∙ body.value.1))
-entries_stmt_layer (Repeat number loop_number place statements condition) =
+entries_stmt_layer (While head body) =
+    ap (λ entries. head.number ∷ entries)
+    (flat_map-append mark_entries (look_expr head.condition) (Do ∷ (look_stmt body.value.0 ++ (Ends ∷ [])))
+    ∙ ap₂ (λ a b. a ++ b) (entries_expr head.condition) (entries_ended (look_stmt body.value.0) Ends refl ∙ body.value.1))
+entries_stmt_layer (Repeat head statements) =
     let rows = joined (map look_stmt (map (λ s. s.0) statements.items)) in
-    ap (λ entries. number ∷ entries)
-    (flat_map-append mark_entries rows (Until ∷ (look_expr condition ++ (Ends ∷ [])))
+    ap (λ entries. head.number ∷ entries)
+    (flat_map-append mark_entries rows (Until ∷ (look_expr head.condition ++ (Ends ∷ [])))
     ∙ ap₂ (λ a b. a ++ b) (entries_joined look_stmt entries_of_statement statements.items)
-    (entries_ended (look_expr condition) Ends refl ∙ entries_expr condition))
-entries_stmt_layer (For number loop_number place control first first_fits direction last last_fits body) =
-    let inside = FitsMark control [] last_fits ∷ Controls control ∷ (look_stmt body.value.0 ++ (ForEnds ∷ [])) in
-    ap (λ entries. number ∷ entries)
-    (flat_map-append mark_entries (look_expr first) (FitsMark control [] first_fits ∷ (look_expr last ++ inside))
-    ∙ ap₂ (λ a b. a ++ b) (entries_expr first)
-    (flat_map-append mark_entries (look_expr last) inside
-    ∙ ap₂ (λ a b. a ++ b) (entries_expr last) (entries_ended (look_stmt body.value.0) ForEnds refl ∙ body.value.1)))
-entries_stmt_layer (Case number site index constants arms) =
-    let inside = arms_look constants.items (map look_stmt (map (λ s. s.0) arms.items)) in
-    ap (λ entries. number ∷ entries)
-    (flat_map-append mark_entries (look_expr index) (inside ++ (Ends ∷ []))
-    ∙ ap₂ (λ a b. a ++ b) (entries_expr index) (entries_ended inside Ends refl ∙ entries_arms constants.items arms.items))
+    (entries_ended (look_expr head.condition) Ends refl ∙ entries_expr head.condition))
+entries_stmt_layer (For head body) =
+    let inside = FitsMark head.control [] head.last.fits ∷ Controls head.control ∷ (look_stmt body.value.0 ++ (ForEnds ∷ [])) in
+    ap (λ entries. head.number ∷ entries)
+    (flat_map-append mark_entries (look_expr head.first.value) (FitsMark head.control [] head.first.fits ∷ (look_expr head.last.value ++ inside))
+    ∙ ap₂ (λ a b. a ++ b) (entries_expr head.first.value)
+    (flat_map-append mark_entries (look_expr head.last.value) inside
+    ∙ ap₂ (λ a b. a ++ b) (entries_expr head.last.value) (entries_ended (look_stmt body.value.0) ForEnds refl ∙ body.value.1)))
+entries_stmt_layer (Case head arms) =
+    let inside = arms_look head.constants.items (map look_stmt (map (λ s. s.0) arms.items)) in
+    ap (λ entries. head.number ∷ entries)
+    (flat_map-append mark_entries (look_expr head.index) (inside ++ (Ends ∷ []))
+    ∙ ap₂ (λ a b. a ++ b) (entries_expr head.index) (entries_ended inside Ends refl ∙ entries_arms head.constants.items arms.items))
 
 entries_stmt : (s : Stmt) → entries_of_look (look_stmt s) ≡ entries_of_statement s
 entries_stmt = measured_stmt entries_of_look statement_entries entries_stmt_layer
@@ -638,33 +638,33 @@ module _ (outline : Outline) (block_number : ℕ) where
       → is_formed (statement_look (map-Stmt Stmt Look look_stmt (opened_stmt y)))
       ≡ stmt_is_well_formed outline block_number (map-Stmt Stmt Bool (is_well_formed_stmt outline block_number) (opened_stmt y))
   formed_stmt_layer (Empty number) = refl
-  formed_stmt_layer (Assign number becomes target indexes fits value) =
-      let does = Target target.root target.selectors.items (length indexes.items) in
-      let tests = map (is_well_formed_expr outline block_number) indexes.items in
-      let end = FitsMark target.root target.selectors.items fits in
+  formed_stmt_layer (Assign assignment) =
+      let does = Target assignment.target.root assignment.target.selectors.items (length assignment.indexes.items) in
+      let tests = map (is_well_formed_expr outline block_number) assignment.indexes.items in
+      let end = FitsMark assignment.target.root assignment.target.selectors.items assignment.fits in
       let tested = is_formed_mark outline block_number end in
-      formed_cut (look_access target indexes.items does) (look_expr value ++ (end ∷ []))
-      ∙ ap₂ (λ a b. a && b) (formed_access target (map look_expr indexes.items) tests does (formed_indexes indexes.items))
-      (formed_cut (look_expr value) (end ∷ []) ∙ ap (λ b. b && (tested && true)) (formed_expr value))
-      ∙ and_assigned (all_hold tests) (is_formed_mark outline block_number does) (is_well_formed_expr outline block_number value) tested
-  formed_stmt_layer (Copy number becomes target indexes type_id value value_indexes) =
-      let does = WholeTarget target.root target.selectors.items (length indexes.items) type_id in
-      let tests = map (is_well_formed_expr outline block_number) indexes.items in
-      let copied = look_whole value value_indexes.items in
-      let end = Copied type_id (source_of value) (length_of value) in
+      formed_cut (look_access assignment.target assignment.indexes.items does) (look_expr assignment.value ++ (end ∷ []))
+      ∙ ap₂ (λ a b. a && b) (formed_access assignment.target (map look_expr assignment.indexes.items) tests does (formed_indexes assignment.indexes.items))
+      (formed_cut (look_expr assignment.value) (end ∷ []) ∙ ap (λ b. b && (tested && true)) (formed_expr assignment.value))
+      ∙ and_assigned (all_hold tests) (is_formed_mark outline block_number does) (is_well_formed_expr outline block_number assignment.value) tested
+  formed_stmt_layer (Copy copying) =
+      let does = WholeTarget copying.target.root copying.target.selectors.items (length copying.indexes.items) copying.type_id in
+      let tests = map (is_well_formed_expr outline block_number) copying.indexes.items in
+      let copied = look_whole copying.value copying.value_indexes.items in
+      let end = Copied copying.type_id (source_of copying.value) (length_of copying.value) in
       let fits = is_formed_mark outline block_number end in
-      formed_cut (look_access target indexes.items does) (copied ++ (end ∷ []))
-      ∙ ap₂ (λ a b. a && b) (formed_access target (map look_expr indexes.items) tests does (formed_indexes indexes.items))
-      (formed_cut copied (end ∷ []) ∙ ap (λ b. b && (fits && true)) (formed_value value value_indexes.items))
-      ∙ and_assigned (all_hold tests) (is_formed_mark outline block_number does) (is_well_formed_value outline block_number value value_indexes.items) fits
-  formed_stmt_layer (Write number name parameters ends_line) =
-      formed_ended (flat_map look_parameter parameters.items) Ends refl
-      ∙ formed_mapped look_parameter (is_well_formed_parameter outline block_number) formed_parameter parameters.items
-      ∙ sym (list_all-map (λ b. b) (is_well_formed_parameter outline block_number) parameters.items)
-  formed_stmt_layer (Calling call actuals) =
+      formed_cut (look_access copying.target copying.indexes.items does) (copied ++ (end ∷ []))
+      ∙ ap₂ (λ a b. a && b) (formed_access copying.target (map look_expr copying.indexes.items) tests does (formed_indexes copying.indexes.items))
+      (formed_cut copied (end ∷ []) ∙ ap (λ b. b && (fits && true)) (formed_value copying.value copying.value_indexes.items))
+      ∙ and_assigned (all_hold tests) (is_formed_mark outline block_number does) (is_well_formed_value outline block_number copying.value copying.value_indexes.items) fits
+  formed_stmt_layer (Write writing) =
+      formed_ended (flat_map look_parameter writing.parameters.items) Ends refl
+      ∙ formed_mapped look_parameter (is_well_formed_parameter outline block_number) formed_parameter writing.parameters.items
+      ∙ sym (list_all-map (λ b. b) (is_well_formed_parameter outline block_number) writing.parameters.items)
+  formed_stmt_layer (Calling calling) =
       let test = is_well_formed_passed outline block_number in
-      formed_call false call (map look_passed actuals.items) (map test actuals.items) (formed_actuals actuals.items call.block 0)
-      (length-map actuals.items look_passed ∙ sym (length-map actuals.items test))
+      formed_call false calling.call (map look_passed calling.actuals.items) (map test calling.actuals.items) (formed_actuals calling.actuals.items calling.call.block 0)
+      (length-map calling.actuals.items look_passed ∙ sym (length-map calling.actuals.items test))
   formed_stmt_layer (Compound number statements) =
       formed_ended (joined (map look_stmt (map (λ s. s.0) statements.items))) Ends refl
       ∙ formed_joined look_stmt (is_well_formed_stmt outline block_number) statements.items
@@ -674,27 +674,27 @@ module _ (outline : Outline) (block_number : ℕ) where
   formed_stmt_layer (If number condition consequence (Some other)) =
       formed_chosen number condition (look_stmt consequence.value.0) (Else ∷ look_stmt other.value.0)
       ∙ ap₂ (λ a b. is_well_formed_expr outline block_number condition && (a && b)) consequence.value.1 other.value.1
-  formed_stmt_layer (While number loop_number place condition body) =
-      formed_cut (look_expr condition) (Do ∷ (look_stmt body.value.0 ++ (Ends ∷ [])))
-      ∙ ap₂ (λ a b. a && b) (formed_expr condition) (formed_ended (look_stmt body.value.0) Ends refl ∙ body.value.1)
-  formed_stmt_layer (Repeat number loop_number place statements condition) =
+  formed_stmt_layer (While head body) =
+      formed_cut (look_expr head.condition) (Do ∷ (look_stmt body.value.0 ++ (Ends ∷ [])))
+      ∙ ap₂ (λ a b. a && b) (formed_expr head.condition) (formed_ended (look_stmt body.value.0) Ends refl ∙ body.value.1)
+  formed_stmt_layer (Repeat head statements) =
       let rows = joined (map look_stmt (map (λ s. s.0) statements.items)) in
-      formed_cut rows (Until ∷ (look_expr condition ++ (Ends ∷ [])))
+      formed_cut rows (Until ∷ (look_expr head.condition ++ (Ends ∷ [])))
       ∙ ap₂ (λ a b. a && b) (formed_joined look_stmt (is_well_formed_stmt outline block_number) statements.items)
-      (formed_ended (look_expr condition) Ends refl ∙ formed_expr condition)
-  formed_stmt_layer (For number loop_number place control first first_fits direction last last_fits body) =
-      let inside = FitsMark control [] last_fits ∷ Controls control ∷ (look_stmt body.value.0 ++ (ForEnds ∷ [])) in
-      ap (λ b. is_control outline block_number control && b)
-      (formed_cut (look_expr first) (FitsMark control [] first_fits ∷ (look_expr last ++ inside))
-      ∙ ap₂ (λ a b. a && (fits_target outline block_number first_fits control [] && b)) (formed_expr first)
-      (formed_cut (look_expr last) inside
-      ∙ ap₂ (λ a b. a && (fits_target outline block_number last_fits control [] && b)) (formed_expr last)
+      (formed_ended (look_expr head.condition) Ends refl ∙ formed_expr head.condition)
+  formed_stmt_layer (For head body) =
+      let inside = FitsMark head.control [] head.last.fits ∷ Controls head.control ∷ (look_stmt body.value.0 ++ (ForEnds ∷ [])) in
+      ap (λ b. is_control outline block_number head.control && b)
+      (formed_cut (look_expr head.first.value) (FitsMark head.control [] head.first.fits ∷ (look_expr head.last.value ++ inside))
+      ∙ ap₂ (λ a b. a && (fits_target outline block_number head.first.fits head.control [] && b)) (formed_expr head.first.value)
+      (formed_cut (look_expr head.last.value) inside
+      ∙ ap₂ (λ a b. a && (fits_target outline block_number head.last.fits head.control [] && b)) (formed_expr head.last.value)
       (formed_ended (look_stmt body.value.0) ForEnds refl ∙ body.value.1)))
-  formed_stmt_layer (Case number site index constants arms) =
-      let inside = arms_look constants.items (map look_stmt (map (λ s. s.0) arms.items)) in
-      ap (λ b. nat_lt site outline.sites && b)
-      (formed_cut (look_expr index) (inside ++ (Ends ∷ []))
-      ∙ ap₂ (λ a b. a && b) (formed_expr index) (formed_ended inside Ends refl ∙ formed_arms constants.items arms.items))
+  formed_stmt_layer (Case head arms) =
+      let inside = arms_look head.constants.items (map look_stmt (map (λ s. s.0) arms.items)) in
+      ap (λ b. nat_lt head.site outline.sites && b)
+      (formed_cut (look_expr head.index) (inside ++ (Ends ∷ []))
+      ∙ ap₂ (λ a b. a && b) (formed_expr head.index) (formed_ended inside Ends refl ∙ formed_arms head.constants.items arms.items))
 
   -- the look of a statement tells whether it is well formed
   pub formed_stmt : (s : Stmt) → is_formed (look_stmt s) ≡ is_well_formed_stmt outline block_number s

@@ -217,16 +217,16 @@ inner_arms (row ∷ rows) (y ∷ ys) = inner_then (look_stmt y.0) (arms_look row
 
 inner_layer : (y : Stmt-F InnerStmt) → Inner (statement_look (map-Stmt Stmt Look look_stmt (bare_stmt y)))
 inner_layer (Empty number) = refl
-inner_layer (Assign number becomes target indexes fits value) =
-    inner_then (look_access target indexes.items _) (look_expr value ++ (_ ∷ [])) (quiet_accessed target indexes.items _ (refl, refl)).1
-    (inner_then (look_expr value) (_ ∷ []) (quiet_expr value).1 refl)
-inner_layer (Copy number becomes target indexes type_id value value_indexes) =
-    inner_then (look_access target indexes.items _) (look_whole value value_indexes.items ++ (_ ∷ []))
-    (quiet_accessed target indexes.items _ (refl, refl)).1
-    (inner_then (look_whole value value_indexes.items) (_ ∷ []) (quiet_value value value_indexes.items).1 refl)
-inner_layer (Write number name parameters ends_line) =
-    inner_then (flat_map look_parameter parameters.items) (_ ∷ []) (quiet_parameters parameters.items).1 refl
-inner_layer (Calling call actuals) = (quiet_called false call actuals.items).1
+inner_layer (Assign assignment) =
+    inner_then (look_access assignment.target assignment.indexes.items _) (look_expr assignment.value ++ (_ ∷ [])) (quiet_accessed assignment.target assignment.indexes.items _ (refl, refl)).1
+    (inner_then (look_expr assignment.value) (_ ∷ []) (quiet_expr assignment.value).1 refl)
+inner_layer (Copy copying) =
+    inner_then (look_access copying.target copying.indexes.items _) (look_whole copying.value copying.value_indexes.items ++ (_ ∷ []))
+    (quiet_accessed copying.target copying.indexes.items _ (refl, refl)).1
+    (inner_then (look_whole copying.value copying.value_indexes.items) (_ ∷ []) (quiet_value copying.value copying.value_indexes.items).1 refl)
+inner_layer (Write writing) =
+    inner_then (flat_map look_parameter writing.parameters.items) (_ ∷ []) (quiet_parameters writing.parameters.items).1 refl
+inner_layer (Calling calling) = (quiet_called false calling.call calling.actuals.items).1
 inner_layer (Compound number statements) =
     inner_then (joined (map look_stmt (map (λ s. s.0) statements.items))) (_ ∷ []) (inner_joined statements.items) refl
 inner_layer (If number condition consequence None) =
@@ -236,19 +236,19 @@ inner_layer (If number condition consequence (Some other)) =
     inner_then (look_expr condition) (_ ∷ (look_stmt consequence.value.0 ++ (_ ∷ (look_stmt other.value.0 ++ (_ ∷ []))))) (quiet_expr condition).1
     (inner_then (look_stmt consequence.value.0) (_ ∷ (look_stmt other.value.0 ++ (_ ∷ []))) consequence.value.1
     (inner_then (look_stmt other.value.0) (_ ∷ []) other.value.1 refl))
-inner_layer (While number loop_number place condition body) =
-    inner_then (look_expr condition) (_ ∷ (look_stmt body.value.0 ++ (_ ∷ []))) (quiet_expr condition).1
+inner_layer (While head body) =
+    inner_then (look_expr head.condition) (_ ∷ (look_stmt body.value.0 ++ (_ ∷ []))) (quiet_expr head.condition).1
     (inner_then (look_stmt body.value.0) (_ ∷ []) body.value.1 refl)
-inner_layer (Repeat number loop_number place statements condition) =
-    inner_then (joined (map look_stmt (map (λ s. s.0) statements.items))) (_ ∷ (look_expr condition ++ (_ ∷ []))) (inner_joined statements.items)
-    (inner_then (look_expr condition) (_ ∷ []) (quiet_expr condition).1 refl)
-inner_layer (For number loop_number place control first first_fits direction last last_fits body) =
-    inner_then (look_expr first) (_ ∷ (look_expr last ++ (_ ∷ _ ∷ (look_stmt body.value.0 ++ (_ ∷ []))))) (quiet_expr first).1
-    (inner_then (look_expr last) (_ ∷ _ ∷ (look_stmt body.value.0 ++ (_ ∷ []))) (quiet_expr last).1
+inner_layer (Repeat head statements) =
+    inner_then (joined (map look_stmt (map (λ s. s.0) statements.items))) (_ ∷ (look_expr head.condition ++ (_ ∷ []))) (inner_joined statements.items)
+    (inner_then (look_expr head.condition) (_ ∷ []) (quiet_expr head.condition).1 refl)
+inner_layer (For head body) =
+    inner_then (look_expr head.first.value) (_ ∷ (look_expr head.last.value ++ (_ ∷ _ ∷ (look_stmt body.value.0 ++ (_ ∷ []))))) (quiet_expr head.first.value).1
+    (inner_then (look_expr head.last.value) (_ ∷ _ ∷ (look_stmt body.value.0 ++ (_ ∷ []))) (quiet_expr head.last.value).1
     (inner_then (look_stmt body.value.0) (_ ∷ []) body.value.1 refl))
-inner_layer (Case number site index constants arms) =
-    let inside = arms_look constants.items (map look_stmt (map (λ s. s.0) arms.items)) in
-    inner_then (look_expr index) (inside ++ (_ ∷ [])) (quiet_expr index).1 (inner_then inside (_ ∷ []) (inner_arms constants.items arms.items) refl)
+inner_layer (Case head arms) =
+    let inside = arms_look head.constants.items (map look_stmt (map (λ s. s.0) arms.items)) in
+    inner_then (look_expr head.index) (inside ++ (_ ∷ [])) (quiet_expr head.index).1 (inner_then inside (_ ∷ []) (inner_arms head.constants.items arms.items) refl)
 
 -- no block ends in a statement
 pub inner_stmt : (s : Stmt) → Inner (look_stmt s)

@@ -97,24 +97,24 @@ alternative_entries (Some entries) = entries.value
 
 abbrev pub statement_entries : Stmt-F (List ℕ) → List ℕ
 statement_entries (Empty number) = number ∷ []
-statement_entries (Assign number becomes target indexes fits value) =
-    number ∷ (access_entries target (index_entries indexes.items) ++ entries_of_expression value)
-statement_entries (Copy number becomes target indexes type_id value value_indexes) =
-    number
-    ∷ (access_entries target (index_entries indexes.items) ++ whole_entries value (index_entries value_indexes.items))
-statement_entries (Write number name parameters ends_line) = number ∷ flat_map entries_of_parameter parameters.items
-statement_entries (Calling call actuals) = call_entries call (map entries_of_passed actuals.items)
+statement_entries (Assign assignment) =
+    assignment.number ∷ (access_entries assignment.target (index_entries assignment.indexes.items) ++ entries_of_expression assignment.value)
+statement_entries (Copy copying) =
+    copying.number
+    ∷ (access_entries copying.target (index_entries copying.indexes.items) ++ whole_entries copying.value (index_entries copying.value_indexes.items))
+statement_entries (Write writing) = writing.number ∷ flat_map entries_of_parameter writing.parameters.items
+statement_entries (Calling calling) = call_entries calling.call (map entries_of_passed calling.actuals.items)
 statement_entries (Compound number statements) = number ∷ joined statements.items
 statement_entries (If number condition consequence alternative) =
     number ∷ (entries_of_expression condition ++ (consequence.value ++ alternative_entries alternative))
-statement_entries (While number loop_number place condition body) =
-    number ∷ (entries_of_expression condition ++ body.value)
-statement_entries (Repeat number loop_number place statements condition) =
-    number ∷ (joined statements.items ++ entries_of_expression condition)
-statement_entries (For number loop_number place control first first_fits direction last last_fits body) =
-    number ∷ (entries_of_expression first ++ (entries_of_expression last ++ body.value))
-statement_entries (Case number site index constants arms) =
-    number ∷ (entries_of_expression index ++ joined arms.items)
+statement_entries (While head body) =
+    head.number ∷ (entries_of_expression head.condition ++ body.value)
+statement_entries (Repeat head statements) =
+    head.number ∷ (joined statements.items ++ entries_of_expression head.condition)
+statement_entries (For head body) =
+    head.number ∷ (entries_of_expression head.first.value ++ (entries_of_expression head.last.value ++ body.value))
+statement_entries (Case head arms) =
+    head.number ∷ (entries_of_expression head.index ++ joined arms.items)
 
 -- the numbers of a statement's entries
 abbrev pub entries_of_statement : Stmt → List ℕ

@@ -225,34 +225,34 @@ arms_look (row ∷ rows) (arm ∷ arms) = Arm row.items ∷ (arm ++ arms_look ro
 
 abbrev pub statement_look : Stmt-F Look → Look
 statement_look (EmptyOf number) = Empty number ∷ []
-statement_look (AssignOf number becomes target indexes fits value) =
-    Assign number becomes
-    ∷ (look_access target indexes.items (Target target.root target.selectors.items (length indexes.items))
-    ++ (look_expr value ++ (Fits target.root target.selectors.items fits ∷ [])))
-statement_look (CopyOf number becomes target indexes type_id value value_indexes) =
-    Assign number becomes
-    ∷ (look_access target indexes.items
-    (WholeTarget target.root target.selectors.items (length indexes.items) type_id)
-    ++ (look_whole value value_indexes.items ++ (Copied type_id (source_of value) (length_of value) ∷ [])))
-statement_look (WriteOf number name parameters ends_line) =
-    Write number name ends_line ∷ (flat_map look_parameter parameters.items ++ (Ends ∷ []))
-statement_look (Calling call actuals) = look_call false call actuals.items
+statement_look (AssignOf assignment) =
+    Assign assignment.number assignment.becomes
+    ∷ (look_access assignment.target assignment.indexes.items (Target assignment.target.root assignment.target.selectors.items (length assignment.indexes.items))
+    ++ (look_expr assignment.value ++ (Fits assignment.target.root assignment.target.selectors.items assignment.fits ∷ [])))
+statement_look (CopyOf copying) =
+    Assign copying.number copying.becomes
+    ∷ (look_access copying.target copying.indexes.items
+    (WholeTarget copying.target.root copying.target.selectors.items (length copying.indexes.items) copying.type_id)
+    ++ (look_whole copying.value copying.value_indexes.items ++ (Copied copying.type_id (source_of copying.value) (length_of copying.value) ∷ [])))
+statement_look (WriteOf writing) =
+    Write writing.number writing.name writing.ends_line ∷ (flat_map look_parameter writing.parameters.items ++ (Ends ∷ []))
+statement_look (Calling calling) = look_call false calling.call calling.actuals.items
 statement_look (CompoundOf number statements) = Compound number ∷ (joined statements.items ++ (Ends ∷ []))
 statement_look (IfOf number condition consequence alternative) =
     If number
     ∷ (look_expr condition ++ (Then ∷ (consequence.value ++ (look_alternative alternative ++ (Ends ∷ [])))))
-statement_look (WhileOf number loop_number place condition body) =
-    While number loop_number place ∷ (look_expr condition ++ (Do ∷ (body.value ++ (Ends ∷ []))))
-statement_look (RepeatOf number loop_number place statements condition) =
-    Repeat number loop_number place ∷ (joined statements.items ++ (Until ∷ (look_expr condition ++ (Ends ∷ []))))
-statement_look (ForOf number loop_number place control first first_fits direction last last_fits body) =
-    For number loop_number place control direction
-    ∷ (look_expr first
-    ++ (Fits control [] first_fits
-    ∷ (look_expr last
-    ++ (Fits control [] last_fits ∷ Controls control ∷ (body.value ++ (ForEnds ∷ []))))))
-statement_look (CaseOf number site index constants arms) =
-    Case number site ∷ (look_expr index ++ (arms_look constants.items arms.items ++ (Ends ∷ [])))
+statement_look (WhileOf head body) =
+    While head.number head.loop_number head.place ∷ (look_expr head.condition ++ (Do ∷ (body.value ++ (Ends ∷ []))))
+statement_look (RepeatOf head statements) =
+    Repeat head.number head.loop_number head.place ∷ (joined statements.items ++ (Until ∷ (look_expr head.condition ++ (Ends ∷ []))))
+statement_look (ForOf head body) =
+    For head.number head.loop_number head.place head.control head.direction
+    ∷ (look_expr head.first.value
+    ++ (Fits head.control [] head.first.fits
+    ∷ (look_expr head.last.value
+    ++ (Fits head.control [] head.last.fits ∷ Controls head.control ∷ (body.value ++ (ForEnds ∷ []))))))
+statement_look (CaseOf head arms) =
+    Case head.number head.site ∷ (look_expr head.index ++ (arms_look head.constants.items arms.items ++ (Ends ∷ [])))
 
 -- how a statement looks
 abbrev pub look_stmt : Stmt → Look

@@ -46,19 +46,19 @@ controlled control inside = record { loops = inside.loops; controls = control �
 
 abbrev pub statement_inside : Stmt-F Inside → Inside
 statement_inside (Empty number) = no_loop
-statement_inside (Assign number becomes target indexes fits value) = no_loop
-statement_inside (Copy number becomes target indexes type_id value value_indexes) = no_loop
-statement_inside (Write number name parameters ends_line) = no_loop
-statement_inside (Call call actuals) = no_loop
+statement_inside (Assign assignment) = no_loop
+statement_inside (Copy copying) = no_loop
+statement_inside (Write writing) = no_loop
+statement_inside (Call calling) = no_loop
 statement_inside (Compound number statements) = all_inside statements.items
 statement_inside (If number condition consequence alternative) =
     both_inside consequence.value (alternative_inside alternative)
-statement_inside (While number loop_number place condition body) = looped loop_number body.value
-statement_inside (Repeat number loop_number place statements condition) =
-    looped loop_number (all_inside statements.items)
-statement_inside (For number loop_number place control first first_fits direction last last_fits body) =
-    controlled control (looped loop_number body.value)
-statement_inside (Case number site index constants arms) = all_inside arms.items
+statement_inside (While head body) = looped head.loop_number body.value
+statement_inside (Repeat head statements) =
+    looped head.loop_number (all_inside statements.items)
+statement_inside (For head body) =
+    controlled head.control (looped head.loop_number body.value)
+statement_inside (Case head arms) = all_inside arms.items
 
 abbrev pub inside_of : Stmt → Inside
 inside_of = fold-Stmt Inside statement_inside

@@ -257,7 +257,7 @@ module _ (outline : Outline) (block : ℕ) where
 
   -- to a structured value of a type
   abbrev pub leads_to_whole : TypeId → ℕ → List Selector → ℕ → Bool
-  leads_to_whole type_id = leads_to (λ id. is_same id type_id && not (is_ordinal outline.types id))
+  leads_to_whole type_id = leads_to (λ id. is_same id type_id && is_structured outline.types id)
 
   -- a structured value of a type, of so many cells
   abbrev pub is_value_of : TypeId → ℕ → Bool
@@ -402,33 +402,33 @@ module _ (outline : Outline) (block : ℕ) where
 
   abbrev pub stmt_is_well_formed : Stmt-F Bool → Bool
   stmt_is_well_formed (Empty number) = true
-  stmt_is_well_formed (Assign number becomes target indexes fits value) =
-      are_well_formed indexes.items
-      && (leads_to_ordinal target.root target.selectors.items (length indexes.items)
-      && (is_well_formed_expr value && fits_target fits target.root target.selectors.items))
-  stmt_is_well_formed (Copy number becomes target indexes type_id value value_indexes) =
-      are_well_formed indexes.items
-      && (leads_to_whole type_id target.root target.selectors.items (length indexes.items)
-      && (is_well_formed_value value value_indexes.items
-      && may_copy type_id (source_of value) (length_of value)))
-  stmt_is_well_formed (Write number name parameters ends_line) =
-      all_hold (map is_well_formed_parameter parameters.items)
-  stmt_is_well_formed (Calling call actuals) =
-      is_well_formed_call false call (map is_well_formed_passed actuals.items)
+  stmt_is_well_formed (Assign assignment) =
+      are_well_formed assignment.indexes.items
+      && (leads_to_ordinal assignment.target.root assignment.target.selectors.items (length assignment.indexes.items)
+      && (is_well_formed_expr assignment.value && fits_target assignment.fits assignment.target.root assignment.target.selectors.items))
+  stmt_is_well_formed (Copy copying) =
+      are_well_formed copying.indexes.items
+      && (leads_to_whole copying.type_id copying.target.root copying.target.selectors.items (length copying.indexes.items)
+      && (is_well_formed_value copying.value copying.value_indexes.items
+      && may_copy copying.type_id (source_of copying.value) (length_of copying.value)))
+  stmt_is_well_formed (Write writing) =
+      all_hold (map is_well_formed_parameter writing.parameters.items)
+  stmt_is_well_formed (Calling calling) =
+      is_well_formed_call false calling.call (map is_well_formed_passed calling.actuals.items)
   stmt_is_well_formed (Compound number statements) = all_hold statements.items
   stmt_is_well_formed (If number condition consequence alternative) =
       is_well_formed_expr condition && (consequence.value && alternative_is_well_formed alternative)
-  stmt_is_well_formed (While number loop_number place condition body) = is_well_formed_expr condition && body.value
-  stmt_is_well_formed (Repeat number loop_number place statements condition) =
-      all_hold statements.items && is_well_formed_expr condition
-  stmt_is_well_formed (For number loop_number place control first first_fits direction last last_fits body) =
-      is_control control
-      && (is_well_formed_expr first
-      && (fits_target first_fits control []
-      && (is_well_formed_expr last && (fits_target last_fits control [] && body.value))))
-  stmt_is_well_formed (Case number site index constants arms) =
-      nat_lt site outline.sites
-      && (is_well_formed_expr index && (list_all are_whole constants.items && all_hold arms.items))
+  stmt_is_well_formed (While head body) = is_well_formed_expr head.condition && body.value
+  stmt_is_well_formed (Repeat head statements) =
+      all_hold statements.items && is_well_formed_expr head.condition
+  stmt_is_well_formed (For head body) =
+      is_control head.control
+      && (is_well_formed_expr head.first.value
+      && (fits_target head.first.fits head.control []
+      && (is_well_formed_expr head.last.value && (fits_target head.last.fits head.control [] && body.value))))
+  stmt_is_well_formed (Case head arms) =
+      nat_lt head.site outline.sites
+      && (is_well_formed_expr head.index && (list_all are_whole head.constants.items && all_hold arms.items))
 
   -- a statement is well formed
   abbrev pub is_well_formed_stmt : Stmt → Bool

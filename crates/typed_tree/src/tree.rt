@@ -129,39 +129,10 @@ pub enum Stmt {
     Empty {
         number: u32,
     },
-    /// The target, an ordinal, is accessed, then comes the value, then its test (subrange), with the place of `:=`.
-    Assign {
-        number: u32,
-        becomes: Place,
-        target: Access,
-        indexes: Vec<Expr>,
-        fits: RangeTest,
-        value: Expr,
-    },
-    /// The target, of a structured type, is accessed, and then comes the value, whose components are copied in their
-    /// order; with the place of `:=`.
-    Copy {
-        number: u32,
-        becomes: Place,
-        target: Access,
-        indexes: Vec<Expr>,
-        type_id: TypeId,
-        value: Whole,
-        value_indexes: Vec<Expr>,
-    },
-    /// A write or writeln, with the place of its name: each parameter is written before the next is evaluated; a
-    /// writeln ends the line behind them.
-    Write {
-        number: u32,
-        name: Place,
-        parameters: Vec<WriteParameter>,
-        ends_line: bool,
-    },
-    /// A procedure is called: its actual parameters are passed from left to right, and then its block is executed.
-    Call {
-        call: Call,
-        actuals: Vec<Passed>,
-    },
+    Assign(Assignment),
+    Copy(Copying),
+    Write(Writing),
+    Call(ProcedureCall),
     Compound {
         number: u32,
         statements: Vec<Stmt>,
@@ -173,46 +144,114 @@ pub enum Stmt {
         consequence: Box<Stmt>,
         alternative: Option<Box<Stmt>>,
     },
-    /// The condition is tested before each execution of the body. With the place of the word `while`.
+    /// The condition is tested before each execution of the body.
     While {
-        number: u32,
-        loop_number: u32,
-        place: Place,
-        condition: Expr,
+        head: LoopHead,
         body: Box<Stmt>,
     },
-    /// The condition is tested behind each execution of the statements. With the place of the word `repeat`.
+    /// The condition is tested behind each execution of the statements.
     Repeat {
-        number: u32,
-        loop_number: u32,
-        place: Place,
+        head: LoopHead,
         statements: Vec<Stmt>,
-        condition: Expr,
     },
-    /// Both bounds are evaluated once; where the body is executed at all, the first and then the last is tested. With
-    /// the place of the word `for`.
     For {
-        number: u32,
-        loop_number: u32,
-        place: Place,
-        /// The root number of the control variable.
-        control: u32,
-        first: Expr,
-        first_fits: RangeTest,
-        direction: Direction,
-        last: Expr,
-        last_fits: RangeTest,
+        head: ForHead,
         body: Box<Stmt>,
     },
-    /// The arm is executed before which the value of the index stands among the constants: the n-th row of constants
-    /// stands before the n-th arm. Where there is none it is an error, at the site.
+    /// The n-th row of constants of the head stands before the n-th arm.
     Case {
-        number: u32,
-        site: u32,
-        index: Expr,
-        constants: Vec<Vec<i32>>,
+        head: CaseHead,
         arms: Vec<Stmt>,
     },
+}
+
+/// An assignment to an ordinal (6.8.2.2): the target is accessed, then comes the value, then its test (subrange).
+#[derive(Drop)]
+pub struct Assignment {
+    pub number: u32,
+    /// The place of `:=`.
+    pub becomes: Place,
+    pub target: Access,
+    pub indexes: Vec<Expr>,
+    pub fits: RangeTest,
+    pub value: Expr,
+}
+
+/// An assignment of a structured type (6.8.2.2): the target is accessed, and then comes the value, whose components are
+/// copied in their order.
+#[derive(Drop)]
+pub struct Copying {
+    pub number: u32,
+    /// The place of `:=`.
+    pub becomes: Place,
+    pub target: Access,
+    pub indexes: Vec<Expr>,
+    /// The type of the target.
+    pub type_id: TypeId,
+    pub value: Whole,
+    pub value_indexes: Vec<Expr>,
+}
+
+/// A write or writeln (6.9.3, 6.9.4): each parameter is written before the next is evaluated; a writeln ends the line
+/// behind them.
+#[derive(Drop)]
+pub struct Writing {
+    pub number: u32,
+    /// The place of its name.
+    pub name: Place,
+    pub parameters: Vec<WriteParameter>,
+    pub ends_line: bool,
+}
+
+/// A procedure is called (6.8.2.3): its actual parameters are passed from left to right, and then its block is
+/// executed.
+#[derive(Drop)]
+pub struct ProcedureCall {
+    pub call: Call,
+    pub actuals: Vec<Passed>,
+}
+
+/// What a while or a repeat has beside statements (6.8.3.7, 6.8.3.8).
+#[derive(Drop)]
+pub struct LoopHead {
+    pub number: u32,
+    pub loop_number: u32,
+    /// The place of the word `while` or `repeat`.
+    pub place: Place,
+    /// A Boolean.
+    pub condition: Expr,
+}
+
+/// What a for has beside its statement (6.8.3.9): both bounds are evaluated once; where the body is executed at all,
+/// the first and then the last is tested.
+#[derive(Drop)]
+pub struct ForHead {
+    pub number: u32,
+    pub loop_number: u32,
+    /// The place of the word `for`.
+    pub place: Place,
+    /// The root number of the control variable.
+    pub control: u32,
+    pub first: Fitted,
+    pub direction: Direction,
+    pub last: Fitted,
+}
+
+/// A value, and the test that it fits a variable's type (subrange).
+#[derive(Drop)]
+pub struct Fitted {
+    pub value: Expr,
+    pub fits: RangeTest,
+}
+
+/// What a case has beside its arms (6.8.3.5): the arm is executed before which the value of the index stands among the
+/// constants. Where there is none it is an error, at the site.
+#[derive(Drop)]
+pub struct CaseHead {
+    pub number: u32,
+    pub site: u32,
+    pub index: Expr,
+    pub constants: Vec<Vec<i32>>,
 }
 
 /// The way of a control variable (6.8.3.9).

@@ -4,7 +4,7 @@
 -- denoter denotes.
 use Rattle.std.specs.Prelude.{◌≡◌, ℕ, ◌+◌, ◌*◌, nat_eq, nat_lt, ℤ, pos, negsuc, neg_ℤ, ◌+ℤ◌, ◌-ℤ◌, int_lt}
 use Rattle.std.specs.Prelude.{List, [], ◌∷◌, ◌++◌, length, fold, sum_by, slice_get, take, bytes_eq}
-use Rattle.std.specs.Prelude.{Bool, true, false, ◌&&◌, ◌||◌, if◌then◌else◌, Option, Some, None, is_some, ok_or}
+use Rattle.std.specs.Prelude.{Bool, true, false, ◌&&◌, ◌||◌, if◌then◌else◌, Option, Some, None, is_some, ok_or, option_map}
 use Rattle.std.specs.Prelude.{Result, Ok, Err}
 use Rattle.std.specs.Option.{option_and_then}
 use Rattle.std.specs.Ordering.{int_eq}
@@ -13,6 +13,8 @@ use Rattle.types.specs.Forms.{Form}
 use Rattle.types.specs.Forms.{Integer, Boolean, Char, Enumeration, Subrange, Array, Record}
 use Rattle.types.specs.declared.form.TypeId.{TypeId}
 use Rattle.types.specs.declared.form.OrdinalRange.{OrdinalRange}
+use Rattle.types.specs.declared.form.TypeKind.{TypeKind}
+use Rattle.types.specs.declared.form.TypeKind.TheVariants.{Ordinal, Structured}
 use Rattle.types.specs.declared.form.RecordField.{RecordField}
 use Rattle.types.specs.declared.form.ArrayElement.{ArrayElement}
 use Rattle.types.specs.declared.refusal.TypeRefusal.{TypeRefusal}
@@ -51,21 +53,33 @@ form_at types id = slice_get types id.index
 abbrev pub is_same : TypeId → TypeId → Bool
 is_same first second = nat_eq first.index second.index
 
--- the values from the first to the last
-abbrev pub range : ℤ → ℤ → Option OrdinalRange
-range first last = Some (record { first = first; last = last })
+-- the kind of an ordinal type with the values from the first to the last
+abbrev pub ordinal : ℤ → ℤ → TypeKind
+ordinal first last = Ordinal (record { first = first; last = last })
 
--- the first and the last value of an ordinal form (6.4.2)
-abbrev pub form_range : Form → Option OrdinalRange
-form_range Integer = range (neg_ℤ (pos 2147483647)) (pos 2147483647)
-form_range Boolean = range (pos 0) (pos 1)
-form_range Char = range (pos 0) (pos 127)
-form_range (Enumeration last) = range (pos 0) last
-form_range (Subrange host first last) = range first last
-form_range (Array packed index element) = None
-form_range (Record packed fields) = None
+-- the kind of a form (6.4.1): ordinal (6.4.2), or structured, an array or a record (6.4.3)
+abbrev pub form_kind : Form → TypeKind
+form_kind Integer = ordinal (neg_ℤ (pos 2147483647)) (pos 2147483647)
+form_kind Boolean = ordinal (pos 0) (pos 1)
+form_kind Char = ordinal (pos 0) (pos 127)
+form_kind (Enumeration last) = ordinal (pos 0) last
+form_kind (Subrange host first last) = ordinal first last
+form_kind (Array packed index element) = Structured
+form_kind (Record packed fields) = Structured
+
+-- the kind of a type of a table
+abbrev pub kind_of : List Form → TypeId → Option TypeKind
+kind_of types id = option_map form_kind (form_at types id)
 
 -- the first and the last value of an ordinal type
+abbrev pub kind_range : TypeKind → Option OrdinalRange
+kind_range (Ordinal range) = Some range
+kind_range Structured = None
+
+abbrev pub form_range : Form → Option OrdinalRange
+form_range form = kind_range (form_kind form)
+
+-- the same of a type of a table
 abbrev pub range_of : List Form → TypeId → Option OrdinalRange
 range_of types id = option_and_then form_range (form_at types id)
 
@@ -73,14 +87,13 @@ range_of types id = option_and_then form_range (form_at types id)
 abbrev pub is_ordinal : List Form → TypeId → Bool
 is_ordinal types id = is_some (range_of types id)
 
-abbrev pub has_components : Option Form → Bool
-has_components (Some (Array packed index element)) = true
-has_components (Some (Record packed fields)) = true
-has_components form = false
+abbrev pub is_structured_kind : Option TypeKind → Bool
+is_structured_kind (Some Structured) = true
+is_structured_kind other = false
 
--- a type is structured: an array or a record
+-- a type is structured
 abbrev pub is_structured : List Form → TypeId → Bool
-is_structured types id = has_components (form_at types id)
+is_structured types id = is_structured_kind (kind_of types id)
 
 abbrev pub host_in : TypeId → Option Form → TypeId
 host_in id (Some (Subrange host first last)) = host

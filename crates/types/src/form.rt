@@ -1,6 +1,7 @@
 ghost use Rattle.std.specs.Prelude.{◌≡◌, ◌<◌, ◌+ℤ◌, pos};
 ghost use Rattle.types.specs.Forms.{form_of};
-ghost use Rattle.types.specs.Types.{form_range, is_same, values_in};
+ghost use Rattle.types.specs.declared.form.TypeKind.TheVariants.{Ordinal};
+ghost use Rattle.types.specs.Types.{form_kind, form_range, is_same, kind_range, values_in};
 
 /// What a type is made of (ISO 7185:1990, 6.4), its parts by their numbers in a table.
 #[derive(Drop)]
@@ -35,29 +36,52 @@ pub enum TypeForm {
 }
 
 impl TypeForm {
+    /// The kind of the type.
+    pub fn kind(&self) -> TypeKind
+        ensures { result ≡ form_kind (form_of self.now) }
+    {
+        match self {
+            TypeForm::Integer => TypeKind::ordinal(-MAXINT, MAXINT),
+            TypeForm::Boolean => TypeKind::ordinal(0, 1),
+            TypeForm::Char => TypeKind::ordinal(0, 127),
+            TypeForm::Enumeration { last } => TypeKind::ordinal(0, *last),
+            TypeForm::Subrange { first, last, .. } => TypeKind::ordinal(*first, *last),
+            TypeForm::Array { .. } | TypeForm::Record { .. } => TypeKind::Structured,
+        }
+    }
+
     /// The values of an ordinal type (6.4.2); none of another.
     pub fn range(&self) -> Option<OrdinalRange>
         ensures { result ≡ form_range (form_of self.now) }
     {
+        self.kind().range()
+    }
+}
+
+/// The kind of a type (6.4.1), by which all that asks for the one or the other goes.
+#[derive(Clone, Copy)]
+pub enum TypeKind {
+    /// An ordinal type (6.4.2), with its values.
+    Ordinal(OrdinalRange),
+    /// An array or a record (6.4.3).
+    Structured,
+}
+
+impl TypeKind {
+    /// The kind of an ordinal type with these values.
+    fn ordinal(first: i32, last: i32) -> TypeKind
+        ensures { result ≡ Ordinal (record { first = first; last = last }) }
+    {
+        TypeKind::Ordinal(OrdinalRange { first, last })
+    }
+
+    /// The values of an ordinal type; none of another.
+    pub fn range(self) -> Option<OrdinalRange>
+        ensures { result ≡ kind_range self }
+    {
         match self {
-            TypeForm::Integer => Some(OrdinalRange {
-                first: -MAXINT,
-                last: MAXINT,
-            }),
-            TypeForm::Boolean => Some(OrdinalRange { first: 0, last: 1 }),
-            TypeForm::Char => Some(OrdinalRange {
-                first: 0,
-                last: 127,
-            }),
-            TypeForm::Enumeration { last } => Some(OrdinalRange {
-                first: 0,
-                last: *last,
-            }),
-            TypeForm::Subrange { first, last, .. } => Some(OrdinalRange {
-                first: *first,
-                last: *last,
-            }),
-            TypeForm::Array { .. } | TypeForm::Record { .. } => None,
+            TypeKind::Ordinal(range) => Some(range),
+            TypeKind::Structured => None,
         }
     }
 }

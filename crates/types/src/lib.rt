@@ -7,6 +7,8 @@ pub mod laws;
 mod refusal;
 mod table;
 
-pub use form::{ArrayElement, Field, MAXINT, OrdinalRange, RecordField, Step, TypeForm, TypeId};
+pub use form::{
+    ArrayElement, Field, MAXINT, OrdinalRange, RecordField, Step, TypeForm, TypeId, TypeKind,
+};
 pub use refusal::TypeRefusal;
 pub use table::{MOST_CELLS, TypeTable};

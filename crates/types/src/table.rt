@@ -6,7 +6,7 @@ ghost use Rattle.types.specs.Forms.{Form, field_form, form_of};
 ghost use Rattle.types.specs.Kept.{counted_of, forms_of};
 ghost use Rattle.types.specs.declared.refusal.TypeRefusal.TheVariants.{Memory};
 
-use crate::form::{ArrayElement, Field, OrdinalRange, RecordField, TypeForm, TypeId};
+use crate::form::{ArrayElement, Field, OrdinalRange, RecordField, TypeForm, TypeId, TypeKind};
 use crate::refusal::TypeRefusal;
 use std::alloc::{AllocError, Global};
 use std::marker::Model;
@@ -37,7 +37,7 @@ impl Model for TypeTable {
 
 impl TypeTable {
     ghost use Rattle.types.specs.Types.{cells_of, element_of, field_of, host_of, is_assignable, is_compatible};
-    ghost use Rattle.types.specs.Types.{is_ordinal, is_string, is_structured, range_of, string_length};
+    ghost use Rattle.types.specs.Types.{is_ordinal, is_string, is_structured, kind_of, range_of, string_length};
 
     /// The type integer in each table.
     pub const INTEGER: TypeId = TypeId { index: 0 };
@@ -107,6 +107,13 @@ impl TypeTable {
         self.compatible(target, value)
     }
 
+    /// The kind of a type (6.4.1).
+    pub fn kind(&self, id: TypeId) -> Option<TypeKind>
+        ensures { result ≡ kind_of self.now id }
+    {
+        Some(self.form(id)?.kind())
+    }
+
     /// The values of an ordinal type (6.4.2); none of another.
     pub fn range(&self, id: TypeId) -> Option<OrdinalRange>
         ensures { result ≡ range_of self.now id }
@@ -125,10 +132,7 @@ impl TypeTable {
     pub fn is_structured(&self, id: TypeId) -> bool
         ensures { result ≡ is_structured self.now id }
     {
-        matches!(
-            self.form(id),
-            Some(TypeForm::Array { .. } | TypeForm::Record { .. })
-        )
+        matches!(self.kind(id), Some(TypeKind::Structured))
     }
 
     /// How many components a string type has; none, where the type is no string (6.4.3.2).
