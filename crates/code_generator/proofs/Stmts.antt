@@ -906,14 +906,14 @@ module _ (x : Stmt-F Stmt) where
 
 stmt_layer : (y : Stmt-F ((s : Stmt) × StmtRuns s)) → StmtRuns (roll-Stmt (map-Stmt ((s : Stmt) × StmtRuns s) Stmt (λ s. s.0) y))
 stmt_layer (Empty number) = rolled_stmt (Empty number) (λ g known few. empty_runs g known number)
-stmt_layer (Assign number becomes target indexes fits v) =
-    rolled_stmt (Assign number becomes target indexes fits v) (λ g known few. assign_runs g (known g refl) number target fits v indexes.items)
-stmt_layer (Copy number becomes target indexes type_id v value_indexes) =
-    rolled_stmt (Copy number becomes target indexes type_id v value_indexes)
-    (λ g known few. copy_runs g (known g refl) number target type_id v indexes.items value_indexes.items)
-stmt_layer (Write number name parameters ends_line) =
-    rolled_stmt (Write number name parameters ends_line) (λ g known few. write_runs g (known g refl) number parameters.items ends_line)
-stmt_layer (Calling call actuals) = rolled_stmt (Calling call actuals) (λ g known few. calling_runs g (known g refl) call actuals.items)
+stmt_layer (Assign assignment) =
+    rolled_stmt (Assign assignment) (λ g known few. assign_runs g (known g refl) assignment.number assignment.target assignment.fits assignment.value assignment.indexes.items)
+stmt_layer (Copy copying) =
+    rolled_stmt (Copy copying)
+    (λ g known few. copy_runs g (known g refl) copying.number copying.target copying.type_id copying.value copying.indexes.items copying.value_indexes.items)
+stmt_layer (Write writing) =
+    rolled_stmt (Write writing) (λ g known few. write_runs g (known g refl) writing.number writing.parameters.items writing.ends_line)
+stmt_layer (Calling calling) = rolled_stmt (Calling calling) (λ g known few. calling_runs g (known g refl) calling.call calling.actuals.items)
 stmt_layer (Compound number statements) =
     rolled_stmt (map-Stmt ((s : Stmt) × StmtRuns s) Stmt (λ s. s.0) (Compound number statements))
     (λ g known few. compound_runs g known number statements.items few)
@@ -923,18 +923,18 @@ stmt_layer (If number condition consequence None) =
 stmt_layer (If number condition consequence (Some alternative)) =
     rolled_stmt (map-Stmt ((s : Stmt) × StmtRuns s) Stmt (λ s. s.0) (If number condition consequence (Some alternative)))
     (λ g known few. if_else_runs g known number condition consequence.value alternative.value few)
-stmt_layer (While number loop_number word condition body) =
-    rolled_stmt (map-Stmt ((s : Stmt) × StmtRuns s) Stmt (λ s. s.0) (While number loop_number word condition body))
-    (λ g known few. while_runs g known number condition body.value few)
-stmt_layer (Repeat number loop_number word statements condition) =
-    rolled_stmt (map-Stmt ((s : Stmt) × StmtRuns s) Stmt (λ s. s.0) (Repeat number loop_number word statements condition))
-    (λ g known few. repeat_runs g known number condition statements.items few)
-stmt_layer (For number loop_number word control first first_fits way last last_fits body) =
-    rolled_stmt (map-Stmt ((s : Stmt) × StmtRuns s) Stmt (λ s. s.0) (For number loop_number word control first first_fits way last last_fits body))
-    (λ g known few. for_runs g known number control first first_fits way last last_fits body.value few)
-stmt_layer (Case number site index constants arms) =
-    rolled_stmt (map-Stmt ((s : Stmt) × StmtRuns s) Stmt (λ s. s.0) (Case number site index constants arms))
-    (λ g known few. case_runs g known number site index constants.items arms.items _ few)
+stmt_layer (While head body) =
+    rolled_stmt (map-Stmt ((s : Stmt) × StmtRuns s) Stmt (λ s. s.0) (While head body))
+    (λ g known few. while_runs g known head.number head.condition body.value few)
+stmt_layer (Repeat head statements) =
+    rolled_stmt (map-Stmt ((s : Stmt) × StmtRuns s) Stmt (λ s. s.0) (Repeat head statements))
+    (λ g known few. repeat_runs g known head.number head.condition statements.items few)
+stmt_layer (For head body) =
+    rolled_stmt (map-Stmt ((s : Stmt) × StmtRuns s) Stmt (λ s. s.0) (For head body))
+    (λ g known few. for_runs g known head.number head.control head.first.value head.first.fits head.direction head.last.value head.last.fits body.value few)
+stmt_layer (Case head arms) =
+    rolled_stmt (map-Stmt ((s : Stmt) × StmtRuns s) Stmt (λ s. s.0) (Case head arms))
+    (λ g known few. case_runs g known head.number head.site head.index head.constants.items arms.items _ few)
 
 -- the code of a statement keeps store and cells alike, or stops as the statement does
 pub stmt_runs : (s : Stmt) → StmtRuns s

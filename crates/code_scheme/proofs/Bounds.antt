@@ -478,18 +478,18 @@ arms_in_bounds scope homes out (row ∷ rows) (arm ∷ arms) place =
 
 stmt_layer : (y : Stmt-F ProvedStmt) → StmtInBounds (roll-Stmt (bare_stmt y))
 stmt_layer (Empty number) = rolled_stmt (Empty number) (λ scope homes place. refl)
-stmt_layer (Assign number becomes target indexes fits value) =
-    rolled_stmt (Assign number becomes target indexes fits value) (λ scope homes place. assign_in_bounds scope homes target indexes.items fits value)
-stmt_layer (Copy number becomes target indexes type_id value value_indexes) =
-    rolled_stmt (Copy number becomes target indexes type_id value value_indexes)
-    (λ scope homes place. copy_in_bounds scope homes target indexes.items value value_indexes.items)
-stmt_layer (Write number name parameters ends_line) =
-    rolled_stmt (Write number name parameters ends_line) (λ scope homes place.
-    append_in_bounds (flat_map (parameter_code scope) parameters.items) (line_end_code ends_line)
-    (parameters_in_bounds scope homes parameters.items) (line_end_in_bounds ends_line))
-stmt_layer (Calling call actuals) =
-    rolled_stmt (Calling call actuals) (λ scope homes place.
-    call_in_bounds scope homes call (map (passed_code scope) actuals.items) (all_passed scope homes actuals.items))
+stmt_layer (Assign assignment) =
+    rolled_stmt (Assign assignment) (λ scope homes place. assign_in_bounds scope homes assignment.target assignment.indexes.items assignment.fits assignment.value)
+stmt_layer (Copy copying) =
+    rolled_stmt (Copy copying)
+    (λ scope homes place. copy_in_bounds scope homes copying.target copying.indexes.items copying.value copying.value_indexes.items)
+stmt_layer (Write writing) =
+    rolled_stmt (Write writing) (λ scope homes place.
+    append_in_bounds (flat_map (parameter_code scope) writing.parameters.items) (line_end_code writing.ends_line)
+    (parameters_in_bounds scope homes writing.parameters.items) (line_end_in_bounds writing.ends_line))
+stmt_layer (Calling calling) =
+    rolled_stmt (Calling calling) (λ scope homes place.
+    call_in_bounds scope homes calling.call (map (passed_code scope) calling.actuals.items) (all_passed scope homes calling.actuals.items))
 stmt_layer (Compound number statements) =
     rolled_stmt (bare_stmt (Compound number statements)) (λ scope homes place. stmts_in_bounds scope homes statements.items place)
 stmt_layer (If number condition consequence None) =
@@ -502,37 +502,37 @@ stmt_layer (If number condition consequence (Some alternative)) =
     let no = yes + length (stmt_code consequence.value.0 scope yes) + 1 in
     append_in_bounds (expr_code scope condition) _ (expr_in_bounds scope homes condition)
     (append_in_bounds (stmt_code consequence.value.0 scope yes) _ (consequence.value.1 scope homes yes) (alternative.value.1 scope homes no)))
-stmt_layer (While number loop_number word condition body) =
-    rolled_stmt (bare_stmt (While number loop_number word condition body)) (λ scope homes place.
-    let inside = place + length (expr_code scope condition) + 1 in
-    append_in_bounds (expr_code scope condition) _ (expr_in_bounds scope homes condition)
+stmt_layer (While head body) =
+    rolled_stmt (bare_stmt (While head body)) (λ scope homes place.
+    let inside = place + length (expr_code scope head.condition) + 1 in
+    append_in_bounds (expr_code scope head.condition) _ (expr_in_bounds scope homes head.condition)
     (append_in_bounds (stmt_code body.value.0 scope inside) (instr.Jump place ∷ []) (body.value.1 scope homes inside) refl))
-stmt_layer (Repeat number loop_number word statements condition) =
-    rolled_stmt (bare_stmt (Repeat number loop_number word statements condition)) (λ scope homes place.
+stmt_layer (Repeat head statements) =
+    rolled_stmt (bare_stmt (Repeat head statements)) (λ scope homes place.
     append_in_bounds (placed (map (λ c. c scope) (map stmt_code (map (λ s. s.0) statements.items))) place) _
     (stmts_in_bounds scope homes statements.items place)
-    (append_in_bounds (expr_code scope condition) (instr.JumpIfFalse place ∷ []) (expr_in_bounds scope homes condition) refl))
-stmt_layer (For number loop_number word control first first_fits way last last_fits body) =
-    rolled_stmt (bare_stmt (For number loop_number word control first first_fits way last last_fits body)) (λ scope homes place.
-    let head = place + length (expr_code scope first) + length (expr_code scope last) + 8 in
+    (append_in_bounds (expr_code scope head.condition) (instr.JumpIfFalse place ∷ []) (expr_in_bounds scope homes head.condition) refl))
+stmt_layer (For head body) =
+    rolled_stmt (bare_stmt (For head body)) (λ scope homes place.
+    let head = place + length (expr_code scope head.first.value) + length (expr_code scope head.last.value) + 8 in
     let inside = stmt_code body.value.0 (holding 2 scope) (head + 2) in
     let out = head + 2 + length inside + 9 in
-    let behind = for_next scope way head out ++ for_end scope control in
-    let round = for_begin scope control ++ (inside ++ behind) in
-    append_in_bounds (expr_code scope first) _ (expr_in_bounds scope homes first)
-    (append_in_bounds (expr_code scope last) _ (expr_in_bounds scope homes last)
-    (append_in_bounds (for_entry scope first_fits way last_fits out) round (entry_in_bounds scope first_fits way last_fits out)
-    (append_in_bounds (for_begin scope control) (inside ++ behind) (begin_in_bounds scope homes control)
+    let behind = for_next scope head.direction head out ++ for_end scope head.control in
+    let round = for_begin scope head.control ++ (inside ++ behind) in
+    append_in_bounds (expr_code scope head.first.value) _ (expr_in_bounds scope homes head.first.value)
+    (append_in_bounds (expr_code scope head.last.value) _ (expr_in_bounds scope homes head.last.value)
+    (append_in_bounds (for_entry scope head.first.fits head.direction head.last.fits out) round (entry_in_bounds scope head.first.fits head.direction head.last.fits out)
+    (append_in_bounds (for_begin scope head.control) (inside ++ behind) (begin_in_bounds scope homes head.control)
     (append_in_bounds inside behind (body.value.1 (holding 2 scope) homes (head + 2))
-    (append_in_bounds (for_next scope way head out) (for_end scope control) (next_in_bounds scope way head out) (end_in_bounds scope homes control)))))))
-stmt_layer (Case number site index constants arms) =
-    rolled_stmt (bare_stmt (Case number site index constants arms)) (λ scope homes place.
+    (append_in_bounds (for_next scope head.direction head out) (for_end scope head.control) (next_in_bounds scope head.direction head out) (end_in_bounds scope homes head.control)))))))
+stmt_layer (Case head arms) =
+    rolled_stmt (bare_stmt (Case head arms)) (λ scope homes place.
     let codes = map stmt_code (map (λ (s : ProvedStmt). s.0) arms.items) in
-    let first = place + length (expr_code scope index) in
-    let out = first + length (arms_code scope 0 constants.items codes first) + 1 in
-    append_in_bounds (expr_code scope index) _ (expr_in_bounds scope homes index)
-    (append_in_bounds (arms_code scope out constants.items codes first) (instr.Fail site ∷ instr.JumpIfFalse (out + 1) ∷ [])
-    (arms_in_bounds scope homes out constants.items arms.items first) refl))
+    let first = place + length (expr_code scope head.index) in
+    let out = first + length (arms_code scope 0 head.constants.items codes first) + 1 in
+    append_in_bounds (expr_code scope head.index) _ (expr_in_bounds scope homes head.index)
+    (append_in_bounds (arms_code scope out head.constants.items codes first) (instr.Fail head.site ∷ instr.JumpIfFalse (out + 1) ∷ [])
+    (arms_in_bounds scope homes out head.constants.items arms.items first) refl))
 
 stmt_in_bounds : (s : Stmt) → StmtInBounds s
 stmt_in_bounds = ind-Stmt StmtInBounds (λ x y is. subst (λ z. StmtInBounds (roll-Stmt z)) is (stmt_layer y))

@@ -450,14 +450,14 @@ arms_alike s t alike (row ∷ rows) (x ∷ xs) = omega (arith, x.1 s t alike, ar
 
 stmt_layer : (y : Stmt-F HereStmt) → StmtAlike (roll-Stmt (bare_stmt y))
 stmt_layer (Empty number) = rolled_stmt (Empty number) (λ s t alike. refl)
-stmt_layer (Assign number becomes target indexes fits value) =
-    rolled_stmt (Assign number becomes target indexes fits value) (λ s t alike. assign_alike s t alike target indexes.items fits value)
-stmt_layer (Copy number becomes target indexes type_id value value_indexes) =
-    rolled_stmt (Copy number becomes target indexes type_id value value_indexes) (λ s t alike.
-    copy_alike s t alike target indexes.items value value_indexes.items)
-stmt_layer (Write number name parameters ends_line) =
-    rolled_stmt (Write number name parameters ends_line) (λ s t alike. write_alike s t alike parameters.items ends_line)
-stmt_layer (Calling call actuals) = rolled_stmt (Calling call actuals) (λ s t alike. calling_alike s t alike call actuals.items)
+stmt_layer (Assign assignment) =
+    rolled_stmt (Assign assignment) (λ s t alike. assign_alike s t alike assignment.target assignment.indexes.items assignment.fits assignment.value)
+stmt_layer (Copy copying) =
+    rolled_stmt (Copy copying) (λ s t alike.
+    copy_alike s t alike copying.target copying.indexes.items copying.value copying.value_indexes.items)
+stmt_layer (Write writing) =
+    rolled_stmt (Write writing) (λ s t alike. write_alike s t alike writing.parameters.items writing.ends_line)
+stmt_layer (Calling calling) = rolled_stmt (Calling calling) (λ s t alike. calling_alike s t alike calling.call calling.actuals.items)
 stmt_layer (Compound number statements) =
     rolled_stmt (bare_stmt (Compound number statements)) (λ s t alike. sizes_alike s t alike statements.items)
 stmt_layer (If number condition consequence None) =
@@ -466,18 +466,18 @@ stmt_layer (If number condition consequence None) =
 stmt_layer (If number condition consequence (Some alternative)) =
     rolled_stmt (bare_stmt (If number condition consequence (Some alternative))) (λ s t alike.
     omega (arith, expr_alike s t alike condition, consequence.value.1 s t alike, alternative.value.1 s t alike))
-stmt_layer (While number loop_number word condition body) =
-    rolled_stmt (bare_stmt (While number loop_number word condition body)) (λ s t alike.
-    omega (arith, expr_alike s t alike condition, body.value.1 s t alike))
-stmt_layer (Repeat number loop_number word statements condition) =
-    rolled_stmt (bare_stmt (Repeat number loop_number word statements condition)) (λ s t alike.
-    omega (arith, expr_alike s t alike condition, sizes_alike s t alike statements.items))
-stmt_layer (For number loop_number word control first first_fits way last last_fits body) =
-    rolled_stmt (bare_stmt (For number loop_number word control first first_fits way last last_fits body)) (λ s t alike.
-    omega (arith, expr_alike s t alike first, expr_alike s t alike last, body.value.1 (holding 2 s) (holding 2 t) alike))
-stmt_layer (Case number site index constants arms) =
-    rolled_stmt (bare_stmt (Case number site index constants arms)) (λ s t alike.
-    omega (arith, expr_alike s t alike index, arms_alike (holding 1 s) (holding 1 t) alike constants.items arms.items))
+stmt_layer (While head body) =
+    rolled_stmt (bare_stmt (While head body)) (λ s t alike.
+    omega (arith, expr_alike s t alike head.condition, body.value.1 s t alike))
+stmt_layer (Repeat head statements) =
+    rolled_stmt (bare_stmt (Repeat head statements)) (λ s t alike.
+    omega (arith, expr_alike s t alike head.condition, sizes_alike s t alike statements.items))
+stmt_layer (For head body) =
+    rolled_stmt (bare_stmt (For head body)) (λ s t alike.
+    omega (arith, expr_alike s t alike head.first.value, expr_alike s t alike head.last.value, body.value.1 (holding 2 s) (holding 2 t) alike))
+stmt_layer (Case head arms) =
+    rolled_stmt (bare_stmt (Case head arms)) (λ s t alike.
+    omega (arith, expr_alike s t alike head.index, arms_alike (holding 1 s) (holding 1 t) alike head.constants.items arms.items))
 
 stmt_alike : (x : Stmt) → StmtAlike x
 stmt_alike = ind-Stmt StmtAlike (λ x y is. subst (λ z. StmtAlike (roll-Stmt z)) is (stmt_layer y))

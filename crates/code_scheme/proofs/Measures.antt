@@ -94,11 +94,11 @@ arms_measured scope out (row ∷ rows) (arm ∷ arms) place =
 
 layer : (y : Stmt-F MeasuredStmt) → IsMeasured (roll-Stmt (bare y))
 layer (Empty number) = rolled (Empty number) (λ scope place. refl)
-layer (Assign number becomes target indexes fits value) = rolled (Assign number becomes target indexes fits value) (λ scope place. refl)
-layer (Copy number becomes target indexes type_id value value_indexes) =
-    rolled (Copy number becomes target indexes type_id value value_indexes) (λ scope place. refl)
-layer (Write number name parameters ends_line) = rolled (Write number name parameters ends_line) (λ scope place. refl)
-layer (Calling call actuals) = rolled (Calling call actuals) (λ scope place. refl)
+layer (Assign assignment) = rolled (Assign assignment) (λ scope place. refl)
+layer (Copy copying) =
+    rolled (Copy copying) (λ scope place. refl)
+layer (Write writing) = rolled (Write writing) (λ scope place. refl)
+layer (Calling calling) = rolled (Calling calling) (λ scope place. refl)
 layer (Compound number statements) =
     rolled (bare (Compound number statements)) (λ scope place. all_measured scope statements.items place)
 layer (If number condition consequence None) =
@@ -113,30 +113,30 @@ layer (If number condition consequence (Some alternative)) =
     length-If-else test (stmt_code consequence.value.0) (stmt_code alternative.value.0) scope place
     ∙ ap (λ n. length test + 1 + n + 1 + length (stmt_code alternative.value.0 scope no)) (consequence.value.1 scope yes)
     ∙ ap (λ n. length test + 1 + (measured consequence.value.0 scope).size + 1 + n) (alternative.value.1 scope no))
-layer (While number loop_number word condition body) =
-    rolled (bare (While number loop_number word condition body)) (λ scope place.
-    let test = expr_code scope condition in
+layer (While head body) =
+    rolled (bare (While head body)) (λ scope place.
+    let test = expr_code scope head.condition in
     length-While test (stmt_code body.value.0) scope place ∙ ap (λ n. length test + 1 + n + 1) (body.value.1 scope (place + length test + 1)))
-layer (Repeat number loop_number word statements condition) =
-    rolled (bare (Repeat number loop_number word statements condition)) (λ scope place.
-    let test = expr_code scope condition in
+layer (Repeat head statements) =
+    rolled (bare (Repeat head statements)) (λ scope place.
+    let test = expr_code scope head.condition in
     length-Repeat (placed (map (λ code. code scope) (map stmt_code (map (λ s. s.0) statements.items)))) test place
     ∙ ap (λ n. n + (length test + 1)) (all_measured scope statements.items place))
-layer (For number loop_number word control first first_fits way last last_fits body) =
-    rolled (bare (For number loop_number word control first first_fits way last last_fits body)) (λ scope place.
-    let a = expr_code scope first in
-    let b = expr_code scope last in
-    length-For control a first_fits way b last_fits (stmt_code body.value.0) scope place
+layer (For head body) =
+    rolled (bare (For head body)) (λ scope place.
+    let a = expr_code scope head.first.value in
+    let b = expr_code scope head.last.value in
+    length-For head.control a head.first.fits head.direction b head.last.fits (stmt_code body.value.0) scope place
     ∙ ap (λ n. length a + length b + 10 + n + 13) (body.value.1 (holding 2 scope) (place + length a + length b + 8 + 2)))
-layer (Case number site index constants arms) =
-    rolled (bare (Case number site index constants arms)) (λ scope place.
-    let test = expr_code scope index in
+layer (Case head arms) =
+    rolled (bare (Case head arms)) (λ scope place.
+    let test = expr_code scope head.index in
     let codes = map stmt_code (map (λ (s : MeasuredStmt). s.0) arms.items) in
     let first = place + length test in
-    let out = first + length (arms_code scope 0 constants.items codes first) + 1 in
-    let all = arms_code scope out constants.items codes first in
-    let last = instr.Fail site ∷ instr.JumpIfFalse (out + 1) ∷ [] in
-    let e = arms_measured scope out constants.items arms.items first in
+    let out = first + length (arms_code scope 0 head.constants.items codes first) + 1 in
+    let all = arms_code scope out head.constants.items codes first in
+    let last = instr.Fail head.site ∷ instr.JumpIfFalse (out + 1) ∷ [] in
+    let e = arms_measured scope out head.constants.items arms.items first in
     omega (arith, e, length-append test (all ++ last), length-append all last))
 
 -- the size of a statement is the length of its code, wherever that stands

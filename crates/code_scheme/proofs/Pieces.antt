@@ -10,11 +10,8 @@ use Rattle.std.proofs.lemmas.List.{take_all, take_more, flat_map_more, map_push,
 use Rattle.std.specs.Global.{Vec, Box}
 use Rattle.pcode_assembler.specs.declared.instr.Instr.{Instr}
 use Rattle.pcode_assembler.specs.declared.instr.Instr.TheVariants as instr
-use Rattle.place.specs.declared.Place.{Place as SourcePlace}
 use Rattle.typed_tree.specs.declared.tree.Access.{Access}
-use Rattle.typed_tree.specs.declared.tree.Direction.{Direction}
 use Rattle.typed_tree.specs.declared.tree.RangeTest.{RangeTest}
-use Rattle.typed_tree.specs.declared.tree.WriteParameter.{WriteParameter}
 use Rattle.typed_tree.specs.declared.tree.Whole.{Whole}
 use Rattle.types.specs.declared.form.TypeId.{TypeId}
 use Rattle.typed_tree.specs.declared.tree.Expr.{Expr}
@@ -30,6 +27,13 @@ use Rattle.typed_tree.specs.declared.tree.Expr.TheOpen.Expr-F.{Variable as Varia
 use Rattle.typed_tree.specs.declared.tree.Expr.TheOpen.Expr-F.{Compare as Compare-layer, Call as CallOf-layer}
 use Rattle.typed_tree.specs.declared.tree.Expr.TheOpen.Passed-F.{Value as Value-layer, Whole as Whole-layer, Reference as Reference-layer}
 use Rattle.typed_tree.specs.declared.tree.Expr.TheFolds.{fold-roll-Expr, fold-roll-Passed, fold_out-Link}
+use Rattle.typed_tree.specs.declared.tree.Assignment.{Assignment}
+use Rattle.typed_tree.specs.declared.tree.Copying.{Copying}
+use Rattle.typed_tree.specs.declared.tree.Writing.{Writing}
+use Rattle.typed_tree.specs.declared.tree.ProcedureCall.{ProcedureCall}
+use Rattle.typed_tree.specs.declared.tree.LoopHead.{LoopHead}
+use Rattle.typed_tree.specs.declared.tree.ForHead.{ForHead}
+use Rattle.typed_tree.specs.declared.tree.CaseHead.{CaseHead}
 use Rattle.typed_tree.specs.declared.tree.Stmt.{Stmt}
 use Rattle.typed_tree.specs.declared.tree.Stmt.TheVariants.{Empty, rolls-Empty, Assign, rolls-Assign, Write, rolls-Write, Compound, rolls-Compound, If}
 use Rattle.typed_tree.specs.declared.tree.Stmt.TheVariants.{rolls-If, While, rolls-While, Repeat, rolls-Repeat, For, rolls-For, Case, rolls-Case}
@@ -121,30 +125,26 @@ pub stmt_code-Empty : (scope : Scope) (place number : ℕ) → stmt_code (Empty 
 stmt_code-Empty scope place number =
     ap (λ s. stmt_code s scope place) (sym (rolls-Empty number)) ∙ ap (λ code. code scope place) (fold-roll-Stmt Placed stmt_step (Empty-layer number))
 
-pub stmt_code-Assign : (scope : Scope) (place number : ℕ) (becomes : SourcePlace) (target : Access) (indexes : Vec Expr) (fits : RangeTest) (value : Expr)
-    → stmt_code (Assign number becomes target indexes fits value) scope place ≡ assign_code scope target indexes.items fits value
-stmt_code-Assign scope place number becomes target indexes fits value =
-    ap (λ s. stmt_code s scope place) (sym (rolls-Assign number becomes target indexes fits value))
-    ∙ ap (λ code. code scope place) (fold-roll-Stmt Placed stmt_step (Assign-layer number becomes target indexes fits value))
+pub stmt_code-Assign : (scope : Scope) (place : ℕ) (assignment : Assignment) → stmt_code (Assign assignment) scope place ≡ assign_code scope assignment
+stmt_code-Assign scope place assignment =
+    ap (λ s. stmt_code s scope place) (sym (rolls-Assign assignment))
+    ∙ ap (λ code. code scope place) (fold-roll-Stmt Placed stmt_step (Assign-layer assignment))
 
-pub stmt_code-Copy : (scope : Scope) (place number : ℕ) (becomes : SourcePlace) (target : Access) (indexes : Vec Expr) (type_id : TypeId) (value : Whole)
-    (value_indexes : Vec Expr) → stmt_code (Copy number becomes target indexes type_id value value_indexes) scope place ≡ copy_code scope target indexes.items
-    value value_indexes.items
-stmt_code-Copy scope place number becomes target indexes type_id value value_indexes =
-    ap (λ s. stmt_code s scope place) (sym (rolls-Copy number becomes target indexes type_id value value_indexes))
-    ∙ ap (λ code. code scope place) (fold-roll-Stmt Placed stmt_step (Copy-layer number becomes target indexes type_id value value_indexes))
+pub stmt_code-Copy : (scope : Scope) (place : ℕ) (copying : Copying) → stmt_code (Copy copying) scope place ≡ copy_code scope copying
+stmt_code-Copy scope place copying =
+    ap (λ s. stmt_code s scope place) (sym (rolls-Copy copying))
+    ∙ ap (λ code. code scope place) (fold-roll-Stmt Placed stmt_step (Copy-layer copying))
 
-pub stmt_code-Write : (scope : Scope) (place number : ℕ) (name : SourcePlace) (parameters : Vec WriteParameter) (ends_line : Bool)
-    → stmt_code (Write number name parameters ends_line) scope place ≡ write_code scope parameters.items ends_line
-stmt_code-Write scope place number name parameters ends_line =
-    ap (λ s. stmt_code s scope place) (sym (rolls-Write number name parameters ends_line))
-    ∙ ap (λ code. code scope place) (fold-roll-Stmt Placed stmt_step (Write-layer number name parameters ends_line))
+pub stmt_code-Write : (scope : Scope) (place : ℕ) (writing : Writing) → stmt_code (Write writing) scope place ≡ write_code scope writing
+stmt_code-Write scope place writing =
+    ap (λ s. stmt_code s scope place) (sym (rolls-Write writing))
+    ∙ ap (λ code. code scope place) (fold-roll-Stmt Placed stmt_step (Write-layer writing))
 
-pub stmt_code-Call : (scope : Scope) (place : ℕ) (call : Call) (actuals : Vec Passed)
-    → stmt_code (Calling call actuals) scope place ≡ call_code scope call (map (passed_code scope) actuals.items)
-stmt_code-Call scope place call actuals =
-    ap (λ s. stmt_code s scope place) (sym (rolls-Call call actuals))
-    ∙ ap (λ code. code scope place) (fold-roll-Stmt Placed stmt_step (Call-layer call actuals))
+pub stmt_code-Call : (scope : Scope) (place : ℕ) (calling : ProcedureCall)
+    → stmt_code (Calling calling) scope place ≡ call_code scope calling.call (map (passed_code scope) calling.actuals.items)
+stmt_code-Call scope place calling =
+    ap (λ s. stmt_code s scope place) (sym (rolls-Call calling))
+    ∙ ap (λ code. code scope place) (fold-roll-Stmt Placed stmt_step (Call-layer calling))
 
 -- an if statement without `else`, and one with it
 pub stmt_code-If : (scope : Scope) (place number : ℕ) (condition : Expr) (consequence : Box Stmt)
@@ -161,19 +161,18 @@ stmt_code-If-else scope place number condition consequence alternative =
     ∙ ap (λ code. code scope place) (fold-roll-Stmt Placed stmt_step (If-layer number condition consequence (Some alternative)))
 
 -- a while statement, and a repeat statement
-pub stmt_code-While : (scope : Scope) (place number loop_number : ℕ) (word : SourcePlace) (condition : Expr) (body : Box Stmt)
-    → stmt_code (While number loop_number word condition body) scope place ≡ while_code (expr_code scope condition) (stmt_code body.value) scope place
-stmt_code-While scope place number loop_number word condition body =
-    ap (λ s. stmt_code s scope place) (sym (rolls-While number loop_number word condition body))
-    ∙ ap (λ code. code scope place) (fold-roll-Stmt Placed stmt_step (While-layer number loop_number word condition body))
+pub stmt_code-While : (scope : Scope) (place : ℕ) (head : LoopHead) (body : Box Stmt)
+    → stmt_code (While head body) scope place ≡ while_code (expr_code scope head.condition) (stmt_code body.value) scope place
+stmt_code-While scope place head body =
+    ap (λ s. stmt_code s scope place) (sym (rolls-While head body))
+    ∙ ap (λ code. code scope place) (fold-roll-Stmt Placed stmt_step (While-layer head body))
 
-pub stmt_code-Repeat : (scope : Scope) (place number loop_number : ℕ) (word : SourcePlace) (statements : Vec Stmt) (condition : Expr)
-    → stmt_code (Repeat number loop_number word statements condition) scope place ≡ repeat_code (statements_code scope statements.items)
-    (expr_code scope condition) place
-stmt_code-Repeat scope place number loop_number word statements condition =
-    ap (λ s. stmt_code s scope place) (sym (rolls-Repeat number loop_number word statements condition))
-    ∙ ap (λ code. code scope place) (fold-roll-Stmt Placed stmt_step (Repeat-layer number loop_number word statements condition))
-    ∙ ap (λ pieces. repeat_code (placed pieces) (expr_code scope condition) place) (map-map (λ code. code scope) stmt_code statements.items)
+pub stmt_code-Repeat : (scope : Scope) (place : ℕ) (head : LoopHead) (statements : Vec Stmt)
+    → stmt_code (Repeat head statements) scope place ≡ repeat_code (statements_code scope statements.items) (expr_code scope head.condition) place
+stmt_code-Repeat scope place head statements =
+    ap (λ s. stmt_code s scope place) (sym (rolls-Repeat head statements))
+    ∙ ap (λ code. code scope place) (fold-roll-Stmt Placed stmt_step (Repeat-layer head statements))
+    ∙ ap (λ pieces. repeat_code (placed pieces) (expr_code scope head.condition) place) (map-map (λ code. code scope) stmt_code statements.items)
 
 pub length-While : (test : List Instr) (body : Placed) (scope : Scope) (place : ℕ)
     → length (while_code test body scope place) ≡ length test + 1 + length (body scope (place + length test + 1)) + 1
@@ -196,26 +195,25 @@ length-Repeat statements test place =
     )
 
 -- a for statement
-pub stmt_code-For : (scope : Scope) (place number loop_number : ℕ) (word : SourcePlace) (control : ℕ) (first : Expr) (first_fits : RangeTest) (way : Direction)
-    (last : Expr) (last_fits : RangeTest) (body : Box Stmt)
-    → stmt_code (For number loop_number word control first first_fits way last last_fits body) scope place ≡ for_code control (expr_code scope first)
-    first_fits way (expr_code scope last) last_fits (stmt_code body.value) scope place
-stmt_code-For scope place number loop_number word control first first_fits way last last_fits body =
-    ap (λ s. stmt_code s scope place) (sym (rolls-For number loop_number word control first first_fits way last last_fits body))
-    ∙ ap (λ code. code scope place)
-    (fold-roll-Stmt Placed stmt_step (For-layer number loop_number word control first first_fits way last last_fits body))
+pub stmt_code-For : (scope : Scope) (place : ℕ) (head : ForHead) (body : Box Stmt)
+    → stmt_code (For head body) scope place ≡ for_code head (stmt_code body.value) scope place
+stmt_code-For scope place head body =
+    ap (λ s. stmt_code s scope place) (sym (rolls-For head body))
+    ∙ ap (λ code. code scope place) (fold-roll-Stmt Placed stmt_step (For-layer head body))
 
-pub length-For : (control : ℕ) (first : List Instr) (first_fits : RangeTest) (way : Direction) (last : List Instr) (last_fits : RangeTest) (body : Placed)
-    (scope : Scope) (place : ℕ) → length (for_code control first first_fits way last last_fits body scope place) ≡ length first + length last + 10 + length
-    (body (holding 2 scope) (place + length first + length last + 8 + 2)) + 13
-length-For control first first_fits way last last_fits body scope place =
-    let head = place + length first + length last + 8 in
-    let inside = body (holding 2 scope) (head + 2) in
-    let out = head + 2 + length inside + 9 in
-    let entry = for_entry scope first_fits way last_fits out in
-    let begin = for_begin scope control in
-    let next = for_next scope way head out in
-    let done = for_end scope control in
+pub length-For : (head : ForHead) (body : Placed) (scope : Scope) (place : ℕ)
+    → length (for_code head body scope place) ≡ length (expr_code scope head.first.value) + length (expr_code scope head.last.value) + 10 + length
+    (body (holding 2 scope) (place + length (expr_code scope head.first.value) + length (expr_code scope head.last.value) + 8 + 2)) + 13
+length-For head body scope place =
+    let first = expr_code scope head.first.value in
+    let last = expr_code scope head.last.value in
+    let round = place + length first + length last + 8 in
+    let inside = body (holding 2 scope) (round + 2) in
+    let out = round + 2 + length inside + 9 in
+    let entry = for_entry scope head out in
+    let begin = for_begin scope head.control in
+    let next = for_next scope head.direction round out in
+    let done = for_end scope head.control in
     omega (
       arith,
       length-append first (last ++ (entry ++ (begin ++ (inside ++ (next ++ done))))),
@@ -227,12 +225,11 @@ length-For control first first_fits way last last_fits body scope place =
     )
 
 -- a case statement
-pub stmt_code-Case : (scope : Scope) (place number site : ℕ) (index : Expr) (constants : Vec (Vec ℤ)) (arms : Vec Stmt)
-    → stmt_code (Case number site index constants arms) scope place ≡ case_code site (expr_code scope index) constants.items (map stmt_code arms.items) scope
-    place
-stmt_code-Case scope place number site index constants arms =
-    ap (λ s. stmt_code s scope place) (sym (rolls-Case number site index constants arms))
-    ∙ ap (λ code. code scope place) (fold-roll-Stmt Placed stmt_step (Case-layer number site index constants arms))
+pub stmt_code-Case : (scope : Scope) (place : ℕ) (head : CaseHead) (arms : Vec Stmt)
+    → stmt_code (Case head arms) scope place ≡ case_code head (map stmt_code arms.items) scope place
+stmt_code-Case scope place head arms =
+    ap (λ s. stmt_code s scope place) (sym (rolls-Case head arms))
+    ∙ ap (λ code. code scope place) (fold-roll-Stmt Placed stmt_step (Case-layer head arms))
 
 -- how many instructions they have
 pub length-If : (test : List Instr) (consequence : Placed) (scope : Scope) (place : ℕ)
@@ -250,14 +247,6 @@ length-If-else test consequence alternative scope place =
     let no = yes + length code + 1 in
     let behind = instr.Jump (no + length (alternative scope no)) ∷ alternative scope no in
     omega (arith, length-append test (instr.JumpIfFalse no ∷ (code ++ behind)), length-append code behind)
-
--- how many instructions a write has
-pub length-Write : (scope : Scope) (place number : ℕ) (name : SourcePlace) (parameters : Vec WriteParameter) (ends_line : Bool)
-    → length (stmt_code (Write number name parameters ends_line) scope place) ≡ length (flat_map (parameter_code scope) parameters.items) + length
-    (line_end_code ends_line)
-length-Write scope place number name parameters ends_line =
-    ap length (stmt_code-Write scope place number name parameters ends_line)
-    ∙ length-append (flat_map (parameter_code scope) parameters.items) (line_end_code ends_line)
 
 -- how many cells an expression needs that accesses a variable, or compares two whole values
 pub expr_depth-Variable : (access : Access) (indexes : Vec Expr) (defined : ℕ)
@@ -296,63 +285,21 @@ passed_depth-Reference type_id access indexes =
     ap passed_depth (sym (actual.rolls-Reference type_id access indexes))
     ∙ fold-roll-Passed ℕ PassedDepth ℕ expr_depth_step passed_depth_step link_depth_step (Reference-layer type_id access indexes)
 
--- how many cells an assignment needs, a write, and a compound statement
-pub stmt_depth-Assign : (number : ℕ) (becomes : SourcePlace) (target : Access) (indexes : Vec Expr) (fits : RangeTest) (value : Expr)
-    → stmt_depth (Assign number becomes target indexes fits value) ≡ store_depth (index_depths indexes.items)
-    (expr_depth value)
-stmt_depth-Assign number becomes target indexes fits value =
-    ap stmt_depth (sym (rolls-Assign number becomes target indexes fits value))
-    ∙ fold-roll-Stmt ℕ stmt_depth_step (Assign-layer number becomes target indexes fits value)
+-- how many cells an assignment needs, a write, and a call
+pub stmt_depth-Assign : (assignment : Assignment)
+    → stmt_depth (Assign assignment) ≡ store_depth (index_depths assignment.indexes.items) (expr_depth assignment.value)
+stmt_depth-Assign assignment = ap stmt_depth (sym (rolls-Assign assignment)) ∙ fold-roll-Stmt ℕ stmt_depth_step (Assign-layer assignment)
 
-pub stmt_depth-Copy : (number : ℕ) (becomes : SourcePlace) (target : Access) (indexes : Vec Expr) (type_id : TypeId) (value : Whole)
-    (value_indexes : Vec Expr) → stmt_depth (Copy number becomes target indexes type_id value value_indexes) ≡ max (access_depth (index_depths indexes.items))
-    (whole_depth value (index_depths value_indexes.items) + 1)
-stmt_depth-Copy number becomes target indexes type_id value value_indexes =
-    ap stmt_depth (sym (rolls-Copy number becomes target indexes type_id value value_indexes))
-    ∙ fold-roll-Stmt ℕ stmt_depth_step (Copy-layer number becomes target indexes type_id value value_indexes)
+pub stmt_depth-Copy : (copying : Copying)
+    → stmt_depth (Copy copying) ≡ max (access_depth (index_depths copying.indexes.items))
+    (whole_depth copying.value (index_depths copying.value_indexes.items) + 1)
+stmt_depth-Copy copying = ap stmt_depth (sym (rolls-Copy copying)) ∙ fold-roll-Stmt ℕ stmt_depth_step (Copy-layer copying)
 
-pub stmt_depth-Write : (number : ℕ) (name : SourcePlace) (parameters : Vec WriteParameter) (ends_line : Bool)
-    → stmt_depth (Write number name parameters ends_line) ≡ greatest (map parameter_depth parameters.items)
-stmt_depth-Write number name parameters ends_line =
-    ap stmt_depth (sym (rolls-Write number name parameters ends_line)) ∙ fold-roll-Stmt ℕ stmt_depth_step (Write-layer number name parameters ends_line)
+pub stmt_depth-Write : (writing : Writing) → stmt_depth (Write writing) ≡ greatest (map parameter_depth writing.parameters.items)
+stmt_depth-Write writing = ap stmt_depth (sym (rolls-Write writing)) ∙ fold-roll-Stmt ℕ stmt_depth_step (Write-layer writing)
 
-pub stmt_depth-Call : (call : Call) (actuals : Vec Passed) → stmt_depth (Calling call actuals) ≡ call_depth (map passed_depth actuals.items)
-stmt_depth-Call call actuals = ap stmt_depth (sym (rolls-Call call actuals)) ∙ fold-roll-Stmt ℕ stmt_depth_step (Call-layer call actuals)
-
-pub stmt_depth-Compound : (number : ℕ) (statements : Vec Stmt) → stmt_depth (Compound number statements) ≡ greatest (map stmt_depth statements.items)
-stmt_depth-Compound number statements =
-    ap stmt_depth (sym (rolls-Compound number statements)) ∙ fold-roll-Stmt ℕ stmt_depth_step (Compound-layer number statements)
-
-pub stmt_depth-If : (number : ℕ) (condition : Expr) (consequence : Box Stmt)
-    → stmt_depth (If number condition consequence None) ≡ max (expr_depth condition) (max (stmt_depth consequence.value) 0)
-stmt_depth-If number condition consequence =
-    ap stmt_depth (sym (rolls-If number condition consequence None)) ∙ fold-roll-Stmt ℕ stmt_depth_step (If-layer number condition consequence None)
-
-pub stmt_depth-If-else : (number : ℕ) (condition : Expr) (consequence alternative : Box Stmt)
-    → stmt_depth (If number condition consequence (Some alternative)) ≡ max (expr_depth condition) (max (stmt_depth consequence.value)
-    (stmt_depth alternative.value))
-stmt_depth-If-else number condition consequence alternative =
-    ap stmt_depth (sym (rolls-If number condition consequence (Some alternative)))
-    ∙ fold-roll-Stmt ℕ stmt_depth_step (If-layer number condition consequence (Some alternative))
-
-pub stmt_depth-While : (number loop_number : ℕ) (word : SourcePlace) (condition : Expr) (body : Box Stmt)
-    → stmt_depth (While number loop_number word condition body) ≡ max (expr_depth condition) (stmt_depth body.value)
-stmt_depth-While number loop_number word condition body =
-    ap stmt_depth (sym (rolls-While number loop_number word condition body))
-    ∙ fold-roll-Stmt ℕ stmt_depth_step (While-layer number loop_number word condition body)
-
-pub stmt_depth-Repeat : (number loop_number : ℕ) (word : SourcePlace) (statements : Vec Stmt) (condition : Expr)
-    → stmt_depth (Repeat number loop_number word statements condition) ≡ max (greatest (map stmt_depth statements.items)) (expr_depth condition)
-stmt_depth-Repeat number loop_number word statements condition =
-    ap stmt_depth (sym (rolls-Repeat number loop_number word statements condition))
-    ∙ fold-roll-Stmt ℕ stmt_depth_step (Repeat-layer number loop_number word statements condition)
-
-pub stmt_depth-For : (number loop_number : ℕ) (word : SourcePlace) (control : ℕ) (first : Expr) (first_fits : RangeTest) (way : Direction) (last : Expr)
-    (last_fits : RangeTest) (body : Box Stmt) → stmt_depth (For number loop_number word control first first_fits way last last_fits body) ≡ max
-    (max (expr_depth first) (expr_depth last + 1)) (max 4 (stmt_depth body.value + 2))
-stmt_depth-For number loop_number word control first first_fits way last last_fits body =
-    ap stmt_depth (sym (rolls-For number loop_number word control first first_fits way last last_fits body))
-    ∙ fold-roll-Stmt ℕ stmt_depth_step (For-layer number loop_number word control first first_fits way last last_fits body)
+pub stmt_depth-Call : (calling : ProcedureCall) → stmt_depth (Calling calling) ≡ call_depth (map passed_depth calling.actuals.items)
+stmt_depth-Call calling = ap stmt_depth (sym (rolls-Call calling)) ∙ fold-roll-Stmt ℕ stmt_depth_step (Call-layer calling)
 
 -- no arm behind the last one needs a cell
 pub arms_depth-none : (rows : List (Vec ℤ)) → arms_depth rows [] ≡ 0
