@@ -328,8 +328,7 @@ module _ (types : List Form) where
   stmt_layer : (y : Stmt-F StmtHere) → StmtWithin (roll-Stmt (bare_stmt y))
   stmt_layer (Empty number) = rolled_stmt (Empty number) (omega arith)
   stmt_layer (Assign assignment) =
-      rolled_stmt (Assign assignment)
-      (omega (arith, store_within assignment.indexes.items assignment.value))
+      rolled_stmt (Assign assignment) (omega (arith, store_within assignment.indexes.items assignment.value))
   stmt_layer (Copy copying) =
       rolled_stmt (Copy copying)
       (omega (arith, address_within copying.indexes.items, value_within copying.value copying.value_indexes.items))

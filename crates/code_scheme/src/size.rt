@@ -82,11 +82,19 @@ fn stmt_size(variables: &[Variable], stmt: &Stmt) -> u32
             while_size(variables, &head.condition, stmt_size(variables, body))
         }
         Stmt::Repeat { head, statements } => {
-            repeat_size(variables, statements_size(variables, statements), &head.condition)
+            repeat_size(
+                variables,
+                statements_size(variables, statements),
+                &head.condition,
+            )
         }
         Stmt::For { head, body } => for_size(variables, head, stmt_size(variables, body)),
         Stmt::Case { head, arms } => {
-            case_size(variables, &head.index, arms_size(variables, &head.constants, arms))
+            case_size(
+                variables,
+                &head.index,
+                arms_size(variables, &head.constants, arms),
+            )
         }
     }
 }
@@ -255,9 +263,9 @@ fn write_size(variables: &[Variable], writing: &Writing) -> u32
     ensures { (scope : Scope) → IsScopeOf variables.now scope →
         result ≡ capped (length (write_code scope writing.now)) }
 {
-    parameters_size(variables, writing.parameters.as_slice()).saturating_add(
-        line_end_size(writing.ends_line),
-    )
+    parameters_size(variables, writing.parameters.as_slice()).saturating_add(line_end_size(
+        writing.ends_line,
+    ))
 }
 
 /// The same of an if statement without `else`, whose consequence has so many.
