@@ -231,18 +231,6 @@ measured-Case scope head arms =
     ∙ ap (λ ms. case_measured (expr_code scope head.index) head.constants.items ms)
     (map-map (λ (measure : Scope → Measured). measure (holding 1 scope)) measured arms.items)
 
-pub measured-Assign : (scope : Scope) (assignment : Assignment)
-    → measured (stmt.Assign assignment) scope ≡ record { size = length (assign_code scope assignment); inner = [] }
-measured-Assign scope assignment =
-    ap (λ s. measured s scope) (sym (stmt.rolls-Assign assignment))
-    ∙ ap (λ m. m scope) (fold-roll-Stmt (Scope → Measured) measured_step (Assign assignment))
-
-pub measured-Copy : (scope : Scope) (copying : Copying)
-    → measured (stmt.Copy copying) scope ≡ record { size = length (copy_code scope copying); inner = [] }
-measured-Copy scope copying =
-    ap (λ s. measured s scope) (sym (stmt.rolls-Copy copying))
-    ∙ ap (λ m. m scope) (fold-roll-Stmt (Scope → Measured) measured_step (Copy copying))
-
 pub measured-Call : (scope : Scope) (calling : ProcedureCall)
     → measured (stmt.Call calling) scope ≡ record
     { size = length (call_code scope calling.call (map (passed_code scope) calling.actuals.items)); inner = [] }

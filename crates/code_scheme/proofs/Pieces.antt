@@ -125,21 +125,6 @@ pub stmt_code-Empty : (scope : Scope) (place number : ℕ) → stmt_code (Empty 
 stmt_code-Empty scope place number =
     ap (λ s. stmt_code s scope place) (sym (rolls-Empty number)) ∙ ap (λ code. code scope place) (fold-roll-Stmt Placed stmt_step (Empty-layer number))
 
-pub stmt_code-Assign : (scope : Scope) (place : ℕ) (assignment : Assignment) → stmt_code (Assign assignment) scope place ≡ assign_code scope assignment
-stmt_code-Assign scope place assignment =
-    ap (λ s. stmt_code s scope place) (sym (rolls-Assign assignment))
-    ∙ ap (λ code. code scope place) (fold-roll-Stmt Placed stmt_step (Assign-layer assignment))
-
-pub stmt_code-Copy : (scope : Scope) (place : ℕ) (copying : Copying) → stmt_code (Copy copying) scope place ≡ copy_code scope copying
-stmt_code-Copy scope place copying =
-    ap (λ s. stmt_code s scope place) (sym (rolls-Copy copying))
-    ∙ ap (λ code. code scope place) (fold-roll-Stmt Placed stmt_step (Copy-layer copying))
-
-pub stmt_code-Write : (scope : Scope) (place : ℕ) (writing : Writing) → stmt_code (Write writing) scope place ≡ write_code scope writing
-stmt_code-Write scope place writing =
-    ap (λ s. stmt_code s scope place) (sym (rolls-Write writing))
-    ∙ ap (λ code. code scope place) (fold-roll-Stmt Placed stmt_step (Write-layer writing))
-
 pub stmt_code-Call : (scope : Scope) (place : ℕ) (calling : ProcedureCall)
     → stmt_code (Calling calling) scope place ≡ call_code scope calling.call (map (passed_code scope) calling.actuals.items)
 stmt_code-Call scope place calling =
@@ -286,15 +271,6 @@ passed_depth-Reference type_id access indexes =
     ∙ fold-roll-Passed ℕ PassedDepth ℕ expr_depth_step passed_depth_step link_depth_step (Reference-layer type_id access indexes)
 
 -- how many cells an assignment needs, a write, and a call
-pub stmt_depth-Assign : (assignment : Assignment)
-    → stmt_depth (Assign assignment) ≡ store_depth (index_depths assignment.indexes.items) (expr_depth assignment.value)
-stmt_depth-Assign assignment = ap stmt_depth (sym (rolls-Assign assignment)) ∙ fold-roll-Stmt ℕ stmt_depth_step (Assign-layer assignment)
-
-pub stmt_depth-Copy : (copying : Copying)
-    → stmt_depth (Copy copying) ≡ max (access_depth (index_depths copying.indexes.items))
-    (whole_depth copying.value (index_depths copying.value_indexes.items) + 1)
-stmt_depth-Copy copying = ap stmt_depth (sym (rolls-Copy copying)) ∙ fold-roll-Stmt ℕ stmt_depth_step (Copy-layer copying)
-
 pub stmt_depth-Write : (writing : Writing) → stmt_depth (Write writing) ≡ greatest (map parameter_depth writing.parameters.items)
 stmt_depth-Write writing = ap stmt_depth (sym (rolls-Write writing)) ∙ fold-roll-Stmt ℕ stmt_depth_step (Write-layer writing)
 

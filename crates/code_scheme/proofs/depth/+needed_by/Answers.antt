@@ -2,7 +2,7 @@ use Rattle.std.proofs.Common.{◌≡◌, max, ap, sym, ◌∙◌, map, arith}
 use Rattle.std.proofs.lemmas.List.{drop_all, take_all}
 use Rattle.code_scheme.specs.Depth.{arms_depth, call_depth, greatest, parameter_depth, passed_depth, stmt_depth}
 use Rattle.code_scheme.specs.Sizes.{capped}
-use Rattle.code_scheme.proofs.Pieces.{stmt_depth-Assign, stmt_depth-Call, stmt_depth-Copy, stmt_depth-Write, greatest_one_more, arms_depth-none}
+use Rattle.code_scheme.proofs.Pieces.{stmt_depth-Call, stmt_depth-Write, greatest_one_more, arms_depth-none}
 use Rattle.code_scheme.proofs.depth.+needed_by.Goals as goal
 
 pub needed_by-returns-in-Write : goal.needed_by-returns-in-Write

@@ -8,7 +8,7 @@ use Rattle.typed_tree.specs.declared.tree.Stmt.TheVariants.{If}
 use Rattle.code_scheme.specs.Scopes.{holding}
 use Rattle.code_scheme.specs.Code.{call_code, passed_code}
 use Rattle.code_scheme.specs.Sizes.{capped, Measured, measured, all_sizes, all_tables, arms_size, arms_table, table_of, IsTold, AreTold}
-use Rattle.code_scheme.proofs.Measures.{measured-Assign, measured-Call, measured-Copy, measured-Compound, measured-If, measured-If-else, measured-While}
+use Rattle.code_scheme.proofs.Measures.{measured-Call, measured-Compound, measured-If, measured-If-else, measured-While}
 use Rattle.code_scheme.proofs.Measures.{measured-Repeat, measured-For}
 use Rattle.code_scheme.proofs.Measures.{plain_scope, plainly}
 use Rattle.code_scheme.proofs.Measures.{measured-Case, arms_size-none, arms_table-none, sizes_one_more, tables_one_more, set_at_seam}
@@ -56,20 +56,6 @@ measure_statements-loop-statement-preserved t c = λ scope h.
       one.1
           ∙ ap (λ xs. xs ++ table_of (measured statement scope)) so_far.1
           ∙ tables_one_more scope c.args.sizes.now.items items i statement c.loop-statement-test.true c.statement-item.is,
-    )
-
-pub measure_parts-returns-in-Assign : goal.measure_parts-returns-in-Assign
-measure_parts-returns-in-Assign t c = λ scope h.
-    let is = ap (λ s. measured s scope) c.in-Assign.is ∙ measured-Assign scope c.in-Assign.assignment in (
-      c.assign_size.ensures scope h ∙ ap (λ m. capped m.size) (sym is),
-      sym (append-nil c.args.sizes.now.items) ∙ ap (λ m. c.args.sizes.now.items ++ m.inner) (sym is),
-    )
-
-pub measure_parts-returns-in-Copy : goal.measure_parts-returns-in-Copy
-measure_parts-returns-in-Copy t c = λ scope h.
-    let is = ap (λ s. measured s scope) c.in-Copy.is ∙ measured-Copy scope c.in-Copy.copying in (
-      c.copy_size.ensures scope h ∙ ap (λ m. capped m.size) (sym is),
-      sym (append-nil c.args.sizes.now.items) ∙ ap (λ m. c.args.sizes.now.items ++ m.inner) (sym is),
     )
 
 pub measure_parts-returns-in-Call : goal.measure_parts-returns-in-Call

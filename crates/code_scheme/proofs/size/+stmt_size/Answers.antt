@@ -6,7 +6,7 @@ use Rattle.typed_tree.specs.declared.tree.Stmt.TheVariants.{If}
 use Rattle.code_scheme.specs.Scopes.{holding}
 use Rattle.code_scheme.specs.Code.{call_code, expr_code, passed_code, statements_code, stmt_code}
 use Rattle.code_scheme.specs.Sizes.{arms_size, capped, measured}
-use Rattle.code_scheme.proofs.Pieces.{stmt_code-Assign, stmt_code-Copy, stmt_code-Empty, stmt_code-Compound, stmt_code-Write, stmt_code-If}
+use Rattle.code_scheme.proofs.Pieces.{stmt_code-Empty, stmt_code-Compound, stmt_code-If}
 use Rattle.code_scheme.proofs.Pieces.{stmt_code-If-else, stmt_code-While}
 use Rattle.code_scheme.proofs.Pieces.{stmt_code-Repeat, stmt_code-For, length-For, length-While, length-Repeat, length-If, length-If-else}
 use Rattle.code_scheme.proofs.Pieces.{stmts_one_more, all_stmts, stmt_code-Call}
@@ -72,21 +72,6 @@ statements_size-loop-statement-preserved t c = λ scope place h.
     let more = ap length (stmts_one_more scope place items c.loop-statement.statement-index statement c.loop-statement-test.true c.statement-item.is)
     ∙ length-append done (stmt_code statement scope next) in
     grind (arith, before, one, more, c.saturating_add-size.ensures)
-
-pub stmt_size-returns-in-Assign : goal.stmt_size-returns-in-Assign
-stmt_size-returns-in-Assign t c = λ scope place h.
-    let whole = ap (λ s. stmt_code s scope place) c.in-Assign.is ∙ stmt_code-Assign scope place c.in-Assign.assignment in
-    c.assign_size.ensures scope h ∙ ap (λ xs. capped (length xs)) (sym whole)
-
-pub stmt_size-returns-in-Copy : goal.stmt_size-returns-in-Copy
-stmt_size-returns-in-Copy t c = λ scope place h.
-    let whole = ap (λ s. stmt_code s scope place) c.in-Copy.is ∙ stmt_code-Copy scope place c.in-Copy.copying in
-    c.copy_size.ensures scope h ∙ ap (λ xs. capped (length xs)) (sym whole)
-
-pub stmt_size-returns-in-Write : goal.stmt_size-returns-in-Write
-stmt_size-returns-in-Write t c = λ scope place h.
-    let whole = ap (λ s. stmt_code s scope place) c.in-Write.is ∙ stmt_code-Write scope place c.in-Write.writing in
-    c.write_size.ensures scope h ∙ ap (λ xs. capped (length xs)) (sym whole)
 
 pub stmt_size-returns-in-None : goal.stmt_size-returns-in-None
 stmt_size-returns-in-None t c = λ scope place h.
