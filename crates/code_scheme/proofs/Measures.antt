@@ -7,9 +7,6 @@ use Rattle.std.proofs.lemmas.List.{map_more, flat_map_more}
 use Rattle.std.proofs.lemmas.Simd.{map-map}
 use Rattle.pcode_assembler.specs.declared.instr.Instr.{Instr}
 use Rattle.typed_tree.specs.declared.tree.Expr.{Expr}
-use Rattle.typed_tree.specs.declared.tree.Assignment.{Assignment}
-use Rattle.typed_tree.specs.declared.tree.Copying.{Copying}
-use Rattle.typed_tree.specs.declared.tree.ProcedureCall.{ProcedureCall}
 use Rattle.typed_tree.specs.declared.tree.LoopHead.{LoopHead}
 use Rattle.typed_tree.specs.declared.tree.ForHead.{ForHead}
 use Rattle.typed_tree.specs.declared.tree.CaseHead.{CaseHead}
@@ -28,7 +25,6 @@ use Rattle.typed_tree.specs.declared.tree.Stmt.TheFolds.{map-Stmt, fold-roll-Stm
 use Rattle.code_scheme.specs.Scopes.{Scope, block_scope, holding, home_or_none, homes_from}
 use Rattle.code_scheme.specs.Code.{Placed, placed, row_code, arms_code, expr_code, stmt_code, stmt_step}
 use Rattle.code_scheme.specs.Code.{block_code, end_code}
-use Rattle.code_scheme.specs.Code.{assign_code, call_code, copy_code, passed_code}
 use Rattle.code_scheme.specs.declared.home.Home.{Home}
 use Rattle.code_scheme.specs.declared.routine.Routine.{Routine}
 use Rattle.code_scheme.specs.Sizes.{IsScopeOf, refers}
@@ -230,13 +226,6 @@ measured-Case scope head arms =
     ∙ ap (λ m. m scope) (fold-roll-Stmt (Scope → Measured) measured_step (Case head arms))
     ∙ ap (λ ms. case_measured (expr_code scope head.index) head.constants.items ms)
     (map-map (λ (measure : Scope → Measured). measure (holding 1 scope)) measured arms.items)
-
-pub measured-Call : (scope : Scope) (calling : ProcedureCall)
-    → measured (stmt.Call calling) scope ≡ record
-    { size = length (call_code scope calling.call (map (passed_code scope) calling.actuals.items)); inner = [] }
-measured-Call scope calling =
-    ap (λ s. measured s scope) (sym (stmt.rolls-Call calling))
-    ∙ ap (λ m. m scope) (fold-roll-Stmt (Scope → Measured) measured_step (Calling calling))
 
 -- what is told of the first statements, and of one more
 all_sizes-push : (ms : List Measured) (m : Measured) → all_sizes (ms ++ m ∷ []) ≡ all_sizes ms + m.size

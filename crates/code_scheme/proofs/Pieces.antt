@@ -1,5 +1,5 @@
 -- Pieces of code, one after another.
-use Rattle.std.proofs.Common.{◌≡◌, ℕ, Bool, ◌+◌, ◌<◌, ◌≤◌, max, length, length-append, take, get_or, List, [], ◌∷◌, ◌++◌, map, refl, ap, sym, ◌∙◌, append-nil}
+use Rattle.std.proofs.Common.{◌≡◌, ℕ, ◌+◌, ◌<◌, ◌≤◌, max, length, length-append, take, get_or, List, [], ◌∷◌, ◌++◌, map, refl, ap, sym, ◌∙◌, append-nil}
 use Rattle.std.proofs.Common.{append_assoc, arith, Some, None}
 use Rattle.std.specs.List.{flat_map}
 use Rattle.std.specs.Prelude.{ℤ, fold}
@@ -27,29 +27,24 @@ use Rattle.typed_tree.specs.declared.tree.Expr.TheOpen.Expr-F.{Variable as Varia
 use Rattle.typed_tree.specs.declared.tree.Expr.TheOpen.Expr-F.{Compare as Compare-layer, Call as CallOf-layer}
 use Rattle.typed_tree.specs.declared.tree.Expr.TheOpen.Passed-F.{Value as Value-layer, Whole as Whole-layer, Reference as Reference-layer}
 use Rattle.typed_tree.specs.declared.tree.Expr.TheFolds.{fold-roll-Expr, fold-roll-Passed, fold_out-Link}
-use Rattle.typed_tree.specs.declared.tree.Assignment.{Assignment}
-use Rattle.typed_tree.specs.declared.tree.Copying.{Copying}
-use Rattle.typed_tree.specs.declared.tree.Writing.{Writing}
-use Rattle.typed_tree.specs.declared.tree.ProcedureCall.{ProcedureCall}
 use Rattle.typed_tree.specs.declared.tree.LoopHead.{LoopHead}
 use Rattle.typed_tree.specs.declared.tree.ForHead.{ForHead}
 use Rattle.typed_tree.specs.declared.tree.CaseHead.{CaseHead}
 use Rattle.typed_tree.specs.declared.tree.Stmt.{Stmt}
-use Rattle.typed_tree.specs.declared.tree.Stmt.TheVariants.{Empty, rolls-Empty, Assign, rolls-Assign, Write, rolls-Write, Compound, rolls-Compound, If}
+use Rattle.typed_tree.specs.declared.tree.Stmt.TheVariants.{Compound, rolls-Compound, If}
 use Rattle.typed_tree.specs.declared.tree.Stmt.TheVariants.{rolls-If, While, rolls-While, Repeat, rolls-Repeat, For, rolls-For, Case, rolls-Case}
-use Rattle.typed_tree.specs.declared.tree.Stmt.TheVariants.{Copy, rolls-Copy, Call as Calling, rolls-Call}
-use Rattle.typed_tree.specs.declared.tree.Stmt.TheOpen.Stmt-F.{Empty as Empty-layer, Assign as Assign-layer, Write as Write-layer, Compound as Compound-layer}
+use Rattle.typed_tree.specs.declared.tree.Stmt.TheOpen.Stmt-F.{Compound as Compound-layer}
 use Rattle.typed_tree.specs.declared.tree.Stmt.TheOpen.Stmt-F.{If as If-layer, While as While-layer, Repeat as Repeat-layer, For as For-layer}
-use Rattle.typed_tree.specs.declared.tree.Stmt.TheOpen.Stmt-F.{Case as Case-layer, Copy as Copy-layer, Call as Call-layer}
+use Rattle.typed_tree.specs.declared.tree.Stmt.TheOpen.Stmt-F.{Case as Case-layer}
 use Rattle.typed_tree.specs.declared.tree.Stmt.TheFolds.{fold-roll-Stmt}
 use Rattle.typed_tree.specs.WellFormed.{length_of}
 use Rattle.code_scheme.specs.Scopes.{Scope, called_routine, holding, row_length}
 use Rattle.code_scheme.specs.Code.{joined, placed, Placed, if_code, if_else_code, while_code, repeat_code, for_code, for_entry, for_begin, for_next}
-use Rattle.code_scheme.specs.Code.{for_end, case_code, dyadic_code, monadic_code, expr_step, link_step, expr_code, link_code, variable_code, assign_code}
-use Rattle.code_scheme.specs.Code.{write_code, parameter_code, line_end_code, stmt_step, stmt_code, compare_code, whole_code}
-use Rattle.code_scheme.specs.Code.{address_code, call_code, copy_code, index_codes, passed_code, passed_step, range_check, statements_code}
-use Rattle.code_scheme.specs.Depth.{greatest, arms_depth, expr_depth, parameter_depth, stmt_depth, stmt_depth_step}
-use Rattle.code_scheme.specs.Depth.{access_depth, call_depth, expr_depth_step, index_depths, link_depth_step, passed_depth, passed_depth_step, store_depth}
+use Rattle.code_scheme.specs.Code.{for_end, case_code, dyadic_code, monadic_code, expr_step, link_step, expr_code, link_code, variable_code}
+use Rattle.code_scheme.specs.Code.{stmt_step, stmt_code, compare_code, whole_code}
+use Rattle.code_scheme.specs.Code.{address_code, call_code, index_codes, passed_code, passed_step, range_check, statements_code}
+use Rattle.code_scheme.specs.Depth.{arms_depth, expr_depth}
+use Rattle.code_scheme.specs.Depth.{access_depth, call_depth, expr_depth_step, index_depths, link_depth_step, passed_depth, passed_depth_step}
 use Rattle.code_scheme.specs.Depth.{PassedDepth, actuals_depth, whole_depth}
 use Rattle.code_scheme.specs.Sizes.{capped}
 
@@ -120,16 +115,6 @@ stmt_code-Compound scope place number statements =
     ap (λ s. stmt_code s scope place) (sym (rolls-Compound number statements))
     ∙ ap (λ code. code scope place) (fold-roll-Stmt Placed stmt_step (Compound-layer number statements))
     ∙ ap (λ pieces. placed pieces place) (map-map (λ code. code scope) stmt_code statements.items)
-
-pub stmt_code-Empty : (scope : Scope) (place number : ℕ) → stmt_code (Empty number) scope place ≡ []
-stmt_code-Empty scope place number =
-    ap (λ s. stmt_code s scope place) (sym (rolls-Empty number)) ∙ ap (λ code. code scope place) (fold-roll-Stmt Placed stmt_step (Empty-layer number))
-
-pub stmt_code-Call : (scope : Scope) (place : ℕ) (calling : ProcedureCall)
-    → stmt_code (Calling calling) scope place ≡ call_code scope calling.call (map (passed_code scope) calling.actuals.items)
-stmt_code-Call scope place calling =
-    ap (λ s. stmt_code s scope place) (sym (rolls-Call calling))
-    ∙ ap (λ code. code scope place) (fold-roll-Stmt Placed stmt_step (Call-layer calling))
 
 -- an if statement without `else`, and one with it
 pub stmt_code-If : (scope : Scope) (place number : ℕ) (condition : Expr) (consequence : Box Stmt)
@@ -269,13 +254,6 @@ pub passed_depth-Reference : (type_id : TypeId) (access : Access) (indexes : Vec
 passed_depth-Reference type_id access indexes =
     ap passed_depth (sym (actual.rolls-Reference type_id access indexes))
     ∙ fold-roll-Passed ℕ PassedDepth ℕ expr_depth_step passed_depth_step link_depth_step (Reference-layer type_id access indexes)
-
--- how many cells an assignment needs, a write, and a call
-pub stmt_depth-Write : (writing : Writing) → stmt_depth (Write writing) ≡ greatest (map parameter_depth writing.parameters.items)
-stmt_depth-Write writing = ap stmt_depth (sym (rolls-Write writing)) ∙ fold-roll-Stmt ℕ stmt_depth_step (Write-layer writing)
-
-pub stmt_depth-Call : (calling : ProcedureCall) → stmt_depth (Calling calling) ≡ call_depth (map passed_depth calling.actuals.items)
-stmt_depth-Call calling = ap stmt_depth (sym (rolls-Call calling)) ∙ fold-roll-Stmt ℕ stmt_depth_step (Call-layer calling)
 
 -- no arm behind the last one needs a cell
 pub arms_depth-none : (rows : List (Vec ℤ)) → arms_depth rows [] ≡ 0

@@ -1,14 +1,9 @@
 use Rattle.std.proofs.Common.{◌≡◌, max, ap, sym, ◌∙◌, map, arith}
 use Rattle.std.proofs.lemmas.List.{drop_all, take_all}
-use Rattle.code_scheme.specs.Depth.{arms_depth, call_depth, greatest, parameter_depth, passed_depth, stmt_depth}
+use Rattle.code_scheme.specs.Depth.{arms_depth, greatest, stmt_depth}
 use Rattle.code_scheme.specs.Sizes.{capped}
-use Rattle.code_scheme.proofs.Pieces.{stmt_depth-Call, stmt_depth-Write, greatest_one_more, arms_depth-none}
+use Rattle.code_scheme.proofs.Pieces.{greatest_one_more, arms_depth-none}
 use Rattle.code_scheme.proofs.depth.+needed_by.Goals as goal
-
-pub needed_by-returns-in-Write : goal.needed_by-returns-in-Write
-needed_by-returns-in-Write t c =
-    c.needed_by_parameters.ensures ∙ ap (λ ps. capped (greatest (map parameter_depth ps))) c.as_slice.ensures.value
-    ∙ ap capped (sym (ap stmt_depth c.in-Write.is ∙ stmt_depth-Write c.in-Write.writing))
 
 pub needed_by_statements-loop-statement-preserved : goal.needed_by_statements-loop-statement-preserved
 needed_by_statements-loop-statement-preserved t c =
@@ -32,8 +27,3 @@ needed_by_arms-returns t c =
     ∙ ap (λ ss. arms_depth c.args.constants.now.items (map stmt_depth ss)) c.deref-arm-items.ensures.value in
     let all = ap (λ n. capped (max c.loop-arm.depth n)) (sym none) ∙ c.loop-arm.invariant.1 ∙ ap capped same in
     omega (arith, all, c.loop-arm.invariant.0)
-
-pub needed_by-returns-in-Call : goal.needed_by-returns-in-Call
-needed_by-returns-in-Call t c =
-    c.needed_by_call.ensures ∙ ap (λ actuals. capped (call_depth (map passed_depth actuals))) c.as_slice-in-Call.ensures.value
-    ∙ ap capped (sym (ap stmt_depth c.in-Call.is ∙ stmt_depth-Call c.in-Call.calling))

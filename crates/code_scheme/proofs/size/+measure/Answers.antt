@@ -6,9 +6,8 @@ use Rattle.std.specs.declared.alloc.AllocError.{AllocError}
 use Rattle.std.proofs.lemmas.List.{drop_all, drop_more, nil_from_length, take_all}
 use Rattle.typed_tree.specs.declared.tree.Stmt.TheVariants.{If}
 use Rattle.code_scheme.specs.Scopes.{holding}
-use Rattle.code_scheme.specs.Code.{call_code, passed_code}
 use Rattle.code_scheme.specs.Sizes.{capped, Measured, measured, all_sizes, all_tables, arms_size, arms_table, table_of, IsTold, AreTold}
-use Rattle.code_scheme.proofs.Measures.{measured-Call, measured-Compound, measured-If, measured-If-else, measured-While}
+use Rattle.code_scheme.proofs.Measures.{measured-Compound, measured-If, measured-If-else, measured-While}
 use Rattle.code_scheme.proofs.Measures.{measured-Repeat, measured-For}
 use Rattle.code_scheme.proofs.Measures.{plain_scope, plainly}
 use Rattle.code_scheme.proofs.Measures.{measured-Case, arms_size-none, arms_table-none, sizes_one_more, tables_one_more, set_at_seam}
@@ -56,16 +55,6 @@ measure_statements-loop-statement-preserved t c = λ scope h.
       one.1
           ∙ ap (λ xs. xs ++ table_of (measured statement scope)) so_far.1
           ∙ tables_one_more scope c.args.sizes.now.items items i statement c.loop-statement-test.true c.statement-item.is,
-    )
-
-pub measure_parts-returns-in-Call : goal.measure_parts-returns-in-Call
-measure_parts-returns-in-Call t c = λ scope h.
-    let call = c.in-Call.calling.call in
-    let is = ap (λ s. measured s scope) c.in-Call.is ∙ measured-Call scope c.in-Call.calling in (
-      c.call_size.ensures scope call h
-          ∙ ap (λ actuals. capped (length (call_code scope call (map (passed_code scope) actuals)))) c.as_slice.ensures.value
-          ∙ ap (λ m. capped m.size) (sym is),
-      sym (append-nil c.args.sizes.now.items) ∙ ap (λ m. c.args.sizes.now.items ++ m.inner) (sym is),
     )
 
 pub measure_statements-returns : goal.measure_statements-returns

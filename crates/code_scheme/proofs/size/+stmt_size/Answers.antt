@@ -4,21 +4,16 @@ use Rattle.std.specs.Global.{Vec}
 use Rattle.std.proofs.lemmas.List.{drop_all, drop_more, nil_from_length}
 use Rattle.typed_tree.specs.declared.tree.Stmt.TheVariants.{If}
 use Rattle.code_scheme.specs.Scopes.{holding}
-use Rattle.code_scheme.specs.Code.{call_code, expr_code, passed_code, statements_code, stmt_code}
+use Rattle.code_scheme.specs.Code.{expr_code, statements_code, stmt_code}
 use Rattle.code_scheme.specs.Sizes.{arms_size, capped, measured}
-use Rattle.code_scheme.proofs.Pieces.{stmt_code-Empty, stmt_code-Compound, stmt_code-If}
+use Rattle.code_scheme.proofs.Pieces.{stmt_code-Compound, stmt_code-If}
 use Rattle.code_scheme.proofs.Pieces.{stmt_code-If-else, stmt_code-While}
 use Rattle.code_scheme.proofs.Pieces.{stmt_code-Repeat, stmt_code-For, length-For, length-While, length-Repeat, length-If, length-If-else}
-use Rattle.code_scheme.proofs.Pieces.{stmts_one_more, all_stmts, stmt_code-Call}
+use Rattle.code_scheme.proofs.Pieces.{stmts_one_more, all_stmts}
 use Rattle.code_scheme.proofs.Measures.{arms_size-none, measured-Case}
 use Rattle.code_scheme.proofs.Measures.{is_measured}
 use Rattle.code_scheme.proofs.size.+stmt_size.Goals.{arms_size-in-Some, arms_size-in_default}
 use Rattle.code_scheme.proofs.size.+stmt_size.Goals as goal
-
-pub stmt_size-returns-in-Empty : goal.stmt_size-returns-in-Empty
-stmt_size-returns-in-Empty t c = λ scope place h.
-    let whole = ap (λ s. stmt_code s scope place) c.in-Empty.is ∙ stmt_code-Empty scope place c.in-Empty.number in
-    ap (λ xs. capped (length xs)) (sym whole)
 
 pub statements_size-returns : goal.statements_size-returns
 statements_size-returns t c = λ scope place h.
@@ -144,11 +139,3 @@ stmt_size-returns-in-Case t c = λ scope place h.
     let is = ap (λ s. measured s scope) c.in-Case.is ∙ measured-Case scope c.in-Case.head c.in-Case.arms in
     let long = is_measured c.args.stmt.now scope place ∙ ap (λ m. m.size) is in
     omega (arith, long, c.case_size.ensures scope h, c.arms_size.ensures (holding 1 scope) h)
-
-pub stmt_size-returns-in-Call : goal.stmt_size-returns-in-Call
-stmt_size-returns-in-Call t c = λ scope place h.
-    let call = c.in-Call.calling.call in
-    let whole = ap (λ s. stmt_code s scope place) c.in-Call.is ∙ stmt_code-Call scope place c.in-Call.calling in
-    c.call_size.ensures scope call h
-    ∙ ap (λ actuals. capped (length (call_code scope call (map (passed_code scope) actuals)))) c.as_slice.ensures.value
-    ∙ ap (λ xs. capped (length xs)) (sym whole)
