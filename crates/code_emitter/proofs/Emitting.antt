@@ -144,7 +144,8 @@ if_else_emitted answer test consequence alternative scope before tested jumping 
 
 -- a while statement
 pub while_emitted : (answer : Result (Unit {0}) AllocError) (test : List Instr) (body : Stmt) (scope : Scope) (before jumping done after : List Instr)
-    (sizes left : List ℕ) (round : ℕ) → jumping ≡ (before ++ test) ++ instr.JumpIfFalse (capped (length (before ++ test) + 1 + capped (first_of sizes + 1))) ∷ []
+    (sizes left : List ℕ) (round : ℕ) → jumping ≡ (before ++ test) ++ instr.JumpIfFalse (capped (length (before ++ test) + 1 + capped (first_of sizes + 1)))
+    ∷ []
     → Emits (Ok tt) jumping done sizes left (stmt_code body scope (length jumping)) (table_of (measured body scope)) → round ≡ capped (length before)
     → OnOk answer (after ≡ done ++ instr.Jump round ∷ [])
     → Emits answer before after sizes left (while_code test (stmt_code body) scope (length before)) (table_of (measured body scope))

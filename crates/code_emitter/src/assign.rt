@@ -23,7 +23,12 @@ pub fn emit_assign(
             put(code, Instr::Store { level, offset })
         }
         None => {
-            emit_address(code, scope, &assignment.target, assignment.indexes.as_slice())?;
+            emit_address(
+                code,
+                scope,
+                &assignment.target,
+                assignment.indexes.as_slice(),
+            )?;
             emit_checked(code, scope, assignment)?;
             put(code, Instr::StoreIndirect)
         }
@@ -31,16 +36,17 @@ pub fn emit_assign(
 }
 
 /// An assignment of a whole value: the target's address, the value, and the store of its components.
-pub fn emit_copy(
-    code: &mut Vec<Instr>,
-    scope: &Scope,
-    copying: &Copying,
-) -> Result<(), AllocError>
+pub fn emit_copy(code: &mut Vec<Instr>, scope: &Scope, copying: &Copying) -> Result<(), AllocError>
     ensures { OnOk result (code.new.items ≡ code.old.items ++ copy_code scope.now copying.now) }
 {
     let length = row_length(&copying.value);
     emit_address(code, scope, &copying.target, copying.indexes.as_slice())?;
-    emit_whole(code, scope, &copying.value, copying.value_indexes.as_slice())?;
+    emit_whole(
+        code,
+        scope,
+        &copying.value,
+        copying.value_indexes.as_slice(),
+    )?;
     put(code, Instr::StoreMany { length })
 }
 

@@ -19,11 +19,7 @@ const INTEGER_WIDTH: i32 = 10;
 const BOOLEAN_WIDTH: i32 = 5;
 
 /// Each value that is written, and a line end behind a writeln.
-pub fn emit_write(
-    code: &mut Vec<Instr>,
-    scope: &Scope,
-    writing: &Writing,
-) -> Result<(), AllocError>
+pub fn emit_write(code: &mut Vec<Instr>, scope: &Scope, writing: &Writing) -> Result<(), AllocError>
     ensures { OnOk result (code.new.items ≡ code.old.items ++ write_code scope.now writing.now) }
 {
     for parameter in &writing.parameters {
