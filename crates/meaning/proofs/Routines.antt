@@ -114,8 +114,7 @@ module _ (heap : Vec ℕ Global) (some_call : Call) where
   compound number statements small = roll-Stmt (Compound number (vec statements small))
 
   abbrev writes : ℕ → (values : List WriteParameter) → length values < 2 ^ 63 → Stmt
-  writes number values small =
-      roll-Stmt (Write (record { number = number; name = some_call.name; parameters = vec values small; ends_line = false }))
+  writes number values small = roll-Stmt (Write (record { number = number; name = some_call.name; parameters = vec values small; ends_line = false }))
 
   abbrev assign : ℕ → ℕ → ℕ → ℕ → Expr → Stmt
   assign number access_number root site value =

@@ -487,7 +487,8 @@ module _ (R : (A : Type 0) → Action A → Action A → Type 0) (closed : Close
     of_stmt_layer (Repeat head statements) =
         let all : Execution = all_of (map effect_of (map (λ e. e.0) statements.items)) in
         closed.follows _ _ _ _ (closed.enters head.number visible)
-        (λ _. closed.repeats (all here) (all there) (value_of head.condition here) (value_of head.condition there) (of_all statements.items) (of_value head.condition))
+        (λ _. closed.repeats (all here) (all there) (value_of head.condition here) (value_of head.condition there) (of_all statements.items)
+        (of_value head.condition))
     of_stmt_layer (For head body) =
         closed.follows _ _ _ _ (closed.enters head.number visible)
         (λ _. closed.follows _ _ _ _ (of_value head.first.value)
