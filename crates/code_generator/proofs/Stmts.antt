@@ -324,7 +324,7 @@ module _ (g : Setting) (known : CallsAt g) where
       let actuals = calling.actuals.items in
       returns_executes g _ held (place + length (call_code g.scope call (map (passed_code g.scope) actuals)))
       (call_of call (map passing_of actuals) (around g)) s
-      ((exact_around g).calls call actuals) (call_runs g known false call actuals place base held s stands good based high deep)
+      ((exact_around g).calls call actuals) (call_runs g known false call actuals place base held s stands good based deep)
 
 -- what is shown of a statement, in each setting
 abbrev pub StmtRuns : Stmt → Type 0
