@@ -1,11 +1,13 @@
 -- How many cells an evaluation needs at once is no more than the count that a full store is judged by.
-use Rattle.std.proofs.Common.{◌≡◌, ℕ, ◌+◌, ◌≤◌, max, Bool, true, false, ◌&&◌, List, [], ◌∷◌, map, nat_eq, Option, Some, None, if◌then◌else◌, refl, ap}
+use Rattle.std.proofs.Common.{◌≡◌, ℕ, ◌+◌, ◌≤◌, max, Bool, true, false, ◌&&◌, List, [], ◌∷◌, length, map, nat_eq, Option, Some, None, if◌then◌else◌, refl, ap}
 use Rattle.std.proofs.Common.{sym, subst, ◌∙◌, arith}
 use Rattle.std.specs.Prelude.{ℤ, filter, fold, not, slice_get, sum, sum_by}
 use Rattle.std.specs.Global.{Vec}
 use Rattle.std.proofs.lemmas.List.Sums.{sum_by-cons}
 use Rattle.typed_tree.specs.declared.tree.Monadic.{Monadic}
 use Rattle.typed_tree.specs.declared.tree.Monadic.TheVariants as monadic
+use Rattle.typed_tree.specs.declared.tree.Selector.{Selector}
+use Rattle.typed_tree.specs.declared.tree.Selector.TheVariants.{Element, Field}
 use Rattle.typed_tree.specs.declared.tree.Shift.TheVariants as shift
 use Rattle.typed_tree.specs.declared.tree.Tree.{Tree}
 use Rattle.typed_tree.specs.declared.tree.Block.{Block}
@@ -30,6 +32,7 @@ use Rattle.typed_tree.specs.declared.tree.Expr.TheOpen.Passed-F.{Value as Passed
 use Rattle.typed_tree.specs.declared.tree.Expr.TheViews.{roll-Expr, roll-Passed, roll-Link}
 use Rattle.typed_tree.specs.declared.tree.Expr.TheFolds.{fold-Link, map-Expr, map-Passed, map-Link, fold-roll-Expr, fold-roll-Passed, fold-roll-Link, ind-Expr}
 use Rattle.typed_tree.specs.declared.tree.Expr.TheFolds.{ind-Passed}
+use Rattle.typed_tree.specs.Accesses.{index_count}
 use Rattle.typed_tree.specs.declared.tree.Stmt.{Stmt}
 use Rattle.typed_tree.specs.declared.tree.Stmt.TheOpen.{Stmt-F}
 use Rattle.typed_tree.specs.declared.tree.Stmt.TheOpen.Stmt-F.{Empty, Assign, Write, Compound, If, While, Repeat, For, Case, Copy, Call as Calling}
@@ -59,13 +62,23 @@ row_within f g (x ∷ xs) depth need h =
     let r = row_within f g xs (max depth (f x.0)) (need + g x.0) (omega (arith, h, x.1)) in
     omega (arith, r, sum-cons (g x.0) (map g (map (λ y. y.0) xs)))
 
--- an address: each index is evaluated beside it
-indexes_within : {X : Type 0} (f g : X → ℕ) (xs : List ((x : X) × (f x ≤ g x))) (depth need : ℕ) → 1 ≤ need → depth ≤ need + 1
-    → fold max depth (map (λ n. n + 1) (map f (map (λ x. x.0) xs))) ≤ need + 1 + sum (map g (map (λ x. x.0) xs))
-indexes_within f g [] depth need least h = omega (arith, h)
-indexes_within f g (x ∷ xs) depth need least h =
-    let r = indexes_within f g xs (max depth (f x.0 + 1)) (need + g x.0) (omega (arith, least)) (omega (arith, h, x.1, least)) in
-    omega (arith, r, sum-cons (g x.0) (map g (map (λ y. y.0) xs)))
+-- an address takes a cell at least
+pub address_takes_one : (selectors : List Selector) (indexes : List ℕ) → 1 ≤ access_depth selectors indexes
+address_takes_one [] indexes = omega arith
+address_takes_one (Field position before ∷ selectors) indexes = address_takes_one selectors indexes
+address_takes_one (Element fits cells ∷ selectors) [] = address_takes_one selectors []
+address_takes_one (Element fits cells ∷ selectors) (index ∷ indexes) = omega arith
+
+-- where each index is taken, it is the greatest of all
+pub indexes_taken : (least : ℕ) (selectors : List Selector) (indexes : List ℕ) → length indexes ≡ index_count selectors
+    → fold max least (map (λ index. index + 1) indexes) ≤ max least (access_depth selectors indexes)
+indexes_taken least [] [] counts = omega arith
+indexes_taken least [] (index ∷ indexes) counts = absurd (omega (arith, counts))
+indexes_taken least (Field position before ∷ selectors) indexes counts = indexes_taken least selectors indexes counts
+indexes_taken least (Element fits cells ∷ selectors) [] counts = absurd (omega (arith, counts))
+indexes_taken least (Element fits cells ∷ selectors) (index ∷ indexes) counts =
+    let rest = indexes_taken (max least (index + 1)) selectors indexes (omega (arith, counts)) in
+    omega (arith, rest)
 
 -- an operation on one operand needs two cells at most
 monadic_within : (operation : Monadic) → monadic_depth operation ≤ 2
@@ -107,7 +120,7 @@ one_layer : (y : Expr-F HereNeedsOne PassedHere LinkHere) → NeedsOne (roll-Exp
 one_layer (Constant number n) = one_of (Constant number n) (omega arith)
 one_layer (Variable access indexes defined) =
     one_of (bare_one (Variable access indexes defined))
-    (start_within 1 (map (λ n. n + 1) (map expr_depth (map (λ (e : HereNeedsOne). e.0) indexes.items))))
+    (address_takes_one access.selectors.items (map expr_depth (map (λ (e : HereNeedsOne). e.0) indexes.items)))
 one_layer (MonadicOf number operation operand) = one_of (bare_one (MonadicOf number operation operand)) (omega (arith, operand.value.1))
 one_layer (Chain first rest) =
     one_of (bare_one (Chain first rest))
@@ -158,14 +171,20 @@ module _ (types : List Form) where
   abbrev LinkHereWithin : Type 0
   LinkHereWithin = (l : Link) × LinkWithin l
 
-  access_within : (indexes : List HereWithin)
-      → access_depth (map expr_depth (map (λ e. e.0) indexes)) ≤ 2 + sum (map (expr_need types) (map (λ e. e.0) indexes))
-  access_within indexes = indexes_within expr_depth (expr_need types) indexes 1 1 (omega arith) (omega arith)
+  -- an address: each index is evaluated beside it
+  access_within : (selectors : List Selector) (indexes : List HereWithin)
+      → access_depth selectors (map expr_depth (map (λ e. e.0) indexes)) ≤ 2 + sum (map (expr_need types) (map (λ e. e.0) indexes))
+  access_within [] indexes = omega arith
+  access_within (Field position before ∷ selectors) indexes = access_within selectors indexes
+  access_within (Element fits cells ∷ selectors) [] = access_within selectors []
+  access_within (Element fits cells ∷ selectors) (e ∷ indexes) =
+      let r = access_within selectors indexes in
+      omega (arith, r, e.1, sum-cons (expr_need types e.0) (map (expr_need types) (map (λ (d : HereWithin). d.0) indexes)))
 
   whole_within : (value : Whole) (indexes : List HereWithin)
       → whole_depth value (map expr_depth (map (λ e. e.0) indexes)) + 6 ≤ whole_need value (map (expr_need types) (map (λ e. e.0) indexes))
   whole_within (Text number characters) indexes = omega arith
-  whole_within (VariableOf access type_id cells defined) indexes = omega (arith, access_within indexes)
+  whole_within (VariableOf access type_id cells defined) indexes = omega (arith, access_within access.selectors.items indexes)
 
   rolled_expr : (x : Expr-F Expr Passed Link)
       → expr_depth_step (map-Expr Expr Passed Link ℕ PassedDepth ℕ expr_depth passed_depth link_depth x)
@@ -218,14 +237,14 @@ module _ (types : List Form) where
   passed_layer (Reference type_id access indexes) =
       let depths = map expr_depth (map (λ (e : HereWithin). e.0) indexes.items) in
       let needs = map (expr_need types) (map (λ (e : HereWithin). e.0) indexes.items) in
-      rolled_passed (bare_passed (Reference type_id access indexes)) (record { depth = access_depth depths; cells = 1 })
+      rolled_passed (bare_passed (Reference type_id access indexes)) (record { depth = access_depth access.selectors.items depths; cells = 1 })
       (reached_need types type_id needs) refl refl
-      (omega (arith, access_within indexes.items)) (omega arith)
+      (omega (arith, access_within access.selectors.items indexes.items)) (omega arith)
 
   expr_layer : (y : Expr-F HereWithin PassedHereWithin LinkHereWithin) → ExprWithin (roll-Expr (bare_expr y))
   expr_layer (Constant number n) = rolled_expr (Constant number n) (omega arith)
   expr_layer (Variable access indexes defined) =
-      rolled_expr (bare_expr (Variable access indexes defined)) (omega (arith, access_within indexes.items))
+      rolled_expr (bare_expr (Variable access indexes defined)) (omega (arith, access_within access.selectors.items indexes.items))
   expr_layer (MonadicOf number operation operand) =
       rolled_expr (bare_expr (MonadicOf number operation operand)) (omega (arith, operand.value.1, monadic_within operation))
   expr_layer (Chain first rest) =
@@ -268,17 +287,20 @@ module _ (types : List Form) where
   without [] = refl
   without (e ∷ es) = ap (λ rest. e ∷ rest) (without es)
 
-  address_within : (indexes : List Expr) → access_depth (index_depths indexes) ≤ 2 + sum (index_needs types indexes)
-  address_within indexes = subst (λ es. access_depth (index_depths es) ≤ 2 + sum (index_needs types es)) (without indexes) (access_within (with_proofs indexes))
+  address_within : (selectors : List Selector) (indexes : List Expr)
+      → access_depth selectors (index_depths indexes) ≤ 2 + sum (index_needs types indexes)
+  address_within selectors indexes =
+      subst (λ es. access_depth selectors (index_depths es) ≤ 2 + sum (index_needs types es)) (without indexes)
+      (access_within selectors (with_proofs indexes))
 
   value_within : (value : Whole) (indexes : List Expr) → whole_depth value (index_depths indexes) + 6 ≤ whole_need value (index_needs types indexes)
   value_within value indexes =
       subst (λ es. whole_depth value (index_depths es) + 6 ≤ whole_need value (index_needs types es)) (without indexes)
       (whole_within value (with_proofs indexes))
 
-  store_within : (indexes : List Expr) (value : Expr)
-      → store_depth (index_depths indexes) (expr_depth value) ≤ 2 + sum (index_needs types indexes) + expr_need types value
-  store_within indexes value = omega (arith, expr_within value, address_within indexes)
+  store_within : (selectors : List Selector) (indexes : List Expr) (value : Expr)
+      → store_depth selectors (index_depths indexes) (expr_depth value) ≤ 2 + sum (index_needs types indexes) + expr_need types value
+  store_within selectors indexes value = omega (arith, expr_within value, address_within selectors indexes)
 
   -- a width, beside the value that is written in it
   width_within : (width : Option Width) → width_depth width ≤ width_need types width + 1
@@ -328,10 +350,14 @@ module _ (types : List Form) where
   stmt_layer : (y : Stmt-F StmtHere) → StmtWithin (roll-Stmt (bare_stmt y))
   stmt_layer (Empty number) = rolled_stmt (Empty number) (omega arith)
   stmt_layer (Assign assignment) =
-      rolled_stmt (Assign assignment) (omega (arith, store_within assignment.indexes.items assignment.value))
+      rolled_stmt (Assign assignment) (omega (arith, store_within assignment.target.selectors.items assignment.indexes.items assignment.value))
   stmt_layer (Copy copying) =
       rolled_stmt (Copy copying)
-      (omega (arith, address_within copying.indexes.items, value_within copying.value copying.value_indexes.items))
+      (omega (
+        arith,
+        address_within copying.target.selectors.items copying.indexes.items,
+        value_within copying.value copying.value_indexes.items,
+      ))
   stmt_layer (Write writing) =
       rolled_stmt (Write writing) (parameters_within writing.parameters.items 0 8 (omega arith) (omega arith))
   stmt_layer (Calling calling) = rolled_stmt (Calling calling) (omega (arith, calling_within 4 calling.actuals.items))

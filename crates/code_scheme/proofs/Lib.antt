@@ -2,8 +2,6 @@ pub mod Bounds
 pub mod Depths
 mod Examples
 pub mod Frames
-pub mod Lengths
-pub mod Measures
+pub mod Moved
 pub mod Pieces
 pub mod Routines
-pub mod Selectors

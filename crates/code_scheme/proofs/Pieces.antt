@@ -144,26 +144,6 @@ stmt_code-Repeat scope place head statements =
     ∙ ap (λ code. code scope place) (fold-roll-Stmt Placed stmt_step (Repeat-layer head statements))
     ∙ ap (λ pieces. repeat_code (placed pieces) (expr_code scope head.condition) place) (map-map (λ code. code scope) stmt_code statements.items)
 
-pub length-While : (test : List Instr) (body : Placed) (scope : Scope) (place : ℕ)
-    → length (while_code test body scope place) ≡ length test + 1 + length (body scope (place + length test + 1)) + 1
-length-While test body scope place =
-    let inside = place + length test + 1 in
-    let code = body scope inside in
-    omega (
-      arith,
-      length-append test (instr.JumpIfFalse (inside + length code + 1) ∷ (code ++ (instr.Jump place ∷ []))),
-      length-append code (instr.Jump place ∷ []),
-    )
-
-pub length-Repeat : (statements : ℕ → List Instr) (test : List Instr) (place : ℕ)
-    → length (repeat_code statements test place) ≡ length (statements place) + (length test + 1)
-length-Repeat statements test place =
-    omega (
-      arith,
-      length-append (statements place) (test ++ (instr.JumpIfFalse place ∷ [])),
-      length-append test (instr.JumpIfFalse place ∷ []),
-    )
-
 -- a for statement
 pub stmt_code-For : (scope : Scope) (place : ℕ) (head : ForHead) (body : Box Stmt)
     → stmt_code (For head body) scope place ≡ for_code head (stmt_code body.value) scope place
@@ -201,26 +181,9 @@ stmt_code-Case scope place head arms =
     ap (λ s. stmt_code s scope place) (sym (rolls-Case head arms))
     ∙ ap (λ code. code scope place) (fold-roll-Stmt Placed stmt_step (Case-layer head arms))
 
--- how many instructions they have
-pub length-If : (test : List Instr) (consequence : Placed) (scope : Scope) (place : ℕ)
-    → length (if_code test consequence scope place) ≡ length test + 1 + length (consequence scope (place + length test + 1))
-length-If test consequence scope place =
-    let yes = place + length test + 1 in
-    omega (arith, length-append test (instr.JumpIfFalse (yes + length (consequence scope yes)) ∷ consequence scope yes))
-
-pub length-If-else : (test : List Instr) (consequence alternative : Placed) (scope : Scope) (place : ℕ)
-    → length (if_else_code test consequence alternative scope place) ≡ length test + 1 + length (consequence scope (place + length test + 1)) + 1 + length
-    (alternative scope (place + length test + 1 + length (consequence scope (place + length test + 1)) + 1))
-length-If-else test consequence alternative scope place =
-    let yes = place + length test + 1 in
-    let code = consequence scope yes in
-    let no = yes + length code + 1 in
-    let behind = instr.Jump (no + length (alternative scope no)) ∷ alternative scope no in
-    omega (arith, length-append test (instr.JumpIfFalse no ∷ (code ++ behind)), length-append code behind)
-
 -- how many cells an expression needs that accesses a variable, or compares two whole values
 pub expr_depth-Variable : (access : Access) (indexes : Vec Expr) (defined : ℕ)
-    → expr_depth (Variable access indexes defined) ≡ access_depth (index_depths indexes.items)
+    → expr_depth (Variable access indexes defined) ≡ access_depth access.selectors.items (index_depths indexes.items)
 expr_depth-Variable access indexes defined =
     ap expr_depth (sym (rolls-Variable access indexes defined))
     ∙ fold-roll-Expr ℕ PassedDepth ℕ expr_depth_step passed_depth_step link_depth_step (Variable-layer access indexes defined)
@@ -250,7 +213,10 @@ passed_depth-Whole type_id value indexes =
     ∙ fold-roll-Passed ℕ PassedDepth ℕ expr_depth_step passed_depth_step link_depth_step (Whole-layer type_id value indexes)
 
 pub passed_depth-Reference : (type_id : TypeId) (access : Access) (indexes : Vec Expr)
-    → passed_depth (actual.Reference type_id access indexes) ≡ record { depth = access_depth (index_depths indexes.items); cells = 1 }
+    → passed_depth (actual.Reference type_id access indexes) ≡ record {
+      depth = access_depth access.selectors.items (index_depths indexes.items);
+      cells = 1;
+    }
 passed_depth-Reference type_id access indexes =
     ap passed_depth (sym (actual.rolls-Reference type_id access indexes))
     ∙ fold-roll-Passed ℕ PassedDepth ℕ expr_depth_step passed_depth_step link_depth_step (Reference-layer type_id access indexes)
@@ -260,33 +226,11 @@ pub arms_depth-none : (rows : List (Vec ℤ)) → arms_depth rows [] ≡ 0
 arms_depth-none [] = refl
 arms_depth-none (row ∷ rows) = refl
 
--- a loop over pieces, at its end
-pub joined_at_end : {X : Type 0} (piece_of : X → List Instr) (code start : List Instr) (xs ys : List X) (i : ℕ)
-    → code ≡ start ++ flat_map piece_of (take i xs) → length xs ≤ i → xs ≡ ys → code ≡ start ++ flat_map piece_of ys
-joined_at_end piece_of code start xs ys i e h same =
-    e ∙ ap (λ zs. start ++ flat_map piece_of zs) (take_all i xs h ∙ same)
-
--- and one piece further
-pub joined_one_more : {X : Type 0} (piece_of : X → List Instr) (code more start : List Instr) (xs : List X) (i : ℕ) (x : X)
-    → code ≡ start ++ flat_map piece_of (take i xs) → i < length xs → x ≡ get_or xs i x → more ≡ code ++ piece_of x
-    → more ≡ start ++ flat_map piece_of (take (i + 1) xs)
-joined_one_more piece_of code more start xs i x e h here grown =
-    grown ∙ ap (λ p. p ++ piece_of x) e ∙ ap (λ y. (start ++ flat_map piece_of (take i xs)) ++ piece_of y) here
-    ∙ flat_map_more piece_of start (take i xs) (get_or xs i x) ∙ ap (λ ys. start ++ flat_map piece_of ys) (sym (take_more xs i x h))
-
 -- a loop that writes a list, one element further
 pub map_one_more : {X Y : Type 0} (f : X → Y) (xs : List X) (i : ℕ) (d : X) (before after : List Y) (y : Y) → before ≡ map f (take i xs) → i < length xs
     → y ≡ f (get_or xs i d) → after ≡ before ++ (y ∷ []) → after ≡ map f (take (i + 1) xs)
 map_one_more f xs i d before after y so_far inside is grown =
     grown ∙ ap (λ ys. ys ++ (y ∷ [])) so_far ∙ ap (λ v. map f (take i xs) ++ (v ∷ [])) is ∙ sym (map_more f xs i d inside)
-
--- how many instructions the pieces have then
-pub length_one_more : {X : Type 0} (piece_of : X → List Instr) (xs : List X) (i : ℕ) (x : X) → i < length xs → x ≡ get_or xs i x
-    → length (flat_map piece_of (take (i + 1) xs)) ≡ length (flat_map piece_of (take i xs)) + length (piece_of x)
-length_one_more piece_of xs i x h here =
-    ap (λ ys. length (flat_map piece_of ys)) (take_more xs i x h) ∙ ap length (sym (flat_map_more piece_of [] (take i xs) (get_or xs i x)))
-    ∙ length-append (flat_map piece_of (take i xs)) (piece_of (get_or xs i x))
-    ∙ ap (λ y. length (flat_map piece_of (take i xs)) + length (piece_of y)) (sym here)
 
 -- the greatest depth so far, and one more
 pub greatest_one_more : {X : Type 0} (depth_of : X → ℕ) (first : ℕ) (xs : List X) (i : ℕ) (x : X) → i < length xs → x ≡ get_or xs i x
@@ -295,32 +239,6 @@ greatest_one_more depth_of first xs i x h here =
     ap (λ ys. fold max first (map depth_of ys)) (take_more xs i x h) ∙ ap (fold max first) (map_push depth_of (take i xs) (get_or xs i x))
     ∙ fold_push max first (map depth_of (take i xs)) (depth_of (get_or xs i x))
     ∙ ap (λ y. max (fold max first (map depth_of (take i xs))) (depth_of y)) (sym here)
-
--- pieces at their places, and one more
-pub placed-push : (pieces : List (ℕ → List Instr)) (piece : ℕ → List Instr) (place : ℕ)
-    → placed (pieces ++ (piece ∷ [])) place ≡ placed pieces place ++ piece (place + length (placed pieces place))
-placed-push [] piece place = append-nil (piece place) ∙ ap piece (sym (add-zero place))
-placed-push (first ∷ pieces) piece place =
-    let rest = placed pieces (place + length (first place)) in
-    let behind = add_assoc place (length (first place)) (length rest) ∙ ap (λ n. place + n) (sym (length-append (first place) rest)) in
-    ap (λ p. first place ++ p) (placed-push pieces piece (place + length (first place)))
-    ∙ ap (λ n. first place ++ (rest ++ piece n)) behind
-    ∙ sym (append_assoc (first place) rest (piece (place + length (first place ++ rest))))
-
--- a loop over statements: one further
-pub stmts_one_more : (scope : Scope) (place : ℕ) (statements : List Stmt) (i : ℕ) (s : Stmt) → i < length statements → s ≡ get_or statements i s
-    → statements_code scope (take (i + 1) statements) place ≡ statements_code scope (take i statements) place ++ stmt_code s scope
-    (place + length (statements_code scope (take i statements) place))
-stmts_one_more scope place statements i s h here =
-    let so_far = statements_code scope (take i statements) place in
-    ap (λ pieces. placed pieces place) (map_more (λ x. stmt_code x scope) statements i s h)
-    ∙ placed-push (map (λ x. stmt_code x scope) (take i statements)) (stmt_code (get_or statements i s) scope) place
-    ∙ ap (λ x. so_far ++ stmt_code x scope (place + length so_far)) (sym here)
-
--- and all of them
-pub all_stmts : (scope : Scope) (place : ℕ) (statements others : List Stmt) (i : ℕ) → length statements ≤ i → statements ≡ others
-    → statements_code scope (take i statements) place ≡ statements_code scope others place
-all_stmts scope place statements others i h same = ap (λ ss. statements_code scope ss place) (take_all i statements h ∙ same)
 
 -- a link: its operand, and its operation
 pub link_code-is : (scope : Scope) (link : Link) → link_code scope link ≡ expr_code scope link.operand ++ dyadic_code link.operation
@@ -332,35 +250,6 @@ pub expr_code-Monadic : (scope : Scope) (number : ℕ) (operation : Monadic) (op
 expr_code-Monadic scope number operation operand =
     ap (expr_code scope) (sym (rolls-Monadic number operation operand))
     ∙ fold-roll-Expr (List Instr) (List Instr) (List Instr) (expr_step scope) (passed_step scope) link_step (Monadic-layer number operation operand)
-
-pub length-link_code : (scope : Scope) (link : Link) → length (link_code scope link) ≡ length (expr_code scope link.operand) + length
-    (dyadic_code link.operation)
-length-link_code scope link =
-    ap length (link_code-is scope link) ∙ length-append (expr_code scope link.operand) (dyadic_code link.operation)
-
--- how many instructions the first links have, and one more
-pub length-links_more : (scope : Scope) (links : List Link) (i : ℕ) (link : Link) → i < length links → link ≡ get_or links i link
-    → length (flat_map (link_code scope) (take (i + 1) links)) ≡ length (flat_map (link_code scope) (take i links)) +
-    (length (expr_code scope link.operand) + length (dyadic_code link.operation))
-length-links_more scope links i link h here =
-    length_one_more (link_code scope) links i link h here ∙ ap (λ n. length (flat_map (link_code scope) (take i links)) + n) (length-link_code scope link)
-
--- the pieces of a loop at its end
-pub all_pieces : {X : Type 0} (piece_of : X → List Instr) (xs ys : List X) (i : ℕ) → length xs ≤ i → xs ≡ ys
-    → flat_map piece_of (take i xs) ≡ flat_map piece_of ys
-all_pieces piece_of xs ys i h same = ap (flat_map piece_of) (take_all i xs h ∙ same)
-
--- how many instructions a call has
-pub length-Call : (scope : Scope) (call : Call) (actuals : List Passed)
-    → length (call_code scope call (map (passed_code scope) actuals)) ≡ 2 + length (flat_map (passed_code scope) actuals)
-length-Call scope call actuals =
-    let pieces = joined (map (passed_code scope) actuals) in
-    let routine = called_routine scope call.block in
-    omega (
-      arith,
-      length-append pieces (instr.CallProcedure (row_length routine.cells) routine.place ∷ []),
-      ap length (joined-map (passed_code scope) actuals),
-    )
 
 -- actual parameters need as much behind counts of cells that are the same in 32 bits
 pub depth_alike : (held other : ℕ) (depths : List PassedDepth) → capped held ≡ capped other

@@ -455,22 +455,34 @@ blocks_code tree routines number (block ∷ blocks) place =
     let code = block_code tree number block (block_scope tree routines number) place in
     code ++ blocks_code tree routines (suc number) blocks (place + length code)
 
--- a routine whose code begins at a place, by the number of its block: how long a call is does not rest on the place
+-- a routine whose code begins at a place, by the number of its block
 abbrev pub routine_at : Tree → ℕ → ℕ → Routine
 routine_at tree number place =
     record { level = block_level tree number - 1; cells = count (parameter_cells tree number); place = place }
 
--- these blocks as routines, one after another from this place on; as long as with these routines for their calls
-abbrev pub routines_from : Tree → List Routine → ℕ → List Block → ℕ → List Routine
-routines_from tree routines number [] place = []
-routines_from tree routines number (block ∷ blocks) place =
+-- these blocks as routines, of which the first has this number, each with its number for its place
+abbrev pub numbered_from : Tree → ℕ → List Block → List Routine
+numbered_from tree number [] = []
+numbered_from tree number (block ∷ blocks) =
+    routine_at tree number number ∷ numbered_from tree (suc number) blocks
+
+abbrev pub numbered : Tree → List Routine
+numbered tree = numbered_from tree 0 tree.blocks.items
+
+-- the code of a block whose calls lead to numbers of blocks: as long as with their places
+abbrev pub numbered_code : Tree → ℕ → Block → ℕ → List Instr
+numbered_code tree number block place = block_code tree number block (block_scope tree (numbered tree) number) place
+
+-- these blocks as routines, one after another from this place on
+abbrev pub routines_from : Tree → ℕ → List Block → ℕ → List Routine
+routines_from tree number [] place = []
+routines_from tree number (block ∷ blocks) place =
     routine_at tree number place
-    ∷ routines_from tree routines (suc number) blocks
-    (place + length (block_code tree number block (block_scope tree routines number) place))
+    ∷ routines_from tree (suc number) blocks (place + length (numbered_code tree number block place))
 
 -- the blocks of a program as routines: the code of the program's block comes first
 abbrev pub routines_of : Tree → List Routine
-routines_of tree = routines_from tree [] 0 tree.blocks.items 0
+routines_of tree = routines_from tree 0 tree.blocks.items 0
 
 -- the code of a program: its blocks, by number
 abbrev pub program_code : Tree → List Instr

@@ -6,6 +6,8 @@ use Rattle.std.specs.declared.alloc.Global.{Global}
 use Rattle.std.specs.declared.boxed.Box.{Box}
 use Rattle.typed_tree.specs.declared.tree.Monadic.{Monadic}
 use Rattle.typed_tree.specs.declared.tree.Monadic.TheVariants as monadic
+use Rattle.typed_tree.specs.declared.tree.Selector.{Selector}
+use Rattle.typed_tree.specs.declared.tree.Selector.TheVariants.{Element, Field}
 use Rattle.typed_tree.specs.declared.tree.Shift.{Shift}
 use Rattle.typed_tree.specs.declared.tree.Shift.TheVariants as shift
 use Rattle.typed_tree.specs.declared.tree.Width.{Width}
@@ -47,14 +49,17 @@ abbrev pub monadic_depth : Monadic → ℕ
 monadic_depth (monadic.Plain does) = 1
 monadic_depth (monadic.Tested fits does) = shift_depth does
 
--- the same of an address: each index is evaluated beside it
-abbrev pub access_depth : List ℕ → ℕ
-access_depth indexes = fold max 1 (map (λ index. index + 1) indexes)
+-- the same of an address: each index that a selector takes is evaluated beside it; one that isn't there needs none
+abbrev pub access_depth : List Selector → List ℕ → ℕ
+access_depth [] indexes = 1
+access_depth (Field position before ∷ selectors) indexes = access_depth selectors indexes
+access_depth (Element fits cells ∷ selectors) [] = access_depth selectors []
+access_depth (Element fits cells ∷ selectors) (index ∷ indexes) = max (index + 1) (access_depth selectors indexes)
 
 -- the same of a whole value; the address of a variable is taken away before its components come
 abbrev pub whole_depth : Whole → List ℕ → ℕ
 whole_depth (Text number characters) indexes = length characters.items
-whole_depth (VariableOf access type_id cells defined) indexes = max (access_depth indexes) cells
+whole_depth (VariableOf access type_id cells defined) indexes = max (access_depth access.selectors.items indexes) cells
 
 -- an actual parameter: how many cells its evaluation needs at once, and how many it leaves
 pub record PassedDepth : Type 0 where
@@ -65,7 +70,8 @@ abbrev pub passed_depth_step : Passed-F ℕ PassedDepth ℕ → PassedDepth
 passed_depth_step (PassedValue value fits) = record { depth = value; cells = 1 }
 passed_depth_step (PassedWhole type_id value indexes) =
     record { depth = whole_depth value indexes.items; cells = length_of value }
-passed_depth_step (Reference type_id access indexes) = record { depth = access_depth indexes.items; cells = 1 }
+passed_depth_step (Reference type_id access indexes) =
+    record { depth = access_depth access.selectors.items indexes.items; cells = 1 }
 
 -- how many cells actual parameters need at once, one after another, where so many cells are there already
 abbrev pub actuals_depth : ℕ → List PassedDepth → ℕ
@@ -78,7 +84,7 @@ call_depth actuals = actuals_depth 4 actuals
 
 abbrev pub expr_depth_step : Expr-F ℕ PassedDepth ℕ → ℕ
 expr_depth_step (Constant number value) = 1
-expr_depth_step (Variable access indexes defined) = access_depth indexes.items
+expr_depth_step (Variable access indexes defined) = access_depth access.selectors.items indexes.items
 expr_depth_step (MonadicOf number operation operand) = max operand.value (monadic_depth operation)
 expr_depth_step (Chain first rest) = fold max first.value rest.items
 expr_depth_step (Compare number relation left left_indexes right right_indexes) =
@@ -125,8 +131,8 @@ parameter_depth parameter =
     max (written_depth parameter.value) (width_depth parameter.width + written_cells parameter.value)
 
 -- the same of an assignment: the address of the target, where it is pushed, lies below the value
-abbrev pub store_depth : List ℕ → ℕ → ℕ
-store_depth indexes value = max (access_depth indexes) (value + 1)
+abbrev pub store_depth : List Selector → List ℕ → ℕ → ℕ
+store_depth selectors indexes value = max (access_depth selectors indexes) (value + 1)
 
 -- the same of what may be there
 abbrev pub alternative_depth : Option (Box ℕ Global) → ℕ
@@ -142,9 +148,9 @@ arms_depth (row ∷ rows) (depth ∷ depths) = max depth (arms_depth rows depths
 abbrev pub stmt_depth_step : Stmt-F ℕ → ℕ
 stmt_depth_step (Empty number) = 0
 stmt_depth_step (Assign assignment) =
-    store_depth (index_depths assignment.indexes.items) (expr_depth assignment.value)
+    store_depth assignment.target.selectors.items (index_depths assignment.indexes.items) (expr_depth assignment.value)
 stmt_depth_step (Copy copying) =
-    max (access_depth (index_depths copying.indexes.items))
+    max (access_depth copying.target.selectors.items (index_depths copying.indexes.items))
     (whole_depth copying.value (index_depths copying.value_indexes.items) + 1)
 stmt_depth_step (Write writing) = greatest (map parameter_depth writing.parameters.items)
 stmt_depth_step (Calling calling) = call_depth (map passed_depth calling.actuals.items)

@@ -1,14 +1,14 @@
-ghost use Rattle.std.specs.Prelude.{◌≡◌, ◌<◌, ◌+◌, ◌++◌, ◌∷◌, [], ℕ, List, IfOk, OnOk, if◌then◌else◌, length};
+ghost use Rattle.std.specs.Prelude.{◌≡◌, ◌<◌, ◌+◌, ◌++◌, ◌∷◌, [], ℕ, List, IfOk, OnOk, if◌then◌else◌, length, slice_get};
 ghost use Rattle.typed_tree.specs.declared.tree.Variable.{Variable as Declared};
 ghost use Rattle.typed_tree.specs.WellFormed.{is_parameter_kind, is_variable_kind};
 ghost use Rattle.code_scheme.specs.Frames.{frame_at as frame_in, start_with, AreCounted};
-ghost use Rattle.code_scheme.specs.Scopes.{block_level, homes_of, slot_cells as cells_of_slot};
+ghost use Rattle.code_scheme.specs.Scopes.{block_level, homes_of, level_of as level_in, slot_cells as cells_of_slot};
 ghost use Rattle.code_scheme.specs.Sizes.{capped};
 
 use crate::home::Home;
 use crate::scope::{GREATEST_OFFSET, LINKS};
 use std::alloc::{AllocError, Global};
-use typed_tree::tree::{Tree, Variable, VariableKind};
+use typed_tree::tree::{Block, Tree, Variable, VariableKind};
 use types::TypeTable;
 
 /// How many cells the frame of a block has behind its links: each is a number of 32 bits, or the greatest.
@@ -62,11 +62,11 @@ pub fn frame_at(frames: &[Frame], block: usize) -> Frame
     }
 }
 
-/// The level of the block with this number: how many stand round it.
-pub fn level_of(tree: &Tree, block: usize) -> usize
-    ensures { result ≡ block_level tree.now block }
+/// The level of the block with this number among these: how many stand round it.
+pub fn level_of(blocks: &[Block], number: usize) -> usize
+    ensures { result ≡ level_in (slice_get blocks.now number) }
 {
-    match tree.blocks.get(block) {
+    match blocks.get(number) {
         None => 0,
         Some(block) => block.heading.around.len(),
     }
@@ -98,7 +98,7 @@ fn home_at(tree: &Tree, variable: Variable, start: u32) -> Home
     } }
 {
     Home {
-        level: level_of(tree, variable.block as usize),
+        level: level_of(tree.blocks.as_slice(), variable.block as usize),
         start,
         refers: matches!(variable.kind, VariableKind::VariableParameter),
     }

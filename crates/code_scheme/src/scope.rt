@@ -1,12 +1,16 @@
 ghost use Rattle.std.specs.Prelude.{◌≡◌};
+ghost use Rattle.code_scheme.specs.Code.{numbered};
+ghost use Rattle.code_scheme.specs.Frames.{AreCounted};
+ghost use Rattle.code_scheme.specs.Scopes.{block_scope, homes_of};
 ghost use Rattle.code_scheme.specs.Scopes.{behind_fields as behind, fields_offset as offset_of_fields};
 ghost use Rattle.code_scheme.specs.Scopes.{selectors_from as from};
 ghost use Rattle.code_scheme.specs.Sizes.{capped};
 
+use crate::frame::{Frame, frame_at, level_of};
 use crate::home::Home;
 use crate::routine::Routine;
 use std::marker::Model;
-use typed_tree::tree::{Access, Selector};
+use typed_tree::tree::{Access, Block, Selector, Tree};
 
 /// The most cells that a frame has for variables, that may be held above them, or that an evaluation is given.
 pub const MOST_CELLS: u32 = 16777216;
@@ -20,13 +24,21 @@ pub const MOST_LINKS: u8 = 15;
 /// How many cells a frame has before its variables.
 pub const LINKS: u32 = 4;
 
+/// What a call of no block would lead to.
+const NO_ROUTINE: Routine = Routine {
+    level: 0,
+    cells: 0,
+    place: 0,
+};
+
 /// Where the code of a statement or an expression runs.
 #[derive(Drop)]
 pub struct Scope<'s> {
     // Where the variables lie, by root number.
     homes: &'s [Home],
-    // The routines, by the number of their block.
-    routines: &'s [Routine],
+    // The blocks, and their frames, by number.
+    blocks: &'s [Block],
+    frames: &'s [Frame],
     // The level of the block.
     level: usize,
     // Where in its frame the next cell lies that is held above its variables.
@@ -38,9 +50,11 @@ impl<'s> Model for Scope<'s> {
 
     ghost Value = { Scope };
 
+    ghost use Rattle.code_scheme.specs.Frames.{routines_by};
+
     ghost view = { λ s. record {
       homes = s.homes.now;
-      routines = s.routines.now;
+      routines = routines_by s.blocks.now s.frames.now 0 s.blocks.now;
       level = s.level;
       next = s.next;
     } };
@@ -50,24 +64,27 @@ impl<'s> Scope<'s> {
     ghost use Rattle.code_scheme.specs.Scopes.{access_offset, called_routine, held_offset, holding, links_to};
     ghost use Rattle.code_scheme.specs.Scopes.{variable_home};
 
-    /// The scope of a block at a level, behind whose variables the next cell lies here.
+    /// The scope of the block with this number, where its statements run, if so the variables lie and these are the
+    /// frames of the blocks. Each routine has the number of its block for its place.
     pub fn of_block(
+        tree: &'s Tree,
         homes: &'s [Home],
-        routines: &'s [Routine],
-        level: usize,
-        next: u32,
+        frames: &'s [Frame],
+        number: usize,
     ) -> Scope<'s>
-        ensures { result ≡ record {
-          homes = homes.now;
-          routines = routines.now;
-          level = level;
-          next = next;
-        } }
+        ensures { homes.now ≡ homes_of tree.now → AreCounted tree.now.types tree.now.variables.items frames.now
+            → result ≡ block_scope tree.now (numbered tree.now) number }
     {
+        let frame = frame_at(frames, number);
+        let next = LINKS
+            .saturating_add(frame.parameters)
+            .saturating_add(frame.others)
+            .min(MOST_CELLS);
         Scope {
             homes,
-            routines,
-            level,
+            blocks: tree.blocks.as_slice(),
+            frames,
+            level: level_of(tree.blocks.as_slice(), number),
             next,
         }
     }
@@ -90,13 +107,14 @@ impl<'s> Scope<'s> {
     pub fn routine(&self, block: u32) -> Routine
         ensures { result ≡ called_routine self.now block }
     {
-        match self.routines.get(block as usize) {
-            None => Routine {
-                level: 0,
-                cells: 0,
-                place: 0,
-            },
-            Some(routine) => *routine,
+        let number = block as usize;
+        if number >= self.blocks.len() {
+            return NO_ROUTINE;
+        }
+        Routine {
+            level: level_of(self.blocks, number).saturating_sub(1),
+            cells: frame_at(self.frames, number).parameters.min(MOST_CELLS),
+            place: block,
         }
     }
 
@@ -134,7 +152,8 @@ impl<'s> Scope<'s> {
     {
         Scope {
             homes: self.homes,
-            routines: self.routines,
+            blocks: self.blocks,
+            frames: self.frames,
             level: self.level,
             next: self.next.saturating_add(cells).min(MOST_CELLS),
         }
