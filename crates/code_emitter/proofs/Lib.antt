@@ -1,3 +1,3 @@
-pub mod Blocks
-pub mod Emitting
+pub mod Emitted
 pub mod Reaching
+pub mod Walking

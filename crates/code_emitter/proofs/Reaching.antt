@@ -4,7 +4,9 @@ use Rattle.pcode_assembler.specs.declared.instr.Instr.{Instr}
 use Rattle.pcode_assembler.specs.declared.instr.Instr.TheVariants as instr
 use Rattle.typed_tree.specs.declared.tree.Access.{Access}
 use Rattle.typed_tree.specs.declared.tree.Selector.{Selector}
+use Rattle.typed_tree.specs.declared.tree.Selector.TheVariants.{Element, Field}
 use Rattle.code_scheme.specs.Code.{At, By, Reached, address_code, address_of, fetch_code, reached_from, selectors_code, store_code}
+use Rattle.code_scheme.specs.Depth.{access_depth}
 use Rattle.code_scheme.specs.Scopes.{Scope, access_offset, behind_fields, links_to, selectors_from, variable_home}
 use Rattle.code_emitter.specs.declared.access.Cell.{Cell}
 use Rattle.code_emitter.specs.Reaching.{address_instr, cell_of}
@@ -51,3 +53,19 @@ pub address_is : (scope : Scope) (access : Access) (codes : List (List Instr))
 address_is scope access codes =
     let home = variable_home scope access.root in
     any_is home.refers (links_to scope home.level) home.start (access_offset scope access) access.selectors.items codes
+
+-- what fields alone select has no index to evaluate, and the fields before the first index have none
+pub fields_need_one : (selectors : List Selector) (indexes : List ℕ) → behind_fields selectors ≡ [] → access_depth selectors indexes ≡ 1
+fields_need_one [] indexes none = refl
+fields_need_one (Field position before ∷ selectors) indexes none = fields_need_one selectors indexes none
+fields_need_one (Element fits cells ∷ selectors) indexes none = absurd (cc)
+
+behind_needs : (selectors : List Selector) (indexes : List ℕ) → access_depth (behind_fields selectors) indexes ≡ access_depth selectors indexes
+behind_needs [] indexes = refl
+behind_needs (Field position before ∷ selectors) indexes = behind_needs selectors indexes
+behind_needs (Element fits cells ∷ selectors) indexes = refl
+
+pub from_needs : (refers : Bool) (selectors : List Selector) (indexes : List ℕ)
+    → access_depth (selectors_from refers selectors) indexes ≡ access_depth selectors indexes
+from_needs true selectors indexes = refl
+from_needs false selectors indexes = behind_needs selectors indexes

@@ -1,2 +1,3 @@
 pub mod Emitted
+pub mod Pieces
 pub mod Reaching

@@ -1,6 +1,7 @@
-ghost use Rattle.std.specs.Prelude.{◌≡◌, List};
+ghost use Rattle.std.specs.Prelude.{◌≡◌, ℕ, List, IsSome};
 ghost use Rattle.pcode_assembler.specs.declared.instr.Instr.{Instr};
 ghost use Rattle.code_scheme.specs.Code.{reached};
+ghost use Rattle.code_scheme.specs.Depth.{access_depth};
 ghost use Rattle.code_emitter.specs.Reaching.{address_instr, cell_of};
 
 use code_scheme::scope::{Scope, behind_fields};
@@ -17,7 +18,8 @@ pub struct Cell {
 /// The cell of what is accessed, where that lies at an offset in a frame: fields alone select it, and from no variable
 /// parameter.
 pub fn cell_in_frame(scope: &Scope, access: &Access) -> Option<Cell>
-    ensures { (codes : List (List Instr)) → result ≡ cell_of (reached scope.now access.now codes) }
+    ensures cell { (codes : List (List Instr)) → result ≡ cell_of (reached scope.now access.now codes) }
+    ensures needs { (indexes : List ℕ) → IsSome result → access_depth access.now.selectors.items indexes ≡ 1 }
 {
     let home = scope.home(access.root);
     if home.refers || !behind_fields(access.selectors.as_slice()).is_empty() {

@@ -1,94 +1,87 @@
-ghost use Rattle.std.specs.Prelude.{◌≡◌, ◌+◌, ◌≤◌, ◌++◌, OnOk, length};
+ghost use Rattle.std.specs.Prelude.{◌≡◌, ℕ};
 ghost use Rattle.code_scheme.specs.Code.{block_code, end_code};
+ghost use Rattle.code_scheme.specs.Depth.{block_depth, result_depth};
 ghost use Rattle.code_scheme.specs.Frames.{frame_of};
-ghost use Rattle.code_scheme.specs.Scopes.{block_scope, count, homes_of, other_cells};
-ghost use Rattle.code_scheme.specs.Sizes.{IsScopeOf};
-ghost use Rattle.typed_tree.specs.declared.tree.Tree.{Tree as TypedTree};
+ghost use Rattle.code_scheme.specs.Large.{is_large_block as is_large_one};
+ghost use Rattle.code_scheme.specs.Sizes.{capped};
+ghost use Rattle.code_emitter.specs.Emitted.{place_of, Gets, Grows};
+ghost use Rattle.typed_tree.specs.declared.tree.Block.{Block as TypedBlock};
+ghost use Rattle.typed_tree.specs.declared.tree.Tree.{Tree};
 
 use crate::emit::emit_stmt;
-use crate::instrs::{load, put};
-use crate::sizes::Sizes;
-use code_scheme::depth::needed_by_block;
-use code_scheme::frame::{Frame, level_of};
-use code_scheme::home::Home;
-use code_scheme::routine::Routine;
+use crate::emitter::{Emitter, Loss};
+use crate::instrs::load;
+use code_scheme::frame::Frame;
 use code_scheme::scope::{LINKS, MOST_CELLS, Scope};
-use code_scheme::size::measure;
 use pcode_assembler::instr::Instr;
-use std::alloc::{AllocError, Global};
-use typed_tree::tree::{Block, FunctionResult, Tree, Variable};
+use typed_tree::tree::{Block, FunctionResult};
 
-/// The instructions of the block with this number, whose frame has so many cells for variables that are no parameters,
-/// where its statements run in this scope of these variables.
-pub fn emit_block(
-    alloc: Global,
-    code: &mut Vec<Instr>,
-    variables: &[Variable],
-    scope: &Scope,
-    others: u32,
-    number: usize,
-    block: &Block,
-) -> Result<(), AllocError>
-    ensures { (tree : TypedTree) → IsScopeOf variables.now scope.now → others ≡ count (other_cells tree number)
-        → length code.old.items + length (block_code tree number block.now scope.now (length code.old.items))
-        ≤ 4294967295
-        → OnOk result (
-        code.new.items ≡ code.old.items ++ block_code tree number block.now scope.now (length code.old.items)) }
+/// The most cells of parameters that a call may pass.
+const MOST_PASSED: u32 = 65536;
+
+/// The instructions of the block with this number, which has this frame, where its statements run in this scope: its
+/// variables, its statement and its end. One that is too large loses the code.
+pub fn emit_block(code: &mut Emitter, scope: &Scope, frame: Frame, number: usize, block: &Block)
+    ensures { (tree : Tree) → frame ≡ frame_of tree.types tree.variables.items number
+        → Grows (is_large_one tree number block.now) code.old code.new
+        (block_code tree number block.now scope.now (place_of code.old)) }
 {
-    let mut sizes = Vec::new(alloc);
-    measure(&mut sizes, variables, &block.body)?;
-    let evaluation = needed_by_block(block).min(MOST_CELLS);
-    put(
-        code,
+    let enter = code.hole();
+    let body = emit_stmt(code, scope, &block.body);
+    let depth = body.max(needed_by_result(block.heading.result));
+    emit_end(code, scope, number, block.heading.result);
+    let variables = frame.others.min(MOST_CELLS);
+    let evaluation = depth.min(MOST_CELLS);
+    code.set(
+        enter,
         Instr::Enter {
-            variables: others,
+            variables,
             evaluation,
         },
-    )?;
-    emit_stmt(code, scope, &mut Sizes::new(sizes.as_slice()), &block.body)?;
-    emit_end(code, scope, number, block.heading.result)
+    );
+    if is_large_block(frame, depth) {
+        code.lose(Loss::TooLarge);
+    }
 }
 
 /// The end of a block: that of the program's ends the run; a routine returns, a function with its result.
-fn emit_end(
-    code: &mut Vec<Instr>,
-    scope: &Scope,
-    number: usize,
-    value: Option<FunctionResult>,
-) -> Result<(), AllocError>
-    ensures { OnOk result (code.new.items ≡ code.old.items ++ end_code scope.now number value) }
+fn emit_end(code: &mut Emitter, scope: &Scope, number: usize, value: Option<FunctionResult>)
+    ensures { Gets code.old code.new (end_code scope.now number value) }
 {
     if number == 0 {
-        return put(code, Instr::Stop);
+        code.put(Instr::Stop);
+        return;
     }
     match value {
-        None => put(code, Instr::Return { results: 0 }),
+        None => code.put(Instr::Return { results: 0 }),
         Some(function) => {
             let offset = scope.home(function.root).start;
             let site = function.defined;
-            code.extend_from_slice(&[
+            code.put_all(&[
                 load(offset),
                 Instr::CheckDefined { site, length: 1 },
                 Instr::Return { results: 1 },
-            ])
+            ]);
         }
     }
 }
 
-/// The scope of the block with this number, which has this frame, where its statements run.
-pub fn scope_of<'s>(
-    tree: &Tree,
-    homes: &'s [Home],
-    routines: &'s [Routine],
-    frame: Frame,
-    number: usize,
-) -> Scope<'s>
-    ensures { homes.now ≡ homes_of tree.now → frame ≡ frame_of tree.now.types tree.now.variables.items number
-        → result ≡ block_scope tree.now routines.now number }
+/// How many cells the end of a routine needs: the result of a function is pushed.
+fn needed_by_result(value: Option<FunctionResult>) -> u32
+    ensures { result ≡ result_depth value }
 {
-    let next = LINKS
+    u32::from(value.is_some())
+}
+
+/// Whether a block with this frame, which needs so many cells at once for its evaluations, takes more cells than a
+/// machine has, or more cells of parameters than a call may pass.
+fn is_large_block(frame: Frame, depth: u32) -> bool
+    ensures { (tree : Tree) (number : ℕ) (block : TypedBlock) → frame ≡ frame_of tree.types tree.variables.items number
+        → depth ≡ capped (block_depth block) → result ≡ is_large_one tree number block }
+{
+    let cells = LINKS
         .saturating_add(frame.parameters)
         .saturating_add(frame.others)
-        .min(MOST_CELLS);
-    Scope::of_block(homes, routines, level_of(tree, number), next)
+        .saturating_add(depth);
+    cells > MOST_CELLS || frame.parameters > MOST_PASSED
 }

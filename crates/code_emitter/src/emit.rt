@@ -1,259 +1,205 @@
-ghost use Rattle.std.specs.Prelude.{◌≡◌, ◌+◌, ◌*◌, [], ◌∷◌, ◌++◌, OnOk, length, map};
-ghost use Rattle.pcode_assembler.specs.declared.instr.Instr.TheVariants.{Fail, Jump, JumpIfFalse};
-ghost use Rattle.code_scheme.specs.Scopes.{holding};
-ghost use Rattle.code_scheme.specs.Code.{arms_code, expr_code, for_begin, for_code, for_end, for_entry, for_next};
-ghost use Rattle.code_scheme.specs.Code.{next_instr, order_instr, repeat_code, row_code, statements_code, stmt_code};
-ghost use Rattle.code_scheme.specs.Code.{while_code};
-ghost use Rattle.code_scheme.specs.Sizes.{arms_table, capped, measured, table_of};
-ghost use Rattle.code_emitter.specs.Emitted.{Emits, statements_table};
+ghost use Rattle.std.specs.Prelude.{◌≡◌, ◌+◌, map, max};
+ghost use Rattle.code_scheme.specs.Code.{expr_code, for_begin, for_code, for_end, if_code, if_else_code, next_instr};
+ghost use Rattle.code_scheme.specs.Code.{order_instr, repeat_code, statements_code, stmt_code, while_code, for_next};
+ghost use Rattle.code_scheme.specs.Depth.{expr_depth, greatest, stmt_depth};
+ghost use Rattle.code_scheme.specs.Sizes.{capped};
+ghost use Rattle.code_emitter.specs.Emitted.{place_of, Gets};
+ghost use Rattle.code_emitter.specs.Pieces.{for_order, for_tests};
 
 use crate::assign::{emit_assign, emit_copy};
+use crate::case::emit_case;
+use crate::emitter::Emitter;
 use crate::expression::{emit_call, emit_expr};
-use crate::instrs::{check_of, load, place_behind, place_of, put, store};
-use crate::sizes::Sizes;
+use crate::instrs::{check_of, load, store};
 use crate::write::emit_write;
 use code_scheme::scope::Scope;
-use code_scheme::size::row_size;
 use pcode_assembler::instr::Instr;
-use std::alloc::AllocError;
 use typed_tree::tree::{Direction, Expr, ForHead, LoopHead, Stmt};
 
 /// The return of the program's frame, which never gets a value.
 const UNDEFINED: u32 = 2;
 
-/// The instructions of a statement, where the sizes are those of it, of the statements in it and of what comes after.
+/// The instructions of a statement.
 #[cycle(emit_stmt)]
-pub fn emit_stmt(
-    code: &mut Vec<Instr>,
-    scope: &Scope,
-    sizes: &mut Sizes,
-    stmt: &Stmt,
-) -> Result<(), AllocError>
-    ensures { Emits result code.old.items code.new.items sizes.old sizes.new
-        (stmt_code stmt.now scope.now (length code.old.items)) (table_of (measured stmt.now scope.now)) }
+pub fn emit_stmt(code: &mut Emitter, scope: &Scope, stmt: &Stmt) -> u32
+    ensures emits { Gets code.old code.new (stmt_code stmt.now scope.now (place_of code.old)) }
+    ensures needs { result ≡ capped (stmt_depth stmt.now) }
 {
-    let size = sizes.next();
-    sizes.pass();
     match stmt {
-        Stmt::Empty { .. } => Ok(()),
+        Stmt::Empty { .. } => 0,
         Stmt::Assign(assignment) => emit_assign(code, scope, assignment),
         Stmt::Copy(copying) => emit_copy(code, scope, copying),
         Stmt::Write(writing) => emit_write(code, scope, writing),
         Stmt::Call(calling) => emit_call(code, scope, calling.call, calling.actuals.as_slice()),
-        Stmt::Compound { statements, .. } => emit_statements(code, scope, sizes, statements),
+        Stmt::Compound { statements, .. } => emit_statements(code, scope, statements),
         Stmt::If {
             condition,
             consequence,
             alternative,
             ..
         } => match alternative {
-            None => {
-                emit_test(code, scope, condition, sizes.next())?;
-                emit_stmt(code, scope, sizes, consequence)
-            }
-            Some(alternative) => {
-                emit_test(code, scope, condition, sizes.next().saturating_add(1))?;
-                emit_stmt(code, scope, sizes, consequence)?;
-                emit_jump(code, sizes.next())?;
-                emit_stmt(code, scope, sizes, alternative)
-            }
+            None => emit_if(code, scope, condition, consequence),
+            Some(alternative) => emit_if_else(code, scope, condition, consequence, alternative),
         },
-        Stmt::While { head, body } => emit_while(code, scope, sizes, head, body),
-        Stmt::Repeat { head, statements } => emit_repeat(code, scope, sizes, head, statements),
-        Stmt::For { head, body } => emit_for(code, scope, sizes, head, body),
-        Stmt::Case { head, arms } => {
-            let out = place_of(code).saturating_add(size).saturating_sub(1);
-            emit_expr(code, scope, &head.index)?;
-            emit_arms(code, scope, sizes, out, &head.constants, arms)?;
-            emit_no_arm(code, head.site, out)
-        }
+        Stmt::While { head, body } => emit_while(code, scope, head, body),
+        Stmt::Repeat { head, statements } => emit_repeat(code, scope, head, statements),
+        Stmt::For { head, body } => emit_for(code, scope, head, body),
+        Stmt::Case { head, arms } => emit_case(code, scope, head, arms),
     }
 }
 
 /// The instructions of some statements.
 #[cycle(emit_stmt)]
-fn emit_statements(
-    code: &mut Vec<Instr>,
-    scope: &Scope,
-    sizes: &mut Sizes,
-    statements: &Vec<Stmt>,
-) -> Result<(), AllocError>
-    ensures { Emits result code.old.items code.new.items sizes.old sizes.new
-        (statements_code scope.now statements.now.items (length code.old.items))
-        (statements_table scope.now statements.now.items) }
+fn emit_statements(code: &mut Emitter, scope: &Scope, statements: &Vec<Stmt>) -> u32
+    ensures emits { Gets code.old code.new (statements_code scope.now statements.now.items (place_of code.old)) }
+    ensures needs { result ≡ capped (greatest (map stmt_depth statements.now.items)) }
 {
+    let mut depth = 0;
     for statement in statements {
-        emit_stmt(code, scope, sizes, statement)?;
+        depth = depth.max(emit_stmt(code, scope, statement));
     }
-    Ok(())
+    depth
 }
 
-/// A while statement, where the sizes are those of its body and of what comes after.
+/// An if statement without `else`.
 #[cycle(emit_stmt)]
-fn emit_while(
-    code: &mut Vec<Instr>,
-    scope: &Scope,
-    sizes: &mut Sizes,
-    head: &LoopHead,
-    body: &Stmt,
-) -> Result<(), AllocError>
-    ensures { Emits result code.old.items code.new.items sizes.old sizes.new
-        (while_code (expr_code scope.now head.now.condition) (stmt_code body.now) scope.now (length code.old.items))
-        (table_of (measured body.now scope.now)) }
+fn emit_if(code: &mut Emitter, scope: &Scope, condition: &Expr, consequence: &Stmt) -> u32
+    ensures emits { Gets code.old code.new
+        (if_code (expr_code scope.now condition.now) (stmt_code consequence.now) scope.now (place_of code.old)) }
+    ensures needs { result ≡ capped (max (expr_depth condition.now) (stmt_depth consequence.now)) }
 {
-    let round = place_of(code);
-    emit_test(code, scope, &head.condition, sizes.next().saturating_add(1))?;
-    emit_stmt(code, scope, sizes, body)?;
-    put(code, Instr::Jump { target: round })
+    let test = emit_expr(code, scope, condition);
+    let jump = code.hole();
+    let inside = emit_stmt(code, scope, consequence);
+    let target = code.place();
+    code.set(jump, Instr::JumpIfFalse { target });
+    test.max(inside)
 }
 
-/// The same of a repeat statement.
+/// The same with it.
 #[cycle(emit_stmt)]
-fn emit_repeat(
-    code: &mut Vec<Instr>,
-    scope: &Scope,
-    sizes: &mut Sizes,
-    head: &LoopHead,
-    statements: &Vec<Stmt>,
-) -> Result<(), AllocError>
-    ensures { Emits result code.old.items code.new.items sizes.old sizes.new
-        (repeat_code (statements_code scope.now statements.now.items) (expr_code scope.now head.now.condition)
-        (length code.old.items)) (statements_table scope.now statements.now.items) }
-{
-    let round = place_of(code);
-    emit_statements(code, scope, sizes, statements)?;
-    emit_expr(code, scope, &head.condition)?;
-    put(code, Instr::JumpIfFalse { target: round })
-}
-
-/// The same of a for statement.
-#[cycle(emit_stmt)]
-fn emit_for(
-    code: &mut Vec<Instr>,
-    scope: &Scope,
-    sizes: &mut Sizes,
-    head: &ForHead,
-    body: &Stmt,
-) -> Result<(), AllocError>
-    ensures { Emits result code.old.items code.new.items sizes.old sizes.new
-        (for_code head.now (stmt_code body.now) scope.now (length code.old.items))
-        (table_of (measured body.now (holding 2 scope.now))) }
-{
-    emit_bounds(code, scope, head)?;
-    let round = place_of(code).saturating_add(8);
-    let out = round.saturating_add(11).saturating_add(sizes.next());
-    emit_entry(code, scope, head, out)?;
-    emit_begin(code, scope, head.control)?;
-    emit_stmt(code, &scope.holding(2), sizes, body)?;
-    emit_next(code, scope, head.direction, round, out)?;
-    emit_end(code, scope, head.control)
-}
-
-/// The arms of a case statement, each behind its row of constants, and a jump out of the statement behind each.
-#[cycle(emit_stmt)]
-fn emit_arms(
-    code: &mut Vec<Instr>,
-    scope: &Scope,
-    sizes: &mut Sizes,
-    out: u32,
-    constants: &Vec<Vec<i32>>,
-    arms: &Vec<Stmt>,
-) -> Result<(), AllocError>
-    ensures { Emits result code.old.items code.new.items sizes.old sizes.new
-        (arms_code scope.now out constants.now.items (map stmt_code arms.now.items) (length code.old.items))
-        (arms_table constants.now.items (map (λ s. measured s (holding 1 scope.now)) arms.now.items)) }
-{
-    let inside = scope.holding(1);
-    let mut rows = constants.as_slice();
-    for arm in arms {
-        if let Some((row, others)) = rows.split_first() {
-            emit_row(code, scope, row.as_slice(), sizes.next())?;
-            emit_stmt(code, &inside, sizes, arm)?;
-            put(code, Instr::Jump { target: out })?;
-            rows = others;
-        }
-    }
-    Ok(())
-}
-
-/// The condition, and where it is false a jump over so many instructions.
-fn emit_test(
-    code: &mut Vec<Instr>,
+fn emit_if_else(
+    code: &mut Emitter,
     scope: &Scope,
     condition: &Expr,
-    past: u32,
-) -> Result<(), AllocError>
-    ensures { OnOk result (code.new.items ≡ (code.old.items ++ expr_code scope.now condition.now)
-        ++ JumpIfFalse (capped (length (code.old.items ++ expr_code scope.now condition.now) + 1 + past)) ∷ []) }
+    consequence: &Stmt,
+    alternative: &Stmt,
+) -> u32
+    ensures emits { Gets code.old code.new (if_else_code (expr_code scope.now condition.now)
+        (stmt_code consequence.now) (stmt_code alternative.now) scope.now (place_of code.old)) }
+    ensures needs { result ≡ capped
+        (max (expr_depth condition.now) (max (stmt_depth consequence.now) (stmt_depth alternative.now))) }
 {
-    emit_expr(code, scope, condition)?;
-    let target = place_behind(code, past);
-    put(code, Instr::JumpIfFalse { target })
+    let test = emit_expr(code, scope, condition);
+    let jump = code.hole();
+    let inside = emit_stmt(code, scope, consequence);
+    let over = code.place();
+    code.set(jump, Instr::JumpIfFalse { target: over + 1 });
+    code.hole();
+    let other = emit_stmt(code, scope, alternative);
+    let target = code.place();
+    code.set(over, Instr::Jump { target });
+    test.max(inside.max(other))
 }
 
-/// A jump over so many instructions.
-fn emit_jump(code: &mut Vec<Instr>, past: u32) -> Result<(), AllocError>
-    ensures { OnOk result (
-        code.new.items ≡ code.old.items ++ Jump (capped (length code.old.items + 1 + past)) ∷ []) }
+/// A while statement.
+#[cycle(emit_stmt)]
+fn emit_while(code: &mut Emitter, scope: &Scope, head: &LoopHead, body: &Stmt) -> u32
+    ensures emits { Gets code.old code.new
+        (while_code (expr_code scope.now head.now.condition) (stmt_code body.now) scope.now (place_of code.old)) }
+    ensures needs { result ≡ capped (max (expr_depth head.now.condition) (stmt_depth body.now)) }
 {
-    let target = place_behind(code, past);
-    put(code, Instr::Jump { target })
+    let round = code.place();
+    let test = emit_expr(code, scope, &head.condition);
+    let jump = code.hole();
+    let inside = emit_stmt(code, scope, body);
+    code.put(Instr::Jump { target: round });
+    let target = code.place();
+    code.set(jump, Instr::JumpIfFalse { target });
+    test.max(inside)
 }
 
-/// The bounds of a for statement.
-fn emit_bounds(code: &mut Vec<Instr>, scope: &Scope, head: &ForHead) -> Result<(), AllocError>
-    ensures { OnOk result (code.new.items ≡ (code.old.items ++ expr_code scope.now head.now.first.value)
-        ++ expr_code scope.now head.now.last.value) }
-{
-    emit_expr(code, scope, &head.first.value)?;
-    emit_expr(code, scope, &head.last.value)
-}
-
-/// Behind both bounds: a jump out of the loop where they leave no value, and their tests.
-fn emit_entry(
-    code: &mut Vec<Instr>,
+/// A repeat statement.
+#[cycle(emit_stmt)]
+fn emit_repeat(
+    code: &mut Emitter,
     scope: &Scope,
-    head: &ForHead,
-    out: u32,
-) -> Result<(), AllocError>
-    ensures { OnOk result (code.new.items ≡ code.old.items ++ for_entry scope.now head.now out) }
+    head: &LoopHead,
+    statements: &Vec<Stmt>,
+) -> u32
+    ensures emits { Gets code.old code.new (repeat_code (statements_code scope.now statements.now.items)
+        (expr_code scope.now head.now.condition) (place_of code.old)) }
+    ensures needs { result ≡ capped
+        (max (greatest (map stmt_depth statements.now.items)) (expr_depth head.now.condition)) }
+{
+    let round = code.place();
+    let inside = emit_statements(code, scope, statements);
+    let test = emit_expr(code, scope, &head.condition);
+    code.put(Instr::JumpIfFalse { target: round });
+    inside.max(test)
+}
+
+/// A for statement.
+#[cycle(emit_stmt)]
+fn emit_for(code: &mut Emitter, scope: &Scope, head: &ForHead, body: &Stmt) -> u32
+    ensures emits { Gets code.old code.new
+        (for_code head.now (stmt_code body.now) scope.now (place_of code.old)) }
+    ensures needs { result ≡ capped (max (max (expr_depth head.now.first.value) (expr_depth head.now.last.value + 1))
+        (max 4 (stmt_depth body.now + 2))) }
+{
+    let first = emit_expr(code, scope, &head.first.value);
+    let last = emit_expr(code, scope, &head.last.value);
+    emit_order(code, scope, head.direction);
+    let jump = code.hole();
+    emit_tests(code, scope, head);
+    let round = code.place();
+    emit_begin(code, scope, head.control);
+    let inside = emit_stmt(code, &scope.holding(2), body);
+    let target = code.place() + 9;
+    emit_next(code, scope, head.direction, round, target);
+    code.set(jump, Instr::JumpIfFalse { target });
+    emit_end(code, scope, head.control);
+    first.max(last.saturating_add(1)).max(inside.saturating_add(2).max(4))
+}
+
+/// Behind both bounds of a for statement: whether they leave a value.
+fn emit_order(code: &mut Emitter, scope: &Scope, direction: Direction)
+    ensures { Gets code.old code.new (for_order scope.now direction) }
 {
     let value = scope.held_offset(0);
     let last = scope.held_offset(1);
-    code.extend_from_slice(&[
-        load(value),
-        load(last),
-        order_of(head.direction),
-        Instr::JumpIfFalse { target: out },
+    code.put_all(&[load(value), load(last), order_of(direction)]);
+}
+
+/// Where they do, their tests.
+fn emit_tests(code: &mut Emitter, scope: &Scope, head: &ForHead)
+    ensures { Gets code.old code.new (for_tests scope.now head.now) }
+{
+    let value = scope.held_offset(0);
+    code.put_all(&[
         load(value),
         check_of(head.first.fits),
         store(value),
         check_of(head.last.fits),
-    ])
+    ]);
 }
 
 /// The control variable gets the value that is held.
-fn emit_begin(code: &mut Vec<Instr>, scope: &Scope, control: u32) -> Result<(), AllocError>
-    ensures { OnOk result (code.new.items ≡ code.old.items ++ for_begin scope.now control) }
+fn emit_begin(code: &mut Emitter, scope: &Scope, control: u32)
+    ensures { Gets code.old code.new (for_begin scope.now control) }
 {
     let value = scope.held_offset(0);
     let variable = scope.home(control).start;
-    code.extend_from_slice(&[load(value), store(variable)])
+    code.put_all(&[load(value), store(variable)]);
 }
 
 /// Behind the body: out of the loop with the last value, else to the next round with the next one.
-fn emit_next(
-    code: &mut Vec<Instr>,
-    scope: &Scope,
-    direction: Direction,
-    round: u32,
-    out: u32,
-) -> Result<(), AllocError>
-    ensures { OnOk result (code.new.items ≡ code.old.items ++ for_next scope.now direction round out) }
+fn emit_next(code: &mut Emitter, scope: &Scope, direction: Direction, round: u32, out: u32)
+    ensures { Gets code.old code.new (for_next scope.now direction round out) }
 {
     let value = scope.held_offset(0);
     let last = scope.held_offset(1);
-    code.extend_from_slice(&[
+    code.put_all(&[
         load(value),
         load(last),
         Instr::NotEqual,
@@ -263,16 +209,16 @@ fn emit_next(
         step_of(direction),
         store(value),
         Instr::Jump { target: round },
-    ])
+    ]);
 }
 
 /// Behind the loop nothing more is held, and the control variable is undefined.
-fn emit_end(code: &mut Vec<Instr>, scope: &Scope, control: u32) -> Result<(), AllocError>
-    ensures { OnOk result (code.new.items ≡ code.old.items ++ for_end scope.now control) }
+fn emit_end(code: &mut Emitter, scope: &Scope, control: u32)
+    ensures { Gets code.old code.new (for_end scope.now control) }
 {
     let variable = scope.home(control).start;
     let level = scope.links_to(0);
-    code.extend_from_slice(&[
+    code.put_all(&[
         store(variable),
         store(variable),
         Instr::Load {
@@ -280,47 +226,7 @@ fn emit_end(code: &mut Vec<Instr>, scope: &Scope, control: u32) -> Result<(), Al
             offset: UNDEFINED,
         },
         store(variable),
-    ])
-}
-
-/// A row of constants, and a jump over the arm behind it, which has so many instructions.
-fn emit_row(code: &mut Vec<Instr>, scope: &Scope, row: &[i32], arm: u32) -> Result<(), AllocError>
-    ensures { OnOk result (code.new.items
-        ≡ (code.old.items ++ row_code scope.now (capped (length code.old.items + 1 + 4 * length row.now)) row.now)
-        ++ Jump (capped (length code.old.items + 1 + 4 * length row.now + arm + 1)) ∷ []) }
-{
-    let inside = place_behind(code, row_size(row));
-    let target = inside.saturating_add(arm).saturating_add(1);
-    emit_comparisons(code, scope, inside, row)?;
-    put(code, Instr::Jump { target })
-}
-
-/// The value that is held is compared with each constant of a row; a jump to the arm is taken where it is the same.
-fn emit_comparisons(
-    code: &mut Vec<Instr>,
-    scope: &Scope,
-    arm: u32,
-    row: &[i32],
-) -> Result<(), AllocError>
-    ensures { OnOk result (code.new.items ≡ code.old.items ++ row_code scope.now arm row.now) }
-{
-    let value = load(scope.held_offset(0));
-    let choice = Instr::JumpIfFalse { target: arm };
-    for constant in row {
-        let constant = Instr::LoadConstant { value: *constant };
-        code.extend_from_slice(&[constant, value, Instr::NotEqual, choice])?;
-    }
-    Ok(())
-}
-
-/// Behind the arms: an error where none was chosen, and what takes the value away that is held.
-fn emit_no_arm(code: &mut Vec<Instr>, site: u32, out: u32) -> Result<(), AllocError>
-    ensures { OnOk result (
-        code.new.items ≡ code.old.items ++ Fail site ∷ JumpIfFalse (capped (out + 1)) ∷ []) }
-{
-    let target = out.saturating_add(1);
-    put(code, Instr::Fail { site })?;
-    put(code, Instr::JumpIfFalse { target })
+    ]);
 }
 
 /// What compares the bounds of a for statement.

@@ -1,20 +1,23 @@
-ghost use Rattle.std.specs.Prelude.{◌≡◌, pos, [], ◌∷◌, ◌++◌, OnOk, map};
+ghost use Rattle.std.specs.Prelude.{◌≡◌, pos, [], ◌∷◌, ◌++◌, map};
 ghost use Rattle.pcode_assembler.specs.declared.instr.Instr.TheVariants.{CallProcedure, CheckDefined, Compare};
 ghost use Rattle.pcode_assembler.specs.declared.instr.Instr.TheVariants.{IndexAddress, LoadConstant, LoadMany};
 ghost use Rattle.code_scheme.specs.Code.{address_code, calculation_code, call_code, dyadic_code, expr_code};
 ghost use Rattle.code_scheme.specs.Code.{fetch_code, field_code, index_codes, link_code, monadic_code, passed_code};
 ghost use Rattle.code_scheme.specs.Code.{range_check, reached, relation_instr, selectors_code, shift_code};
 ghost use Rattle.code_scheme.specs.Code.{variable_code, whole_code};
+ghost use Rattle.code_scheme.specs.Depth.{access_depth, call_depth, expr_depth, index_depths, link_depth};
+ghost use Rattle.code_scheme.specs.Depth.{monadic_depth, passed_depth, shift_depth, whole_depth};
 ghost use Rattle.code_scheme.specs.Scopes.{row_length as length_of_row};
+ghost use Rattle.code_scheme.specs.Sizes.{capped};
 ghost use Rattle.typed_tree.specs.WellFormed.{length_of};
+ghost use Rattle.code_emitter.specs.Emitted.{Gets};
 
 use crate::access::{Cell, address_in, cell_in_frame};
-use crate::instrs::{check_of, comparison_of, positive_at, put, put_checked, put_step};
-use code_scheme::depth::cells_of_whole;
+use crate::emitter::Emitter;
+use crate::instrs::{check_of, comparison_of, positive_at};
 use code_scheme::routine::Routine;
-use code_scheme::scope::{GREATEST_OFFSET, Scope, selectors_from};
+use code_scheme::scope::{GREATEST_OFFSET, LINKS, Scope, selectors_from};
 use pcode_assembler::instr::Instr;
-use std::alloc::AllocError;
 use typed_tree::tree::{
     Access, Calculation, Call, Dyadic, Expr, Link, Monadic, Passed, RangeTest, Relation, Selector,
     Shift, Whole,
@@ -25,11 +28,15 @@ const GREATEST_LENGTH: u32 = 65536;
 
 /// The instructions of an expression: its value is pushed.
 #[cycle(emit_expr)]
-pub fn emit_expr(code: &mut Vec<Instr>, scope: &Scope, expr: &Expr) -> Result<(), AllocError>
-    ensures { OnOk result (code.new.items ≡ code.old.items ++ expr_code scope.now expr.now) }
+pub fn emit_expr(code: &mut Emitter, scope: &Scope, expr: &Expr) -> u32
+    ensures emits { Gets code.old code.new (expr_code scope.now expr.now) }
+    ensures needs { result ≡ capped (expr_depth expr.now) }
 {
     match expr {
-        Expr::Constant { value, .. } => put(code, Instr::LoadConstant { value: *value }),
+        Expr::Constant { value, .. } => {
+            code.put(Instr::LoadConstant { value: *value });
+            1
+        }
         Expr::Variable {
             access,
             indexes,
@@ -40,15 +47,15 @@ pub fn emit_expr(code: &mut Vec<Instr>, scope: &Scope, expr: &Expr) -> Result<()
             operand,
             ..
         } => {
-            emit_expr(code, scope, operand)?;
-            emit_monadic(code, *operation)
+            let depth = emit_expr(code, scope, operand);
+            depth.max(emit_monadic(code, *operation))
         }
         Expr::Chain { first, rest } => {
-            emit_expr(code, scope, first)?;
+            let mut depth = emit_expr(code, scope, first);
             for link in rest {
-                emit_link(code, scope, link)?;
+                depth = depth.max(emit_link(code, scope, link));
             }
-            Ok(())
+            depth
         }
         Expr::Compare {
             relation,
@@ -58,9 +65,10 @@ pub fn emit_expr(code: &mut Vec<Instr>, scope: &Scope, expr: &Expr) -> Result<()
             right_indexes,
             ..
         } => {
-            emit_whole(code, scope, left, left_indexes.as_slice())?;
-            emit_whole(code, scope, right, right_indexes.as_slice())?;
-            emit_order(code, *relation, row_length(left))
+            let first = emit_whole(code, scope, left, left_indexes.as_slice());
+            let second = emit_whole(code, scope, right, right_indexes.as_slice());
+            emit_order(code, *relation, row_length(left));
+            first.max(second.saturating_add(cells_of_whole(left)).max(2))
         }
         Expr::Call { call, actuals } => emit_call(code, scope, *call, actuals.as_slice()),
     }
@@ -68,33 +76,34 @@ pub fn emit_expr(code: &mut Vec<Instr>, scope: &Scope, expr: &Expr) -> Result<()
 
 /// A call: the links of a new frame, behind them the actual parameters, and the jump to the routine.
 #[cycle(emit_expr)]
-pub fn emit_call(
-    code: &mut Vec<Instr>,
-    scope: &Scope,
-    call: Call,
-    actuals: &[Passed],
-) -> Result<(), AllocError>
-    ensures { OnOk result (code.new.items
-        ≡ code.old.items ++ call_code scope.now call (map (passed_code scope.now) actuals.now)) }
+pub fn emit_call(code: &mut Emitter, scope: &Scope, call: Call, actuals: &[Passed]) -> u32
+    ensures emits { Gets code.old code.new (call_code scope.now call (map (passed_code scope.now) actuals.now)) }
+    ensures needs { result ≡ capped (call_depth (map passed_depth actuals.now)) }
 {
     let routine = scope.routine(call.block);
     let level = scope.links_to(routine.level);
-    put(code, Instr::MarkStack { level })?;
+    code.put(Instr::MarkStack { level });
+    let mut held = LINKS;
+    let mut depth = 0;
     for actual in actuals {
-        emit_passed(code, scope, actual)?;
+        depth = depth.max(held.saturating_add(emit_passed(code, scope, actual)));
+        held = held.saturating_add(cells_of_passed(actual));
     }
-    put(code, call_of(routine))
+    code.put(call_of(routine));
+    depth.max(held)
 }
 
 /// An actual parameter: a value and its test, the components of a copy, or the address of a variable.
 #[cycle(emit_expr)]
-fn emit_passed(code: &mut Vec<Instr>, scope: &Scope, actual: &Passed) -> Result<(), AllocError>
-    ensures { OnOk result (code.new.items ≡ code.old.items ++ passed_code scope.now actual.now) }
+fn emit_passed(code: &mut Emitter, scope: &Scope, actual: &Passed) -> u32
+    ensures emits { Gets code.old code.new (passed_code scope.now actual.now) }
+    ensures needs { result ≡ capped (passed_depth actual.now).depth }
 {
     match actual {
         Passed::Value { value, fits } => {
-            emit_expr(code, scope, value)?;
-            put(code, check_of(*fits))
+            let depth = emit_expr(code, scope, value);
+            code.put(check_of(*fits));
+            depth
         }
         Passed::Whole { value, indexes, .. } => emit_whole(code, scope, value, indexes.as_slice()),
         Passed::Reference {
@@ -105,173 +114,170 @@ fn emit_passed(code: &mut Vec<Instr>, scope: &Scope, actual: &Passed) -> Result<
     }
 }
 
-/// The right operand, and the operation.
+/// The right operand, beside the value to its left, and the operation.
 #[cycle(emit_expr)]
-fn emit_link(code: &mut Vec<Instr>, scope: &Scope, link: &Link) -> Result<(), AllocError>
-    ensures { OnOk result (code.new.items ≡ code.old.items ++ link_code scope.now link.now) }
+fn emit_link(code: &mut Emitter, scope: &Scope, link: &Link) -> u32
+    ensures emits { Gets code.old code.new (link_code scope.now link.now) }
+    ensures needs { result ≡ capped (link_depth link.now) }
 {
-    emit_expr(code, scope, &link.operand)?;
-    emit_dyadic(code, link.operation)
+    let depth = emit_expr(code, scope, &link.operand);
+    emit_dyadic(code, link.operation);
+    depth.saturating_add(1)
 }
 
 /// The value of what is accessed, an ordinal, and its check.
 #[cycle(emit_expr)]
 fn emit_variable(
-    code: &mut Vec<Instr>,
+    code: &mut Emitter,
     scope: &Scope,
     access: &Access,
     indexes: &[Expr],
     site: u32,
-) -> Result<(), AllocError>
-    ensures { OnOk result (code.new.items
-        ≡ code.old.items ++ variable_code scope.now access.now (index_codes scope.now indexes.now) site) }
+) -> u32
+    ensures emits { Gets code.old code.new
+        (variable_code scope.now access.now (index_codes scope.now indexes.now) site) }
+    ensures needs { result ≡ capped (access_depth access.now.selectors.items (index_depths indexes.now)) }
 {
-    emit_fetch(code, scope, access, indexes)?;
-    put(code, Instr::CheckDefined { site, length: 1 })
+    let depth = emit_fetch(code, scope, access, indexes);
+    code.put(Instr::CheckDefined { site, length: 1 });
+    depth
 }
 
 /// The value of what is accessed: that of a cell of a frame, or what stands at its address.
 #[cycle(emit_expr)]
-fn emit_fetch(
-    code: &mut Vec<Instr>,
-    scope: &Scope,
-    access: &Access,
-    indexes: &[Expr],
-) -> Result<(), AllocError>
-    ensures { OnOk result (code.new.items
-        ≡ code.old.items ++ fetch_code (reached scope.now access.now (index_codes scope.now indexes.now))) }
+fn emit_fetch(code: &mut Emitter, scope: &Scope, access: &Access, indexes: &[Expr]) -> u32
+    ensures emits { Gets code.old code.new
+        (fetch_code (reached scope.now access.now (index_codes scope.now indexes.now))) }
+    ensures needs { result ≡ capped (access_depth access.now.selectors.items (index_depths indexes.now)) }
 {
     match cell_in_frame(scope, access) {
-        Some(Cell { level, offset }) => put(code, Instr::Load { level, offset }),
+        Some(Cell { level, offset }) => {
+            code.put(Instr::Load { level, offset });
+            1
+        }
         None => {
-            emit_address(code, scope, access, indexes)?;
-            put(code, Instr::LoadIndirect { offset: 0 })
+            let depth = emit_address(code, scope, access, indexes);
+            code.put(Instr::LoadIndirect { offset: 0 });
+            depth
         }
     }
 }
 
 /// A value of several components: each of them, the first one first; those of a variable checked.
 #[cycle(emit_expr)]
-pub fn emit_whole(
-    code: &mut Vec<Instr>,
-    scope: &Scope,
-    value: &Whole,
-    indexes: &[Expr],
-) -> Result<(), AllocError>
-    ensures { OnOk result (
-        code.new.items ≡ code.old.items ++ whole_code scope.now value.now (index_codes scope.now indexes.now)) }
+pub fn emit_whole(code: &mut Emitter, scope: &Scope, value: &Whole, indexes: &[Expr]) -> u32
+    ensures emits { Gets code.old code.new
+        (whole_code scope.now value.now (index_codes scope.now indexes.now)) }
+    ensures needs { result ≡ capped (whole_depth value.now (index_depths indexes.now)) }
 {
     match value {
-        Whole::Text { characters, .. } => emit_characters(code, characters.as_slice()),
+        Whole::Text { characters, .. } => {
+            emit_characters(code, characters.as_slice());
+            cells_of_whole(value)
+        }
         Whole::Variable {
             access,
             cells,
             defined,
             ..
         } => {
-            emit_address(code, scope, access, indexes)?;
-            emit_cells(code, *cells, *defined)
+            let depth = emit_address(code, scope, access, indexes);
+            emit_cells(code, *cells, *defined);
+            depth.max(*cells)
         }
     }
 }
 
 /// The address of what is accessed.
 #[cycle(emit_expr)]
-pub fn emit_address(
-    code: &mut Vec<Instr>,
-    scope: &Scope,
-    access: &Access,
-    indexes: &[Expr],
-) -> Result<(), AllocError>
-    ensures { OnOk result (
-        code.new.items ≡ code.old.items ++ address_code scope.now access.now (index_codes scope.now indexes.now)) }
+pub fn emit_address(code: &mut Emitter, scope: &Scope, access: &Access, indexes: &[Expr]) -> u32
+    ensures emits { Gets code.old code.new
+        (address_code scope.now access.now (index_codes scope.now indexes.now)) }
+    ensures needs { result ≡ capped (access_depth access.now.selectors.items (index_depths indexes.now)) }
 {
-    put(code, address_in(scope, access))?;
+    code.put(address_in(scope, access));
     let refers = scope.home(access.root).refers;
     let selectors = selectors_from(refers, access.selectors.as_slice());
     emit_selectors(code, scope, selectors, indexes)
 }
 
-/// From an address to what is selected from it.
+/// From an address to what is selected from it: each index is evaluated beside it.
 #[cycle(emit_expr)]
 fn emit_selectors(
-    code: &mut Vec<Instr>,
+    code: &mut Emitter,
     scope: &Scope,
     selectors: &[Selector],
     indexes: &[Expr],
-) -> Result<(), AllocError>
-    ensures { OnOk result (
-        code.new.items ≡ code.old.items ++ selectors_code selectors.now (index_codes scope.now indexes.now)) }
+) -> u32
+    ensures emits { Gets code.old code.new (selectors_code selectors.now (index_codes scope.now indexes.now)) }
+    ensures needs { result ≡ capped (access_depth selectors.now (index_depths indexes.now)) }
 {
     let mut next = 0;
+    let mut depth = 1u32;
     for selector in selectors {
         match selector {
-            Selector::Field { offset, .. } => emit_field(code, *offset)?,
+            Selector::Field { offset, .. } => emit_field(code, *offset),
             Selector::Element { fits, cells } => {
                 if let Some(index) = indexes.get(next) {
-                    emit_expr(code, scope, index)?;
-                    emit_element(code, *fits, *cells)?;
+                    depth = depth.max(emit_expr(code, scope, index).saturating_add(1));
+                    emit_element(code, *fits, *cells);
                     next += 1;
                 }
             }
         }
     }
-    Ok(())
+    depth
 }
 
 /// From the address of a record to a field behind so many of its cells.
-fn emit_field(code: &mut Vec<Instr>, offset: u32) -> Result<(), AllocError>
-    ensures { OnOk result (code.new.items ≡ code.old.items ++ field_code offset) }
+fn emit_field(code: &mut Emitter, offset: u32)
+    ensures { Gets code.old code.new (field_code offset) }
 {
     if offset > 0 {
         let offset = offset.min(GREATEST_OFFSET);
-        put(code, Instr::Increase { offset })?;
+        code.put(Instr::Increase { offset });
     }
-    Ok(())
 }
 
 /// From the address of an array, with an index on top, to an element of so many cells.
-fn emit_element(code: &mut Vec<Instr>, fits: RangeTest, cells: u32) -> Result<(), AllocError>
-    ensures { OnOk result (code.new.items ≡ code.old.items
-        ++ range_check fits ∷ IndexAddress fits.range.first (length_of_row cells) ∷ []) }
+fn emit_element(code: &mut Emitter, fits: RangeTest, cells: u32)
+    ensures { Gets code.old code.new
+        (range_check fits ∷ IndexAddress fits.range.first (length_of_row cells) ∷ []) }
 {
     let low = fits.range.first;
     let size = cells.min(GREATEST_LENGTH);
-    code.extend_from_slice(&[check_of(fits), Instr::IndexAddress { low, size }])
+    code.put_all(&[check_of(fits), Instr::IndexAddress { low, size }]);
 }
 
 /// So many cells from an address on, all checked.
-fn emit_cells(code: &mut Vec<Instr>, cells: u32, site: u32) -> Result<(), AllocError>
-    ensures { OnOk result (code.new.items ≡ code.old.items
-        ++ LoadMany (length_of_row cells) ∷ CheckDefined site (length_of_row cells) ∷ []) }
+fn emit_cells(code: &mut Emitter, cells: u32, site: u32)
+    ensures { Gets code.old code.new
+        (LoadMany (length_of_row cells) ∷ CheckDefined site (length_of_row cells) ∷ []) }
 {
     let length = cells.min(GREATEST_LENGTH);
-    code.extend_from_slice(&[
+    code.put_all(&[
         Instr::LoadMany { length },
         Instr::CheckDefined { site, length },
-    ])
+    ]);
 }
 
 /// Each character, as its number.
-fn emit_characters(code: &mut Vec<Instr>, characters: &[u8]) -> Result<(), AllocError>
-    ensures { OnOk result (
-        code.new.items ≡ code.old.items ++ map (λ c. LoadConstant (pos c)) characters.now) }
+fn emit_characters(code: &mut Emitter, characters: &[u8])
+    ensures { Gets code.old code.new (map (λ c. LoadConstant (pos c)) characters.now) }
 {
     for character in characters {
         let value = i32::from(*character);
-        put(code, Instr::LoadConstant { value })?;
+        code.put(Instr::LoadConstant { value });
     }
-    Ok(())
 }
 
 /// Behind two values of so many components: what their order is to 0.
-fn emit_order(code: &mut Vec<Instr>, relation: Relation, length: u32) -> Result<(), AllocError>
-    ensures { OnOk result (code.new.items
-        ≡ code.old.items ++ Compare length ∷ LoadConstant (pos 0) ∷ relation_instr relation ∷ []) }
+fn emit_order(code: &mut Emitter, relation: Relation, length: u32)
+    ensures { Gets code.old code.new (Compare length ∷ LoadConstant (pos 0) ∷ relation_instr relation ∷ []) }
 {
     let order = Instr::Compare { length };
     let zero = Instr::LoadConstant { value: 0 };
-    code.extend_from_slice(&[order, zero, comparison_of(relation)])
+    code.put_all(&[order, zero, comparison_of(relation)]);
 }
 
 /// The jump to a routine.
@@ -284,6 +290,26 @@ fn call_of(routine: Routine) -> Instr
     }
 }
 
+/// How many cells an actual parameter leaves: that of a value or of an address, or one for each component of a copy.
+fn cells_of_passed(actual: &Passed) -> u32
+    ensures { result ≡ capped (passed_depth actual.now).cells }
+{
+    match actual {
+        Passed::Whole { value, .. } => cells_of_whole(value),
+        Passed::Value { .. } | Passed::Reference { .. } => 1,
+    }
+}
+
+/// How many cells a whole value has: one for each of its components.
+pub fn cells_of_whole(value: &Whole) -> u32
+    ensures { result ≡ capped (length_of value.now) }
+{
+    match value {
+        Whole::Text { characters, .. } => u32::try_from(characters.len()).unwrap_or(u32::MAX),
+        Whole::Variable { cells, .. } => *cells,
+    }
+}
+
 /// How many components a value has, or the greatest length.
 pub fn row_length(value: &Whole) -> u32
     ensures { result ≡ length_of_row (length_of value.now) }
@@ -292,67 +318,79 @@ pub fn row_length(value: &Whole) -> u32
 }
 
 /// What an operation does to the value before it.
-fn emit_monadic(code: &mut Vec<Instr>, operation: Monadic) -> Result<(), AllocError>
-    ensures { OnOk result (code.new.items ≡ code.old.items ++ monadic_code operation) }
+fn emit_monadic(code: &mut Emitter, operation: Monadic) -> u32
+    ensures emits { Gets code.old code.new (monadic_code operation) }
+    ensures needs { result ≡ monadic_depth operation }
 {
     match operation {
-        Monadic::Plain(does) => emit_calculation(code, does),
+        Monadic::Plain(does) => {
+            emit_calculation(code, does);
+            1
+        }
         Monadic::Tested { fits, does } => {
-            put(code, check_of(fits))?;
+            code.put(check_of(fits));
             emit_shift(code, does)
         }
     }
 }
 
 /// What is calculated from the value before it, checked where it may be no integer.
-fn emit_calculation(code: &mut Vec<Instr>, does: Calculation) -> Result<(), AllocError>
-    ensures { OnOk result (code.new.items ≡ code.old.items ++ calculation_code does) }
+fn emit_calculation(code: &mut Emitter, does: Calculation)
+    ensures { Gets code.old code.new (calculation_code does) }
 {
     match does {
-        Calculation::Same | Calculation::Ordinal => Ok(()),
-        Calculation::Negative => put(code, Instr::Negate),
-        Calculation::Complement => put(code, Instr::Not),
-        Calculation::Absolute => put(code, Instr::Absolute),
+        Calculation::Same | Calculation::Ordinal => {}
+        Calculation::Negative => code.put(Instr::Negate),
+        Calculation::Complement => code.put(Instr::Not),
+        Calculation::Absolute => code.put(Instr::Absolute),
         Calculation::Square { overflow: site } => {
-            put_checked(code, Instr::CheckSquare { site }, Instr::Square)
+            code.put_all(&[Instr::CheckSquare { site }, Instr::Square])
         }
-        Calculation::Parity => put(code, Instr::Odd),
+        Calculation::Parity => code.put(Instr::Odd),
     }
 }
 
-/// From a value that passed a test to the result.
-fn emit_shift(code: &mut Vec<Instr>, does: Shift) -> Result<(), AllocError>
-    ensures { OnOk result (code.new.items ≡ code.old.items ++ shift_code does) }
+/// From a value that passed a test to the result: the next number and the one before come with a 1 beside it.
+fn emit_shift(code: &mut Emitter, does: Shift) -> u32
+    ensures emits { Gets code.old code.new (shift_code does) }
+    ensures needs { result ≡ shift_depth does }
 {
+    let one = Instr::LoadConstant { value: 1 };
     match does {
-        Shift::Same => Ok(()),
-        Shift::Next => put_step(code, Instr::Add),
-        Shift::Previous => put_step(code, Instr::Subtract),
+        Shift::Same => 1,
+        Shift::Next => {
+            code.put_all(&[one, Instr::Add]);
+            2
+        }
+        Shift::Previous => {
+            code.put_all(&[one, Instr::Subtract]);
+            2
+        }
     }
 }
 
 /// What an operation does to the two values before it, checked.
-fn emit_dyadic(code: &mut Vec<Instr>, operation: Dyadic) -> Result<(), AllocError>
-    ensures { OnOk result (code.new.items ≡ code.old.items ++ dyadic_code operation) }
+fn emit_dyadic(code: &mut Emitter, operation: Dyadic)
+    ensures { Gets code.old code.new (dyadic_code operation) }
 {
     match operation {
         Dyadic::Plus { overflow: site } => {
-            put_checked(code, Instr::CheckSum { site }, Instr::Add)
+            code.put_all(&[Instr::CheckSum { site }, Instr::Add])
         }
         Dyadic::Minus { overflow: site } => {
-            put_checked(code, Instr::CheckDifference { site }, Instr::Subtract)
+            code.put_all(&[Instr::CheckDifference { site }, Instr::Subtract])
         }
         Dyadic::Times { overflow: site } => {
-            put_checked(code, Instr::CheckProduct { site }, Instr::Multiply)
+            code.put_all(&[Instr::CheckProduct { site }, Instr::Multiply])
         }
         Dyadic::Div { by_zero: site } => {
-            put_checked(code, Instr::CheckZero { site }, Instr::Divide)
+            code.put_all(&[Instr::CheckZero { site }, Instr::Divide])
         }
         Dyadic::Mod { by_zero_or_less } => {
-            put_checked(code, positive_at(by_zero_or_less), Instr::Modulo)
+            code.put_all(&[positive_at(by_zero_or_less), Instr::Modulo])
         }
-        Dyadic::And => put(code, Instr::And),
-        Dyadic::Or => put(code, Instr::Or),
-        Dyadic::Relation(relation) => put(code, comparison_of(relation)),
+        Dyadic::And => code.put(Instr::And),
+        Dyadic::Or => code.put(Instr::Or),
+        Dyadic::Relation(relation) => code.put(comparison_of(relation)),
     }
 }

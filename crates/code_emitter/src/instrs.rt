@@ -1,10 +1,8 @@
-ghost use Rattle.std.specs.Prelude.{◌≡◌, ◌+◌, pos, [], ◌∷◌, ◌++◌, OnOk, vec_len};
-ghost use Rattle.pcode_assembler.specs.declared.instr.Instr.TheVariants.{CheckRange, Load, LoadConstant, Store};
+ghost use Rattle.std.specs.Prelude.{◌≡◌, pos};
+ghost use Rattle.pcode_assembler.specs.declared.instr.Instr.TheVariants.{CheckRange, Load, Store};
 ghost use Rattle.code_scheme.specs.Code.{check_positive, range_check, relation_instr};
-ghost use Rattle.code_scheme.specs.Sizes.{capped};
 
 use pcode_assembler::instr::Instr;
-use std::alloc::AllocError;
 use typed_tree::tree::{RangeTest, Relation};
 
 /// The greatest value of the type integer (ISO 7185:1990, 6.4.2.2).
@@ -57,42 +55,4 @@ pub fn comparison_of(relation: Relation) -> Instr
         Relation::LessOrEqual => Instr::LessOrEqual,
         Relation::GreaterOrEqual => Instr::GreaterOrEqual,
     }
-}
-
-/// The place of the next instruction.
-pub fn place_of(code: &Vec<Instr>) -> u32
-    ensures { result ≡ capped (vec_len code.now) }
-{
-    u32::try_from(code.len()).unwrap_or(u32::MAX)
-}
-
-/// The place behind the next instruction and so many more.
-pub fn place_behind(code: &Vec<Instr>, more: u32) -> u32
-    ensures { result ≡ capped (vec_len code.now + 1 + more) }
-{
-    place_of(code).saturating_add(1).saturating_add(more)
-}
-
-/// What makes the number beside the one on top.
-pub fn put_step(code: &mut Vec<Instr>, step: Instr) -> Result<(), AllocError>
-    ensures { OnOk result (code.new.items ≡ code.old.items ++ LoadConstant (pos 1) ∷ step ∷ []) }
-{
-    let one = Instr::LoadConstant { value: 1 };
-    code.extend_from_slice(&[one, step])
-}
-
-/// A check, and the instruction that it is for.
-pub fn put_checked(code: &mut Vec<Instr>, check: Instr, instr: Instr) -> Result<(), AllocError>
-    ensures { OnOk result (code.new.items ≡ code.old.items ++ check ∷ instr ∷ []) }
-{
-    put(code, check)?;
-    put(code, instr)
-}
-
-/// One more instruction.
-pub fn put(code: &mut Vec<Instr>, instr: Instr) -> Result<(), AllocError>
-    ensures { OnOk result (code.new.items ≡ code.old.items ++ instr ∷ []) }
-{
-    code.push(instr)?;
-    Ok(())
 }

@@ -4,9 +4,10 @@
 mod access;
 mod assign;
 mod block;
+mod case;
 mod emit;
+pub mod emitter;
 mod expression;
 mod instrs;
 pub mod program;
-mod sizes;
 mod write;

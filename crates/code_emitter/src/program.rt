@@ -1,52 +1,74 @@
-ghost use Rattle.std.specs.Prelude.{◌≡◌, ◌≤◌, ◌<◌, ◌↔◌, true, length, IfOk, IfSome};
+ghost use Rattle.std.specs.Prelude.{◌≡◌, false, true, map, IfOk};
 ghost use Rattle.std.specs.List.{list_all};
 ghost use Rattle.pcode_assembler.specs.Bounds.{in_bounds};
+ghost use Rattle.code_scheme.specs.Calls.{place_in, with_call as leads_to};
 ghost use Rattle.code_scheme.specs.Code.{program_code};
+ghost use Rattle.code_scheme.specs.Large.{is_too_large};
 
-use crate::block::{emit_block, scope_of};
+use crate::block::emit_block;
+use crate::emitter::{Emitter, Loss};
 use code_scheme::frame::{frame_at, frames, homes};
-use code_scheme::routine::routines;
-use code_scheme::scope::MOST_CELLS;
-use code_scheme::size::program_size;
+use code_scheme::scope::Scope;
 use pcode_assembler::instr::Instr;
-use std::alloc::{AllocError, Global};
+use std::alloc::Global;
 use typed_tree::tree::Tree;
 
-/// The most instructions that a code may have.
-const MOST: u32 = 1000000;
-
 /// The instructions of the program, block by block: each has its frame with its variables and as many cells further as
-/// its evaluation needs, its body, and its end; `None` where there are more than 1,000,000. The text of a code has room
-/// for each operand, for every tree.
-pub fn instructions_of(alloc: Global, tree: &Tree) -> Result<Option<Vec<Instr>>, AllocError>
-    ensures instructions { IfOk result (λ found. IfSome found (λ code. code.items ≡ program_code tree.now)) }
-    ensures too_large { (result ≡ Ok None) ↔ (1000000 < length (program_code tree.now)) }
-    ensures in_bounds { IfOk result (λ found. IfSome found (λ code. list_all in_bounds code.items ≡ true)) }
-{
-    let size = program_size(tree);
-    if size > MOST {
-        return Ok(None);
-    }
-    Ok(Some(emit_all(alloc, tree, size)?))
-}
-
-/// The instructions of the program, for which there is room at once.
-fn emit_all(alloc: Global, tree: &Tree, size: u32) -> Result<Vec<Instr>, AllocError>
-    requires { length (program_code tree.now) ≤ 1000000 }
-    ensures { IfOk result (λ code. code.items ≡ program_code tree.now) }
+/// its evaluation needs, its body, and its end. The text of a code has room for each operand, for every tree.
+///
+/// # Errors
+/// Want of memory; or code that is too large, which may be told only where it is.
+pub fn instructions_of(alloc: Global, tree: &Tree) -> Result<Vec<Instr>, Loss>
+    ensures instructions { IfOk result (λ code. code.items ≡ program_code tree.now) }
+    ensures small { IfOk result (λ _. is_too_large tree.now ≡ false) }
+    ensures too_large { result ≡ Err Loss.TooLarge → is_too_large tree.now ≡ true }
+    ensures in_bounds { IfOk result (λ code. list_all in_bounds code.items ≡ true) }
 {
     let frames = frames(alloc, tree)?;
     let homes = homes(alloc, tree, frames.as_slice())?;
-    let routines = routines(alloc, tree, frames.as_slice())?;
-    let mut code = Vec::with_capacity(alloc, size as usize)?;
+    let mut places = Vec::with_capacity(alloc, tree.blocks.len())?;
+    let mut code = Emitter::new(alloc);
     let mut number = 0;
     for block in &tree.blocks {
+        places.push(code.place())?;
+        let scope = Scope::of_block(tree, homes.as_slice(), frames.as_slice(), number);
         let frame = frame_at(frames.as_slice(), number);
-        let scope = scope_of(tree, homes.as_slice(), routines.as_slice(), frame, number);
-        let others = frame.others.min(MOST_CELLS);
-        let variables = tree.variables.as_slice();
-        emit_block(alloc, &mut code, variables, &scope, others, number, block)?;
+        emit_block(&mut code, &scope, frame, number, block);
         number += 1;
     }
-    Ok(code)
+    let mut instructions = code.into_code()?;
+    place_calls(&mut instructions, places.as_slice());
+    Ok(instructions)
+}
+
+/// Calls lead to numbers of blocks; where the blocks stand, they lead to those places.
+fn place_calls(code: &mut Vec<Instr>, places: &[u32])
+    ensures { code.new.items ≡ map (leads_to (place_in places.now)) code.old.items }
+{
+    for place in 0..code.len() {
+        code[place] = with_call(code[place], places);
+    }
+}
+
+/// An instruction; a call leads to the place of the block whose number it has.
+fn with_call(instr: Instr, places: &[u32]) -> Instr
+    ensures { result ≡ leads_to (place_in places.now) instr }
+{
+    match instr {
+        Instr::CallProcedure { length, target } => Instr::CallProcedure {
+            length,
+            target: place_of_block(places, target),
+        },
+        other => other,
+    }
+}
+
+/// The place of the block with this number.
+fn place_of_block(places: &[u32], number: u32) -> u32
+    ensures { result ≡ place_in places.now number }
+{
+    match places.get(number as usize) {
+        None => 0,
+        Some(place) => *place,
+    }
 }

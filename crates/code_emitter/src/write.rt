@@ -1,12 +1,16 @@
-ghost use Rattle.std.specs.Prelude.{◌≡◌, ◌++◌, OnOk};
+ghost use Rattle.std.specs.Prelude.{◌≡◌, map};
 ghost use Rattle.code_scheme.specs.Code.{default_width, line_end_code, ordinal_width, parameter_code, width_code};
 ghost use Rattle.code_scheme.specs.Code.{write_code, write_instr, written_code};
+ghost use Rattle.code_scheme.specs.Depth.{greatest, parameter_depth, width_depth, written_cells as cells_written};
+ghost use Rattle.code_scheme.specs.Depth.{written_depth};
+ghost use Rattle.code_scheme.specs.Sizes.{capped};
+ghost use Rattle.code_emitter.specs.Emitted.{Gets};
 
-use crate::expression::{emit_expr, emit_whole, row_length};
-use crate::instrs::{positive_at, put};
+use crate::emitter::Emitter;
+use crate::expression::{cells_of_whole, emit_expr, emit_whole, row_length};
+use crate::instrs::positive_at;
 use code_scheme::scope::Scope;
 use pcode_assembler::instr::Instr;
-use std::alloc::AllocError;
 use typed_tree::tree::{Representation, WriteParameter, Writing, Written};
 
 /// The total width of a char that is written without one.
@@ -19,31 +23,33 @@ const INTEGER_WIDTH: i32 = 10;
 const BOOLEAN_WIDTH: i32 = 5;
 
 /// Each value that is written, and a line end behind a writeln.
-pub fn emit_write(code: &mut Vec<Instr>, scope: &Scope, writing: &Writing) -> Result<(), AllocError>
-    ensures { OnOk result (code.new.items ≡ code.old.items ++ write_code scope.now writing.now) }
+pub fn emit_write(code: &mut Emitter, scope: &Scope, writing: &Writing) -> u32
+    ensures emits { Gets code.old code.new (write_code scope.now writing.now) }
+    ensures needs { result ≡ capped (greatest (map parameter_depth writing.now.parameters.items)) }
 {
+    let mut depth = 0;
     for parameter in &writing.parameters {
-        emit_parameter(code, scope, parameter)?;
+        depth = depth.max(emit_parameter(code, scope, parameter));
     }
-    emit_line_end(code, writing.ends_line)
+    emit_line_end(code, writing.ends_line);
+    depth
 }
 
 /// A value that is written: it, its width, and the output of both.
-fn emit_parameter(
-    code: &mut Vec<Instr>,
-    scope: &Scope,
-    parameter: &WriteParameter,
-) -> Result<(), AllocError>
-    ensures { OnOk result (code.new.items ≡ code.old.items ++ parameter_code scope.now parameter.now) }
+fn emit_parameter(code: &mut Emitter, scope: &Scope, parameter: &WriteParameter) -> u32
+    ensures emits { Gets code.old code.new (parameter_code scope.now parameter.now) }
+    ensures needs { result ≡ capped (parameter_depth parameter.now) }
 {
-    emit_written(code, scope, &parameter.value)?;
-    emit_width(code, scope, parameter)?;
-    put(code, output_of(&parameter.value))
+    let value = emit_written(code, scope, &parameter.value);
+    let width = emit_width(code, scope, parameter);
+    code.put(output_of(&parameter.value));
+    value.max(width.saturating_add(written_cells(&parameter.value)))
 }
 
 /// The value that is written.
-fn emit_written(code: &mut Vec<Instr>, scope: &Scope, value: &Written) -> Result<(), AllocError>
-    ensures { OnOk result (code.new.items ≡ code.old.items ++ written_code scope.now value.now) }
+fn emit_written(code: &mut Emitter, scope: &Scope, value: &Written) -> u32
+    ensures emits { Gets code.old code.new (written_code scope.now value.now) }
+    ensures needs { result ≡ capped (written_depth value.now) }
 {
     match value {
         Written::Ordinal { value, .. } => emit_expr(code, scope, value),
@@ -51,32 +57,41 @@ fn emit_written(code: &mut Vec<Instr>, scope: &Scope, value: &Written) -> Result
     }
 }
 
+/// How many cells it has.
+fn written_cells(value: &Written) -> u32
+    ensures { result ≡ capped (cells_written value.now) }
+{
+    match value {
+        Written::Ordinal { .. } => 1,
+        Written::String { value, .. } => cells_of_whole(value),
+    }
+}
+
 /// The width of a value that is written, checked, or the default one.
-fn emit_width(
-    code: &mut Vec<Instr>,
-    scope: &Scope,
-    parameter: &WriteParameter,
-) -> Result<(), AllocError>
-    ensures { OnOk result (
-        code.new.items ≡ code.old.items ++ width_code scope.now parameter.now.width parameter.now.value) }
+fn emit_width(code: &mut Emitter, scope: &Scope, parameter: &WriteParameter) -> u32
+    ensures emits { Gets code.old code.new (width_code scope.now parameter.now.width parameter.now.value) }
+    ensures needs { result ≡ capped (width_depth parameter.now.width) }
 {
     match &parameter.width {
-        None => put(code, width_without(&parameter.value)),
+        None => {
+            code.put(width_without(&parameter.value));
+            1
+        }
         Some(width) => {
-            emit_expr(code, scope, &width.value)?;
-            put(code, positive_at(width.site))
+            let depth = emit_expr(code, scope, &width.value);
+            code.put(positive_at(width.site));
+            depth
         }
     }
 }
 
 /// A line end behind a writeln.
-fn emit_line_end(code: &mut Vec<Instr>, ends_line: bool) -> Result<(), AllocError>
-    ensures { OnOk result (code.new.items ≡ code.old.items ++ line_end_code ends_line) }
+fn emit_line_end(code: &mut Emitter, ends_line: bool)
+    ensures { Gets code.old code.new (line_end_code ends_line) }
 {
     if ends_line {
-        put(code, Instr::WriteLine)?;
+        code.put(Instr::WriteLine);
     }
-    Ok(())
 }
 
 /// The width of a value that is written without one.

@@ -12,7 +12,7 @@ use Rattle.typed_tree.specs.WellFormed.{variables_of}
 use Rattle.meaning.specs.Store.{place_eq}
 use Rattle.code_scheme.specs.Scopes.{home_of, home_or_none, homes_from, homes_of, is_other_of, offset, start_of}
 use Rattle.code_generator.specs.Known.{Known}
-use Rattle.code_generator.specs.Large.{frame_cells, has_large_frame, is_large_block, is_too_large}
+use Rattle.code_scheme.specs.Large.{frame_cells, has_large_frame, is_large_block, is_too_large}
 use Rattle.code_generator.proofs.Alike.{Activation, Extent, Lies}
 use Rattle.code_generator.proofs.Nesting.{well_block}
 use Rattle.code_generator.proofs.Places.{place_other, place_same}

@@ -4,7 +4,7 @@ use Rattle.code_generator.proofs.Words.{is_parameter_kind, cells_where, is_param
 use Rattle.std.proofs.Common.{◌&&◌, ◌||◌, nat_eq, if◌then◌else◌}
 use Rattle.std.specs.Prelude.{filter, suc, sum_by}
 use Rattle.code_scheme.specs.Scopes.{is_other_of}
-use Rattle.code_generator.specs.Large.{has_large_frame, is_large_block}
+use Rattle.code_scheme.specs.Large.{has_large_frame, is_large_block}
 
 -- the cells of a block's variables are among those of all
 one_within : (own kind : Bool) (cells : ℕ) → (if own && kind then cells else 0) + (if own && not kind then cells else 0) ≤ cells

@@ -30,7 +30,7 @@ use Rattle.code_scheme.specs.Need.{block_need}
 use Rattle.code_scheme.proofs.Depths.{block_within}
 use Rattle.code_generator.specs.Follows.{BeginsWith, StopsAs, DoesAll, DoesAsMuch, IsExplained, IsFullAtCall, Follows, most_cells}
 use Rattle.code_generator.specs.Known.{Known}
-use Rattle.code_generator.specs.Large.{is_too_large}
+use Rattle.code_scheme.specs.Large.{is_too_large}
 use Rattle.code_generator.specs.Laws.{StrippedFollows}
 use Rattle.code_generator.specs.Tables.{site_table}
 use Rattle.code_generator.proofs.Acts.{framed}

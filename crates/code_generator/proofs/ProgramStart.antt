@@ -14,7 +14,7 @@ use Rattle.meaning.specs.Meaning.{Activation as Begun, environment_of, first_sta
 use Rattle.code_scheme.specs.Code.{program_code}
 use Rattle.code_scheme.specs.Scopes.{block_level, home_of, level_of, offset, start_of}
 use Rattle.code_generator.specs.Known.{Known}
-use Rattle.code_generator.specs.Large.{is_too_large}
+use Rattle.code_scheme.specs.Large.{is_too_large}
 use Rattle.code_generator.specs.Tables.{site_table}
 use Rattle.code_generator.proofs.Alike.{Activation, World, Fixed, Lies, LiesIn, IsApart, Leads}
 use Rattle.code_generator.proofs.Cells.{home_is, lies_inside, others_few, own_scalars, owned_back, owned_in, slot_of, small_block, start_near, other_ends}

@@ -15,7 +15,7 @@ use Rattle.meaning.specs.Meaning.{meaning, run}
 use Rattle.check_remover.specs.Strip.{is_among, KeepsInstructions}
 use Rattle.code_scheme.specs.Code.{program_code}
 use Rattle.code_generator.specs.Follows.{Follows, most_cells}
-use Rattle.code_generator.specs.Large.{is_too_large}
+use Rattle.code_scheme.specs.Large.{is_too_large}
 use Rattle.code_scheme.specs.Need.{block_need, living_need}
 use Rattle.code_generator.specs.Tables.{site_table, in_plain_numbers}
 use Rattle.stack_machine.specs.declared.stop.Stop.TheVariants as stop

@@ -1,5 +1,4 @@
 pub mod Follows
-pub mod Large
 pub mod Laws
 pub mod Tables
 pub mod Known

@@ -3,7 +3,7 @@ ghost use Rattle.std.specs.List.{list_all};
 ghost use Rattle.pcode_assembler.specs.Bounds.{in_bounds};
 ghost use Rattle.code_scheme.specs.Code.{program_code};
 ghost use Rattle.code_generator.specs.Follows.{Follows};
-ghost use Rattle.code_generator.specs.Large.{is_too_large};
+ghost use Rattle.code_scheme.specs.Large.{is_too_large};
 ghost use Rattle.code_generator.specs.Tables.{point_table, site_table};
 ghost use Rattle.typed_tree.specs.WellFormed.{IsWellFormed};
 

@@ -2,7 +2,7 @@ ghost use Rattle.std.specs.Prelude.{◌≡◌, ◌+◌, if◌then◌else◌, nat
 ghost use Rattle.typed_tree.specs.WellFormed.{is_parameter_kind};
 ghost use Rattle.code_scheme.specs.Scopes.{other_cells, parameter_cells, slot_cells as cells_of_slot};
 ghost use Rattle.code_scheme.specs.Sizes.{capped};
-ghost use Rattle.code_generator.specs.Large.{frame_cells, has_large_frame as has_large, is_large_block as is_large_one};
+ghost use Rattle.code_scheme.specs.Large.{frame_cells, has_large_frame as has_large, is_large_block as is_large_one};
 
 use code_scheme::depth::needed_by_block;
 use code_scheme::frame::slot_cells;

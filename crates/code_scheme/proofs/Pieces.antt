@@ -44,7 +44,7 @@ use Rattle.code_scheme.specs.Code.{for_end, case_code, dyadic_code, monadic_code
 use Rattle.code_scheme.specs.Code.{stmt_step, stmt_code, compare_code, whole_code}
 use Rattle.code_scheme.specs.Code.{address_code, call_code, index_codes, passed_code, passed_step, range_check, statements_code}
 use Rattle.code_scheme.specs.Depth.{arms_depth, expr_depth}
-use Rattle.code_scheme.specs.Depth.{access_depth, call_depth, expr_depth_step, index_depths, link_depth_step, passed_depth, passed_depth_step}
+use Rattle.code_scheme.specs.Depth.{access_depth, call_depth, expr_depth_step, index_depths, link_depth, link_depth_step, passed_depth, passed_depth_step}
 use Rattle.code_scheme.specs.Depth.{PassedDepth, actuals_depth, whole_depth}
 use Rattle.code_scheme.specs.Sizes.{capped}
 
@@ -187,6 +187,12 @@ pub expr_depth-Variable : (access : Access) (indexes : Vec Expr) (defined : ℕ)
 expr_depth-Variable access indexes defined =
     ap expr_depth (sym (rolls-Variable access indexes defined))
     ∙ fold-roll-Expr ℕ PassedDepth ℕ expr_depth_step passed_depth_step link_depth_step (Variable-layer access indexes defined)
+
+pub expr_depth-Chain : (first : Box Expr) (rest : Vec Link)
+    → expr_depth (Chain first rest) ≡ fold max (expr_depth first.value) (map link_depth rest.items)
+expr_depth-Chain first rest =
+    ap expr_depth (sym (rolls-Chain first rest))
+    ∙ fold-roll-Expr ℕ PassedDepth ℕ expr_depth_step passed_depth_step link_depth_step (Chain-layer first rest)
 
 pub expr_depth-Compare : (number : ℕ) (r : Relation) (left : Whole) (left_indexes : Vec Expr) (right : Whole) (right_indexes : Vec Expr)
     → expr_depth (Compare number r left left_indexes right right_indexes) ≡ max (whole_depth left (index_depths left_indexes.items))

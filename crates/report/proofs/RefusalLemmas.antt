@@ -19,7 +19,7 @@ use Rattle.certificate.specs.declared.fault.ReadFault.TheVariants as read
 use Rattle.certificate.specs.Text.{first_fault}
 use Rattle.code_generator.specs.declared.fault.GenFault.{GenFault}
 use Rattle.code_generator.specs.declared.fault.GenFault.TheVariants as generate
-use Rattle.code_generator.specs.Large.{is_too_large}
+use Rattle.code_scheme.specs.Large.{is_too_large}
 use Rattle.report_text.specs.declared.fault.Fault.{Fault}
 use Rattle.report_text.specs.Faults.{lexer_fault, parser_fault, typing_fault, certificate_fault, checker_fault, generator_fault}
 use Rattle.certificate.specs.declared.Certificate.{Certificate as CertificateRead}

@@ -18,7 +18,7 @@ use Rattle.expression_checker.specs.declared.fault.CheckFault.TheVariants as che
 use Rattle.cert_checker.specs.Promise.{IsRefusedFor}
 use Rattle.cert_checker.specs.Walk.{program_walk}
 use Rattle.code_generator.specs.declared.fault.GenFault.TheVariants as generate
-use Rattle.code_generator.specs.Large.{is_too_large}
+use Rattle.code_scheme.specs.Large.{is_too_large}
 use Rattle.report_text.specs.declared.fault.Fault.{Fault}
 use Rattle.report_text.specs.declared.fault.Fault.TheVariants.{Memory, Lex, Parse, Typing, Certificate, Check, Generate}
 use Rattle.report.specs.Headline.{IsWrittenAs, IsTypedTreeOf}

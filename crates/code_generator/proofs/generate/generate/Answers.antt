@@ -1,7 +1,7 @@
 -- The code follows the program, since it has the instructions and the sites of the tree, and is small enough.
 use Rattle.std.proofs.Common.{rules, ◌≡◌, false}
 use Rattle.code_scheme.specs.Code.{program_code}
-use Rattle.code_generator.specs.Large.{is_too_large}
+use Rattle.code_scheme.specs.Large.{is_too_large}
 use Rattle.code_generator.specs.Tables.{site_table}
 use Rattle.code_generator.proofs.Program.{follows}
 use Rattle.code_generator.proofs.generate.generate.Goals as goal

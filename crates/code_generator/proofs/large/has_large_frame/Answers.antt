@@ -1,6 +1,6 @@
 use Rattle.std.proofs.Common.{◌≡◌, ◌+◌, ◌∷◌, drop, ap, sym, ◌∙◌, arith}
 use Rattle.std.proofs.lemmas.List.{drop_all, drop_more}
-use Rattle.code_generator.specs.Large.{has_large_frame}
+use Rattle.code_scheme.specs.Large.{has_large_frame}
 use Rattle.code_generator.proofs.LargeFrames.{found_frame, next_frame}
 use Rattle.code_generator.proofs.large.has_large_frame.Goals as goal
 

@@ -1,5 +1,5 @@
 use Rattle.std.proofs.Common.{◌≡◌, drop}
-use Rattle.code_generator.specs.Large.{has_large_frame}
+use Rattle.code_scheme.specs.Large.{has_large_frame}
 use Rattle.code_generator.proofs.large.has_large_frame.Given as goal
 
 abbrev pub invariant-loop-block : goal.invariant-loop-block

@@ -1,6 +1,6 @@
 use Rattle.std.proofs.Common.{sym, arith}
 use Rattle.std.proofs.lemmas.Bool.{le-ltb, ltb-false}
-use Rattle.code_generator.specs.Large.{frame_cells}
+use Rattle.code_scheme.specs.Large.{frame_cells}
 use Rattle.code_generator.proofs.LargeFrames.{block_within}
 use Rattle.code_generator.proofs.large.is_large_frame.Goals as goal
 

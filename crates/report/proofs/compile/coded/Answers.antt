@@ -3,7 +3,7 @@ use Rattle.std.proofs.lemmas.Bool.{false_from_ne_true}
 use Rattle.std.proofs.lemmas.Result.{err_from_is_err_and}
 use Rattle.check_remover.specs.Strip.{strip, KeepsInstructions}
 use Rattle.code_scheme.specs.Code.{program_code}
-use Rattle.code_generator.specs.Large.{is_too_large}
+use Rattle.code_scheme.specs.Large.{is_too_large}
 use Rattle.code_generator.specs.Tables.{site_table}
 use Rattle.report.proofs.OpenSites.{errs_at_open}
 use Rattle.report.proofs.RefusalLemmas.{refused_by, generation-refusal}
