@@ -1,3 +1,4 @@
 pub mod Emitted
 pub mod Reaching
+pub mod Statements
 pub mod Walking

@@ -1,4 +1,4 @@
--- Parts of the code of a for statement and of a case statement. It does not say what they do.
+-- Parts of the code of statements. It does not say what they do.
 use Rattle.std.specs.Prelude.{ℕ, ℤ, ◌+◌, List, [], ◌∷◌, ◌++◌, length}
 use Rattle.std.specs.Global.{Vec}
 use Rattle.pcode_assembler.specs.declared.instr.Instr.{Instr}
@@ -8,7 +8,13 @@ use Rattle.typed_tree.specs.declared.tree.ForHead.{ForHead}
 use Rattle.code_scheme.specs.Scopes.{Scope, held_offset, holding}
 use Rattle.code_scheme.specs.Code.{Placed, order_instr, range_check, row_code}
 
--- whether the bounds leave a value, and their tests
+-- a test, and what is done where it holds; where it doesn't, a jump behind that and so many instructions more
+abbrev pub guarded_code : ℕ → List Instr → Placed → Placed
+guarded_code past test inside scope place =
+    let begin = place + length test + 1 in
+    test ++ (instr.JumpIfFalse (begin + length (inside scope begin) + past) ∷ inside scope begin)
+
+-- whether the bounds of a for statement leave a value, and their tests
 abbrev pub for_order : Scope → Direction → List Instr
 for_order scope way =
     instr.Load 0 (held_offset scope 0) ∷ instr.Load 0 (held_offset scope 1) ∷ order_instr way ∷ []
@@ -18,7 +24,7 @@ for_tests scope head =
     instr.Load 0 (held_offset scope 0) ∷ range_check head.first.fits ∷ instr.Store 0 (held_offset scope 0)
     ∷ range_check head.last.fits ∷ []
 
--- where an arm begins behind its row of constants, and the jump behind it
+-- where an arm of a case statement begins behind its row of constants, and the jump behind it
 abbrev pub arm_begin : Scope → List ℤ → ℕ → ℕ
 arm_begin scope row place = place + length (row_code scope 0 row) + 1
 

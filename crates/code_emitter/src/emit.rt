@@ -1,10 +1,10 @@
-ghost use Rattle.std.specs.Prelude.{◌≡◌, ◌+◌, map, max};
-ghost use Rattle.code_scheme.specs.Code.{expr_code, for_begin, for_code, for_end, if_code, if_else_code, next_instr};
-ghost use Rattle.code_scheme.specs.Code.{order_instr, repeat_code, statements_code, stmt_code, while_code, for_next};
+ghost use Rattle.std.specs.Prelude.{◌≡◌, ◌≤◌, ◌+◌, map, max};
+ghost use Rattle.code_scheme.specs.Code.{expr_code, for_begin, for_code, for_end, for_next, next_instr};
+ghost use Rattle.code_scheme.specs.Code.{order_instr, repeat_code, statements_code, stmt_code};
 ghost use Rattle.code_scheme.specs.Depth.{expr_depth, greatest, stmt_depth};
 ghost use Rattle.code_scheme.specs.Sizes.{capped};
 ghost use Rattle.code_emitter.specs.Emitted.{place_of, Gets};
-ghost use Rattle.code_emitter.specs.Pieces.{for_order, for_tests};
+ghost use Rattle.code_emitter.specs.Pieces.{for_order, for_tests, guarded_code};
 
 use crate::assign::{emit_assign, emit_copy};
 use crate::case::emit_case;
@@ -38,10 +38,22 @@ pub fn emit_stmt(code: &mut Emitter, scope: &Scope, stmt: &Stmt) -> u32
             alternative,
             ..
         } => match alternative {
-            None => emit_if(code, scope, condition, consequence),
-            Some(alternative) => emit_if_else(code, scope, condition, consequence, alternative),
+            None => emit_guarded(code, scope, consequence, condition, 0),
+            Some(alternative) => {
+                let yes = emit_guarded(code, scope, consequence, condition, 1);
+                let over = code.hole();
+                let no = emit_stmt(code, scope, alternative);
+                let target = code.place();
+                code.set(over, Instr::Jump { target });
+                yes.max(no)
+            }
         },
-        Stmt::While { head, body } => emit_while(code, scope, head, body),
+        Stmt::While { head, body } => {
+            let round = code.place();
+            let depth = emit_guarded(code, scope, body, &head.condition, 1);
+            code.put(Instr::Jump { target: round });
+            depth
+        }
         Stmt::Repeat { head, statements } => emit_repeat(code, scope, head, statements),
         Stmt::For { head, body } => emit_for(code, scope, head, body),
         Stmt::Case { head, arms } => emit_case(code, scope, head, arms),
@@ -61,62 +73,27 @@ fn emit_statements(code: &mut Emitter, scope: &Scope, statements: &Vec<Stmt>) ->
     depth
 }
 
-/// An if statement without `else`.
+/// A condition, and the statement that is executed where it holds; where it doesn't, a jump behind that and so many
+/// instructions more.
 #[cycle(emit_stmt)]
-fn emit_if(code: &mut Emitter, scope: &Scope, condition: &Expr, consequence: &Stmt) -> u32
-    ensures emits { Gets code.old code.new
-        (if_code (expr_code scope.now condition.now) (stmt_code consequence.now) scope.now (place_of code.old)) }
-    ensures needs { result ≡ capped (max (expr_depth condition.now) (stmt_depth consequence.now)) }
-{
-    let test = emit_expr(code, scope, condition);
-    let jump = code.hole();
-    let inside = emit_stmt(code, scope, consequence);
-    let target = code.place();
-    code.set(jump, Instr::JumpIfFalse { target });
-    test.max(inside)
-}
-
-/// The same with it.
-#[cycle(emit_stmt)]
-fn emit_if_else(
+fn emit_guarded(
     code: &mut Emitter,
     scope: &Scope,
+    inside: &Stmt,
     condition: &Expr,
-    consequence: &Stmt,
-    alternative: &Stmt,
+    past: u32,
 ) -> u32
-    ensures emits { Gets code.old code.new (if_else_code (expr_code scope.now condition.now)
-        (stmt_code consequence.now) (stmt_code alternative.now) scope.now (place_of code.old)) }
-    ensures needs { result ≡ capped
-        (max (expr_depth condition.now) (max (stmt_depth consequence.now) (stmt_depth alternative.now))) }
+    requires { past ≤ 1 }
+    ensures emits { Gets code.old code.new
+        (guarded_code past (expr_code scope.now condition.now) (stmt_code inside.now) scope.now (place_of code.old)) }
+    ensures needs { result ≡ capped (max (expr_depth condition.now) (stmt_depth inside.now)) }
 {
     let test = emit_expr(code, scope, condition);
     let jump = code.hole();
-    let inside = emit_stmt(code, scope, consequence);
-    let over = code.place();
-    code.set(jump, Instr::JumpIfFalse { target: over + 1 });
-    code.hole();
-    let other = emit_stmt(code, scope, alternative);
-    let target = code.place();
-    code.set(over, Instr::Jump { target });
-    test.max(inside.max(other))
-}
-
-/// A while statement.
-#[cycle(emit_stmt)]
-fn emit_while(code: &mut Emitter, scope: &Scope, head: &LoopHead, body: &Stmt) -> u32
-    ensures emits { Gets code.old code.new
-        (while_code (expr_code scope.now head.now.condition) (stmt_code body.now) scope.now (place_of code.old)) }
-    ensures needs { result ≡ capped (max (expr_depth head.now.condition) (stmt_depth body.now)) }
-{
-    let round = code.place();
-    let test = emit_expr(code, scope, &head.condition);
-    let jump = code.hole();
-    let inside = emit_stmt(code, scope, body);
-    code.put(Instr::Jump { target: round });
-    let target = code.place();
+    let depth = emit_stmt(code, scope, inside);
+    let target = code.place() + past;
     code.set(jump, Instr::JumpIfFalse { target });
-    test.max(inside)
+    test.max(depth)
 }
 
 /// A repeat statement.
