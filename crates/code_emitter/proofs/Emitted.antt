@@ -67,26 +67,26 @@ pub place_behind : {l : Bool} {a b : Seen} {p : List Instr} → Grows l a b p �
 place_behind {l = l} {a = a} {b = b} {p = p} g kept = placed_behind l a b p g.more kept
 
 -- the same piece in other words; as far as it rests on where it ends, only where that is known
-alike : (a b : Seen) (p q : List Instr) → HasMore false a b p → (IsKept a → length p ≡ length q) → (IsKept b → p ≡ q) → HasMore false a b q
-alike (Ok code) (Ok more) p q h long same = (h.0 ∙ ap (λ d. code ++ d) (same tt), refl)
-alike (Ok code) (Err Memory) p q h long same = tt
-alike (Ok code) (Err TooLarge) p q h long same =
-    ap (λ n. nat_lt 1000000 n || false) (length-append code q ∙ ap (λ n. length code + n) (sym (long tt)) ∙ sym (length-append code p)) ∙ h
-alike (Err loss) b p q h long same = h
+alike : (l : Bool) (a b : Seen) (p q : List Instr) → HasMore l a b p → (IsKept a → length p ≡ length q) → (IsKept b → p ≡ q) → HasMore l a b q
+alike l (Ok code) (Ok more) p q h long same = (h.0 ∙ ap (λ d. code ++ d) (same tt), h.1)
+alike l (Ok code) (Err Memory) p q h long same = tt
+alike l (Ok code) (Err TooLarge) p q h long same =
+    ap (λ n. nat_lt 1000000 n || l) (length-append code q ∙ ap (λ n. length code + n) (sym (long tt)) ∙ sym (length-append code p)) ∙ h
+alike l (Err loss) b p q h long same = h
 
-pub gets_alike : {a b : Seen} {p q : List Instr} → Gets a b p → (IsKept a → length p ≡ length q) → (IsKept b → p ≡ q) → Gets a b q
-gets_alike {a = a} {b = b} {p = p} {q = q} g long same = record { more = alike a b p q g.more long same }
+pub gets_alike : {l : Bool} {a b : Seen} {p q : List Instr} → Grows l a b p → (IsKept a → length p ≡ length q) → (IsKept b → p ≡ q) → Grows l a b q
+gets_alike {l = l} {a = a} {b = b} {p = p} {q = q} g long same = record { more = alike l a b p q g.more long same }
 
-pub gets_same : {a b : Seen} {p q : List Instr} → Gets a b p → (IsKept a → p ≡ q) → Gets a b q
+pub gets_same : {l : Bool} {a b : Seen} {p q : List Instr} → Grows l a b p → (IsKept a → p ≡ q) → Grows l a b q
 gets_same g same = gets_alike g (λ kept. ap length (same kept)) (λ kept. same (kept_before g kept))
 
 pub gets_is : {a b : Seen} {p q : List Instr} → Gets a b p → p ≡ q → Gets a b q
 gets_is {a = a} {b = b} g is = subst (Gets a b) is g
 
 -- a piece that is made for its place, behind another
-pub gets_placed : {a b c : Seen} {p : List Instr} (piece : ℕ → List Instr) → Gets a b p → Gets b c (piece (place_of b))
-    → Gets a c (p ++ piece (place_of a + length p))
-gets_placed piece g h = gets_then g (gets_same h (λ kept. ap piece (place_behind g kept)))
+pub gets_placed : {l m : Bool} {a b c : Seen} {p : List Instr} (piece : ℕ → List Instr) → Grows l a b p → Grows m b c (piece (place_of b))
+    → Grows (l || m) a c (p ++ piece (place_of a + length p))
+gets_placed piece g h = grows_then g (gets_same h (λ kept. ap piece (place_behind g kept)))
 
 -- an instruction that is set when what is behind it is there
 filled : (a b c : Seen) (hole i i' : Instr) (q : List Instr) → HasMore false a b (hole ∷ []) → HasMore false b c q → (IsKept c → i ≡ i')

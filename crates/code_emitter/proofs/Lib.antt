@@ -1,3 +1,4 @@
+pub mod Blocks
 pub mod Emitted
 pub mod Reaching
 pub mod Statements
