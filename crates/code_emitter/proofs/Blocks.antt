@@ -1,5 +1,5 @@
 -- Blocks whose code is emitted one after another, and what the code of a program is then.
-use Rattle.std.proofs.Common.{◌≡◌, ℕ, ◌+◌, ◌≤◌, Bool, true, false, ◌||◌, List, [], ◌∷◌, ◌++◌, length, map, Ok, Err, Some, None, Option, refl, ap, sym, subst, ◌∙◌}
+use Rattle.std.proofs.Common.{◌≡◌, ℕ, ◌+◌, ◌≤◌, Bool, true, false, ◌||◌, List, [], ◌∷◌, ◌++◌, length, map, Ok, Err, refl, ap, sym, subst, ◌∙◌}
 use Rattle.std.proofs.Common.{append-nil, append_assoc, arith, nat_lt}
 use Rattle.std.specs.Prelude.{slice_get, suc, zero}
 use Rattle.std.proofs.lemmas.Bool.{le-ltb}
@@ -10,14 +10,14 @@ use Rattle.typed_tree.specs.declared.tree.Block.{Block}
 use Rattle.typed_tree.specs.declared.tree.Tree.{Tree}
 use Rattle.code_scheme.specs.declared.routine.Routine.{Routine}
 use Rattle.code_scheme.specs.Calls.{place_in, with_call}
-use Rattle.code_scheme.specs.Code.{block_code, blocks_code, end_code, numbered, numbered_code, program_code, routine_at, routines_from, routines_of, stmt_code}
+use Rattle.code_scheme.specs.Code.{block_code, blocks_code, end_code, numbered, numbered_code, program_code, routines_from, routines_of, stmt_code}
 use Rattle.code_scheme.specs.Depth.{block_depth}
 use Rattle.code_scheme.specs.Large.{has_large_frame, is_large_block, is_too_large}
-use Rattle.code_scheme.specs.Scopes.{Scope, block_scope, count, other_cells, routine_or_none}
+use Rattle.code_scheme.specs.Scopes.{Scope, count, other_cells, routine_or_none}
 use Rattle.code_scheme.proofs.Routines.{place_of_block, program_is_moved}
 use Rattle.code_emitter.specs.declared.emitter.Loss.TheVariants.{TooLarge}
 use Rattle.code_emitter.specs.Emitted.{Gets, Grows, HasMore, IsKept, Seen, place_of, with_instr}
-use Rattle.code_emitter.proofs.Emitted.{gets_filled, gets_is, gets_none, gets_placed, gets_same, gets_then, grows_then, kept_before, place_behind}
+use Rattle.code_emitter.proofs.Emitted.{gets_filled, gets_none, gets_placed, gets_same, gets_then, grows_then, kept_before, place_behind}
 
 -- a block: its frame, its statement and its end
 pub block_gets : {a b c d e : Seen} (tree : Tree) (number : ℕ) (block : Block) (scope : Scope) (variables evaluation : ℕ) → Gets a b (instr.Jump 0 ∷ [])

@@ -7,7 +7,6 @@ use Rattle.std.proofs.lemmas.List.{drop_all, drop_more}
 use Rattle.std.proofs.Math.Seq.{set-append_seam}
 use Rattle.std.proofs.lemmas.Bool.{lt-ltb, ltb-true}
 use Rattle.pcode_assembler.specs.declared.instr.Instr.{Instr}
-use Rattle.code_emitter.specs.declared.emitter.Loss.{Loss}
 use Rattle.code_emitter.specs.declared.emitter.Loss.TheVariants.{Memory, TooLarge}
 use Rattle.code_emitter.specs.Emitted.{Gets, Grows, HasCode, HasMore, IsKept, Seen, place_of, with_instr}
 

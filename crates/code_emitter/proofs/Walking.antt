@@ -1,5 +1,5 @@
 -- A loop over selectors: what it has emitted, and how many cells the indexes need so far.
-use Rattle.std.proofs.Common.{◌≡◌, ℕ, ◌+◌, ◌<◌, ◌≤◌, List, [], ◌∷◌, drop, get_or, length, map, max, refl, ap, sym, subst, ◌∙◌, arith}
+use Rattle.std.proofs.Common.{◌≡◌, ℕ, ◌+◌, ◌<◌, ◌≤◌, List, [], ◌∷◌, drop, get_or, length, max, ap, sym, subst, ◌∙◌, arith}
 use Rattle.std.proofs.lemmas.List.{drop_all, drop_more}
 use Rattle.pcode_assembler.specs.declared.instr.Instr.TheVariants as instr
 use Rattle.typed_tree.specs.declared.tree.RangeTest.{RangeTest}
@@ -11,7 +11,7 @@ use Rattle.code_scheme.specs.Depth.{access_depth, expr_depth, index_depths}
 use Rattle.code_scheme.specs.Scopes.{Scope, row_length}
 use Rattle.code_scheme.specs.Sizes.{capped}
 use Rattle.code_emitter.specs.Emitted.{Gets, Seen}
-use Rattle.code_emitter.proofs.Emitted.{Left, gets_then, left_is, left_more, next_of}
+use Rattle.code_emitter.proofs.Emitted.{Left, left_is, left_more}
 
 -- the element at a place of a list, and those behind it
 pub at_place : {X : Type 0} (xs : List X) (i : ℕ) (d x : X) → i < length xs → get_or xs i d ≡ x → drop i xs ≡ x ∷ drop (i + 1) xs

@@ -44,7 +44,12 @@ pub fn emit_copy(code: &mut Emitter, scope: &Scope, copying: &Copying) -> u32
 {
     let length = row_length(&copying.value);
     let address = emit_address(code, scope, &copying.target, copying.indexes.as_slice());
-    let value = emit_whole(code, scope, &copying.value, copying.value_indexes.as_slice());
+    let value = emit_whole(
+        code,
+        scope,
+        &copying.value,
+        copying.value_indexes.as_slice(),
+    );
     code.put(Instr::StoreMany { length });
     address.max(value.saturating_add(1))
 }

@@ -63,13 +63,7 @@ fn emit_arms(
 
 /// An arm: its constants, a jump over it, the arm, and a jump out of the statement.
 #[cycle(emit_stmt)]
-fn emit_arm(
-    code: &mut Emitter,
-    scope: &Scope,
-    outs: &mut Vec<u32>,
-    row: &[i32],
-    arm: &Stmt,
-) -> u32
+fn emit_arm(code: &mut Emitter, scope: &Scope, outs: &mut Vec<u32>, row: &[i32], arm: &Stmt) -> u32
     ensures emits { Gets code.old code.new (arm_code scope.now row.now (stmt_code arm.now) (place_of code.old)) }
     ensures outs { IsKept code.new → outs.new.items ≡ outs.old.items
         ++ arm_end scope.now row.now (stmt_code arm.now) (place_of code.old) ∷ [] }

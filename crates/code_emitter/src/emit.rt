@@ -98,12 +98,7 @@ fn emit_guarded(
 
 /// A repeat statement.
 #[cycle(emit_stmt)]
-fn emit_repeat(
-    code: &mut Emitter,
-    scope: &Scope,
-    head: &LoopHead,
-    statements: &Vec<Stmt>,
-) -> u32
+fn emit_repeat(code: &mut Emitter, scope: &Scope, head: &LoopHead, statements: &Vec<Stmt>) -> u32
     ensures emits { Gets code.old code.new (repeat_code (statements_code scope.now statements.now.items)
         (expr_code scope.now head.now.condition) (place_of code.old)) }
     ensures needs { result ≡ capped
@@ -136,7 +131,9 @@ fn emit_for(code: &mut Emitter, scope: &Scope, head: &ForHead, body: &Stmt) -> u
     emit_next(code, scope, head.direction, round, target);
     code.set(jump, Instr::JumpIfFalse { target });
     emit_end(code, scope, head.control);
-    first.max(last.saturating_add(1)).max(inside.saturating_add(2).max(4))
+    first
+        .max(last.saturating_add(1))
+        .max(inside.saturating_add(2).max(4))
 }
 
 /// Behind both bounds of a for statement: whether they leave a value.

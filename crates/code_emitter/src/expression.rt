@@ -374,9 +374,7 @@ fn emit_dyadic(code: &mut Emitter, operation: Dyadic)
     ensures { Gets code.old code.new (dyadic_code operation) }
 {
     match operation {
-        Dyadic::Plus { overflow: site } => {
-            code.put_all(&[Instr::CheckSum { site }, Instr::Add])
-        }
+        Dyadic::Plus { overflow: site } => { code.put_all(&[Instr::CheckSum { site }, Instr::Add]) }
         Dyadic::Minus { overflow: site } => {
             code.put_all(&[Instr::CheckDifference { site }, Instr::Subtract])
         }

@@ -1,16 +1,15 @@
-use Rattle.std.proofs.Common.{◌≡◌, ℕ, ◌+◌, [], ◌∷◌, ◌++◌, drop, map, max, ap, sym, ◌∙◌, append_assoc, append-nil, arith}
+use Rattle.std.proofs.Common.{◌≡◌, ◌+◌, [], ◌∷◌, ◌++◌, drop, map, max, ap, sym, ◌∙◌, append_assoc, append-nil, arith}
 use Rattle.std.proofs.lemmas.List.{drop_all}
 use Rattle.pcode_assembler.specs.declared.instr.Instr.TheVariants as instr
 use Rattle.typed_tree.specs.declared.tree.Stmt.TheVariants.{If}
 use Rattle.code_scheme.specs.Code.{arms_code, expr_code, for_code, for_next, stmt_code}
 use Rattle.code_scheme.specs.Depth.{arms_depth, stmt_depth}
-use Rattle.code_scheme.specs.Scopes.{holding}
 use Rattle.code_scheme.specs.Sizes.{capped}
-use Rattle.code_scheme.proofs.Pieces.{arms_depth-none, stmt_code-Compound, stmt_code-For, stmt_code-If, stmt_code-If-else, stmt_code-Repeat, stmt_code-While}
-use Rattle.code_emitter.specs.Emitted.{Gets, IsKept, place_of, with_each, with_instr}
+use Rattle.code_scheme.proofs.Pieces.{arms_depth-none, stmt_code-Compound, stmt_code-For, stmt_code-If-else, stmt_code-Repeat, stmt_code-While}
+use Rattle.code_emitter.specs.Emitted.{IsKept, place_of, with_each, with_instr}
 use Rattle.code_emitter.specs.Pieces.{arm_code, arm_end, guarded_code, jumps_out}
 use Rattle.code_emitter.proofs.Emitted.{gets_is, kept_before, left_is, left_none, left_placed, next_of, place_behind}
-use Rattle.code_emitter.proofs.Statements.{arm_ends, arm_gets, arms_none, arms_split, case_gets, for_gets, guarded_gets, if_else_gets, if_is, jumps_none}
+use Rattle.code_emitter.proofs.Statements.{arm_ends, arm_gets, arms_none, arms_split, case_gets, for_gets, guarded_gets, if_else_gets, jumps_none}
 use Rattle.code_emitter.proofs.Statements.{jumps_split, while_gets}
 use Rattle.code_emitter.proofs.+emit_stmt.Goals as goal
 

@@ -1,4 +1,4 @@
-use Rattle.std.proofs.Common.{◌≡◌, ℕ, ◌+◌, List, [], ◌∷◌, ◌++◌, length, map, max, ap, ◌∙◌, sym, refl, subst, drop, arith}
+use Rattle.std.proofs.Common.{◌≡◌, ℕ, ◌+◌, List, [], ◌∷◌, ◌++◌, map, max, ap, ◌∙◌, sym, refl, drop, arith}
 use Rattle.std.proofs.lemmas.List.{drop_all, take_all}
 use Rattle.std.specs.Prelude.{fold, pos}
 use Rattle.std.specs.List.{flat_map}
@@ -9,8 +9,8 @@ use Rattle.typed_tree.specs.declared.tree.Selector.{Selector}
 use Rattle.typed_tree.specs.declared.tree.Selector.TheVariants.{Element, Field}
 use Rattle.code_scheme.specs.declared.routine.Routine.{Routine}
 use Rattle.code_scheme.specs.Scopes.{called_routine, links_to, row_length, selectors_from}
-use Rattle.code_scheme.specs.Code.{expr_code, index_codes, joined, link_code, monadic_code, passed_code, relation_instr, selectors_code, whole_code}
-use Rattle.code_scheme.specs.Depth.{PassedDepth, access_depth, actuals_depth, call_depth, expr_depth, index_depths, link_depth, passed_depth}
+use Rattle.code_scheme.specs.Code.{expr_code, index_codes, link_code, monadic_code, passed_code, relation_instr, selectors_code, whole_code}
+use Rattle.code_scheme.specs.Depth.{access_depth, actuals_depth, expr_depth, index_depths, link_depth, passed_depth}
 use Rattle.code_scheme.specs.Sizes.{capped}
 use Rattle.code_scheme.proofs.Depths.{address_takes_one}
 use Rattle.code_scheme.proofs.Pieces.{depth_alike, expr_code-Chain, expr_code-Compare, expr_code-Monadic, expr_depth-Chain, joined-map}
@@ -152,21 +152,21 @@ emit_selectors-loop-selector-preserved t c =
     c.loop-selector.invariant in
     elim c.match-selector.branch [
       | emit_selectors-in-Field w ↦
-        walked_as scope before selectors indexes _ _ left left _ _ _ _ w.code-is refl w.next-is w.depth-is
-        (walked_field scope before selectors indexes now w.emit_field.new.code left w.in-Field.position w.in-Field.offset next depth
-        (at (Field w.in-Field.position w.in-Field.offset) (at_place selectors i _ _ inside w.in-Field.is)) w.emit_field.ensures)
+          walked_as scope before selectors indexes _ _ left left _ _ _ _ w.code-is refl w.next-is w.depth-is
+          (walked_field scope before selectors indexes now w.emit_field.new.code left w.in-Field.position w.in-Field.offset next depth
+          (at (Field w.in-Field.position w.in-Field.offset) (at_place selectors i _ _ inside w.in-Field.is)) w.emit_field.ensures)
       | emit_selectors-in-Element+in-Some w ↦
-        let index = w.in-Some.index.now in
-        let deeper : w.max-depth.result ≡ max depth (capped (w.emit_expr.result + 1)) = omega (arith, w.max-depth.ensures, w.saturating_add.ensures) in
-        walked_as scope before selectors indexes _ _ left left _ _ _ _ w.code-is refl w.next-is w.depth-is
-        (walked_element scope before selectors indexes now w.emit_expr.new.code w.emit_element.new.code left w.in-Element.fits w.in-Element.cells next depth
-        w.emit_expr.result w.max-depth.result index (at (Element w.in-Element.fits w.in-Element.cells) (at_place selectors i _ _ inside w.in-Element.is))
-        w.in-Some.ensures.lookup.3.0 (at_place indexes next index index w.in-Some.ensures.lookup.3.0 (sym w.in-Some.ensures.lookup.1))
-        w.emit_expr.ensures.emits w.emit_element.ensures w.emit_expr.ensures.needs deeper)
+          let index = w.in-Some.index.now in
+          let deeper : w.max-depth.result ≡ max depth (capped (w.emit_expr.result + 1)) = omega (arith, w.max-depth.ensures, w.saturating_add.ensures) in
+          walked_as scope before selectors indexes _ _ left left _ _ _ _ w.code-is refl w.next-is w.depth-is
+          (walked_element scope before selectors indexes now w.emit_expr.new.code w.emit_element.new.code left w.in-Element.fits w.in-Element.cells next depth
+          w.emit_expr.result w.max-depth.result index (at (Element w.in-Element.fits w.in-Element.cells) (at_place selectors i _ _ inside w.in-Element.is))
+          w.in-Some.ensures.lookup.3.0 (at_place indexes next index index w.in-Some.ensures.lookup.3.0 (sym w.in-Some.ensures.lookup.1))
+          w.emit_expr.ensures.emits w.emit_element.ensures w.emit_expr.ensures.needs deeper)
       | emit_selectors-in-Element+in_default w ↦
-        walked_as scope before selectors indexes _ _ left left _ _ _ _ w.code-is refl w.next-is w.depth-is
-        (walked_without scope before selectors indexes now left w.in-Element.fits w.in-Element.cells next depth
-        (at (Element w.in-Element.fits w.in-Element.cells) (at_place selectors i _ _ inside w.in-Element.is)) w.in_default.ensures.lookup.3)
+          walked_as scope before selectors indexes _ _ left left _ _ _ _ w.code-is refl w.next-is w.depth-is
+          (walked_without scope before selectors indexes now left w.in-Element.fits w.in-Element.cells next depth
+          (at (Element w.in-Element.fits w.in-Element.cells) (at_place selectors i _ _ inside w.in-Element.is)) w.in_default.ensures.lookup.3)
     ]
 
 pub emit_selectors-returns-clause-emits : goal.emit_selectors-returns-clause-emits

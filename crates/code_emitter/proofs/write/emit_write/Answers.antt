@@ -1,4 +1,4 @@
-use Rattle.std.proofs.Common.{◌++◌, ap, ◌∙◌}
+use Rattle.std.proofs.Common.{◌++◌, ap}
 use Rattle.std.specs.List.{flat_map}
 use Rattle.code_scheme.specs.Code.{line_end_code, parameter_code}
 use Rattle.code_emitter.proofs.Emitted.{gets_is, gets_then, left_all}

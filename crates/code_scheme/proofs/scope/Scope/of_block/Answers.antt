@@ -1,8 +1,7 @@
 use Rattle.std.proofs.Common.{rules, ◌≡◌, ◌+◌, ap, ◌∙◌, arith}
 use Rattle.code_scheme.specs.declared.frame.Frame.{Frame}
-use Rattle.code_scheme.specs.Code.{numbered}
 use Rattle.code_scheme.specs.Frames.{routines_by}
-use Rattle.code_scheme.specs.Scopes.{Scope, block_level, count, homes_of, other_cells, parameter_cells}
+use Rattle.code_scheme.specs.Scopes.{block_level, count, other_cells, parameter_cells}
 use Rattle.code_scheme.proofs.Routines.{known_are_numbered}
 use Rattle.code_scheme.proofs.scope.Scope.of_block.Goals as goal
 

@@ -1,4 +1,4 @@
-use Rattle.std.proofs.Common.{rules, ◌≡◌, ◌-◌, ap, sym, ◌∙◌, arith}
+use Rattle.std.proofs.Common.{◌≡◌, ◌-◌, ap, sym, ◌∙◌, arith}
 use Rattle.std.specs.Prelude.{slice_get}
 use Rattle.code_scheme.specs.Scopes.{Scope, called_routine, count, level_of, routine_or_none}
 use Rattle.code_scheme.specs.Frames.{frame_at}
