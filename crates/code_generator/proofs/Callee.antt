@@ -600,7 +600,6 @@ module _ (g : Setting) (number : ℕ) (block : Block) (block_is : slice_get g.tr
         stands = g.stands;
         comes_back = g.comes_back;
         repeats_are_few = g.repeats_are_few;
-        input = g.input;
         size = g.size;
         limit = new_frame + (4 + parameters + others + block_depth block);
         small = g.small;

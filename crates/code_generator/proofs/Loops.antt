@@ -20,8 +20,8 @@ module _ (g : Setting) {A : Type 0} (fit : A → Type 0) (hold : A → List Cell
   IsRound bound (Some a) s = (base : List Cell) × Based g s base × (s.turns < bound) × fit a
 
   abbrev pub round_there : (bound : ℕ) (more : Option A) (s : effect.State) → IsRound bound more s → State
-  round_there bound None s h = on g (h.0 ++ held) end s.output
-  round_there bound (Some a) s h = on g (h.0 ++ hold a) head s.output
+  round_there bound None s h = on g (h.0 ++ held) end s
+  round_there bound (Some a) s h = on g (h.0 ++ hold a) head s
 
   abbrev pub round_on : ℕ → ℕ → Aim (Option A)
   round_on gain bound = record { Holds = IsRound bound; there = round_there bound; gain = gain }
@@ -58,7 +58,7 @@ module _ (g : Setting) {A : Type 0} (fit : A → Type 0) (hold : A → List Cell
   round_then : (m : State) (first : Action (Option A)) (next : A → Action (Unit {0})) (s : effect.State) → UsesTurnsExactly first
       → Rounds 0 s.turns m first s
       → ((a : A) (base : List Cell) (t : effect.State) → t.turns < s.turns → fit a → Based g t base
-      → Executes g (on g (base ++ hold a) head t.output) held end (next a) t)
+      → Executes g (on g (base ++ hold a) head t) held end (next a) t)
       → Executes g m held end (first >>= λ more. effect.another more next) s
   round_then m first next s exact e h =
       then_runs g (round_on 0 s.turns) (kept_on g held end) m first (λ more. effect.another more next) s exact e by
@@ -71,11 +71,11 @@ module _ (g : Setting) {A : Type 0} (fit : A → Type 0) (hold : A → List Cell
   -- what is shown of each round
   abbrev pub RoundRuns : Round A → Type 0
   RoundRuns round =
-      (a : A) (base : List Cell) (s : effect.State) → fit a → Based g s base → Rounds 0 s.turns (on g (base ++ hold a) head s.output) (round a) s
+      (a : A) (base : List Cell) (s : effect.State) → fit a → Based g s base → Rounds 0 s.turns (on g (base ++ hold a) head s) (round a) s
 
   module _ (round : Round A) (goes : GoesRoundByRound round) (exact : (a : A) → UsesTurnsExactly (round a)) (runs : RoundRuns round) where
     loops_within : (bound : ℕ) (a : A) (base : List Cell) (s : effect.State) → s.turns ≤ bound → fit a → Based g s base
-        → Executes g (on g (base ++ hold a) head s.output) held end (effect.looped round a) s
+        → Executes g (on g (base ++ hold a) head s) held end (effect.looped round a) s
     loops_within zero a base s few fits based =
         runs_same g (kept_on g held end) _ (effect.looped round a) (round a >>= λ more. effect.another more (effect.looped round)) s (goes a)
         (round_then _ (round a) (effect.looped round) s (exact a) (runs a base s fits based) (λ b base2 t fewer fits2 based2. absurd (omega arith)))
@@ -86,7 +86,7 @@ module _ (g : Setting) {A : Type 0} (fit : A → Type 0) (hold : A → List Cell
 
     -- the loop
     pub loops : (a : A) (base : List Cell) (s : effect.State) → fit a → Based g s base
-        → Executes g (on g (base ++ hold a) head s.output) held end (effect.looped round a) s
+        → Executes g (on g (base ++ hold a) head s) held end (effect.looped round a) s
     loops a base s fits based = loops_within s.turns a base s (omega arith) fits based
 
 -- the setting with other slack, and with other cells held

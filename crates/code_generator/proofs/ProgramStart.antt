@@ -260,7 +260,6 @@ module _ (known : Known) (tree : Tree) (well : IsWellFormed tree) (short : is_to
         stands = stands;
         comes_back = comes_back;
         repeats_are_few = repeats_are_few;
-        input = input;
         size = size;
         limit = 4 + parameter_cells tree 0 + others + block_depth block;
         small = small;
