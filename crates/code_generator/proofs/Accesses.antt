@@ -105,7 +105,7 @@ module _ (g : Setting) where
       → Runs g (aim (place + length (c ++ c'))) m (first >>= next) s
   address_then aim c c' place m held t first next s exact stands runs h =
       then_code g (address_on held t) aim c c' place m first next s exact stands runs
-      (λ q u x rest. at_address (aim (place + length c + length c')) held (place + length c) t next (λ base d p v. h base d p v rest) q u x)
+      (λ q u x rest le. at_address (aim (place + length c + length c')) held (place + length c) t next (λ base d p v. h base d p v rest) q u x)
 
   -- ---- selectors
 

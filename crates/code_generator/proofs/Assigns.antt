@@ -70,7 +70,7 @@ module _ (g : Setting) (known : CallsAt g) where
         (sym split)
         (expr_then g known aim assignment.value (range_check assignment.fits ∷ c) place base held (tested next) s
         (subst (Stands g.target place) split stands) good based deep
-        (λ base2 w t rest based2 fit room.
+        (λ base2 w t rest based2 fit room le.
         let from = place + length value in
         let n = number_of w in
         let e' : from + 1 + length c ≡ from + length (range_check assignment.fits ∷ c) = omega arith in

@@ -293,7 +293,7 @@ module _ (g : Setting) where
       let next : Value → Action Value = λ w. as_value (operated operation (number_of w)) in
       value_then g (value_on g held) c (monadic_code operation) place _ held (v (around g)) next (entered g number s) exact stands
       (λ front. runs place base held (entered g number s) front parts.1 based (omega arith))
-      (λ base2 w t rest based2 fit2 room2.
+      (λ base2 w t rest based2 fit2 room2 le.
       operated_runs (place + length c) base2 held (number_of w) t based2 room2 fit2 operation rest parts.0 (omega arith))
 
   -- two numbers give way to a third
@@ -474,7 +474,7 @@ module _ (g : Setting) where
       let d = start_within (max depth (link_depth l.0)) (map link_depth (map (λ k. k.0) links)) in
       value_then g (value_on g held) c rest place _ held (link_of l.0 (around g) left) (in_turn (map link_of (map (λ k. k.0) links)) (around g)) s
       (l.1.1 left) stands (λ front. l.1.0 place base held left s front (and_parts _ _ good).0 based (omega arith) fit)
-      (λ base2 w s2 back based2 fit2 room2.
+      (λ base2 w s2 back based2 fit2 room2 le.
       links_run links (max depth (link_depth l.0)) (place + length c) base2 held w s2 back (and_parts _ _ good).1 based2 deep room2 fit2)
 
   chain_runs : (first : (e : Expr) × ExprRuns g e) (links : List ((l : Link) × LinkRuns g l))
@@ -488,7 +488,7 @@ module _ (g : Setting) where
       let d = start_within (expr_depth first.0) (map link_depth (map (λ k. k.0) links)) in
       value_then g (value_on g held) c rest place _ held (value_of first.0 (around g)) (in_turn (map link_of (map (λ k. k.0) links)) (around g)) s
       ((exact_around g).values first.0) stands (λ front. first.1 place base held s front (and_parts _ _ good).0 based (omega arith))
-      (λ base2 w s2 back based2 fit2 room2.
+      (λ base2 w s2 back based2 fit2 room2 le.
       links_run links (expr_depth first.0) (place + length c) base2 held w s2 back (and_parts _ _ good).1 based2 deep room2 fit2)
 
   -- ---- actual parameters
@@ -509,7 +509,7 @@ module _ (g : Setting) where
       let next : Value → Action Argument = λ w. require (effect.is_in fits.range w) fits.site >>= λ _. give (OfValue w) in
       value_then g (passed_on g held 1 callee position) c check place _ held (value_of v.0 (around g)) next s ((exact_around g).values v.0) stands
       (λ front. v.1 place base held s front parts.0 based deep)
-      (λ base2 w t rest based2 fit room.
+      (λ base2 w t rest based2 fit room le.
       range_then g (passed_on g held 1 callee position (place + length c + 1)) fits w (base2 ++ held) (place + length c) t (give (OfValue w)) rest.0 within
       (linked g t base2 held based2) fit
       (λ so. inr (passes_it g 0 _ base2 held (Number (number_of w) ∷ []) (place + length c + 1) callee position (OfValue w) formal.0 t based2 formal.1
@@ -605,7 +605,7 @@ module _ (g : Setting) where
       then_code g (passed_on g held d.cells callee position) (all_on g held callee position total) c rest place _ (passing_of one.0 (around g)) next s
       ((exact_around g).actuals one.0) stands
       (λ front. one.1 callee position place base held s front parts.0 based (omega (arith, high)))
-      (λ argument t x back.
+      (λ argument t x back le.
       let cells = x.2 in
       let long = x.6 in
       let above = held ++ cells in
@@ -670,7 +670,7 @@ module _ (g : Setting) where
         (then_code g (all_on g above call.block 0 (length actuals)) (return_on g held is_function) c jump (place + 1) _
         (all_passed (map passing_of (bare actuals)) (around g)) next s1 (exact_passed (around g) (exact_around g) (bare actuals)) stands.1
         (λ front. actuals_pass actuals call.block 0 (length held) 4 (place + 1) base above s1 taller front parts.1 based deep)
-        (λ arguments t x jumping.
+        (λ arguments t x jumping le.
         let room = x.4 in
         known is_function call.block block.0 outer (place + 1 + length c) x.0 held x.2 arguments t block.1
         (subst (λ n. is_callable (outline g) g.number is_function n (heading_of block.0) ≡ true) (many ∙ sym x.5)
@@ -820,7 +820,7 @@ module _ (g : Setting) where
         (s : effect.State) → Stands g.target place (expr_code g.scope e ++ c) → is_well_formed_expr (outline g) g.number e ≡ true → Based g s base
         → g.below + length held + expr_depth e ≤ g.limit
         → ((base2 : List Cell) (v : Value) (t : effect.State) → Stands g.target (place + length (expr_code g.scope e)) c → Based g t base2
-        → Fits (number_of v) → g.below + length held < g.limit
+        → Fits (number_of v) → g.below + length held < g.limit → t.turns ≤ s.turns
         → Runs g (aim (place + length (expr_code g.scope e) + length c))
         (on g ((base2 ++ held) ++ Number (number_of v) ∷ []) (place + length (expr_code g.scope e)) t) (next v) t)
         → Runs g (aim (place + length (expr_code g.scope e ++ c))) (on g (base ++ held) place s) (value_of e (around g) >>= next) s
@@ -844,7 +844,7 @@ module _ (g : Setting) where
         (value_of width.value (around g) >>= width_then) s
         (λ t. and_then-and_then (value_of width.value (around g) t) next (λ n. give (value.Number n)))
         (expr_then (value_on g held) width.value (check ∷ []) place base held width_then s stands parts.1 based room
-        (λ base2 w s2 rest based2 fit room2.
+        (λ base2 w s2 rest based2 fit room2 le.
         let n = number_of w in
         checked_then check width.site (place + length c) (place + length c + 1) ((base2 ++ held) ++ Number n ∷ []) held s2 (give n) _ (int_le (pos 1) n)
         rest.0 refl refl

@@ -1,14 +1,14 @@
 -- Loops: a head where each round begins, and a round that comes back to it or leaves the loop. Each round behind which
 -- another follows uses a turn, so a run with as many turns as a bound takes no more rounds than that.
 use Rattle.code_generator.proofs.Words.{◌≡◌, ℕ, zero, suc, ◌+◌, ◌-◌, ◌<◌, ◌≤◌, ◌⊎◌, List, ◌++◌, Option, Some, None, inl, inr, refl, arith, Ending, Reply, Gives}
-use Rattle.code_generator.proofs.Words.{Action, ◌>>=◌, UsesTurnsExactly, Cell, State}
+use Rattle.code_generator.proofs.Words.{Action, ◌>>=◌, UsesTurnsExactly, Cell, Instr, State, length}
 use Rattle.meaning.specs.declared.outcome.Ending.TheVariants as ending
 use Rattle.meaning.specs.Effect as effect
 use Rattle.meaning.specs.Effect.{Round, use_turn}
 use Rattle.meaning.specs.Laws.{GoesRoundByRound}
-use Rattle.code_generator.proofs.Reach.{Comes, comes_less, stays_here}
+use Rattle.code_generator.proofs.Reach.{Comes, Stands, comes_less, stays_here}
 use Rattle.code_generator.proofs.Setting.{Setting, on, Based, Halts, Ends, Starves, starves_on}
-use Rattle.code_generator.proofs.Running.{Aim, Arrives, Executes, Runs, arrives_on, done, kept_on, runs_same, then_runs}
+use Rattle.code_generator.proofs.Running.{Aim, Arrives, Executes, Runs, arrives_on, done, done_then, kept_on, runs_same, then_runs}
 
 -- in a setting, a loop with what is held at its head where a round begins with this, its head and its end, and what is
 -- held there
@@ -33,7 +33,7 @@ module _ (g : Setting) {A : Type 0} (fit : A → Type 0) (hold : A → List Cell
   abbrev pub RoundsBehind : ℕ → ℕ → ℕ → State → Action (Option A) → effect.State → Type 0
   RoundsBehind gain bound turns m action s = Starves g m action s ⊎ Arrives g (round_on gain bound) turns m (action s)
 
-  pub rounds_later : (gain bound turns : ℕ) (a b : State) (action : Action (Option A)) (s : effect.State) → s.turns ≤ turns
+  rounds_later : (gain bound turns : ℕ) (a b : State) (action : Action (Option A)) (s : effect.State) → s.turns ≤ turns
       → Comes g.target (turns - s.turns) a b → Rounds gain bound b action s → RoundsBehind gain bound turns a action s
   rounds_later gain bound turns a b action s le l (inl x) = inl (starves_on g (turns - s.turns) a b action s l x)
   rounds_later gain bound turns a b action s le l (inr e) = inr (arrives_on g (round_on gain bound) turns s.turns a b (action s) le l e)
@@ -53,6 +53,32 @@ module _ (g : Setting) {A : Type 0} (fit : A → Type 0) (hold : A → List Cell
           → Starves g m (use_turn >>= next) s ⊎ Arrives g (round_on 0 bound) s.turns m (effect.and_then (effect.take_turn k s) next)
       by zero is = inr (m, comes_less g.target (s.turns - g.slack) 0 m m (omega (arith, is)) (stays_here g.target m), same)
       by (suc left) is = behind left is (h left is)
+
+  -- the loop is over
+  pub round_over : (gain bound least : ℕ) (m : State) (base : List Cell) (s : effect.State) → Based g s base → gain ≤ least
+      → Comes g.target least m (on g (base ++ held) end s) → Rounds gain bound m (effect.give None) s
+  round_over gain bound least m base s based le l =
+      inr ((base, based), comes_less g.target (s.turns - s.turns + gain) least m _ (omega (arith, le)) l, omega arith)
+
+  -- another round comes
+  pub round_again : (gain bound least : ℕ) (m : State) (a : A) (base : List Cell) (s : effect.State) → Based g s base → gain ≤ least → s.turns < bound
+      → fit a → Comes g.target least m (on g (base ++ hold a) head s) → Rounds gain bound m (effect.give (Some a)) s
+  round_again gain bound least m a base s based le few fits l =
+      inr ((base, based, few, fits), comes_less g.target (s.turns - s.turns + gain) least m _ (omega (arith, le)) l, omega arith)
+
+  -- a turn, for which an instruction makes up; the code of the body, and the code that comes behind it
+  pub turn_then : (bound : ℕ) (c c' : List Instr) (place : ℕ) (m there : State) (over : List Cell) (body : Action (Unit {0})) (more : Option A)
+      (s : effect.State) → m.output ≡ s.output → Comes g.target 1 m there → s.turns ≤ bound → UsesTurnsExactly body → Stands g.target place (c ++ c')
+      → ((left : ℕ) → left ≤ s.turns → Stands g.target place c → Executes g there over (place + length c) body (record s { turns = left }))
+      → ((base : List Cell) (t : effect.State) → Stands g.target (place + length c) c' → Based g t base → t.turns < bound
+      → Rounds 0 bound (on g (base ++ over) (place + length c) t) (effect.give more) t)
+      → Rounds 0 bound m (use_turn >>= λ _. body >>= λ _. effect.give more) s
+  turn_then bound c c' place m there over body more s same came le exact stands runs behind =
+      turned bound s m (λ _. body >>= λ _. effect.give more) same (λ left is.
+      rounds_later 0 bound s.turns m there (body >>= λ _. effect.give more) (record s { turns = left }) (omega (arith, is))
+      (comes_less g.target (s.turns - left) 1 m there (omega (arith, is)) came)
+      (done_then g (λ _. round_on 0 bound) c c' place there over body (λ _. effect.give more) (record s { turns = left }) exact stands
+      (runs left (omega (arith, is))) (λ base t rest based fewer. behind base t rest based (omega (arith, is, fewer, le)))))
 
   -- behind a round the next one comes, or the loop is over
   round_then : (m : State) (first : Action (Option A)) (next : A → Action (Unit {0})) (s : effect.State) → UsesTurnsExactly first

@@ -13,7 +13,7 @@ use Rattle.code_generator.proofs.Exact.{exact_give, exact_then}
 use Rattle.code_generator.proofs.Numbers.{Fits}
 use Rattle.code_generator.proofs.Reach.{Stands, StandsAt, Comes, comes_on, comes_less, stands_front, stands_back, stays_here}
 use Rattle.code_generator.proofs.Setting.{Setting, on, Based, Ends, ends_on, Starves, starves_on, starves_same, starves_first, starves_behind, as_value, passes}
-use Rattle.code_generator.proofs.Setting.{fails, branched}
+use Rattle.code_generator.proofs.Setting.{fails, branched, jumps}
 
 -- where code is to come with what a piece gives: what holds then, the machine there, and for how many turns more than the
 -- piece used its instructions make up
@@ -107,14 +107,14 @@ module _ (g : Setting) where
   pub then_code : {A B : Type 0} (aim : ℕ → Aim A) (aim' : ℕ → Aim B) (c c' : List Instr) (place : ℕ) (m : State) (first : Action A)
       (next : A → Action B) (s : effect.State) → UsesTurnsExactly first → Stands g.target place (c ++ c')
       → (Stands g.target place c → Runs (aim (place + length c)) m first s)
-      → ((v : A) (t : effect.State) (h : (aim (place + length c)).Holds v t) → Stands g.target (place + length c) c'
+      → ((v : A) (t : effect.State) (h : (aim (place + length c)).Holds v t) → Stands g.target (place + length c) c' → t.turns ≤ s.turns
       → Runs (aim' (place + length c + length c')) ((aim (place + length c)).there v t h) (next v) t)
       → Runs (aim' (place + length (c ++ c'))) m (first >>= next) s
   then_code aim aim' c c' place m first next s exact stands runs h =
       let e : place + length c + length c' ≡ place + length (c ++ c') = omega (arith, length-append c c') in
       subst (λ end. Runs (aim' end) m (first >>= next) s) e
       (then_runs (aim (place + length c)) (aim' (place + length c + length c')) m first next s exact (runs (stands_front g.target place c c' stands))
-      (λ v t holds le. h v t holds (stands_back g.target place c c' stands)))
+      (λ v t holds. h v t holds (stands_back g.target place c c' stands)))
 
   -- an instruction, and the code of a piece
   pub instr_then : {A : Type 0} (aim : ℕ → Aim A) (least : ℕ) (i : Instr) (c : List Instr) (place : ℕ) (m there : State) (action : Action A)
@@ -165,7 +165,7 @@ module _ (g : Setting) where
   beside IsSo top aim c c' place base held row first next s exact stands runs h =
       subst (λ cells. Runs (aim (place + length (c ++ c'))) (on g cells place s) (first >>= next) s) (sym (append_assoc base held row))
       (then_code (top_on IsSo top (held ++ row)) aim c c' place _ first next s exact stands runs
-      (λ v t x rest.
+      (λ v t x rest le.
       subst (λ cells. Runs (aim (place + length c + length c')) (on g (cells ++ top v) (place + length c) t) (next v) t)
       (append_assoc x.0 held row) (h x.0 v t rest x.1 x.2)))
 
@@ -196,7 +196,7 @@ module _ (g : Setting) where
       (next : Value → Action A) (s : effect.State) → UsesTurnsExactly first → Stands g.target place (c ++ c')
       → (Stands g.target place c → Evaluates m held (place + length c) first s)
       → ((base : List Cell) (v : Value) (t : effect.State) → Stands g.target (place + length c) c' → Based g t base → Fits (number_of v)
-      → g.below + length held < g.limit
+      → g.below + length held < g.limit → t.turns ≤ s.turns
       → Runs (aim (place + length c + length c')) (on g ((base ++ held) ++ Number (number_of v) ∷ []) (place + length c) t) (next v) t)
       → Runs (aim (place + length (c ++ c'))) m (first >>= next) s
   value_then aim c c' place m held first next s exact stands runs h =
@@ -214,7 +214,7 @@ module _ (g : Setting) where
       (λ t. sym (and_then-and_then (first t) (λ n. effect.give (value.Number n)) (λ v. next (number_of v))))
       (value_then aim c c' place m held (as_value first) (λ v. next (number_of v)) s
       (exact_then first (λ n. effect.give (value.Number n)) exact (λ n. exact_give (value.Number n))) stands runs
-      (λ base v t rest based fit room. h base (number_of v) t rest based fit))
+      (λ base v t rest based fit room le. h base (number_of v) t rest based fit))
 
   -- ---- the code of a statement
 
@@ -238,7 +238,7 @@ module _ (g : Setting) where
   pub done_then : {A : Type 0} (aim : ℕ → Aim A) (c c' : List Instr) (place : ℕ) (m : State) (held : List Cell) (first : Action (Unit {0}))
       (next : Unit {0} → Action A) (s : effect.State) → UsesTurnsExactly first → Stands g.target place (c ++ c')
       → (Stands g.target place c → Executes m held (place + length c) first s)
-      → ((base : List Cell) (t : effect.State) → Stands g.target (place + length c) c' → Based g t base
+      → ((base : List Cell) (t : effect.State) → Stands g.target (place + length c) c' → Based g t base → t.turns ≤ s.turns
       → Runs (aim (place + length c + length c')) (on g (base ++ held) (place + length c) t) (next tt) t)
       → Runs (aim (place + length (c ++ c'))) m (first >>= next) s
   done_then aim c c' place m held first next s exact stands runs h =
@@ -251,3 +251,12 @@ module _ (g : Setting) where
       → Executes m held' place' action s
   behind_executes m held held' place place' action s e h =
       runs_to (kept_on held place) (kept_on held' place') m action s (omega arith) e (λ v t x. ((x.0, x.1), h x.0 t x.1))
+
+  -- a statement, and a jump behind it
+  pub done_jumps : (c c' : List Instr) (place out : ℕ) (m : State) (held : List Cell) (action : Action (Unit {0})) (s : effect.State)
+      → Stands g.target place (c ++ (instr.Jump out ∷ c')) → (Stands g.target place c → Executes m held (place + length c) action s)
+      → Executes m held out action s
+  done_jumps c c' place out m held action s stands runs =
+      behind_executes m held held (place + length c) out action s (runs (stands_front g.target place c (instr.Jump out ∷ c') stands))
+      (λ base t based.
+      comes_less g.target 0 1 _ _ (omega arith) (jumps g out (base ++ held) (place + length c) t (stands_back g.target place c (instr.Jump out ∷ c') stands).0))

@@ -6,7 +6,7 @@ use Rattle.pcode_assembler.specs.declared.code.Site.{Site}
 use Rattle.stack_machine.specs.declared.stop.Stop.{Stop}
 use Rattle.stack_machine.specs.Deeds.{Deed, Acts, Tests, Writes, Goes, Calls, Returns, Opens, Finishes, NotBuilt}
 use Rattle.stack_machine.specs.Machine.{Next, and_then, carried_out, error_of, taken, with_frame}
-use Rattle.stack_machine.specs.Run.{Outcome, outcome_of, step, steps}
+use Rattle.stack_machine.specs.Run.{Outcome, outcome_of, steps}
 use Rattle.code_generator.proofs.Reach.{Target, Comes}
 
 module _ (input : List ℕ) where

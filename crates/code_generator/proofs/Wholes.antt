@@ -216,7 +216,7 @@ module _ (g : Setting) where
       → Runs g (aim (place + length c + length c')) (on g ((base ++ held) ++ value_cells vs) (place + length c) u) (next vs) u)
       → Runs g (aim (place + length (c ++ c'))) m (first >>= next) s
   row_then aim c c' place m held count first next s exact stands runs h =
-      then_code g (row_on held count) aim c c' place m first next s exact stands runs (λ vs u x rest. h x.0 vs u rest x.1 x.2.0 x.2.1)
+      then_code g (row_on held count) aim c c' place m first next s exact stands runs (λ vs u x rest le. h x.0 vs u rest x.1 x.2.0 x.2.1)
 
   -- characters as values
   abbrev characters_of : List ℕ → List Value
