@@ -428,7 +428,7 @@ way_in_bounds direction.To = (refl, refl)
 way_in_bounds direction.DownTo = (refl, refl)
 
 held_in_bounds : (scope : Scope) (n : ℕ) → nat_le (held_offset scope n) 16777215 ≡ true
-held_in_bounds scope n = cut_at (scope.above + scope.height + n) 16777215
+held_in_bounds scope n = cut_at (scope.next + n) 16777215
 
 entry_in_bounds : (scope : Scope) (head : ForHead) (out : ℕ) → InBounds (for_entry scope head out)
 entry_in_bounds scope head out =
