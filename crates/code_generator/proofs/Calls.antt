@@ -252,8 +252,9 @@ module _ (g : Setting) (depth : ℕ) (known : CallsRun depth) (depth_is : g.dept
     body_runs base2 t after =
         let body_stands = stands_front g.target inside (stmt_code block.body its.scope inside) (end_code its.scope number block.heading.result) code_stands.1 in
         let none = append-nil base2 in
-        let runs = stmt_runs block.body its known (omega arith) inside base2 [] t body_stands (well_block g.tree g.well number block block_is).body after refl
-        (omega arith) in
+        let whole = (small_block g.tree g.short number block block_is).whole in
+        let runs = stmt_runs block.body its known (omega arith) inside base2 [] t body_stands (well_block g.tree g.well number block block_is).body after
+        (omega (arith, whole)) (omega arith) in
         let ran = subst (λ cs. Executes its (on its cs inside t) [] behind_body (effect_of block.body (around its)) t) none runs in
         then_runs its (kept_on its [] behind_body) (return_on its [] is_function back) (on its base2 inside t) (effect_of block.body (around its))
         (λ _. result_of block.heading.result its.environment) t ((exact_around its).statements block.body) ran

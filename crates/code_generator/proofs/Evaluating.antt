@@ -16,7 +16,7 @@ use Rattle.code_generator.proofs.Acts.{framed, defines, is_in_range}
 use Rattle.code_generator.proofs.Alike.{cell_of, HasFit}
 use Rattle.code_generator.proofs.Numbers.{Fits, same_range}
 use Rattle.code_generator.proofs.Reach.{StandsAt, Stands}
-use Rattle.code_generator.proofs.Setting.{Setting, outline, around, on, Based, linked, passes, fails}
+use Rattle.code_generator.proofs.Setting.{AllHeld, Setting, outline, around, on, Based, linked, passes, fails}
 use Rattle.code_generator.proofs.Running.{Aim, Evaluates, Executes, Runs, check_then, gives}
 
 -- what is shown of the like is shown of these
@@ -56,7 +56,7 @@ module _ (g : Setting) where
   abbrev pub ExecutesAs : Placed → ℕ → Bool → Execution → Type 0
   ExecutesAs c depth well execution =
       (place : ℕ) (base held : List Cell) (s : effect.State) → Stands g.target place (c g.scope place) → well ≡ true → Based g s base
-      → length held ≡ g.scope.height → g.below + length held + depth ≤ g.limit
+      → AllHeld g held → g.below + length held + depth ≤ g.limit
       → Executes g (on g (base ++ held) place s) held (place + length (c g.scope place)) (execution (around g)) s
 
   -- what is shown of an expression, and of an operator and its right operand

@@ -28,7 +28,7 @@ use Rattle.code_scheme.specs.Scopes.{block_level, held_offset, links}
 use Rattle.code_generator.proofs.Accesses.{LeadsTo, frame_found, leads}
 use Rattle.code_generator.proofs.Reach.{Comes, Stands, StandsAt, comes_on, comes_less, stays_here}
 use Rattle.code_generator.proofs.Numbers.{Fits}
-use Rattle.code_generator.proofs.Setting.{Setting, Shown, Way, Direct, ByAddress, Reaches, outline, on, Based, linked, limit_far, Here, acts, branches_on}
+use Rattle.code_generator.proofs.Setting.{AllHeld, Setting, Shown, Way, Direct, ByAddress, Reaches, outline, on, Based, linked, limit_far, Here, acts, branches_on}
 use Rattle.code_generator.proofs.Setting.{jumps}
 use Rattle.code_generator.proofs.Acts.{framed, pushes, loads, stores, on_two_is}
 use Rattle.code_generator.proofs.Alike.{LiesIn, Leads, HasFit, alike_set, cell_of, cell_within, keeps_set}
@@ -171,12 +171,12 @@ module _ (g : Setting) where
   -- ---- held cells
 
   -- where they lie
-  held_at : (held : List Cell) (n : ℕ) → length held ≡ g.scope.height → g.below + (length held + n) < g.limit
+  held_at : (held : List Cell) (n : ℕ) → AllHeld g held → g.below + (length held + n) < g.limit
       → g.frame + held_offset g.scope n ≡ g.below + (length held + n)
-  held_at held n high room = let a = g.above_is in let b = limit_far g in omega (arith, high)
+  held_at held n high room = let far = limit_far g in omega (arith, high)
 
   pub loads_held : (s : effect.State) (base held rest more cells : List Cell) (n : ℕ) (cell : Cell) (place : ℕ) → Based g s base
-      → length held ≡ g.scope.height → cells ≡ (base ++ (held ++ rest)) ++ more → slice_get rest n ≡ Some cell
+      → AllHeld g held → cells ≡ (base ++ (held ++ rest)) ++ more → slice_get rest n ≡ Some cell
       → g.below + length held + length rest + length more < g.limit → Here g place (instr.Load 0 (held_offset g.scope n))
       → Comes g.target 1 (on g cells place s) (on g (cells ++ cell ∷ []) (place + 1) s)
   loads_held s base held rest more cells n cell place based high is found room here =
@@ -196,7 +196,7 @@ module _ (g : Setting) where
       there)
 
   pub stores_held : (s : effect.State) (base held rest cells : List Cell) (n : ℕ) (cell : Cell) (place : ℕ) → Based g s base
-      → length held ≡ g.scope.height → cells ≡ (base ++ (held ++ rest)) ++ cell ∷ [] → n < length rest → g.below + length held + length rest ≤ g.limit
+      → AllHeld g held → cells ≡ (base ++ (held ++ rest)) ++ cell ∷ [] → n < length rest → g.below + length held + length rest ≤ g.limit
       → Here g place (instr.Store 0 (held_offset g.scope n))
       → Comes g.target 1 (on g cells place s) (on g (base ++ (held ++ slice_set rest n cell)) (place + 1) s)
   stores_held s base held rest cells n cell place based high is few room here =
@@ -228,7 +228,7 @@ module _ (g : Setting) where
 
   -- ---- the bounds of a for statement, which are held
 
-  module _ (s : effect.State) (base held : List Cell) (n l : ℤ) (based : Based g s base) (high : length held ≡ g.scope.height)
+  module _ (s : effect.State) (base held : List Cell) (n l : ℤ) (based : Based g s base) (high : AllHeld g held)
       (room : g.below + length held + 4 ≤ g.limit) where
     abbrev bounds : List Cell
     bounds = Number n ∷ Number l ∷ []
@@ -328,7 +328,7 @@ module _ (g : Setting) where
 
   -- ---- the index of a case statement, which is held
 
-  module _ (s : effect.State) (base held : List Cell) (n : ℤ) (based : Based g s base) (high : length held ≡ g.scope.height)
+  module _ (s : effect.State) (base held : List Cell) (n : ℤ) (based : Based g s base) (high : AllHeld g held)
       (room : g.below + length held + 3 ≤ g.limit) where
     abbrev index : List Cell
     index = base ++ (held ++ Number n ∷ [])

@@ -117,22 +117,21 @@ module _ (g : Setting) {A : Type 0} (fit : A → Type 0) (hold : A → List Cell
 
 -- the setting with other slack, and with other cells held
 abbrev pub reset : Setting → ℕ → ℕ → Setting
-reset g slack height = record g {
+reset g slack next = record g {
   slack = slack;
-  scope = record g.scope { height = height };
+  scope = record g.scope { next = next };
   homes_are = g.homes_are;
   routines_are = g.routines_are;
   level_is = g.level_is;
   near = g.near;
-  above_is = g.above_is;
   shows = λ root variable at seen.
       let x = g.shows root variable at seen in
       record { place = x.place; place_is = x.place_is; owner = x.owner; leads = x.leads; way = x.way; reaches = x.reaches };
   chain = g.chain;
 }
 
-module _ (g : Setting) (slack height : ℕ) where
-  pub to_reset : (s : effect.State) (base : List Cell) → Based g s base → Based (reset g slack height) s base
+module _ (g : Setting) (slack next : ℕ) where
+  pub to_reset : (s : effect.State) (base : List Cell) → Based g s base → Based (reset g slack next) s base
   to_reset s base based = record {
     full = based.full;
     alike = based.alike;
@@ -143,7 +142,7 @@ module _ (g : Setting) (slack height : ℕ) where
     deep = based.deep;
   }
 
-  pub from_reset : (s : effect.State) (base : List Cell) → Based (reset g slack height) s base → Based g s base
+  pub from_reset : (s : effect.State) (base : List Cell) → Based (reset g slack next) s base → Based g s base
   from_reset s base based = record {
     full = based.full;
     alike = based.alike;
@@ -154,12 +153,12 @@ module _ (g : Setting) (slack height : ℕ) where
     deep = based.deep;
   }
 
-  halts_from_reset : (m : State) (why : Ending) (output : List ℕ) → Halts (reset g slack height) m why output → Halts g m why output
+  halts_from_reset : (m : State) (why : Ending) (output : List ℕ) → Halts (reset g slack next) m why output → Halts g m why output
   halts_from_reset m why output h = record { why = h.why; stops = h.stops; so = h.so }
 
   -- an end with less slack, by fewer turns
   pub ends_from_reset : (turns left : ℕ) (m : State) (why : Ending) (output : List ℕ) → turns - g.slack ≤ left - slack
-      → Ends (reset g slack height) left m why output → Ends g turns m why output
+      → Ends (reset g slack next) left m why output → Ends g turns m why output
   ends_from_reset turns left m ending.Finished output le e = halts_from_reset m ending.Finished output e
   ends_from_reset turns left m (ending.Error site) output le (inl e) = inl (halts_from_reset m (ending.Error site) output e)
   ends_from_reset turns left m (ending.Error site) output le (inr closed) = inr closed
@@ -168,11 +167,11 @@ module _ (g : Setting) (slack height : ℕ) where
 
   -- a statement with as much slack
   pub executes_from_reset : (m : State) (held : List Cell) (place : ℕ) (action : Action (Unit {0})) (s : effect.State) → slack ≡ g.slack
-      → Executes (reset g slack height) m held place action s → Executes g m held place action s
+      → Executes (reset g slack next) m held place action s → Executes g m held place action s
   executes_from_reset m held place action s same (inl x) = inl x
   executes_from_reset m held place action s same (inr e) = inr (by (action s) e)
     where
-      by : (r : Reply (Unit {0})) → Arrives (reset g slack height) (kept_on (reset g slack height) held place) s.turns m r
+      by : (r : Reply (Unit {0})) → Arrives (reset g slack next) (kept_on (reset g slack next) held place) s.turns m r
           → Arrives g (kept_on g held place) s.turns m r
       by (Gives done t) e = ((e.0.0, from_reset t e.0.0 e.0.1), e.1, e.2)
       by (effect.Stops why t) e = ends_from_reset s.turns s.turns m why t.output (omega arith) e
@@ -180,13 +179,13 @@ module _ (g : Setting) (slack height : ℕ) where
   -- a round with less slack, behind its turn
   pub rounds_from_reset : {A : Type 0} (fit : A → Type 0) (hold : A → List Cell) (head end : ℕ) (held : List Cell) (left : ℕ) (m : State)
       (action : Action (Option A)) (s : effect.State) → suc slack ≤ g.slack → s.turns ≡ left
-      → Rounds (reset g slack height) fit hold head end held 1 (suc left) m action s
+      → Rounds (reset g slack next) fit hold head end held 1 (suc left) m action s
       → RoundsBehind g fit hold head end held 0 (suc left) (suc left) m action s
   rounds_from_reset fit hold head end held left m action s le is (inl x) = inl x
   rounds_from_reset {A} fit hold head end held left m action s le is (inr e) = inr (by (action s) e)
     where
       by : (r : Reply (Option A))
-          → Arrives (reset g slack height) (round_on (reset g slack height) fit hold head end held 1 (suc left)) s.turns m r
+          → Arrives (reset g slack next) (round_on (reset g slack next) fit hold head end held 1 (suc left)) s.turns m r
           → Arrives g (round_on g fit hold head end held 0 (suc left)) (suc left) m r
       by (Gives None t) e = (
         (e.0.0, from_reset t e.0.0 e.0.1),

@@ -159,10 +159,11 @@ module _ (known : Known) (tree : Tree) (well : IsWellFormed tree) (short : is_to
 
         body_runs : Executes setting inside [] (1 + length body) does first
         body_runs =
+            let whole = (small_block tree short 0 block block_is).whole in
             stmt_runs block.body setting (calls_run (suc turns)) (omega arith) 1 first_cells [] first
             (stands_front target 1 body (instr.Stop ∷ []) own_stands.1) (well_block tree well 0 block block_is).body
-            (started.first_based known tree well short target sites_are stands comes_back repeats_are_few input cells small block block_is fits turns) refl
-            (omega arith)
+            (started.first_based known tree well short target sites_are stands comes_back repeats_are_few input cells small block block_is fits turns)
+            (omega (arith, whole)) (omega arith)
 
         means : meaning tree input turns ≡ ended (does first)
         means = ap (λ o. ended (meant.run_of tree (suc turns) o first)) block_is

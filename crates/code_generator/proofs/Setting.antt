@@ -102,8 +102,6 @@ pub record Setting : Type 0 where
   -- an offset reaches all of a variable
   pub near : (root : ℕ) (variable : Variable) → slice_get tree.variables.items root ≡ Some variable → (variable_home scope root).refers ≡ false
       → (variable_home scope root).start + cells_of tree.types variable.type_id ≤ 16777215
-  -- where the cells begin that are held
-  pub above_is : below ≡ frame + scope.above
   pub environment : Environment
   pub types_are : environment.types ≡ tree.types
   pub shows : (root : ℕ) (variable : Variable) → slice_get tree.variables.items root ≡ Some variable → is_visible (outline_of tree) number root ≡ true
@@ -161,6 +159,10 @@ module _ (g : Setting) where
   -- the same of a state
   abbrev pub Based : effect.State → List Cell → Type 0
   Based s base = Grounded s.store s.activations s.living s.turns base
+
+  -- these are all the cells that are held: above them the next one lies where the code takes it to lie
+  abbrev pub AllHeld : List Cell → Type 0
+  AllHeld held = g.below + length held ≡ g.frame + g.scope.next
 
   -- behind some turns
   pub later : (left : ℕ) (s : effect.State) (base : List Cell) → left ≤ s.turns → Based s base → Based (record s { turns = left }) base

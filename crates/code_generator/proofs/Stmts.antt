@@ -53,7 +53,7 @@ use Rattle.code_scheme.specs.Depth.{call_depth, greatest, passed_depth, stmt_dep
 use Rattle.typed_tree.specs.WellFormed.{is_well_formed_width, is_well_formed_parameter, is_well_formed_test, is_well_formed_stmt, fits_target, whole_indexes}
 use Rattle.typed_tree.specs.WellFormed.{are_whole, stmt_is_well_formed, is_control, is_well_formed_call, is_well_formed_passed, is_well_formed_whole, length_of}
 use Rattle.code_generator.proofs.Reach.{Stands, StandsAt, stands_front, stands_back, Comes, comes_less, comes_on, stays_here}
-use Rattle.code_generator.proofs.Setting.{branched, goes_around, Setting, outline, around, exact_around, on, Based, later, linked, limit_far, Here, goes_on}
+use Rattle.code_generator.proofs.Setting.{AllHeld, branched, goes_around, Setting, outline, around, exact_around, on, Based, later, linked, limit_far, Here, goes_on}
 use Rattle.code_generator.proofs.Setting.{jumps, fails, entered}
 use Rattle.code_generator.proofs.Loops.{Rounds, RoundsBehind, RoundRuns, round_again, round_over, turn_then, turned, loops, reset, to_reset, rounds_from_reset, executes_from_reset}
 use Rattle.code_generator.proofs.Loops.{round_on}
@@ -249,7 +249,7 @@ module _ (g : Setting) (known : CallsAt g) where
       (exact : (x : X) → UsesTurnsExactly (meant_by x (around g))) (xs : List X)
       → Each (λ x. ExecutesAs g (code_of x) (depth_of x) (well_of x) (meant_by x)) xs → (depth place : ℕ) (base held : List Cell) (s : effect.State)
       → Stands g.target place (placed (map (λ code. code g.scope) (map code_of xs)) place) → all_hold (map well_of xs) ≡ true → Based g s base
-      → length held ≡ g.scope.height → g.below + length held + fold max depth (map depth_of xs) ≤ g.limit
+      → AllHeld g held → g.below + length held + fold max depth (map depth_of xs) ≤ g.limit
       → Executes g (on g (base ++ held) place s) held (place + length (placed (map (λ code. code g.scope) (map code_of xs)) place))
       (all_of (map meant_by xs) (around g)) s
   all_run code_of depth_of well_of meant_by exact [] each depth place base held s stands good based high deep = nothing_runs place base held s based
@@ -450,7 +450,7 @@ repeat_runs : (g : Setting) (known : CallsRun g.depth) (head : LoopHead) (ss : L
     (λ e. effect.enter head.number e.visible >>= λ _. effect.looped (repeat_round (all_of (map effect_of (bare ss))) (value_of head.condition) e) tt)
 repeat_runs g known head ss few place base held s stands good based high deep =
     let s1 = entered g head.number s in
-    let h = reset g (g.slack - 1) g.scope.height in
+    let h = reset g (g.slack - 1) g.scope.next in
     let known_there = known h refl in
     let code = placed (map (λ c. c g.scope) (map stmt_code (bare ss))) place in
     let test = expr_code g.scope head.condition in
@@ -490,14 +490,14 @@ repeat_runs g known head ss few place base held s stands good based high deep =
     turned g always hold place end held t.turns t _ (λ _. rest) refl (λ left is.
     let t' = record t { turns = left } in
     subst (λ n. RoundsBehind g always hold place end held 0 n n (on g (base2 ++ held) place t) rest t') (sym is)
-    (rounds_from_reset g (g.slack - 1) g.scope.height always hold place end held left _ rest t' (omega arith) refl
-    (inside left base2 t' refl (to_reset g (g.slack - 1) g.scope.height t' base2 (later g left t base2 (omega (arith, is)) based2)))))) tt base s1 tt based)
+    (rounds_from_reset g (g.slack - 1) g.scope.next always hold place end held left _ rest t' (omega arith) refl
+    (inside left base2 t' refl (to_reset g (g.slack - 1) g.scope.next t' base2 (later g left t base2 (omega (arith, is)) based2)))))) tt base s1 tt based)
 
 -- ---- a for statement
 
 -- the bounds that are held are compared as the direction says, and a jump is taken where they leave no value
 ordered : (g : Setting) (s : effect.State) (base held : List Cell) (n l : ℤ) (way : Direction) (place out : ℕ) → Based g s base
-    → length held ≡ g.scope.height → g.below + length held + 4 ≤ g.limit → Here g place (instr.Load 0 (held_offset g.scope 0))
+    → AllHeld g held → g.below + length held + 4 ≤ g.limit → Here g place (instr.Load 0 (held_offset g.scope 0))
     → Here g (place + 1) (instr.Load 0 (held_offset g.scope 1))
     → StandsAt g.target (place + 1 + 1) (order_instr way) (stays g.target.is_open (order_instr way))
     → StandsAt g.target (place + 1 + 1 + 1) (instr.JumpIfFalse out) true
@@ -512,7 +512,7 @@ ordered g s base held n l direction.DownTo place out based high room at1 at2 at3
 
 -- the next value is held, and the next round begins
 stepped : (g : Setting) (s : effect.State) (base held : List Cell) (n l : ℤ) (way : Direction) (place head : ℕ) → Based g s base
-    → length held ≡ g.scope.height → g.below + length held + 4 ≤ g.limit → Fits n → Fits (next_value way n)
+    → AllHeld g held → g.below + length held + 4 ≤ g.limit → Fits n → Fits (next_value way n)
     → Here g place (instr.Load 0 (held_offset g.scope 0)) → Here g (place + 1) (instr.LoadConstant (pos 1))
     → StandsAt g.target (place + 1 + 1) (next_instr way) (stays g.target.is_open (next_instr way))
     → Here g (place + 1 + 1 + 1) (instr.Store 0 (held_offset g.scope 0)) → StandsAt g.target (place + 1 + 1 + 1 + 1) (instr.Jump head) true
@@ -527,24 +527,24 @@ stepped g s base held n l direction.DownTo place head based high room fit fit' a
 
 -- a statement inside another one, above the cells that this one holds
 above_held : (g : Setting) (known : CallsRun g.depth) (body : (s : Stmt) × StmtRuns s) → repeats body.0 ≤ g.slack
-    → is_well_formed_stmt (outline g) g.number body.0 ≡ true → (held row : List Cell) → length held ≡ g.scope.height
+    → is_well_formed_stmt (outline g) g.number body.0 ≡ true → (held row : List Cell) → AllHeld g held
     → g.below + length held + (stmt_depth body.0 + length row) ≤ g.limit → (place : ℕ) (base : List Cell) (s : effect.State)
     → Stands g.target place (stmt_code body.0 (holding (length row) g.scope) place) → Based g s base
     → Executes g (on g (base ++ (held ++ row)) place s) (held ++ row) (place + length (stmt_code body.0 (holding (length row) g.scope) place))
     (effect_of body.0 (around g)) s
 above_held g known body few good held row high room place base s stands based =
-    let height = count (g.scope.height + length row) in
+    let next = count (g.scope.next + length row) in
     let code = stmt_code body.0 (holding (length row) g.scope) place in
     let long = length-append held row in
     let reach = limit_far g in
-    executes_from_reset g g.slack height _ (held ++ row) (place + length code) (effect_of body.0 (around g)) s refl
-    (body.1 (reset g g.slack height) known few place base (held ++ row) s stands good (to_reset g g.slack height s base based)
+    executes_from_reset g g.slack next _ (held ++ row) (place + length code) (effect_of body.0 (around g)) s refl
+    (body.1 (reset g g.slack next) known few place base (held ++ row) s stands good (to_reset g g.slack next s base based)
     (omega (arith, long, high, reach, room)) (omega (arith, long, room)))
 
 module _ (g : Setting) (known : CallsRun g.depth) (head : ForHead) (scalar : IsScalar g head.control) (body : (s : Stmt) × StmtRuns s)
     (few : repeats body.0 ≤ g.slack)
     (good : is_well_formed_stmt (outline g) g.number body.0 ≡ true) (place : ℕ) (held : List Cell)
-    (high : length held ≡ g.scope.height) (room : g.below + length held + max 4 (stmt_depth body.0 + 2) ≤ g.limit) (l : ℤ) (fit_last : Fits l) where
+    (high : AllHeld g held) (room : g.below + length held + max 4 (stmt_depth body.0 + 2) ≤ g.limit) (l : ℤ) (fit_last : Fits l) where
   -- where a round begins, where its body is over, and where the loop is
   abbrev start : ℕ
   start = place + 8
@@ -777,7 +777,7 @@ length-row scope arm arm' [] = refl
 length-row scope arm arm' (constant ∷ row) = let e = length-row scope arm arm' row in omega arith
 
 module _ (g : Setting) (known : CallsRun g.depth) (site : ℕ) (within : site < length g.tree.sites.items) (out : ℕ) (held : List Cell)
-    (high : length held ≡ g.scope.height) (n : ℤ) (fail : ℕ) (failing : StandsAt g.target fail (instr.Fail site) (g.target.is_open site)) where
+    (high : AllHeld g held) (n : ℤ) (fail : ℕ) (failing : StandsAt g.target fail (instr.Fail site) (g.target.is_open site)) where
   abbrev index : List Cell
   index = held ++ Number n ∷ []
 
