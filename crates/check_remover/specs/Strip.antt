@@ -7,20 +7,7 @@ use Rattle.std.specs.Option.{option_map_or}
 use Rattle.pcode_assembler.specs.declared.code.Site.{Site}
 use Rattle.pcode_assembler.specs.declared.instr.Instr.{Instr}
 use Rattle.pcode_assembler.specs.declared.instr.Instr.TheVariants as instr
-
--- the site of a check
-abbrev pub check_site : Instr → Option ℕ
-check_site (instr.CheckRange site low high) = Some site
-check_site (instr.CheckZero site) = Some site
-check_site (instr.CheckDefined site length) = Some site
-check_site (instr.CheckSum site) = Some site
-check_site (instr.CheckDifference site) = Some site
-check_site (instr.CheckProduct site) = Some site
-check_site (instr.CheckSquare site) = Some site
-check_site (instr.CheckMembers site) = Some site
-check_site (instr.CheckSet site low high) = Some site
-check_site (instr.Fail site) = Some site
-check_site _ = None
+pub use Rattle.pcode_assembler.specs.Writable.{check_site}
 
 -- whether one of these sites has the id
 abbrev pub is_among : List Site → ℕ → Bool
