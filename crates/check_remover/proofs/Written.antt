@@ -1,5 +1,5 @@
 -- Code that can be written can be written without some of its checks, if its last instruction is none.
-use Rattle.std.proofs.Common.{◌≡◌, ℕ, zero, suc, ◌<◌, Bool, true, false, cond, List, [], ◌∷◌, Option, Some, None, length, map, take, refl, sym, ap, ◌∙◌, subst}
+use Rattle.std.proofs.Common.{◌≡◌, ℕ, zero, suc, ◌<◌, Bool, true, false, cond, List, [], ◌∷◌, Some, None, length, map, take, refl, sym, ap, ◌∙◌, subst}
 use Rattle.std.proofs.Common.{arith, ◌&&◌}
 use Rattle.std.specs.Prelude.{count_by, filter, nat_lt}
 use Rattle.std.specs.List.{list_all}
@@ -33,8 +33,7 @@ moved_site to i = refl
 
 module _ (to : ℕ → ℕ) (sites points count fewer : ℕ) (inside : (target : ℕ) → target < count → to target < fewer) where
   moved_target : (target : ℕ) → (nat_lt target count && true) ≡ true → (nat_lt (to target) fewer && true) ≡ true
-  moved_target target h =
-      ap (λ b. b && true) (lt-ltb (to target) fewer (inside target (ltb-true target count (and_parts (nat_lt target count) true h).0)))
+  moved_target target h = ap (λ b. b && true) (lt-ltb (to target) fewer (inside target (ltb-true target count (and_parts (nat_lt target count) true h).0)))
 
   moved_names : (i : Instr) → names_what_is_there sites points count i ≡ true → names_what_is_there sites points fewer (moved to i) ≡ true
   moved_names (instr.Jump target) h = moved_target target h

@@ -1,6 +1,6 @@
 -- Stripped code: the code without its checks at sites that aren't open, its jumps moved. It does not say when a check
 -- may be taken out: that it never stops a run is for the reader of the open sites to know.
-use Rattle.std.specs.Prelude.{◌≡◌, ℕ, ◌==◌, Bool, true, List, Option, Some, None, map, filter, take, count_by}
+use Rattle.std.specs.Prelude.{◌≡◌, ℕ, ◌==◌, Bool, true, List, Some, map, filter, take, count_by}
 use Rattle.std.specs.Prelude.{slice_get}
 use Rattle.std.specs.List.{list_any}
 use Rattle.std.specs.Option.{option_map_or}

@@ -66,6 +66,7 @@ use Rattle.code_generator.proofs.Repeats.{repeats, repeats_step}
 use Rattle.code_generator.proofs.Wholes.{AllFit, few_components, fitting_bytes, whole_runs, row_then}
 use Rattle.code_generator.proofs.Held.{slot, IsScalar, is_scalar, variable_kept, variable_forgotten, loads_held, stores_held, decides, begins, steps, leaves}
 use Rattle.code_generator.proofs.Held.{compares_row, last_is, next_fits, one_fits}
+use Rattle.code_scheme.proofs.Arms.{length-arms, length-row}
 use Rattle.code_scheme.proofs.Pieces.{length-For}
 use Rattle.code_generator.proofs.Acts.{writes}
 use Rattle.code_generator.proofs.Numbers.{Fits, fits_by_abs, sum_is, difference_is}
@@ -748,33 +749,6 @@ popped_there g below n place s stands in_frame =
     comes_less g.target 0 1 _ _ (omega arith)
     (branched g (λ _. Comes g.target 1 (on g (below ++ Number n ∷ []) place s) (on g below (place + 1) s)) (place + 1) below n place s stands
     in_frame (λ came. came) (λ came. came))
-
--- where the jumps out go changes no length
-length-arms : (scope : Scope) (rows : List (Vec ℤ)) (arms : List Placed) (out out' place : ℕ)
-    → length (arms_code scope out rows arms place) ≡ length (arms_code scope out' rows arms place)
-length-arms scope [] arms out out' place = refl
-length-arms scope (row ∷ rows) [] out out' place = refl
-length-arms scope (row ∷ rows) (arm ∷ arms) out out' place =
-    let inside = place + length (row_code scope 0 row.items) + 1 in
-    let code = arm (holding 1 scope) inside in
-    let next = inside + length code + 1 in
-    let compared = row_code scope inside row.items in
-    let rest = arms_code scope out rows arms next in
-    let rest' = arms_code scope out' rows arms next in
-    let same = length-arms scope rows arms out out' next in
-    omega (
-      arith,
-      same,
-      length-append compared (instr.Jump next ∷ (code ++ (instr.Jump out ∷ rest))),
-      length-append compared (instr.Jump next ∷ (code ++ (instr.Jump out' ∷ rest'))),
-      length-append code (instr.Jump out ∷ rest),
-      length-append code (instr.Jump out' ∷ rest'),
-    )
-
--- nor does the place of the arm that of its constants
-length-row : (scope : Scope) (arm arm' : ℕ) (row : List ℤ) → length (row_code scope arm row) ≡ length (row_code scope arm' row)
-length-row scope arm arm' [] = refl
-length-row scope arm arm' (constant ∷ row) = let e = length-row scope arm arm' row in omega arith
 
 module _ (g : Setting) (known : CallsRun g.depth) (site : ℕ) (within : site < length g.tree.sites.items) (out : ℕ) (held : List Cell)
     (high : AllHeld g held) (n : ℤ) (fail : ℕ) (failing : StandsAt g.target fail (instr.Fail site) (g.target.is_open site)) where
