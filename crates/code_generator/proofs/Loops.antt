@@ -7,7 +7,7 @@ use Rattle.meaning.specs.Effect as effect
 use Rattle.meaning.specs.Effect.{Round, use_turn}
 use Rattle.meaning.specs.Laws.{GoesRoundByRound}
 use Rattle.code_generator.proofs.Reach.{Comes, Stands, comes_less, stays_here}
-use Rattle.code_generator.proofs.Setting.{Setting, on, Based, Halts, Ends, Starves, starves_on}
+use Rattle.code_generator.proofs.Setting.{Setting, on, Based, Ends, Starves, starves_on}
 use Rattle.code_generator.proofs.Running.{Aim, Arrives, Executes, Runs, arrives_on, done, done_then, kept_on, runs_same, then_runs}
 
 -- in a setting, a loop with what is held at its head where a round begins with this, its head and its end, and what is
@@ -131,50 +131,13 @@ reset g slack next = record g {
 }
 
 module _ (g : Setting) (slack next : ℕ) where
-  pub to_reset : (s : effect.State) (base : List Cell) → Based g s base → Based (reset g slack next) s base
-  to_reset s base based = record {
-    full = based.full;
-    alike = based.alike;
-    keeps = based.keeps;
-    old = based.old;
-    fresh = based.fresh;
-    lasting = based.lasting;
-    deep = based.deep;
-  }
-
-  pub from_reset : (s : effect.State) (base : List Cell) → Based (reset g slack next) s base → Based g s base
-  from_reset s base based = record {
-    full = based.full;
-    alike = based.alike;
-    keeps = based.keeps;
-    old = based.old;
-    fresh = based.fresh;
-    lasting = based.lasting;
-    deep = based.deep;
-  }
-
-  halts_from_reset : (m : State) (why : Ending) (output : List ℕ) → Halts (reset g slack next) m why output → Halts g m why output
-  halts_from_reset m why output h = record { why = h.why; stops = h.stops; so = h.so }
-
   -- an end with less slack, by fewer turns
-  pub ends_from_reset : (turns left : ℕ) (m : State) (why : Ending) (output : List ℕ) → turns - g.slack ≤ left - slack
+  ends_from_reset : (turns left : ℕ) (m : State) (why : Ending) (output : List ℕ) → turns - g.slack ≤ left - slack
       → Ends (reset g slack next) left m why output → Ends g turns m why output
-  ends_from_reset turns left m ending.Finished output le e = halts_from_reset m ending.Finished output e
-  ends_from_reset turns left m (ending.Error site) output le (inl e) = inl (halts_from_reset m (ending.Error site) output e)
-  ends_from_reset turns left m (ending.Error site) output le (inr closed) = inr closed
-  ends_from_reset turns left m (ending.Input point fault) output le e = halts_from_reset m (ending.Input point fault) output e
+  ends_from_reset turns left m ending.Finished output le e = e
+  ends_from_reset turns left m (ending.Error site) output le e = e
+  ends_from_reset turns left m (ending.Input point fault) output le e = e
   ends_from_reset turns left m ending.More output le e = (e.0, comes_less g.target (turns - g.slack) (left - slack) m e.0 le e.1, e.2)
-
-  -- a statement with as much slack
-  pub executes_from_reset : (m : State) (held : List Cell) (place : ℕ) (action : Action (Unit {0})) (s : effect.State) → slack ≡ g.slack
-      → Executes (reset g slack next) m held place action s → Executes g m held place action s
-  executes_from_reset m held place action s same (inl x) = inl x
-  executes_from_reset m held place action s same (inr e) = inr (by (action s) e)
-    where
-      by : (r : Reply (Unit {0})) → Arrives (reset g slack next) (kept_on (reset g slack next) held place) s.turns m r
-          → Arrives g (kept_on g held place) s.turns m r
-      by (Gives done t) e = ((e.0.0, from_reset t e.0.0 e.0.1), e.1, e.2)
-      by (effect.Stops why t) e = ends_from_reset s.turns s.turns m why t.output (omega arith) e
 
   -- a round with less slack, behind its turn
   pub rounds_from_reset : {A : Type 0} (fit : A → Type 0) (hold : A → List Cell) (head end : ℕ) (held : List Cell) (left : ℕ) (m : State)
@@ -187,14 +150,6 @@ module _ (g : Setting) (slack next : ℕ) where
       by : (r : Reply (Option A))
           → Arrives (reset g slack next) (round_on (reset g slack next) fit hold head end held 1 (suc left)) s.turns m r
           → Arrives g (round_on g fit hold head end held 0 (suc left)) (suc left) m r
-      by (Gives None t) e = (
-        (e.0.0, from_reset t e.0.0 e.0.1),
-        comes_less g.target (suc left - t.turns + 0) (s.turns - t.turns + 1) m _ (omega arith) e.1,
-        omega (arith, e.2),
-      )
-      by (Gives (Some a) t) e = (
-        (e.0.0, from_reset t e.0.0 e.0.1, e.0.2, e.0.3),
-        comes_less g.target (suc left - t.turns + 0) (s.turns - t.turns + 1) m _ (omega arith) e.1,
-        omega (arith, e.2),
-      )
+      by (Gives more t) e =
+          (e.0, comes_less g.target (suc left - t.turns + 0) (s.turns - t.turns + 1) m _ (omega arith) e.1, omega (arith, e.2))
       by (effect.Stops why t) e = ends_from_reset (suc left) s.turns m why t.output (omega arith) e

@@ -52,6 +52,25 @@ pub record Shown (tree : Tree) (world : World) (fixed : Fixed) (end frame : ℕ)
     pub way : Way
     pub reaches : Reaches tree world fixed end place variable (owner + (variable_home scope root).start) (variable_home scope root).refers way
 
+-- the cells below those that are held, as many as told and alike to a store, where so many activations have begun, these
+-- blocks last, and so many turns are left
+pub record Grounded (world : World) (fixed : Fixed) (below : ℕ) (blocks : List ℕ) (depth : ℕ) (store : meant.Store) (activations : ℕ) (living : List ℕ)
+    (turns : ℕ) (base : List Cell) : Type 0 where
+  pub full : length base ≡ below
+  pub alike : Alike world store base
+  pub keeps : Keeps fixed base
+  -- the activations that live have begun, and those that haven't own nothing
+  pub old : (a : Activation) → Lives world a → a.number < activations
+  pub fresh : (p : Place) → activations ≤ p.activation → stored store p ≡ None
+  pub lasting : living ≡ blocks
+  pub deep : turns < depth
+
+-- from a state the machine stops as the program ends
+pub record HaltsAs (target : Target) (tree : Tree) (m : State) (end : Ending) (output : List ℕ) : Type 0 where
+  pub why : Stop
+  pub stops : Stops target m (record { output = output; stop = why })
+  pub so : StopsAs tree end why
+
 -- an activation of a block that runs on the machine
 pub record Setting : Type 0 where
   pub known : Known
@@ -144,21 +163,9 @@ module _ (g : Setting) where
   abbrev pub on : List Cell → ℕ → effect.State → State
   on cells place s = running_at cells (g.target.to place) s
 
-  -- the cells below those that are held, as many as ever and alike to a store, where so many activations have begun, these
-  -- blocks last, and so many turns are left
-  pub record Grounded (store : meant.Store) (activations : ℕ) (living : List ℕ) (turns : ℕ) (base : List Cell) : Type 0 where
-    pub full : length base ≡ g.below
-    pub alike : Alike g.world store base
-    pub keeps : Keeps g.fixed base
-    -- the activations that live have begun, and those that haven't own nothing
-    pub old : (a : Activation) → Lives g.world a → a.number < activations
-    pub fresh : (p : Place) → activations ≤ p.activation → stored store p ≡ None
-    pub lasting : living ≡ g.number ∷ g.callers
-    pub deep : turns < g.depth
-
-  -- the same of a state
+  -- the cells below those that are held, on which the code of a piece of the block stands
   abbrev pub Based : effect.State → List Cell → Type 0
-  Based s base = Grounded s.store s.activations s.living s.turns base
+  Based s base = Grounded g.world g.fixed g.below (g.number ∷ g.callers) g.depth s.store s.activations s.living s.turns base
 
   -- these are all the cells that are held: above them the next one lies where the code takes it to lie
   abbrev pub AllHeld : List Cell → Type 0
@@ -189,10 +196,8 @@ module _ (g : Setting) where
   limit_far = let a = g.inside in let b = g.small in omega arith
 
   -- from here the machine stops as the program ends
-  pub record Halts (m : State) (end : Ending) (output : List ℕ) : Type 0 where
-    pub why : Stop
-    pub stops : Stops g.target m (record { output = output; stop = why })
-    pub so : StopsAs g.tree end why
+  abbrev pub Halts : State → Ending → List ℕ → Type 0
+  Halts m end output = HaltsAs g.target g.tree m end output
 
   -- What the machine does where the program ends, with so many turns left here: it stops as the program ends; or the
   -- turns were used up, and it goes on by as many instructions at least, but for those that have none yet; or the

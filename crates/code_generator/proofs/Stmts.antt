@@ -55,7 +55,7 @@ use Rattle.typed_tree.specs.WellFormed.{are_whole, stmt_is_well_formed, is_contr
 use Rattle.code_generator.proofs.Reach.{Stands, StandsAt, stands_front, stands_back, Comes, comes_less, comes_on, stays_here}
 use Rattle.code_generator.proofs.Setting.{AllHeld, branched, goes_around, Setting, outline, around, exact_around, on, Based, later, linked, limit_far, Here, goes_on}
 use Rattle.code_generator.proofs.Setting.{jumps, fails, entered}
-use Rattle.code_generator.proofs.Loops.{Rounds, RoundsBehind, RoundRuns, round_again, round_over, turn_then, turned, loops, reset, to_reset, rounds_from_reset, executes_from_reset}
+use Rattle.code_generator.proofs.Loops.{Rounds, RoundsBehind, RoundRuns, round_again, round_over, turn_then, turned, loops, reset, rounds_from_reset}
 use Rattle.code_generator.proofs.Loops.{round_on}
 use Rattle.code_generator.proofs.Accesses.{Indexes, expressions, wells, codes as index_codes}
 use Rattle.code_generator.proofs.Assigns.{told, told_back, assign_runs, copy_runs}
@@ -492,7 +492,7 @@ repeat_runs g known head ss few place base held s stands good based high deep =
     let t' = record t { turns = left } in
     subst (λ n. RoundsBehind g always hold place end held 0 n n (on g (base2 ++ held) place t) rest t') (sym is)
     (rounds_from_reset g (g.slack - 1) g.scope.next always hold place end held left _ rest t' (omega arith) refl
-    (inside left base2 t' refl (to_reset g (g.slack - 1) g.scope.next t' base2 (later g left t base2 (omega (arith, is)) based2)))))) tt base s1 tt based)
+    (inside left base2 t' refl (later g left t base2 (omega (arith, is)) based2))))) tt base s1 tt based)
 
 -- ---- a for statement
 
@@ -535,12 +535,10 @@ above_held : (g : Setting) (known : CallsRun g.depth) (body : (s : Stmt) × Stmt
     (effect_of body.0 (around g)) s
 above_held g known body few good held row high room place base s stands based =
     let next = count (g.scope.next + length row) in
-    let code = stmt_code body.0 (holding (length row) g.scope) place in
     let long = length-append held row in
     let reach = limit_far g in
-    executes_from_reset g g.slack next _ (held ++ row) (place + length code) (effect_of body.0 (around g)) s refl
-    (body.1 (reset g g.slack next) known few place base (held ++ row) s stands good (to_reset g g.slack next s base based)
-    (omega (arith, long, high, reach, room)) (omega (arith, long, room)))
+    body.1 (reset g g.slack next) known few place base (held ++ row) s stands good based (omega (arith, long, high, reach, room))
+    (omega (arith, long, room))
 
 module _ (g : Setting) (known : CallsRun g.depth) (head : ForHead) (scalar : IsScalar g head.control) (body : (s : Stmt) × StmtRuns s)
     (few : repeats body.0 ≤ g.slack)

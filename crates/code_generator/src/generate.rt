@@ -18,8 +18,8 @@ use std::alloc::Global;
 use typed_tree::tree::Tree;
 
 /// The code of the program: its instructions, and the tables of the tree's sites and points. Each check has its site,
-/// and the text of a code has room for each operand. If the tree is well formed, the code follows the program, for every
-/// input and every number of cells; and it can be written, if the tree's sites and points are numbered.
+/// and the text of a code has room for each operand. If the tree is well formed, the code follows the program, for
+/// every input and every number of cells; and it can be written, if the tree's sites and points are numbered.
 pub fn generate(alloc: Global, tree: &Tree) -> Result<Code, GenFault>
     ensures instructions { IfOk result (λ code. code.instructions.items ≡ program_code tree.now) }
     ensures too_large { (result ≡ Err GenFault.TooLarge) ↔ (is_too_large tree.now ≡ true) }

@@ -215,6 +215,21 @@ module _ (outline : Outline) (points count : ℕ) (lax : Bool) where
 
   -- in a block of this number
   module _ (block : ℕ) where
+    abbrev well : Expr → Bool
+    well = is_well_formed_expr outline block
+
+    abbrev well_passed : Passed → ℕ → ℕ → Bool
+    well_passed = is_well_formed_passed outline block
+
+    abbrev well_link : Link → Bool
+    well_link = is_well_formed_link outline block
+
+    abbrev well_stmt : Stmt → Bool
+    well_stmt = is_well_formed_stmt outline block
+
+    abbrev well_selectors : List Selector → Bool
+    well_selectors = list_all (is_well_formed_selector outline block)
+
     range_passes : (fits : RangeTest) → Given (is_well_formed_test outline block fits) → test (range_check fits) ≡ true
     range_passes fits given = meets (range_check fits) _ refl refl (given_parts (nat_lt fits.site outline.sites) _ given).0
 
@@ -248,7 +263,7 @@ module _ (outline : Outline) (points count : ℕ) (lax : Bool) where
     -- ---- what is accessed
 
     selectors_pass : (selectors : List Selector) (codes : List (List Instr)) → AllPass codes
-        → Given (list_all (is_well_formed_selector outline block) selectors) → Passes (selectors_code selectors codes)
+        → Given (well_selectors selectors) → Passes (selectors_code selectors codes)
     selectors_pass [] codes each given = tt
     selectors_pass (Field position before ∷ selectors) codes each given =
         passes_on (field_code before) _ (field_passes before) (selectors_pass selectors codes each given)
@@ -261,28 +276,26 @@ module _ (outline : Outline) (points count : ℕ) (lax : Bool) where
           (names_none (instr.IndexAddress fits.range.first (row_length cells)) (cut_at cells 65536) refl, selectors_pass selectors codes each.1 parts.1),
         )
 
-    behind_given : (selectors : List Selector) → Given (list_all (is_well_formed_selector outline block) selectors)
-        → Given (list_all (is_well_formed_selector outline block) (behind_fields selectors))
+    behind_given : (selectors : List Selector) → Given (well_selectors selectors) → Given (well_selectors (behind_fields selectors))
     behind_given [] given = given
     behind_given (Field position before ∷ selectors) given = behind_given selectors given
     behind_given (Element fits cells ∷ selectors) given = given
 
     -- an access that leads to what is wanted has selectors that are well formed
     selectors_given : (wanted : TypeId → Bool) (root : ℕ) (selectors : List Selector) (n : ℕ)
-        → Given (leads_to outline block wanted root selectors n) → Given (list_all (is_well_formed_selector outline block) selectors)
+        → Given (leads_to outline block wanted root selectors n) → Given (well_selectors selectors)
     selectors_given wanted root selectors n given =
-        (given_parts (list_all (is_well_formed_selector outline block) selectors) _
+        (given_parts (well_selectors selectors) _
         (given_parts (nat_eq n (index_count selectors)) _ (given_parts (is_visible outline block root) _ given).1).1).0
 
     from_passes : (level start : ℕ) (selectors : List Selector) (codes : List (List Instr)) → AllPass codes
-        → Given (list_all (is_well_formed_selector outline block) selectors) → is_level level ≡ true → is_offset start ≡ true
-        → ReachedPasses (reached_from level start selectors codes)
+        → Given (well_selectors selectors) → is_level level ≡ true → is_offset start ≡ true → ReachedPasses (reached_from level start selectors codes)
     from_passes level start [] codes each given near begins = (near, begins)
     from_passes level start (selector ∷ selectors) codes each given near begins =
         (names_none (instr.LoadAddress level start) (both _ _ near begins) refl, selectors_pass (selector ∷ selectors) codes each given)
 
     any_passes : (refers : Bool) (level start place : ℕ) (selectors : List Selector) (codes : List (List Instr)) → AllPass codes
-        → Given (list_all (is_well_formed_selector outline block) selectors) → is_level level ≡ true → is_offset start ≡ true → is_offset place ≡ true
+        → Given (well_selectors selectors) → is_level level ≡ true → is_offset start ≡ true → is_offset place ≡ true
         → ReachedPasses (if refers then By (instr.Load level start ∷ selectors_code selectors codes)
         else reached_from level place (behind_fields selectors) codes)
     any_passes true level start place selectors codes each given near begins inside =
@@ -292,7 +305,7 @@ module _ (outline : Outline) (points count : ℕ) (lax : Bool) where
 
     module _ (scope : Scope) (there : ScopeIn scope) where
       reached_passes : (access : Access) (codes : List (List Instr)) → AllPass codes
-          → Given (list_all (is_well_formed_selector outline block) access.selectors.items) → ReachedPasses (reached scope access codes)
+          → Given (well_selectors access.selectors.items) → ReachedPasses (reached scope access codes)
       reached_passes access codes each given =
           let home = variable_home scope access.root in
           any_passes home.refers (links_to scope home.level) home.start (access_offset scope access) access.selectors.items codes each given
@@ -313,13 +326,13 @@ module _ (outline : Outline) (points count : ℕ) (lax : Bool) where
       -- ---- expressions
 
       abbrev ExprPasses : Expr → Type 0
-      ExprPasses e = Given (is_well_formed_expr outline block e) → Passes (expr_code scope e)
+      ExprPasses e = Given (well e) → Passes (expr_code scope e)
 
       abbrev PassedPasses : Passed → Type 0
-      PassedPasses p = (callee position : ℕ) → Given (is_well_formed_passed outline block p callee position) → Passes (passed_code scope p)
+      PassedPasses p = (callee position : ℕ) → Given (well_passed p callee position) → Passes (passed_code scope p)
 
       abbrev LinkPasses : Link → Type 0
-      LinkPasses l = Given (is_well_formed_link outline block l) → Passes (link_code scope l)
+      LinkPasses l = Given (well_link l) → Passes (link_code scope l)
 
       -- trees whose parts are known to have such code, and the trees alone
       abbrev ProvedExpr : Type 0
@@ -343,26 +356,25 @@ module _ (outline : Outline) (points count : ℕ) (lax : Bool) where
       abbrev bare_link : Link-F ProvedExpr ProvedPassed ProvedLink → Link-F Expr Passed Link
       bare_link = map-Link ProvedExpr ProvedPassed ProvedLink Expr Passed Link (λ e. e.0) (λ p. p.0) (λ l. l.0)
 
-      indexes_pass : (indexes : List ProvedExpr) → Given (all_hold (map (is_well_formed_expr outline block) (bare indexes)))
-          → AllPass (map (expr_code scope) (bare indexes))
+      indexes_pass : (indexes : List ProvedExpr) → Given (all_hold (map well (bare indexes))) → AllPass (map (expr_code scope) (bare indexes))
       indexes_pass [] given = tt
       indexes_pass (e ∷ indexes) given =
-          let parts = given_parts (is_well_formed_expr outline block e.0) _ given in
+          let parts = given_parts (well e.0) _ given in
           (e.1 parts.0, indexes_pass indexes parts.1)
 
-      links_pass : (links : List ProvedLink) → Given (all_hold (map (is_well_formed_link outline block) (map (λ l. l.0) links)))
+      links_pass : (links : List ProvedLink) → Given (all_hold (map well_link (map (λ l. l.0) links)))
           → Passes (joined (map (link_code scope) (map (λ l. l.0) links)))
       links_pass [] given = tt
       links_pass (l ∷ links) given =
-          let parts = given_parts (is_well_formed_link outline block l.0) _ given in
+          let parts = given_parts (well_link l.0) _ given in
           passes_on (link_code scope l.0) _ (l.1 parts.0) (links_pass links parts.1)
 
       actuals_pass : (actuals : List ProvedPassed) (callee position : ℕ)
-          → Given (all_hold (placed_for callee position (map (is_well_formed_passed outline block) (map (λ p. p.0) actuals))))
+          → Given (all_hold (placed_for callee position (map well_passed (map (λ p. p.0) actuals))))
           → Passes (joined (map (passed_code scope) (map (λ p. p.0) actuals)))
       actuals_pass [] callee position given = tt
       actuals_pass (p ∷ actuals) callee position given =
-          let parts = given_parts (is_well_formed_passed outline block p.0 callee position) _ given in
+          let parts = given_parts (well_passed p.0 callee position) _ given in
           passes_on (passed_code scope p.0) _ (p.1 callee position parts.0) (actuals_pass actuals callee (suc position) parts.1)
 
       call_passes : (call : Call) (pieces : List (List Instr)) → Passes (joined pieces) → Passes (call_code scope call pieces)
@@ -373,34 +385,36 @@ module _ (outline : Outline) (points count : ℕ) (lax : Bool) where
                 (goes (instr.CallProcedure (row_length routine.cells) routine.place) routine.place (cut_at routine.cells 65536) refl (there.1 call.block), tt),
           )
 
+      abbrev Code : Type 0
+      Code = List Instr
+
+      abbrev Test : Type 0
+      Test = ℕ → ℕ → Bool
+
       rolled_expr : (x : Expr-F Expr Passed Link)
-          → (Given (expr_is_well_formed outline block (map-Expr Expr Passed Link Bool (ℕ → ℕ → Bool) Bool (is_well_formed_expr outline block)
-          (is_well_formed_passed outline block) (is_well_formed_link outline block) x))
-          → Passes (expr_step scope (map-Expr Expr Passed Link (List Instr) (List Instr) (List Instr) (expr_code scope) (passed_code scope) (link_code scope)
-          x))) → ExprPasses (roll-Expr x)
+          → (Given (expr_is_well_formed outline block (map-Expr Expr Passed Link Bool Test Bool well well_passed well_link x))
+          → Passes (expr_step scope (map-Expr Expr Passed Link Code Code Code (expr_code scope) (passed_code scope) (link_code scope) x)))
+          → ExprPasses (roll-Expr x)
       rolled_expr x h given =
-          subst Passes (sym (fold-roll-Expr (List Instr) (List Instr) (List Instr) (expr_step scope) (passed_step scope) link_step x))
-          (h (subst Given (fold-roll-Expr Bool (ℕ → ℕ → Bool) Bool (expr_is_well_formed outline block) (passed_is_well_formed outline block)
+          subst Passes (sym (fold-roll-Expr Code Code Code (expr_step scope) (passed_step scope) link_step x))
+          (h (subst Given (fold-roll-Expr Bool Test Bool (expr_is_well_formed outline block) (passed_is_well_formed outline block)
           (link_is_well_formed outline block) x) given))
 
-      rolled_passed : (x : Passed-F Expr Passed Link)
-          → ((callee position : ℕ) → Given (passed_is_well_formed outline block (map-Passed Expr Passed Link Bool (ℕ → ℕ → Bool) Bool
-          (is_well_formed_expr outline block) (is_well_formed_passed outline block) (is_well_formed_link outline block) x) callee position)
-          → Passes (passed_step scope (map-Passed Expr Passed Link (List Instr) (List Instr) (List Instr) (expr_code scope) (passed_code scope)
-          (link_code scope) x))) → PassedPasses (roll-Passed x)
+      rolled_passed : (x : Passed-F Expr Passed Link) → ((callee position : ℕ)
+          → Given (passed_is_well_formed outline block (map-Passed Expr Passed Link Bool Test Bool well well_passed well_link x) callee position)
+          → Passes (passed_step scope (map-Passed Expr Passed Link Code Code Code (expr_code scope) (passed_code scope) (link_code scope) x)))
+          → PassedPasses (roll-Passed x)
       rolled_passed x h callee position given =
-          subst Passes (sym (fold-roll-Passed (List Instr) (List Instr) (List Instr) (expr_step scope) (passed_step scope) link_step x))
-          (h callee position (subst (λ (well : ℕ → ℕ → Bool). Given (well callee position)) (fold-roll-Passed Bool (ℕ → ℕ → Bool) Bool
-          (expr_is_well_formed outline block) (passed_is_well_formed outline block) (link_is_well_formed outline block) x) given))
+          subst Passes (sym (fold-roll-Passed Code Code Code (expr_step scope) (passed_step scope) link_step x))
+          (h callee position (subst (λ (t : Test). Given (t callee position)) (fold-roll-Passed Bool Test Bool (expr_is_well_formed outline block)
+          (passed_is_well_formed outline block) (link_is_well_formed outline block) x) given))
 
       rolled_link : (x : Link-F Expr Passed Link)
-          → (Given (link_is_well_formed outline block (map-Link Expr Passed Link Bool (ℕ → ℕ → Bool) Bool (is_well_formed_expr outline block)
-          (is_well_formed_passed outline block) (is_well_formed_link outline block) x))
-          → Passes (link_step (map-Link Expr Passed Link (List Instr) (List Instr) (List Instr) (expr_code scope) (passed_code scope) (link_code scope) x)))
-          → LinkPasses (roll-Link x)
+          → (Given (link_is_well_formed outline block (map-Link Expr Passed Link Bool Test Bool well well_passed well_link x))
+          → Passes (link_step (map-Link Expr Passed Link Code Code Code (expr_code scope) (passed_code scope) (link_code scope) x))) → LinkPasses (roll-Link x)
       rolled_link x h given =
-          subst Passes (sym (fold-roll-Link (List Instr) (List Instr) (List Instr) (expr_step scope) (passed_step scope) link_step x))
-          (h (subst Given (fold-roll-Link Bool (ℕ → ℕ → Bool) Bool (expr_is_well_formed outline block) (passed_is_well_formed outline block)
+          subst Passes (sym (fold-roll-Link Code Code Code (expr_step scope) (passed_step scope) link_step x))
+          (h (subst Given (fold-roll-Link Bool Test Bool (expr_is_well_formed outline block) (passed_is_well_formed outline block)
           (link_is_well_formed outline block) x) given))
 
       expr_layer : (y : Expr-F ProvedExpr ProvedPassed ProvedLink) → ExprPasses (roll-Expr (bare_expr y))
@@ -418,7 +432,7 @@ module _ (outline : Outline) (points count : ℕ) (lax : Bool) where
           passes_on (expr_code scope operand.value.0) _ (operand.value.1 parts.1) (monadic_passes operation parts.0))
       expr_layer (Chain first rest) =
           rolled_expr (bare_expr (Chain first rest)) (λ given.
-          let parts = given_parts (is_well_formed_expr outline block first.value.0) _ given in
+          let parts = given_parts (well first.value.0) _ given in
           passes_on (expr_code scope first.value.0) _ (first.value.1 parts.0) (links_pass rest.items parts.1))
       expr_layer (Compare number r left left_indexes right right_indexes) =
           rolled_expr (bare_expr (Compare number r left left_indexes right right_indexes)) (λ given.
@@ -436,7 +450,7 @@ module _ (outline : Outline) (points count : ℕ) (lax : Bool) where
       passed_layer : (y : Passed-F ProvedExpr ProvedPassed ProvedLink) → PassedPasses (roll-Passed (bare_passed y))
       passed_layer (PassedValue value fits) =
           rolled_passed (bare_passed (PassedValue value fits)) (λ callee position given.
-          let parts = given_parts (is_well_formed_expr outline block value.0) _ given in
+          let parts = given_parts (well value.0) _ given in
           passes_on (expr_code scope value.0) _ (value.1 parts.0)
           (range_passes fits (given_parts (is_well_formed_test outline block fits) _ parts.1).0, tt))
       passed_layer (PassedWhole type_id value indexes) =
@@ -466,18 +480,17 @@ module _ (outline : Outline) (points count : ℕ) (lax : Bool) where
           ind-Passed ExprPasses PassedPasses LinkPasses (λ x y is. subst (λ z. ExprPasses (roll-Expr z)) is (expr_layer y))
           (λ x y is. subst (λ z. PassedPasses (roll-Passed z)) is (passed_layer y)) (λ x y is. subst (λ z. LinkPasses (roll-Link z)) is (link_layer y))
 
-      exprs_pass : (es : List Expr) → Given (all_hold (map (is_well_formed_expr outline block) es)) → AllPass (index_codes scope es)
+      exprs_pass : (es : List Expr) → Given (all_hold (map well es)) → AllPass (index_codes scope es)
       exprs_pass [] given = tt
       exprs_pass (e ∷ es) given =
-          let parts = given_parts (is_well_formed_expr outline block e) _ given in
+          let parts = given_parts (well e) _ given in
           (expr_passes e parts.0, exprs_pass es parts.1)
 
-      all_passed : (actuals : List Passed) (callee position : ℕ)
-          → Given (all_hold (placed_for callee position (map (is_well_formed_passed outline block) actuals)))
+      all_passed : (actuals : List Passed) (callee position : ℕ) → Given (all_hold (placed_for callee position (map well_passed actuals)))
           → Passes (joined (map (passed_code scope) actuals))
       all_passed [] callee position given = tt
       all_passed (p ∷ actuals) callee position given =
-          let parts = given_parts (is_well_formed_passed outline block p callee position) _ given in
+          let parts = given_parts (well_passed p callee position) _ given in
           passes_on (passed_code scope p) _ (passed_passes p callee position parts.0) (all_passed actuals callee (suc position) parts.1)
 
       value_passes : (value : Whole) (indexes : List Expr) → Given (is_well_formed_value outline block value indexes)
@@ -492,7 +505,7 @@ module _ (outline : Outline) (points count : ℕ) (lax : Bool) where
       assign_passes assignment given =
           let one = given_parts _ _ given in
           let two = given_parts _ _ one.1 in
-          let three = given_parts (is_well_formed_expr outline block assignment.value) _ two.1 in
+          let three = given_parts (well assignment.value) _ two.1 in
           let root = assignment.target.root in
           let selectors = assignment.target.selectors.items in
           store_passes _ _ (passes_on (expr_code scope assignment.value) _ (expr_passes assignment.value three.0)
@@ -553,52 +566,19 @@ module _ (outline : Outline) (points count : ℕ) (lax : Bool) where
 
       entry_passes : (head : ForHead) (out : ℕ) → out < count → Given (fits_target outline block head.first.fits head.control [])
           → Given (fits_target outline block head.last.fits head.control []) → Passes (for_entry scope head out)
-      entry_passes head out less first last = (
-        loads 0,
-        (
-          loads 1,
-          (
-            (order_passes head.direction).0,
-            (
-              jumps_if out less,
-              (
-                loads 0,
-                (target_passes head.first.fits head.control [] first, (stores 0, (target_passes head.last.fits head.control [] last, tt))),
-              ),
-            ),
-          ),
-        ),
-      )
+      entry_passes head out less first last =
+          let tests : Passes (range_check head.first.fits ∷ instr.Store 0 (held_offset scope 0) ∷ range_check head.last.fits ∷ []) =
+          (target_passes head.first.fits head.control [] first, (stores 0, (target_passes head.last.fits head.control [] last, tt))) in
+          (loads 0, (loads 1, ((order_passes head.direction).0, (jumps_if out less, (loads 0, tests)))))
 
       begin_passes : (control : ℕ) → Passes (for_begin scope control)
       begin_passes control = (loads 0, (names_none (instr.Store 0 (control_offset scope control)) (there.0 control) refl, tt))
 
       next_passes : (way : Direction) (round out : ℕ) → round < count → out < count → Passes (for_next scope way round out)
-      next_passes way round out again less = (
-        loads 0,
-        (
-          loads 1,
-          (
-            refl,
-            (
-              jumps_if out less,
-              (
-                loads 0,
-                (
-                  refl,
-                  (
-                    (order_passes way).1,
-                    (
-                      stores 0,
-                      (jumps round again, tt),
-                    ),
-                  ),
-                ),
-              ),
-            ),
-          ),
-        ),
-      )
+      next_passes way round out again less =
+          let back : Passes (next_instr way ∷ instr.Store 0 (held_offset scope 0) ∷ instr.Jump round ∷ []) =
+          ((order_passes way).1, (stores 0, (jumps round again, tt))) in
+          (loads 0, (loads 1, (refl, (jumps_if out less, (loads 0, (refl, back))))))
 
       end_passes : (control : ℕ) → Passes (for_end scope control)
       end_passes control =
@@ -626,7 +606,7 @@ module _ (outline : Outline) (points count : ℕ) (lax : Bool) where
         (first few', rest few')
 
     abbrev StmtFits : Stmt → Type 0
-    StmtFits s = (scope : Scope) → ScopeIn scope → (place : ℕ) → Given (is_well_formed_stmt outline block s) → Fits place (stmt_code s scope place)
+    StmtFits s = (scope : Scope) → ScopeIn scope → (place : ℕ) → Given (well_stmt s) → Fits place (stmt_code s scope place)
 
     abbrev ProvedStmt : Type 0
     ProvedStmt = (s : Stmt) × StmtFits s
@@ -637,38 +617,34 @@ module _ (outline : Outline) (points count : ℕ) (lax : Bool) where
     abbrev bare_stmts : List ProvedStmt → List Stmt
     bare_stmts = map (λ s. s.0)
 
-    rolled_stmt : (x : Stmt-F Stmt)
-        → ((scope : Scope) → ScopeIn scope → (place : ℕ)
-        → Given (stmt_is_well_formed outline block (map-Stmt Stmt Bool (is_well_formed_stmt outline block) x))
+    rolled_stmt : (x : Stmt-F Stmt) → ((scope : Scope) → ScopeIn scope → (place : ℕ)
+        → Given (stmt_is_well_formed outline block (map-Stmt Stmt Bool well_stmt x))
         → Fits place (stmt_step (map-Stmt Stmt Placed stmt_code x) scope place)) → StmtFits (roll-Stmt x)
     rolled_stmt x h scope there place given =
         subst (λ (code : Placed). Fits place (code scope place)) (sym (fold-roll-Stmt Placed stmt_step x))
         (h scope there place (subst Given (fold-roll-Stmt Bool (stmt_is_well_formed outline block) x) given))
 
-    stmts_fit : (scope : Scope) → ScopeIn scope → (statements : List ProvedStmt) (place : ℕ)
-        → Given (all_hold (map (is_well_formed_stmt outline block) (bare_stmts statements)))
+    stmts_fit : (scope : Scope) → ScopeIn scope → (statements : List ProvedStmt) (place : ℕ) → Given (all_hold (map well_stmt (bare_stmts statements)))
         → Fits place (placed (map (λ code. code scope) (map stmt_code (bare_stmts statements))) place)
     stmts_fit scope there [] place given few = tt
     stmts_fit scope there (s ∷ statements) place given few =
-        let parts = given_parts (is_well_formed_stmt outline block s.0) _ given in
+        let parts = given_parts (well_stmt s.0) _ given in
         let code = stmt_code s.0 scope place in
         fits_on place code _ (s.1 scope there place parts.0) (stmts_fit scope there statements (place + length code) parts.1) few
 
     if_fits : (condition : Expr) (consequence : ProvedStmt) (scope : Scope) → ScopeIn scope → (place : ℕ)
-        → Given (is_well_formed_expr outline block condition) → Given (is_well_formed_stmt outline block consequence.0)
-        → Fits place (if_code (expr_code scope condition) (stmt_code consequence.0) scope place)
-    if_fits condition consequence scope there place tested well =
+        → Given (well condition) → Given (well_stmt consequence.0) → Fits place (if_code (expr_code scope condition) (stmt_code consequence.0) scope place)
+    if_fits condition consequence scope there place tested good =
         let test = expr_code scope condition in
         let yes = place + length test + 1 in
         let code = stmt_code consequence.0 scope yes in
         fits_on place test _ (λ few. expr_passes scope there condition tested)
-        (fits_behind (place + length test) (instr.JumpIfFalse (yes + length code)) code (jumps_if _) (consequence.1 scope there yes well))
+        (fits_behind (place + length test) (instr.JumpIfFalse (yes + length code)) code (jumps_if _) (consequence.1 scope there yes good))
 
     if_else_fits : (condition : Expr) (consequence alternative : ProvedStmt) (scope : Scope) → ScopeIn scope → (place : ℕ)
-        → Given (is_well_formed_expr outline block condition) → Given (is_well_formed_stmt outline block consequence.0)
-        → Given (is_well_formed_stmt outline block alternative.0)
+        → Given (well condition) → Given (well_stmt consequence.0) → Given (well_stmt alternative.0)
         → Fits place (if_else_code (expr_code scope condition) (stmt_code consequence.0) (stmt_code alternative.0) scope place)
-    if_else_fits condition consequence alternative scope there place tested well well' =
+    if_else_fits condition consequence alternative scope there place tested good good' =
         let test = expr_code scope condition in
         let yes = place + length test + 1 in
         let code = stmt_code consequence.0 scope yes in
@@ -678,12 +654,12 @@ module _ (outline : Outline) (points count : ℕ) (lax : Bool) where
         fits_on place test _ (λ few. expr_passes scope there condition tested)
         (fits_behind (place + length test) (instr.JumpIfFalse no) (code ++ behind)
         (λ few. jumps_if no (omega (arith, few, length-append code behind)))
-        (fits_on yes code behind (consequence.1 scope there yes well)
-        (fits_behind (yes + length code) (instr.Jump (no + length other)) other (jumps _) (alternative.1 scope there no well'))))
+        (fits_on yes code behind (consequence.1 scope there yes good)
+        (fits_behind (yes + length code) (instr.Jump (no + length other)) other (jumps _) (alternative.1 scope there no good'))))
 
-    while_fits : (condition : Expr) (body : ProvedStmt) (scope : Scope) → ScopeIn scope → (place : ℕ) → Given (is_well_formed_expr outline block condition)
-        → Given (is_well_formed_stmt outline block body.0) → Fits place (while_code (expr_code scope condition) (stmt_code body.0) scope place)
-    while_fits condition body scope there place tested well =
+    while_fits : (condition : Expr) (body : ProvedStmt) (scope : Scope) → ScopeIn scope → (place : ℕ) → Given (well condition)
+        → Given (well_stmt body.0) → Fits place (while_code (expr_code scope condition) (stmt_code body.0) scope place)
+    while_fits condition body scope there place tested good =
         let test = expr_code scope condition in
         let inside = place + length test + 1 in
         let code = stmt_code body.0 scope inside in
@@ -691,23 +667,23 @@ module _ (outline : Outline) (points count : ℕ) (lax : Bool) where
         fits_on place test _ (λ few. expr_passes scope there condition tested)
         (fits_behind (place + length test) (instr.JumpIfFalse (inside + length code + 1)) (code ++ back)
         (λ few. jumps_if (inside + length code + 1) (omega (arith, few, length-append code back)))
-        (fits_on inside code back (body.1 scope there inside well) (λ few. (jumps place (omega (arith, few)), tt))))
+        (fits_on inside code back (body.1 scope there inside good) (λ few. (jumps place (omega (arith, few)), tt))))
 
     repeat_fits : (statements : List ProvedStmt) (condition : Expr) (scope : Scope) → ScopeIn scope → (place : ℕ)
-        → Given (all_hold (map (is_well_formed_stmt outline block) (bare_stmts statements))) → Given (is_well_formed_expr outline block condition)
+        → Given (all_hold (map well_stmt (bare_stmts statements))) → Given (well condition)
         → Fits place (repeat_code (placed (map (λ code. code scope) (map stmt_code (bare_stmts statements)))) (expr_code scope condition) place)
-    repeat_fits statements condition scope there place well tested =
+    repeat_fits statements condition scope there place good tested =
         let code = placed (map (λ c. c scope) (map stmt_code (bare_stmts statements))) place in
         let test = expr_code scope condition in
-        fits_on place code _ (stmts_fit scope there statements place well)
+        fits_on place code _ (stmts_fit scope there statements place good)
         (fits_on (place + length code) test (instr.JumpIfFalse place ∷ []) (λ few. expr_passes scope there condition tested)
         (λ few. (jumps_if place (omega (arith, few)), tt)))
 
     for_fits : (head : ForHead) (body : ProvedStmt) (scope : Scope) → ScopeIn scope → (place : ℕ)
-        → Given (is_well_formed_expr outline block head.first.value) → Given (fits_target outline block head.first.fits head.control [])
-        → Given (is_well_formed_expr outline block head.last.value) → Given (fits_target outline block head.last.fits head.control [])
-        → Given (is_well_formed_stmt outline block body.0) → Fits place (for_code head (stmt_code body.0) scope place)
-    for_fits head body scope there place valued fits valued' fits' well few =
+        → Given (well head.first.value) → Given (fits_target outline block head.first.fits head.control [])
+        → Given (well head.last.value) → Given (fits_target outline block head.last.fits head.control [])
+        → Given (well_stmt body.0) → Fits place (for_code head (stmt_code body.0) scope place)
+    for_fits head body scope there place valued fits valued' fits' good few =
         let long = length-For head (stmt_code body.0) scope place in
         let first = expr_code scope head.first.value in
         let last = expr_code scope head.last.value in
@@ -725,16 +701,15 @@ module _ (outline : Outline) (points count : ℕ) (lax : Bool) where
         (passes_on last (entry ++ loop) (expr_passes scope there head.last.value valued')
         (passes_on entry loop (entry_passes scope there head out less fits fits')
         (passes_on begin (inside ++ (next ++ end)) (begin_passes scope there head.control)
-        (passes_on inside (next ++ end) (body.1 (holding 2 scope) there (round + 2) well (omega (arith, few, long)))
+        (passes_on inside (next ++ end) (body.1 (holding 2 scope) there (round + 2) good (omega (arith, few, long)))
         (passes_on next end (next_passes scope there head.direction round out again less) (end_passes scope there head.control))))))
 
     arms_fit : (scope : Scope) → ScopeIn scope → (out : ℕ) → out < count → (rows : List (Vec ℤ)) (arms : List ProvedStmt) (place : ℕ)
-        → Given (all_hold (map (is_well_formed_stmt outline block) (bare_stmts arms)))
-        → Fits place (arms_code scope out rows (map stmt_code (bare_stmts arms)) place)
+        → Given (all_hold (map well_stmt (bare_stmts arms))) → Fits place (arms_code scope out rows (map stmt_code (bare_stmts arms)) place)
     arms_fit scope there out less [] arms place given few = tt
     arms_fit scope there out less (row ∷ rows) [] place given few = tt
     arms_fit scope there out less (row ∷ rows) (arm ∷ arms) place given few =
-        let parts = given_parts (is_well_formed_stmt outline block arm.0) _ given in
+        let parts = given_parts (well_stmt arm.0) _ given in
         let inside = place + length (row_code scope 0 row.items) + 1 in
         let code = stmt_code arm.0 (holding 1 scope) inside in
         let next = inside + length code + 1 in
@@ -751,9 +726,9 @@ module _ (outline : Outline) (points count : ℕ) (lax : Bool) where
         )
 
     case_fits : (head : CaseHead) (arms : List ProvedStmt) (scope : Scope) → ScopeIn scope → (place : ℕ) → Given (nat_lt head.site outline.sites)
-        → Given (is_well_formed_expr outline block head.index) → Given (all_hold (map (is_well_formed_stmt outline block) (bare_stmts arms)))
+        → Given (well head.index) → Given (all_hold (map well_stmt (bare_stmts arms)))
         → Fits place (case_code head (map stmt_code (bare_stmts arms)) scope place)
-    case_fits head arms scope there place sited tested well few =
+    case_fits head arms scope there place sited tested good few =
         let index = expr_code scope head.index in
         let rows = head.constants.items in
         let codes = map stmt_code (bare_stmts arms) in
@@ -764,7 +739,7 @@ module _ (outline : Outline) (points count : ℕ) (lax : Bool) where
         let same = length-arms scope rows codes out 0 first in
         let within : first + length all + 2 < count = omega (arith, few, length-append index (all ++ end), length-append all end) in
         passes_on index _ (expr_passes scope there head.index tested)
-        (passes_on all end (arms_fit scope there out (omega (arith, within, same)) rows arms first well (omega (arith, within)))
+        (passes_on all end (arms_fit scope there out (omega (arith, within, same)) rows arms first good (omega (arith, within)))
         (meets (instr.Fail head.site) _ refl refl sited, (jumps_if (out + 1) (omega (arith, within, same)), tt)))
 
     stmt_layer : (y : Stmt-F ProvedStmt) → StmtFits (roll-Stmt (bare_stmt y))
@@ -783,33 +758,33 @@ module _ (outline : Outline) (points count : ℕ) (lax : Bool) where
         rolled_stmt (bare_stmt (Compound number statements)) (λ scope there place given. stmts_fit scope there statements.items place given)
     stmt_layer (If number condition consequence None) =
         rolled_stmt (bare_stmt (If number condition consequence None)) (λ scope there place given.
-        let one = given_parts (is_well_formed_expr outline block condition) _ given in
-        if_fits condition consequence.value scope there place one.0 (given_parts (is_well_formed_stmt outline block consequence.value.0) _ one.1).0)
+        let one = given_parts (well condition) _ given in
+        if_fits condition consequence.value scope there place one.0 (given_parts (well_stmt consequence.value.0) _ one.1).0)
     stmt_layer (If number condition consequence (Some alternative)) =
         rolled_stmt (bare_stmt (If number condition consequence (Some alternative))) (λ scope there place given.
-        let one = given_parts (is_well_formed_expr outline block condition) _ given in
-        let two = given_parts (is_well_formed_stmt outline block consequence.value.0) _ one.1 in
+        let one = given_parts (well condition) _ given in
+        let two = given_parts (well_stmt consequence.value.0) _ one.1 in
         if_else_fits condition consequence.value alternative.value scope there place one.0 two.0 two.1)
     stmt_layer (While head body) =
         rolled_stmt (bare_stmt (While head body)) (λ scope there place given.
-        let one = given_parts (is_well_formed_expr outline block head.condition) _ given in
+        let one = given_parts (well head.condition) _ given in
         while_fits head.condition body.value scope there place one.0 one.1)
     stmt_layer (Repeat head statements) =
         rolled_stmt (bare_stmt (Repeat head statements)) (λ scope there place given.
-        let one = given_parts (all_hold (map (is_well_formed_stmt outline block) (bare_stmts statements.items))) _ given in
+        let one = given_parts (all_hold (map well_stmt (bare_stmts statements.items))) _ given in
         repeat_fits statements.items head.condition scope there place one.0 one.1)
     stmt_layer (For head body) =
         rolled_stmt (bare_stmt (For head body)) (λ scope there place given.
         let one = given_parts _ _ given in
-        let two = given_parts (is_well_formed_expr outline block head.first.value) _ one.1 in
+        let two = given_parts (well head.first.value) _ one.1 in
         let three = given_parts (fits_target outline block head.first.fits head.control []) _ two.1 in
-        let four = given_parts (is_well_formed_expr outline block head.last.value) _ three.1 in
+        let four = given_parts (well head.last.value) _ three.1 in
         let five = given_parts (fits_target outline block head.last.fits head.control []) _ four.1 in
         for_fits head body.value scope there place two.0 three.0 four.0 five.0 five.1)
     stmt_layer (Case head arms) =
         rolled_stmt (bare_stmt (Case head arms)) (λ scope there place given.
         let one = given_parts (nat_lt head.site outline.sites) _ given in
-        let two = given_parts (is_well_formed_expr outline block head.index) _ one.1 in
+        let two = given_parts (well head.index) _ one.1 in
         case_fits head arms.items scope there place one.0 two.0 (given_parts _ _ two.1).1)
 
     stmt_fits : (s : Stmt) → StmtFits s

@@ -1,5 +1,5 @@
--- Code whose text can be written and read again: what each instruction names is there, and the tables are numbered. What
--- operands the text can spell is told in Bounds. It says nothing of what the code does.
+-- Code whose text can be written and read again: what each instruction names is there, and the tables are numbered.
+-- Which operands a text can spell is told in Bounds. It says nothing of what the code does.
 use Rattle.std.specs.Prelude.{◌≡◌, ℕ, ◌&&◌, Bool, true, List, [], ◌∷◌, length, map, nat_le, nat_lt, Option, None, Some}
 use Rattle.std.specs.List.{list_all, range_with_len}
 use Rattle.std.specs.Option.{option_and_then}
