@@ -28,7 +28,8 @@ use Rattle.code_scheme.specs.Scopes.{block_level, held_offset, links}
 use Rattle.code_generator.proofs.Accesses.{LeadsTo, frame_found, leads}
 use Rattle.code_generator.proofs.Reach.{Comes, Stands, StandsAt, comes_on, comes_less, stays_here}
 use Rattle.code_generator.proofs.Numbers.{Fits}
-use Rattle.code_generator.proofs.Setting.{AllHeld, Setting, Shown, Way, Direct, ByAddress, Reaches, outline, on, Based, linked, limit_far, Here, acts, branches_on}
+use Rattle.code_generator.proofs.Setting.{AllHeld, Setting, Shown, Way, Direct, ByAddress, Reaches, outline, on, Based, linked, limit_far, Here, acts}
+use Rattle.code_generator.proofs.Setting.{branches_on}
 use Rattle.code_generator.proofs.Setting.{jumps}
 use Rattle.code_generator.proofs.Acts.{framed, pushes, loads, stores, on_two_is}
 use Rattle.code_generator.proofs.Alike.{LiesIn, Leads, HasFit, alike_set, cell_of, cell_within, keeps_set}

@@ -53,7 +53,8 @@ use Rattle.code_scheme.specs.Depth.{call_depth, greatest, passed_depth, stmt_dep
 use Rattle.typed_tree.specs.WellFormed.{is_well_formed_width, is_well_formed_parameter, is_well_formed_test, is_well_formed_stmt, fits_target, whole_indexes}
 use Rattle.typed_tree.specs.WellFormed.{are_whole, stmt_is_well_formed, is_control, is_well_formed_call, is_well_formed_passed, is_well_formed_whole, length_of}
 use Rattle.code_generator.proofs.Reach.{Stands, StandsAt, stands_front, stands_back, Comes, comes_less, comes_on, stays_here}
-use Rattle.code_generator.proofs.Setting.{AllHeld, branched, goes_around, Setting, outline, around, exact_around, on, Based, later, linked, limit_far, Here, goes_on}
+use Rattle.code_generator.proofs.Setting.{AllHeld, branched, goes_around, Setting, outline, around, exact_around, on, Based, later, linked, limit_far}
+use Rattle.code_generator.proofs.Setting.{Here, goes_on}
 use Rattle.code_generator.proofs.Setting.{jumps, fails, entered}
 use Rattle.code_generator.proofs.Loops.{Rounds, RoundsBehind, RoundRuns, round_again, round_over, turn_then, turned, loops, reset, rounds_from_reset}
 use Rattle.code_generator.proofs.Loops.{round_on}
@@ -72,7 +73,8 @@ use Rattle.code_generator.proofs.Acts.{writes}
 use Rattle.code_generator.proofs.Numbers.{Fits, fits_by_abs, sum_is, difference_is}
 use Rattle.code_generator.proofs.Rows.{cells_of, length-cells_of, numbers_of, same_byte, writes_string}
 use Rattle.code_generator.proofs.Exprs.{call_runs, width_runs, expr_then}
-use Rattle.code_generator.proofs.Running.{Aim, done_jumps, Executes, Runs, behind_executes, branch_then, done, done_then, kept_on, number_then, runs_from, then_runs}
+use Rattle.code_generator.proofs.Running.{Aim, done_jumps, Executes, Runs, behind_executes, branch_then, done, done_then, kept_on, number_then, runs_from}
+use Rattle.code_generator.proofs.Running.{then_runs}
 use Rattle.code_generator.proofs.Lists.{length_one}
 
 -- what the machine writes in a width is what the program writes

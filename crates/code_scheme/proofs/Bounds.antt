@@ -64,7 +64,8 @@ use Rattle.typed_tree.specs.WellFormed.{fits_target, is_heading, is_result_or_no
 use Rattle.typed_tree.specs.WellFormed.{is_well_formed_link, is_well_formed_parameter, is_well_formed_passed, is_well_formed_selector, is_well_formed_stmt}
 use Rattle.typed_tree.specs.WellFormed.{is_well_formed_test, is_well_formed_value, is_well_formed_whole, is_well_formed_width, is_well_formed_written}
 use Rattle.typed_tree.specs.Accesses.{index_count}
-use Rattle.typed_tree.specs.WellFormed.{are_all, is_parameter_kind, is_placed, is_result_kind, result_roots, is_visible, leads_to, length_of, link_is_well_formed, monadic_is_well_formed, outline_of, passed_is_well_formed}
+use Rattle.typed_tree.specs.WellFormed.{are_all, is_parameter_kind, is_placed, is_result_kind, result_roots, is_visible, leads_to, length_of}
+use Rattle.typed_tree.specs.WellFormed.{link_is_well_formed, monadic_is_well_formed, outline_of, passed_is_well_formed}
 use Rattle.typed_tree.specs.WellFormed.{placed as placed_for, stmt_is_well_formed, whole_indexes}
 use Rattle.types.specs.declared.form.TypeId.{TypeId}
 use Rattle.code_scheme.specs.declared.routine.Routine.{Routine}
