@@ -1,4 +1,5 @@
+pub mod Faults
 pub mod Follows
+pub mod Known
 pub mod Laws
 pub mod Tables
-pub mod Known

@@ -1,6 +1,8 @@
 ghost use Rattle.std.specs.Prelude.{◌≡◌};
 ghost use Rattle.code_generator.specs.declared.fault.GenFault.TheVariants.{Memory};
+ghost use Rattle.code_generator.specs.Faults.{fault_of};
 
+use code_emitter::emitter::Loss;
 use std::alloc::{AllocError, AllocFailed};
 use thiserror::Error;
 
@@ -28,5 +30,16 @@ impl<T: Drop> From<AllocFailed<T>> for GenFault {
 
     fn from(_error: AllocFailed<T>) -> GenFault {
         GenFault::Memory
+    }
+}
+
+impl From<Loss> for GenFault {
+    ghost from_gives = { λ loss e. e ≡ fault_of loss };
+
+    fn from(loss: Loss) -> GenFault {
+        match loss {
+            Loss::Memory => GenFault::Memory,
+            Loss::TooLarge => GenFault::TooLarge,
+        }
     }
 }

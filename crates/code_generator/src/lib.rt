@@ -4,6 +4,5 @@
 pub mod fault;
 pub mod generate;
 mod known;
-mod large;
 pub mod laws;
 mod tables;

@@ -161,8 +161,7 @@ stmt_depth_step (While head body) = max (expr_depth head.condition) body.value
 stmt_depth_step (Repeat head statements) = max (greatest statements.items) (expr_depth head.condition)
 stmt_depth_step (For head body) =
     max (max (expr_depth head.first.value) (expr_depth head.last.value + 1)) (max 4 (body.value + 2))
-stmt_depth_step (Case head arms) =
-    max (expr_depth head.index) (max 3 (arms_depth head.constants.items arms.items + 1))
+stmt_depth_step (Case head arms) = max (expr_depth head.index) (max 3 (arms_depth head.constants.items arms.items + 1))
 
 -- how many cells the evaluation of a statement needs at once
 abbrev pub stmt_depth : Stmt → ℕ
