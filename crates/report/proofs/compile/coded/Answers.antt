@@ -1,9 +1,7 @@
-use Rattle.std.proofs.Common.{◌≡◌, ◌∙◌, ap, subst, false, Err}
-use Rattle.std.proofs.lemmas.Bool.{false_from_ne_true}
+use Rattle.std.proofs.Common.{◌≡◌, ◌∙◌, ap, subst, Err}
 use Rattle.std.proofs.lemmas.Result.{err_from_is_err_and}
 use Rattle.check_remover.specs.Strip.{strip, KeepsInstructions}
 use Rattle.code_scheme.specs.Code.{program_code}
-use Rattle.code_scheme.specs.Large.{is_too_large}
 use Rattle.code_generator.specs.Tables.{site_table}
 use Rattle.report.proofs.OpenSites.{errs_at_open}
 use Rattle.report.proofs.RefusalLemmas.{refused_by, generation-refusal}
@@ -16,8 +14,7 @@ returns c = λ source text certificate sound judged.
     let full = c.in_ok-full.full in
     let stripped = c.in_ok-stripped.stripped in
     let open_sites = c.args.verdict.now.open_sites.items in
-    let few : is_too_large tree ≡ false =
-    false_from_ne_true (is_too_large tree) (λ more. absurd (cc (c.in_ok-full.was, c.generate.ensures.too_large.1 more))) in
+    let few = c.in_ok-full.ensures.small in
     let listed = c.deref.ensures.value ∙ c.in_ok-open_sites.ensures in
     let keeps = subst (λ sites. KeepsInstructions sites (program_code tree) stripped.instructions.items) listed
     (subst (λ code. KeepsInstructions c.deref.result.now code stripped.instructions.items) c.in_ok-full.ensures.instructions c.in_ok-stripped.ensures.kept) in
@@ -46,7 +43,7 @@ returns-in_err-full c = λ source text certificate sound judged.
     refused_by _ source text c.from_residual.result told.0 _ told.1 told.2
     (generation-refusal source text c.args.tree.now certificate c.in_err-full.field-0.0
     (record { typed = sound.typed; spelled = judged.spelled }) judged.valid.unbroken
-    (λ same. c.generate.ensures.too_large.0 (c.in_err-full.was ∙ ap Err same)))
+    (λ same. c.generate.ensures.too_large (c.in_err-full.was ∙ ap Err same)))
 
 pub returns-in_err-open_sites : goal.returns-in_err-open_sites
 returns-in_err-open_sites c = λ source text certificate sound judged.
