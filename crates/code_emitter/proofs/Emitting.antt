@@ -6,11 +6,11 @@ use Rattle.std.specs.Global.{Vec}
 use Rattle.std.specs.declared.alloc.AllocError.{AllocError}
 use Rattle.pcode_assembler.specs.declared.instr.Instr.{Instr}
 use Rattle.pcode_assembler.specs.declared.instr.Instr.TheVariants as instr
-use Rattle.typed_tree.specs.declared.tree.Direction.{Direction}
-use Rattle.typed_tree.specs.declared.tree.RangeTest.{RangeTest}
+use Rattle.typed_tree.specs.declared.tree.ForHead.{ForHead}
+use Rattle.typed_tree.specs.declared.tree.CaseHead.{CaseHead}
 use Rattle.typed_tree.specs.declared.tree.Stmt.{Stmt}
 use Rattle.code_scheme.specs.Scopes.{Scope, holding}
-use Rattle.code_scheme.specs.Code.{stmt_code, if_code, if_else_code, while_code, repeat_code, for_code, for_entry, for_begin}
+use Rattle.code_scheme.specs.Code.{expr_code, stmt_code, if_code, if_else_code, while_code, repeat_code, for_code, for_entry, for_begin}
 use Rattle.code_scheme.specs.Code.{for_next, for_end, row_code, arms_code, case_code}
 use Rattle.code_emitter.specs.Emitted.{Emits}
 use Rattle.code_scheme.specs.Sizes.{capped, first_of, rest_of, measured, table_of, all_tables, arms_size, arms_table}
@@ -144,11 +144,12 @@ if_else_emitted answer test consequence alternative scope before tested jumping 
 
 -- a while statement
 pub while_emitted : (answer : Result (Unit {0}) AllocError) (test : List Instr) (body : Stmt) (scope : Scope) (before jumping done after : List Instr)
-    (sizes left : List ℕ) (head : ℕ) → jumping ≡ (before ++ test) ++ instr.JumpIfFalse (capped (length (before ++ test) + 1 + capped (first_of sizes + 1))) ∷ []
-    → Emits (Ok tt) jumping done sizes left (stmt_code body scope (length jumping)) (table_of (measured body scope)) → head ≡ capped (length before)
-    → OnOk answer (after ≡ done ++ instr.Jump head ∷ [])
+    (sizes left : List ℕ) (round : ℕ) → jumping ≡ (before ++ test) ++ instr.JumpIfFalse (capped (length (before ++ test) + 1 + capped (first_of sizes + 1)))
+    ∷ []
+    → Emits (Ok tt) jumping done sizes left (stmt_code body scope (length jumping)) (table_of (measured body scope)) → round ≡ capped (length before)
+    → OnOk answer (after ≡ done ++ instr.Jump round ∷ [])
     → Emits answer before after sizes left (while_code test (stmt_code body) scope (length before)) (table_of (measured body scope))
-while_emitted answer test body scope before jumping done after sizes left head put emits begins last rest told few =
+while_emitted answer test body scope before jumping done after sizes left round put emits begins last rest told few =
     let place = length before in
     let inside = place + length test + 1 in
     let code = stmt_code body scope inside in
@@ -158,7 +159,7 @@ while_emitted answer test body scope before jumping done after sizes left head p
     let at : length jumping ≡ inside = ap length put ∙ length-append (before ++ test) (instr.JumpIfFalse target ∷ []) ∙ ap (λ n. n + 1) long in
     let size : first_of sizes ≡ length code = target_is body scope inside sizes rest told (omega arith) in
     let there : target ≡ inside + length code + 1 = omega (arith, long, size) in
-    let back : head ≡ place = omega (arith, begins) in
+    let back : round ≡ place = omega (arith, begins) in
     let few' : length jumping + length (stmt_code body scope (length jumping)) ≤ 4294967295 =
     subst (λ n. n + length (stmt_code body scope n) ≤ 4294967295) (sym at) (omega arith) in
     let first = emits rest told few' in
@@ -174,44 +175,44 @@ while_emitted answer test body scope before jumping done after sizes left head p
     ))
 
 -- a for statement: its bounds, what comes before the body, the body, and what comes behind it
-pub for_emitted : (answer : Result (Unit {0}) AllocError) (control : ℕ) (first : List Instr) (first_fits : RangeTest) (way : Direction) (last : List Instr)
-    (last_fits : RangeTest) (body : Stmt) (scope : Scope) (before bounds begun done after : List Instr) (sizes left : List ℕ) (head out : ℕ)
-    → bounds ≡ (before ++ first) ++ last → head ≡ capped (capped (length bounds) + 8) → out ≡ capped (capped (head + 11) + first_of sizes)
-    → begun ≡ (bounds ++ for_entry scope first_fits way last_fits out) ++ for_begin scope control
+pub for_emitted : (answer : Result (Unit {0}) AllocError) (head : ForHead) (body : Stmt) (scope : Scope) (before bounds begun done after : List Instr)
+    (sizes left : List ℕ) (round out : ℕ) → bounds ≡ (before ++ expr_code scope head.first.value) ++ expr_code scope head.last.value
+    → round ≡ capped (capped (length bounds) + 8) → out ≡ capped (capped (round + 11) + first_of sizes)
+    → begun ≡ (bounds ++ for_entry scope head out) ++ for_begin scope head.control
     → Emits (Ok tt) begun done sizes left (stmt_code body (holding 2 scope) (length begun)) (table_of (measured body (holding 2 scope)))
-    → OnOk answer (after ≡ (done ++ for_next scope way head out) ++ for_end scope control)
-    → Emits answer before after sizes left (for_code control first first_fits way last last_fits (stmt_code body) scope (length before))
-    (table_of (measured body (holding 2 scope)))
-for_emitted answer control first first_fits way last last_fits body scope before bounds begun done after sizes left head out is begins ends put emits end rest
-    told few =
+    → OnOk answer (after ≡ (done ++ for_next scope head.direction round out) ++ for_end scope head.control)
+    → Emits answer before after sizes left (for_code head (stmt_code body) scope (length before)) (table_of (measured body (holding 2 scope)))
+for_emitted answer head body scope before bounds begun done after sizes left round out is begins ends put emits end rest told few =
     let place = length before in
     let inner = holding 2 scope in
+    let first = expr_code scope head.first.value in
+    let last = expr_code scope head.last.value in
     let there = place + length first + length last + 8 in
     let inside = stmt_code body inner (there + 2) in
     let behind = there + 2 + length inside + 9 in
-    let entry = for_entry scope first_fits way last_fits behind in
-    let begin = for_begin scope control in
-    let next = for_next scope way there behind in
-    let done' = for_end scope control in
-    let all = length-For control first first_fits way last last_fits (stmt_code body) scope place in
+    let entry = for_entry scope head behind in
+    let begin = for_begin scope head.control in
+    let next = for_next scope head.direction there behind in
+    let done' = for_end scope head.control in
+    let all = length-For head (stmt_code body) scope place in
     let long : length bounds ≡ place + length first + length last = ap length is ∙ length-append (before ++ first) last
     ∙ ap (λ n. n + length last) (length-append before first) in
-    let head_is : head ≡ there = omega (arith, begins, long, all) in
-    let at : length begun ≡ there + 2 = ap length put ∙ length-append (bounds ++ for_entry scope first_fits way last_fits out) begin
-    ∙ ap (λ n. n + 2) (length-append bounds (for_entry scope first_fits way last_fits out)) ∙ (omega (arith, long)) in
+    let round_is : round ≡ there = omega (arith, begins, long, all) in
+    let at : length begun ≡ there + 2 = ap length put ∙ length-append (bounds ++ for_entry scope head out) begin
+    ∙ ap (λ n. n + 2) (length-append bounds (for_entry scope head out)) ∙ (omega (arith, long)) in
     let size : first_of sizes ≡ length inside = target_is body inner (there + 2) sizes rest told (omega (arith, all)) in
-    let out_is : out ≡ behind = omega (arith, ends, head_is, size, all) in
+    let out_is : out ≡ behind = omega (arith, ends, round_is, size, all) in
     let few' : length begun + length (stmt_code body inner (length begun)) ≤ 4294967295 =
     subst (λ n. n + length (stmt_code body inner n) ≤ 4294967295) (sym at) (omega (arith, all)) in
     let emitted = emits rest told few' in
     on_ok answer end (λ e. (
       e
-          ∙ ap (λ n. (done ++ for_next scope way n out) ++ done') head_is
-          ∙ ap (λ n. (done ++ for_next scope way there n) ++ done') out_is
+          ∙ ap (λ n. (done ++ for_next scope head.direction n out) ++ done') round_is
+          ∙ ap (λ n. (done ++ for_next scope head.direction there n) ++ done') out_is
           ∙ append_assoc done next done'
           ∙ ap (λ c. c ++ (next ++ done')) (emitted.0 ∙ ap (λ n. begun ++ stmt_code body inner n) at)
           ∙ append_assoc begun inside (next ++ done')
-          ∙ ap (λ c. c ++ (inside ++ (next ++ done'))) (put ∙ ap (λ n. (bounds ++ for_entry scope first_fits way last_fits n) ++ begin) out_is)
+          ∙ ap (λ c. c ++ (inside ++ (next ++ done'))) (put ∙ ap (λ n. (bounds ++ for_entry scope head n) ++ begin) out_is)
           ∙ append_assoc (bounds ++ entry) begin (inside ++ (next ++ done'))
           ∙ append_assoc bounds entry (begin ++ (inside ++ (next ++ done')))
           ∙ ap (λ c. c ++ (entry ++ (begin ++ (inside ++ (next ++ done'))))) is
@@ -222,14 +223,14 @@ for_emitted answer control first first_fits way last last_fits body scope before
 
 -- a repeat statement
 pub repeat_emitted : (answer : Result (Unit {0}) AllocError) (statements : ℕ → List Instr) (test : List Instr) (before done after : List Instr)
-    (sizes left table : List ℕ) (head : ℕ) → Emits (Ok tt) before done sizes left (statements (length before)) table → head ≡ capped (length before)
-    → OnOk answer (after ≡ (done ++ test) ++ instr.JumpIfFalse head ∷ []) → Emits answer before after sizes left (repeat_code statements test (length
+    (sizes left table : List ℕ) (round : ℕ) → Emits (Ok tt) before done sizes left (statements (length before)) table → round ≡ capped (length before)
+    → OnOk answer (after ≡ (done ++ test) ++ instr.JumpIfFalse round ∷ []) → Emits answer before after sizes left (repeat_code statements test (length
     before)) table
-repeat_emitted answer statements test before done after sizes left table head emits begins last rest told few =
+repeat_emitted answer statements test before done after sizes left table round emits begins last rest told few =
     let place = length before in
     let code = statements place in
     let all = length-Repeat statements test place in
-    let back : head ≡ place = omega (arith, begins) in
+    let back : round ≡ place = omega (arith, begins) in
     let first = emits rest told (omega arith) in
     on_ok answer last (λ end. (
       end
@@ -241,22 +242,25 @@ repeat_emitted answer statements test before done after sizes left table head em
     ))
 
 -- a case statement: its index, the arms, and what comes behind them
-pub case_emitted : (answer : Result (Unit {0}) AllocError) (site : ℕ) (index : List Instr) (rows : List (Vec ℤ)) (arms : List Stmt) (scope : Scope)
-    (before tested done after : List Instr) (sizes now left : List ℕ) (out : ℕ) → now ≡ rest_of sizes
-    → out ≡ capped (capped (length before) + first_of sizes) - 1 → tested ≡ before ++ index
-    → Emits (Ok tt) tested done now left (arms_code scope out rows (map stmt_code arms) (length tested)) (arms_table rows
-    (map (λ s. measured s (holding 1 scope)) arms)) → OnOk answer (after ≡ done ++ instr.Fail site ∷ instr.JumpIfFalse (capped (out + 1)) ∷ [])
-    → Emits answer before after sizes left (case_code site index rows (map stmt_code arms) scope (length before))
-    (table_of (case_measured index rows (map (λ s. measured s (holding 1 scope)) arms)))
-case_emitted answer site index rows arms scope before tested done after sizes now left out passed begins is emits end rest told few =
+pub case_emitted : (answer : Result (Unit {0}) AllocError) (head : CaseHead) (arms : List Stmt) (scope : Scope) (before tested done after : List Instr)
+    (sizes now left : List ℕ) (out : ℕ) → now ≡ rest_of sizes → out ≡ capped (capped (length before) + first_of sizes) - 1
+    → tested ≡ before ++ expr_code scope head.index
+    → Emits (Ok tt) tested done now left (arms_code scope out head.constants.items (map stmt_code arms) (length tested))
+    (arms_table head.constants.items (map (λ s. measured s (holding 1 scope)) arms))
+    → OnOk answer (after ≡ done ++ instr.Fail head.site ∷ instr.JumpIfFalse (capped (out + 1)) ∷ [])
+    → Emits answer before after sizes left (case_code head (map stmt_code arms) scope (length before))
+    (table_of (case_measured (expr_code scope head.index) head.constants.items (map (λ s. measured s (holding 1 scope)) arms)))
+case_emitted answer head arms scope before tested done after sizes now left out passed begins is emits end rest told few =
     let place = length before in
+    let index = expr_code scope head.index in
+    let rows = head.constants.items in
     let codes = map stmt_code arms in
     let ms = map (λ s. measured s (holding 1 scope)) arms in
     let first = place + length index in
     let behind = first + length (arms_code scope 0 rows codes first) + 1 in
     let inside = arms_code scope behind rows codes first in
-    let last = instr.Fail site ∷ instr.JumpIfFalse (behind + 1) ∷ [] in
-    let long : length (case_code site index rows codes scope place) ≡ length index + arms_size rows ms + 2 =
+    let last = instr.Fail head.site ∷ instr.JumpIfFalse (behind + 1) ∷ [] in
+    let long : length (case_code head codes scope place) ≡ length index + arms_size rows ms + 2 =
     omega (arith, length-append index (inside ++ last), length-append inside last, arms_are_measured scope behind rows arms first) in
     let own : first_of sizes ≡ capped (length index + arms_size rows ms + 2) = ap first_of told in
     let out_is : out ≡ behind = omega (arith, begins, own, long, few, arms_are_measured scope 0 rows arms first) in
@@ -267,7 +271,7 @@ case_emitted answer site index rows arms scope before tested done after sizes no
     let there : capped (out + 1) ≡ behind + 1 = omega (arith, out_is, long, few, arms_are_measured scope 0 rows arms first) in
     on_ok answer end (λ e. (
       e
-          ∙ ap (λ n. done ++ instr.Fail site ∷ instr.JumpIfFalse n ∷ []) there
+          ∙ ap (λ n. done ++ instr.Fail head.site ∷ instr.JumpIfFalse n ∷ []) there
           ∙ ap (λ c. c ++ last)
           (emitted.0 ∙ ap (λ n. tested ++ arms_code scope out rows codes n) at ∙ ap (λ n. tested ++ arms_code scope n rows codes first) out_is)
           ∙ append_assoc tested inside last

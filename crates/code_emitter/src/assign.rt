@@ -7,48 +7,46 @@ use crate::instrs::{check_of, put};
 use code_scheme::scope::Scope;
 use pcode_assembler::instr::Instr;
 use std::alloc::AllocError;
-use typed_tree::tree::{Access, Expr, RangeTest, Whole};
+use typed_tree::tree::{Assignment, Copying};
 
 /// An assignment to an ordinal: its address comes first, if it is no cell of a frame; the value, its check, its store.
 pub fn emit_assign(
     code: &mut Vec<Instr>,
     scope: &Scope,
-    target: &Access,
-    indexes: &[Expr],
-    fits: RangeTest,
-    value: &Expr,
+    assignment: &Assignment,
 ) -> Result<(), AllocError>
-    ensures { OnOk result (
-        code.new.items ≡ code.old.items ++ assign_code scope.now target.now indexes.now fits value.now) }
+    ensures { OnOk result (code.new.items ≡ code.old.items ++ assign_code scope.now assignment.now) }
 {
-    match cell_in_frame(scope, target) {
+    match cell_in_frame(scope, &assignment.target) {
         Some(Cell { level, offset }) => {
-            emit_checked(code, scope, fits, value)?;
+            emit_checked(code, scope, assignment)?;
             put(code, Instr::Store { level, offset })
         }
         None => {
-            emit_address(code, scope, target, indexes)?;
-            emit_checked(code, scope, fits, value)?;
+            emit_address(
+                code,
+                scope,
+                &assignment.target,
+                assignment.indexes.as_slice(),
+            )?;
+            emit_checked(code, scope, assignment)?;
             put(code, Instr::StoreIndirect)
         }
     }
 }
 
 /// An assignment of a whole value: the target's address, the value, and the store of its components.
-pub fn emit_copy(
-    code: &mut Vec<Instr>,
-    scope: &Scope,
-    target: &Access,
-    indexes: &[Expr],
-    value: &Whole,
-    value_indexes: &[Expr],
-) -> Result<(), AllocError>
-    ensures { OnOk result (code.new.items
-        ≡ code.old.items ++ copy_code scope.now target.now indexes.now value.now value_indexes.now) }
+pub fn emit_copy(code: &mut Vec<Instr>, scope: &Scope, copying: &Copying) -> Result<(), AllocError>
+    ensures { OnOk result (code.new.items ≡ code.old.items ++ copy_code scope.now copying.now) }
 {
-    let length = row_length(value);
-    emit_address(code, scope, target, indexes)?;
-    emit_whole(code, scope, value, value_indexes)?;
+    let length = row_length(&copying.value);
+    emit_address(code, scope, &copying.target, copying.indexes.as_slice())?;
+    emit_whole(
+        code,
+        scope,
+        &copying.value,
+        copying.value_indexes.as_slice(),
+    )?;
     put(code, Instr::StoreMany { length })
 }
 
@@ -56,12 +54,11 @@ pub fn emit_copy(
 fn emit_checked(
     code: &mut Vec<Instr>,
     scope: &Scope,
-    fits: RangeTest,
-    value: &Expr,
+    assignment: &Assignment,
 ) -> Result<(), AllocError>
-    ensures { OnOk result (
-        code.new.items ≡ code.old.items ++ (expr_code scope.now value.now ++ range_check fits ∷ [])) }
+    ensures { OnOk result (code.new.items
+        ≡ code.old.items ++ (expr_code scope.now assignment.now.value ++ range_check assignment.now.fits ∷ [])) }
 {
-    emit_expr(code, scope, value)?;
-    put(code, check_of(fits))
+    emit_expr(code, scope, &assignment.value)?;
+    put(code, check_of(assignment.fits))
 }

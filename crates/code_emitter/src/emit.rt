@@ -15,7 +15,7 @@ use code_scheme::scope::Scope;
 use code_scheme::size::row_size;
 use pcode_assembler::instr::Instr;
 use std::alloc::AllocError;
-use typed_tree::tree::{Direction, Expr, RangeTest, Stmt};
+use typed_tree::tree::{Direction, Expr, ForHead, Stmt};
 
 /// The return of the program's frame, which never gets a value.
 const UNDEFINED: u32 = 2;
@@ -35,33 +35,10 @@ pub fn emit_stmt(
     sizes.pass();
     match stmt {
         Stmt::Empty { .. } => Ok(()),
-        Stmt::Assign {
-            target,
-            indexes,
-            fits,
-            value,
-            ..
-        } => emit_assign(code, scope, target, indexes.as_slice(), *fits, value),
-        Stmt::Copy {
-            target,
-            indexes,
-            value,
-            value_indexes,
-            ..
-        } => emit_copy(
-            code,
-            scope,
-            target,
-            indexes.as_slice(),
-            value,
-            value_indexes.as_slice(),
-        ),
-        Stmt::Write {
-            parameters,
-            ends_line,
-            ..
-        } => emit_write(code, scope, parameters.as_slice(), *ends_line),
-        Stmt::Call { call, actuals } => emit_call(code, scope, *call, actuals.as_slice()),
+        Stmt::Assign(assignment) => emit_assign(code, scope, assignment),
+        Stmt::Copy(copying) => emit_copy(code, scope, copying),
+        Stmt::Write(writing) => emit_write(code, scope, writing),
+        Stmt::Call(calling) => emit_call(code, scope, calling.call, calling.actuals.as_slice()),
         Stmt::Compound { statements, .. } => emit_statements(code, scope, sizes, statements),
         Stmt::If {
             condition,
@@ -80,56 +57,33 @@ pub fn emit_stmt(
                 emit_stmt(code, scope, sizes, alternative)
             }
         },
-        Stmt::While {
-            condition,
-            body,
-            ..
-        } => {
-            let head = place_of(code);
-            emit_test(code, scope, condition, sizes.next().saturating_add(1))?;
+        Stmt::While { head, body } => {
+            let round = place_of(code);
+            emit_test(code, scope, &head.condition, sizes.next().saturating_add(1))?;
             emit_stmt(code, scope, sizes, body)?;
-            put(code, Instr::Jump { target: head })
+            put(code, Instr::Jump { target: round })
         }
-        Stmt::Repeat {
-            statements,
-            condition,
-            ..
-        } => {
-            let head = place_of(code);
+        Stmt::Repeat { head, statements } => {
+            let round = place_of(code);
             emit_statements(code, scope, sizes, statements)?;
-            emit_expr(code, scope, condition)?;
-            put(code, Instr::JumpIfFalse { target: head })
+            emit_expr(code, scope, &head.condition)?;
+            put(code, Instr::JumpIfFalse { target: round })
         }
-        Stmt::For {
-            control,
-            first,
-            first_fits,
-            direction,
-            last,
-            last_fits,
-            body,
-            ..
-        } => {
-            emit_bounds(code, scope, first, last)?;
-            let head = place_of(code).saturating_add(8);
-            let out = head.saturating_add(11).saturating_add(sizes.next());
-            emit_entry(code, scope, *first_fits, *direction, *last_fits, out)?;
-            emit_begin(code, scope, *control)?;
+        Stmt::For { head, body } => {
+            emit_bounds(code, scope, head)?;
+            let round = place_of(code).saturating_add(8);
+            let out = round.saturating_add(11).saturating_add(sizes.next());
+            emit_entry(code, scope, head, out)?;
+            emit_begin(code, scope, head.control)?;
             emit_stmt(code, &scope.holding(2), sizes, body)?;
-            emit_next(code, scope, *direction, head, out)?;
-            emit_end(code, scope, *control)
+            emit_next(code, scope, head.direction, round, out)?;
+            emit_end(code, scope, head.control)
         }
-        Stmt::Case {
-            site,
-            index,
-            constants,
-            arms,
-            ..
-        } => {
+        Stmt::Case { head, arms } => {
             let out = place_of(code).saturating_add(size).saturating_sub(1);
-            emit_expr(code, scope, index)?;
-            emit_arms(code, scope, sizes, out, constants, arms)?;
-            emit_no_arm(code, *site, out)
+            emit_expr(code, scope, &head.index)?;
+            emit_arms(code, scope, sizes, out, &head.constants, arms)?;
+            emit_no_arm(code, head.site, out)
         }
     }
 }
@@ -204,42 +158,34 @@ fn emit_jump(code: &mut Vec<Instr>, past: u32) -> Result<(), AllocError>
 }
 
 /// The bounds of a for statement.
-fn emit_bounds(
-    code: &mut Vec<Instr>,
-    scope: &Scope,
-    from: &Expr,
-    to: &Expr,
-) -> Result<(), AllocError>
-    ensures { OnOk result (
-        code.new.items ≡ (code.old.items ++ expr_code scope.now from.now) ++ expr_code scope.now to.now) }
+fn emit_bounds(code: &mut Vec<Instr>, scope: &Scope, head: &ForHead) -> Result<(), AllocError>
+    ensures { OnOk result (code.new.items ≡ (code.old.items ++ expr_code scope.now head.now.first.value)
+        ++ expr_code scope.now head.now.last.value) }
 {
-    emit_expr(code, scope, from)?;
-    emit_expr(code, scope, to)
+    emit_expr(code, scope, &head.first.value)?;
+    emit_expr(code, scope, &head.last.value)
 }
 
 /// Behind both bounds: a jump out of the loop where they leave no value, and their tests.
 fn emit_entry(
     code: &mut Vec<Instr>,
     scope: &Scope,
-    first_fits: RangeTest,
-    direction: Direction,
-    last_fits: RangeTest,
+    head: &ForHead,
     out: u32,
 ) -> Result<(), AllocError>
-    ensures { OnOk result (
-        code.new.items ≡ code.old.items ++ for_entry scope.now first_fits direction last_fits out) }
+    ensures { OnOk result (code.new.items ≡ code.old.items ++ for_entry scope.now head.now out) }
 {
     let value = scope.held_offset(0);
     let last = scope.held_offset(1);
     code.extend_from_slice(&[
         load(value),
         load(last),
-        order_of(direction),
+        order_of(head.direction),
         Instr::JumpIfFalse { target: out },
         load(value),
-        check_of(first_fits),
+        check_of(head.first.fits),
         store(value),
-        check_of(last_fits),
+        check_of(head.last.fits),
     ])
 }
 
@@ -252,15 +198,15 @@ fn emit_begin(code: &mut Vec<Instr>, scope: &Scope, control: u32) -> Result<(), 
     code.extend_from_slice(&[load(value), store(variable)])
 }
 
-/// Behind the body: out of the loop with the last value, else to its head with the next one.
+/// Behind the body: out of the loop with the last value, else to the next round with the next one.
 fn emit_next(
     code: &mut Vec<Instr>,
     scope: &Scope,
     direction: Direction,
-    head: u32,
+    round: u32,
     out: u32,
 ) -> Result<(), AllocError>
-    ensures { OnOk result (code.new.items ≡ code.old.items ++ for_next scope.now direction head out) }
+    ensures { OnOk result (code.new.items ≡ code.old.items ++ for_next scope.now direction round out) }
 {
     let value = scope.held_offset(0);
     let last = scope.held_offset(1);
@@ -273,7 +219,7 @@ fn emit_next(
         Instr::LoadConstant { value: 1 },
         step_of(direction),
         store(value),
-        Instr::Jump { target: head },
+        Instr::Jump { target: round },
     ])
 }
 

@@ -7,7 +7,7 @@ use crate::instrs::{positive_at, put};
 use code_scheme::scope::Scope;
 use pcode_assembler::instr::Instr;
 use std::alloc::AllocError;
-use typed_tree::tree::{Representation, WriteParameter, Written};
+use typed_tree::tree::{Representation, WriteParameter, Writing, Written};
 
 /// The total width of a char that is written without one.
 const CHAR_WIDTH: i32 = 1;
@@ -19,18 +19,13 @@ const INTEGER_WIDTH: i32 = 10;
 const BOOLEAN_WIDTH: i32 = 5;
 
 /// Each value that is written, and a line end behind a writeln.
-pub fn emit_write(
-    code: &mut Vec<Instr>,
-    scope: &Scope,
-    parameters: &[WriteParameter],
-    ends_line: bool,
-) -> Result<(), AllocError>
-    ensures { OnOk result (code.new.items ≡ code.old.items ++ write_code scope.now parameters.now ends_line) }
+pub fn emit_write(code: &mut Vec<Instr>, scope: &Scope, writing: &Writing) -> Result<(), AllocError>
+    ensures { OnOk result (code.new.items ≡ code.old.items ++ write_code scope.now writing.now) }
 {
-    for parameter in parameters {
+    for parameter in &writing.parameters {
         emit_parameter(code, scope, parameter)?;
     }
-    emit_line_end(code, ends_line)
+    emit_line_end(code, writing.ends_line)
 }
 
 /// A value that is written: it, its width, and the output of both.

@@ -5,9 +5,8 @@ use Rattle.code_generator.proofs.Words.{length-append, append_assoc, Bool, true,
 use Rattle.code_generator.proofs.Words.{components_of, cells_of, is_ordinal, Expr, RangeTest, all_hold, is_well_formed_expr, Value, Place, Action, ◌>>=◌}
 use Rattle.code_generator.proofs.Words.{number_of, require, value_of, Cell, Number, expr_code, expr_depth, row_length, start_within}
 use Rattle.pcode_assembler.specs.declared.instr.Instr.TheVariants as instr
-use Rattle.types.specs.Types.{is_same}
-use Rattle.typed_tree.specs.declared.tree.Access.{Access}
-use Rattle.typed_tree.specs.declared.tree.Whole.{Whole}
+use Rattle.typed_tree.specs.declared.tree.Assignment.{Assignment}
+use Rattle.typed_tree.specs.declared.tree.Copying.{Copying}
 use Rattle.typed_tree.specs.Accesses.{index_count}
 use Rattle.typed_tree.specs.WellFormed.{fits_target, is_well_formed_test, is_well_formed_whole, is_whole, leads_to_ordinal, leads_to_whole, length_of, may_copy}
 use Rattle.typed_tree.specs.WellFormed.{source_of, whole_indexes}
@@ -33,7 +32,7 @@ use Rattle.code_generator.proofs.Reach.{Comes, Stands}
 use Rattle.code_generator.proofs.Rows.{cells_of as value_cells, length-cells_of}
 use Rattle.code_generator.proofs.Setting.{Setting, outline, around, exact_around, on, Based, linked, Here, acts, entered}
 use Rattle.code_generator.proofs.Wholes.{IsRow, set_row, set_row_front, stores_many, stored_all, store_all_is, row_kept, whole_runs, copied_cells}
-use Rattle.code_generator.proofs.Wholes.{few_components, same_type, AllFit}
+use Rattle.code_generator.proofs.Wholes.{few_components, is_whole_type, wanted_type, AllFit}
 use Rattle.code_generator.proofs.Running.{beside, Aim, Arrives, Executes, Runs, done, kept_on}
 use Rattle.code_generator.proofs.Lists.{set_front, length_one}
 
@@ -46,35 +45,37 @@ module _ (g : Setting) (known : CallsAt g) where
   told_back [] = refl
   told_back (e ∷ es) = ap (λ rest. e ∷ rest) (told_back es)
 
-  module _ (v : Expr) (fits : RangeTest) (good : is_well_formed_expr (outline g) g.number v ≡ true)
-      (site_within : fits.site < sites g) where
+  module _ (assignment : Assignment) (good : is_well_formed_expr (outline g) g.number assignment.value ≡ true)
+      (site_within : assignment.fits.site < sites g) where
     abbrev value_code : List Instr
-    value_code = expr_code g.scope v ++ (range_check fits ∷ [])
+    value_code = expr_code g.scope assignment.value ++ (range_check assignment.fits ∷ [])
 
     -- what is done with a value that was tested
     abbrev tested : (Value → Action (Unit {0})) → Value → Action (Unit {0})
-    tested next w = require (effect.is_in fits.range w) fits.site >>= λ _. next w
+    tested next w = require (effect.is_in assignment.fits.range w) assignment.fits.site >>= λ _. next w
 
     -- a value, its test, and the code behind them
     value_stored : (aim : ℕ → Aim (Unit {0})) (c : List Instr) (place : ℕ) (base held : List Cell) (s : effect.State) (next : Value → Action (Unit {0}))
-        → Stands g.target place (value_code ++ c) → Based g s base → g.below + length held + expr_depth v ≤ g.limit
+        → Stands g.target place (value_code ++ c) → Based g s base → g.below + length held + expr_depth assignment.value ≤ g.limit
         → ((base2 : List Cell) (w : Value) (t : effect.State) → Stands g.target (place + length value_code) c → Based g t base2 → Fits (number_of w)
         → Runs g (aim (place + length value_code + length c)) (on g ((base2 ++ held) ++ Number (number_of w) ∷ []) (place + length value_code) t.output)
         (next w) t)
-        → Runs g (aim (place + length (value_code ++ c))) (on g (base ++ held) place s.output) (value_of v (around g) >>= (tested next)) s
+        → Runs g (aim (place + length (value_code ++ c))) (on g (base ++ held) place s.output) (value_of assignment.value (around g) >>= (tested next)) s
     value_stored aim c place base held s next stands based deep stored =
-        let value = expr_code g.scope v in
-        let check = range_check fits ∷ [] in
+        let value = expr_code g.scope assignment.value in
+        let check = range_check assignment.fits ∷ [] in
         let split = append_assoc value check c in
         let e : place + length value_code ≡ place + length value + 1 = omega (arith, length-append value check) in
-        subst (λ code. Runs g (aim (place + length code)) (on g (base ++ held) place s.output) (value_of v (around g) >>= (tested next)) s) (sym split)
-        (expr_then g known aim v (range_check fits ∷ c) place base held (tested next) s (subst (Stands g.target place) split stands) good based deep
+        subst (λ code. Runs g (aim (place + length code)) (on g (base ++ held) place s.output) (value_of assignment.value (around g) >>= (tested next)) s)
+        (sym split)
+        (expr_then g known aim assignment.value (range_check assignment.fits ∷ c) place base held (tested next) s
+        (subst (Stands g.target place) split stands) good based deep
         (λ base2 w t rest based2 fit room.
         let from = place + length value in
         let n = number_of w in
-        let e' : from + 1 + length c ≡ from + length (range_check fits ∷ c) = omega arith in
+        let e' : from + 1 + length c ≡ from + length (range_check assignment.fits ∷ c) = omega arith in
         subst (λ end. Runs g (aim end) (on g ((base2 ++ held) ++ Number n ∷ []) from t.output) (tested next w) t) e'
-        (range_then g (aim (from + 1 + length c)) fits w (base2 ++ held) from t (next w) rest.0 site_within (linked g t base2 held based2) fit
+        (range_then g (aim (from + 1 + length c)) assignment.fits w (base2 ++ held) from t (next w) rest.0 site_within (linked g t base2 held based2) fit
         (λ _.
         subst (λ p. Runs g (aim (p + length c)) (on g ((base2 ++ held) ++ Number n ∷ []) p t.output) (next w) t) e
         (stored base2 w t (subst (λ p. Stands g.target p c) (sym e) rest.1) based2 fit)))))
@@ -94,23 +95,24 @@ module _ (g : Setting) (known : CallsAt g) where
         acts g (instr.Store level start) (below ++ Number n ∷ []) (slice_set base (owner + start) (Number n) ++ held) place s.output
         _ here refl does
 
-    module _ (target : Access) (indexes : Indexes g) (last : TypeId) (start : Begins g target last (codes g indexes))
-        (wells_good : are_well_formed_indexes g indexes ≡ true) (counts : length (expressions g indexes) ≡ index_count target.selectors.items)
+    module _ (indexes : Indexes g) (last : TypeId) (start : Begins g assignment.target last (codes g indexes))
+        (wells_good : are_well_formed_indexes g indexes ≡ true)
+        (counts : length (expressions g indexes) ≡ index_count assignment.target.selectors.items)
         (ordinal : is_ordinal g.tree.types last ≡ true) where
       abbrev target_found : Action (Option Place)
-      target_found = place_found g target indexes last start wells_good counts
+      target_found = place_found g assignment.target indexes last start wells_good counts
 
       abbrev next : Option Place → Action (Unit {0})
-      next q = value_of v (around g) >>= tested (effect.store q)
+      next q = value_of assignment.value (around g) >>= tested (effect.store q)
 
       -- the code that stores into an ordinal that is accessed
       store_by : (way : Reached) → IsReached g way start.cell start.first start.rest (codes g indexes)
           → (address_of way ≡ start.first ∷ selectors_code start.rest (codes g indexes)) → (place : ℕ) (base held : List Cell)
           (s : effect.State) → Stands g.target place (store_code value_code way) → Based g s base
-          → g.below + length held + store_depth (depths g indexes) (expr_depth v) ≤ g.limit
+          → g.below + length held + store_depth (depths g indexes) (expr_depth assignment.value) ≤ g.limit
           → Executes g (on g (base ++ held) place s.output) held (place + length (store_code value_code way)) (target_found >>= next) s
       store_by (At level first) r address place base held s stands based deep =
-          let lies = subst (LiesIn g.world start.there) r.2 (scalar_there g target indexes last start wells_good counts ordinal r.3) in
+          let lies = subst (LiesIn g.world start.there) r.2 (scalar_there g assignment.target indexes last start wells_good counts ordinal r.3) in
           let store = instr.Store level first ∷ [] in
           subst (λ rest. Executes g (on g (base ++ held) place s.output) held (place + length (value_code ++ store))
           (selected rest (map value_of (expressions g indexes)) (around g) (Some start.there) >>= next) s) (sym r.3)
@@ -124,9 +126,10 @@ module _ (g : Setting) (known : CallsAt g) where
           let store = instr.StoreIndirect ∷ [] in
           let from = place + length c in
           address_then g (kept_on g held) c (value_code ++ store) place _ held last target_found next s
-          (exact_found g target indexes last start wells_good counts) stands
+          (exact_found g assignment.target indexes last start wells_good counts) stands
           (λ front. subst (λ code. Addresses g (on g (base ++ held) place s.output) held (place + length code) last target_found s) (sym address)
-          (pushed_runs g target indexes last start wells_good counts place base held s (subst (Stands g.target place) address front) based (omega arith)))
+          (pushed_runs g assignment.target indexes last start wells_good counts place base held s (subst (Stands g.target place) address front) based
+          (omega arith)))
           (λ base1 d p s1 rest based1 part1 room1.
           let lies = ordinal_part g.tree.types g.world g.below g.known p last d ordinal part1 in
           let above = held ++ Number (pos d) ∷ [] in
@@ -150,54 +153,58 @@ module _ (g : Setting) (known : CallsAt g) where
           (scalar_kept g p d t base2 w lies based2 fit) stored)))))
 
       store_runs : (place : ℕ) (base held : List Cell) (s : effect.State)
-          → Stands g.target place (store_code value_code (reached g.scope target (codes g indexes))) → Based g s base
-          → g.below + length held + store_depth (depths g indexes) (expr_depth v) ≤ g.limit
-          → Executes g (on g (base ++ held) place s.output) held (place + length (store_code value_code (reached g.scope target (codes g indexes))))
+          → Stands g.target place (store_code value_code (reached g.scope assignment.target (codes g indexes))) → Based g s base
+          → g.below + length held + store_depth (depths g indexes) (expr_depth assignment.value) ≤ g.limit
+          → Executes g (on g (base ++ held) place s.output) held (place + length (store_code value_code (reached g.scope assignment.target (codes g indexes))))
           (target_found >>= next) s
       store_runs place base held s stands based deep =
           subst (λ way. Executes g (on g (base ++ held) place s.output) held (place + length (store_code value_code way)) (target_found >>= next) s)
           (sym start.way_is)
-          (store_by start.way start.reaches (ap address_of (sym start.way_is) ∙ address_is g target indexes last start wells_good counts) place base held s
+          (store_by start.way start.reaches
+          (ap address_of (sym start.way_is) ∙ address_is g assignment.target indexes last start wells_good counts) place base held s
           (subst (λ way. Stands g.target place (store_code value_code way)) start.way_is stands) based deep)
 
   -- an assignment to an ordinal
-  module _ (number : ℕ) (target : Access) (fits : RangeTest) (v : Expr) where
+  module _ (assignment : Assignment) where
     abbrev AssignRuns : List Expr → Type 0
     AssignRuns es =
-        ExecutesAs g (λ scope place. store_code (expr_code scope v ++ (range_check fits ∷ [])) (reached scope target (map (expr_code scope) es)))
-        (store_depth (map expr_depth es) (expr_depth v))
+        ExecutesAs g (λ scope place. store_code (expr_code scope assignment.value ++ (range_check assignment.fits ∷ []))
+        (reached scope assignment.target (map (expr_code scope) es)))
+        (store_depth (map expr_depth es) (expr_depth assignment.value))
         (all_hold (map (is_well_formed_expr (outline g) g.number) es)
-        && (leads_to_ordinal (outline g) g.number target.root target.selectors.items (length es)
-        && (is_well_formed_expr (outline g) g.number v && fits_target (outline g) g.number fits target.root target.selectors.items)))
-        (λ env. effect.enter number env.visible >>= λ _. accessed target (map value_of es) env >>= λ q. value_of v env >>= λ w.
-        require (effect.is_in fits.range w) fits.site >>= λ _. effect.store q w)
+        && (leads_to_ordinal (outline g) g.number assignment.target.root assignment.target.selectors.items (length es)
+        && (is_well_formed_expr (outline g) g.number assignment.value
+        && fits_target (outline g) g.number assignment.fits assignment.target.root assignment.target.selectors.items)))
+        (λ env. effect.enter assignment.number env.visible >>= λ _. accessed assignment.target (map value_of es) env >>= λ q.
+        value_of assignment.value env >>= λ w. require (effect.is_in assignment.fits.range w) assignment.fits.site >>= λ _. effect.store q w)
 
     assigned : (indexes : Indexes g) → AssignRuns (expressions g indexes)
     assigned indexes place base held s stands good based high deep =
+        let target = assignment.target in
+        let fits = assignment.fits in
         let count = length (expressions g indexes) in
-        let one = and_parts (are_well_formed_indexes g indexes) (leads_to_ordinal (outline g) g.number target.root target.selectors.items
-        count && (is_well_formed_expr (outline g) g.number v && fits_target (outline g) g.number fits target.root target.selectors.items))
-        good in
-        let two = and_parts (leads_to_ordinal (outline g) g.number target.root target.selectors.items count)
-        (is_well_formed_expr (outline g) g.number v && fits_target (outline g) g.number fits target.root target.selectors.items) one.1 in
-        let three = and_parts (is_well_formed_expr (outline g) g.number v)
-        (fits_target (outline g) g.number fits target.root target.selectors.items) two.1 in
+        let leads_there = leads_to_ordinal (outline g) g.number target.root target.selectors.items count in
+        let well_valued = is_well_formed_expr (outline g) g.number assignment.value in
+        let fitting = fits_target (outline g) g.number fits target.root target.selectors.items in
+        let one = and_parts (are_well_formed_indexes g indexes) (leads_there && (well_valued && fitting)) good in
+        let two = and_parts leads_there (well_valued && fitting) one.1 in
+        let three = and_parts well_valued fitting two.1 in
         let four = and_parts (is_well_formed_test (outline g) g.number fits) _ three.1 in
         let site_within = ltb-true fits.site (sites g) (and_parts (nat_lt fits.site (sites g)) (is_whole fits.range.first
         && is_whole fits.range.last) four.0).0 in
         let led_to = leads g (is_ordinal g.tree.types) target.root target.selectors.items count two.0 in
         let start = begins g target (is_ordinal g.tree.types) count (codes g indexes) led_to in
-        let s2 = entered g target.number (entered g number s) in
-        let c = store_code (expr_code g.scope v ++ (range_check fits ∷ [])) (reached g.scope target (codes g indexes)) in
-        let next : Option Place → Action (Unit {0}) = λ q. value_of v (around g) >>= λ w. require
+        let s2 = entered g target.number (entered g assignment.number s) in
+        let c = store_code (expr_code g.scope assignment.value ++ (range_check fits ∷ [])) (reached g.scope target (codes g indexes)) in
+        let next : Option Place → Action (Unit {0}) = λ q. value_of assignment.value (around g) >>= λ w. require
         (effect.is_in fits.range w) fits.site >>= λ _. effect.store q w
         in
-        subst (λ action. Executes g (on g (base ++ held) place s.output) held (place + length c) (action >>= next) (entered g number s))
+        subst (λ action. Executes g (on g (base ++ held) place s.output) held (place + length c) (action >>= next) (entered g assignment.number s))
         (sym (start.meant (map value_of (expressions g indexes))))
-        (store_runs v fits three.0 site_within target indexes led_to.last start one.0 led_to.counts led_to.is_wanted place base held s2 stands based deep)
+        (store_runs assignment three.0 site_within indexes led_to.last start one.0 led_to.counts led_to.is_wanted place base held s2 stands based deep)
 
-    pub assign_runs : (es : List Expr) → AssignRuns es
-    assign_runs es = subst AssignRuns (told_back es) (assigned (told es))
+    pub assign_runs : AssignRuns assignment.indexes.items
+    assign_runs = subst AssignRuns (told_back assignment.indexes.items) (assigned (told assignment.indexes.items))
 
   -- ---- whole values
 
@@ -224,55 +231,52 @@ module _ (g : Setting) (known : CallsAt g) where
       (done g 1 _ (set_row base d row) held (place + 1) (record s { store = stored_all s.store p components vs }) kept_base stored))
 
   -- an assignment of a whole value
-  module _ (number : ℕ) (target : Access) (type_id : TypeId) (v : Whole) where
-    abbrev wanted : TypeId → Bool
-    wanted id = is_same id type_id && not (is_ordinal g.tree.types id)
-
+  module _ (copying : Copying) where
     abbrev CopyRuns : List Expr → List Expr → Type 0
     CopyRuns es vs =
-        ExecutesAs g (λ scope place. address_code scope target (map (expr_code scope) es)
-        ++ (whole_code scope v (map (expr_code scope) vs) ++ (instr.StoreMany (row_length (length_of v)) ∷ [])))
-        (max (access_depth (map expr_depth es)) (whole_depth v (map expr_depth vs) + 1))
+        ExecutesAs g (λ scope place. address_code scope copying.target (map (expr_code scope) es)
+        ++ (whole_code scope copying.value (map (expr_code scope) vs) ++ (instr.StoreMany (row_length (length_of copying.value)) ∷ [])))
+        (max (access_depth (map expr_depth es)) (whole_depth copying.value (map expr_depth vs) + 1))
         (all_hold (map (is_well_formed_expr (outline g) g.number) es)
-        && (leads_to_whole (outline g) g.number type_id target.root target.selectors.items (length es)
-        && ((all_hold (whole_indexes v (map (is_well_formed_expr (outline g) g.number) vs))
-        && is_well_formed_whole (outline g) g.number v (length vs))
-        && may_copy (outline g) g.number type_id (source_of v) (length_of v))))
-        (λ env. effect.enter number env.visible >>= λ _. accessed target (map value_of es) env >>= λ q. whole_of v (map value_of vs) env >>= λ values.
-        store_all q (components_of env.visible.types type_id) values)
+        && (leads_to_whole (outline g) g.number copying.type_id copying.target.root copying.target.selectors.items (length es)
+        && ((all_hold (whole_indexes copying.value (map (is_well_formed_expr (outline g) g.number) vs))
+        && is_well_formed_whole (outline g) g.number copying.value (length vs))
+        && may_copy (outline g) g.number copying.type_id (source_of copying.value) (length_of copying.value))))
+        (λ env. effect.enter copying.number env.visible >>= λ _. accessed copying.target (map value_of es) env >>= λ q.
+        whole_of copying.value (map value_of vs) env >>= λ values. store_all q (components_of env.visible.types copying.type_id) values)
 
     copied : (indexes value_indexes : Indexes g) → CopyRuns (expressions g indexes) (expressions g value_indexes)
     copied indexes value_indexes place base held s stands good based high deep =
+        let target = copying.target in
+        let type_id = copying.type_id in
+        let v = copying.value in
         let count = length (expressions g indexes) in
         let n = length_of v in
-        let wf_value = all_hold (whole_indexes v (wells g value_indexes))
-        && is_well_formed_whole (outline g) g.number v (length (expressions g value_indexes)) in
+        let leads_there = leads_to_whole (outline g) g.number type_id target.root target.selectors.items count in
+        let well_indexed = all_hold (whole_indexes v (wells g value_indexes)) in
+        let well_made = is_well_formed_whole (outline g) g.number v (length (expressions g value_indexes)) in
         let may = may_copy (outline g) g.number type_id (source_of v) n in
-        let one = and_parts (are_well_formed_indexes g indexes)
-        (leads_to_whole (outline g) g.number type_id target.root target.selectors.items count && (wf_value && may)) good in
-        let two = and_parts (leads_to_whole (outline g) g.number type_id target.root target.selectors.items count) (wf_value
-        && may) one.1
-        in
-        let three = and_parts wf_value may two.1 in
-        let four = and_parts (all_hold (whole_indexes v (wells g value_indexes)))
-        (is_well_formed_whole (outline g) g.number v (length (expressions g value_indexes))) three.0 in
+        let one = and_parts (are_well_formed_indexes g indexes) (leads_there && ((well_indexed && well_made) && may)) good in
+        let two = and_parts leads_there ((well_indexed && well_made) && may) one.1 in
+        let three = and_parts (well_indexed && well_made) may two.1 in
+        let four = and_parts well_indexed well_made three.0 in
         let cells = copied_cells g type_id (source_of v) n three.1 in
         let same : n ≡ row_length n = few_components g v (length (expressions g value_indexes)) four.1 in
         let more = start_within 1 (map (λ i. i + 1) (depths g indexes)) in
-        let led_to = leads g wanted target.root target.selectors.items count two.0 in
-        let its = same_type g led_to.last type_id (and_parts (is_same led_to.last type_id) (not (is_ordinal g.tree.types led_to.last)) led_to.is_wanted).0 in
-        let start = begins g target wanted count (codes g indexes) led_to in
+        let led_to = leads g (is_whole_type g type_id) target.root target.selectors.items count two.0 in
+        let its = wanted_type g led_to.last type_id led_to.is_wanted in
+        let start = begins g target (is_whole_type g type_id) count (codes g indexes) led_to in
         let c = address_code g.scope target (codes g indexes) in
         let d = whole_code g.scope v (codes g value_indexes) in
         let store = instr.StoreMany (row_length n) ∷ [] in
         let from = place + length c in
         let there = from + length d in
-        let s2 = entered g target.number (entered g number s) in
+        let s2 = entered g target.number (entered g copying.number s) in
         let from_there = place_found g target indexes led_to.last start one.0 led_to.counts in
         let next : List Form → Option Place → Action (Unit {0}) = λ types q.
         whole_of v (map value_of (expressions g value_indexes)) (around g) >>= λ values. store_all q (components_of types type_id) values in
         subst (λ action. Executes g (on g (base ++ held) place s.output) held (place + length (c ++ (d ++ store))) (action >>= next g.environment.types)
-        (entered g number s)) (sym (start.meant (map value_of (expressions g indexes))))
+        (entered g copying.number s)) (sym (start.meant (map value_of (expressions g indexes))))
         (subst (λ types. Executes g (on g (base ++ held) place s.output) held (place + length (c ++ (d ++ store))) (from_there >>= next types) s2)
         (sym g.types_are)
         (address_then g (kept_on g held) c (d ++ store) place _ held led_to.last from_there (next g.tree.types) s2
@@ -289,6 +293,8 @@ module _ (g : Setting) (known : CallsAt g) where
         row_stored p type_id a n there base2 held values t part cells so.0 so.1
         (subst (λ k. Stands g.target there (instr.StoreMany k ∷ [])) (sym same) storing) based2))))
 
-    pub copy_runs : (es vs : List Expr) → CopyRuns es vs
-    copy_runs es vs =
-        subst (λ xs. CopyRuns xs vs) (told_back es) (subst (λ xs. CopyRuns (expressions g (told es)) xs) (told_back vs) (copied (told es) (told vs)))
+    pub copy_runs : CopyRuns copying.indexes.items copying.value_indexes.items
+    copy_runs =
+        subst (λ xs. CopyRuns xs copying.value_indexes.items) (told_back copying.indexes.items)
+        (subst (CopyRuns (expressions g (told copying.indexes.items))) (told_back copying.value_indexes.items)
+        (copied (told copying.indexes.items) (told copying.value_indexes.items)))

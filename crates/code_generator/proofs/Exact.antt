@@ -4,8 +4,8 @@ use Rattle.code_generator.proofs.Words.{◌≡◌, ℕ, ◌+◌, List, [], ◌�
 use Rattle.code_generator.proofs.Words.{Gives, Action, ◌>>=◌, give, number_of, require, UsesTurnsExactly, value_of}
 use Rattle.std.proofs.Common.{ℤ, if◌then◌else◌}
 use Rattle.types.specs.declared.form.Step.TheVariants as step
-use Rattle.typed_tree.specs.declared.tree.Direction.{Direction}
 use Rattle.typed_tree.specs.declared.tree.Dyadic.{Dyadic}
+use Rattle.typed_tree.specs.declared.tree.ForHead.{ForHead}
 use Rattle.typed_tree.specs.declared.tree.Passed.{Passed}
 use Rattle.typed_tree.specs.declared.tree.Selector.{Selector}
 use Rattle.typed_tree.specs.declared.tree.Selector.TheVariants.{Element, Field}
@@ -98,9 +98,8 @@ module _ (env : Surroundings) (exact : AllUseTurnsExactly env) where
       exact_then use_turn _ exact.turn (λ _. exact_then (all_of (map effect_of ss) env) _ (exact_statements ss)
       (λ _. exact_then (value_of condition env) _ (exact.values condition) (λ v. exact_give (if is_so v then None else Some tt))))
 
-  pub exact_for_round : (control : ℕ) (direction : Direction) (last : ℤ) (body : Stmt) (n : ℤ)
-      → UsesTurnsExactly (for_round control direction last (effect_of body) env n)
-  exact_for_round control direction last body n =
-      exact_then (store (env.visible.variables control) (Number n)) _ (exact.stores (env.visible.variables control) (Number n))
+  pub exact_for_round : (head : ForHead) (last : ℤ) (body : Stmt) (n : ℤ) → UsesTurnsExactly (for_round head last (effect_of body) env n)
+  exact_for_round head last body n =
+      exact_then (store (env.visible.variables head.control) (Number n)) _ (exact.stores (env.visible.variables head.control) (Number n))
       (λ _. exact_then use_turn _ exact.turn (λ _. exact_then (effect_of body env) _ (exact.statements body)
-      (λ _. exact_give (value_behind direction last n))))
+      (λ _. exact_give (value_behind head.direction last n))))

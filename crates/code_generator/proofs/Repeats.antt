@@ -14,16 +14,16 @@ alternative_repeats (Some repeats) = repeats.value
 
 abbrev pub repeats_step : Stmt-F ℕ → ℕ
 repeats_step (Empty number) = 0
-repeats_step (Assign number becomes target indexes fits v) = 0
-repeats_step (Copy number becomes target indexes type_id v value_indexes) = 0
-repeats_step (Write number name parameters ends_line) = 0
-repeats_step (Calling call actuals) = 0
+repeats_step (Assign assignment) = 0
+repeats_step (Copy copying) = 0
+repeats_step (Write writing) = 0
+repeats_step (Calling calling) = 0
 repeats_step (Compound number statements) = greatest statements.items
 repeats_step (If number condition consequence alternative) = max consequence.value (alternative_repeats alternative)
-repeats_step (While number loop_number word condition body) = body.value
-repeats_step (Repeat number loop_number word statements condition) = greatest statements.items + 1
-repeats_step (For number loop_number word control first first_fits way last last_fits body) = body.value
-repeats_step (Case number site index constants arms) = greatest arms.items
+repeats_step (While head body) = body.value
+repeats_step (Repeat head statements) = greatest statements.items + 1
+repeats_step (For head body) = body.value
+repeats_step (Case head arms) = greatest arms.items
 
 abbrev pub repeats : Stmt → ℕ
 repeats = fold-Stmt ℕ repeats_step

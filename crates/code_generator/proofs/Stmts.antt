@@ -6,13 +6,16 @@ use Rattle.code_generator.proofs.Words.{require, give, value_of, deed_of, Cell, 
 use Rattle.code_generator.proofs.Words.{expr_depth, all_hold, is_well_formed_expr, start_within}
 use Rattle.std.specs.Prelude.{negsuc, ◌+ℤ◌, ◌-◌, replicate, take, codes, fold}
 use Rattle.std.specs.Global.{Vec}
-use Rattle.std.specs.List.{flat_map}
+use Rattle.std.specs.List.{flat_map, list_all}
 use Rattle.std.specs.Ordering.{int_eq}
 use Rattle.check_remover.specs.Strip.{stays}
 use Rattle.std.specs.Fmt.{signed_decimal}
 use Rattle.pcode_assembler.specs.declared.instr.Instr.TheVariants as instr
-use Rattle.typed_tree.specs.declared.tree.Call.{Call}
-use Rattle.typed_tree.specs.declared.tree.Passed.{Passed}
+use Rattle.typed_tree.specs.declared.tree.ProcedureCall.{ProcedureCall}
+use Rattle.typed_tree.specs.declared.tree.Writing.{Writing}
+use Rattle.typed_tree.specs.declared.tree.LoopHead.{LoopHead}
+use Rattle.typed_tree.specs.declared.tree.ForHead.{ForHead}
+use Rattle.typed_tree.specs.declared.tree.CaseHead.{CaseHead}
 use Rattle.typed_tree.specs.declared.tree.Direction.{Direction}
 use Rattle.typed_tree.specs.declared.tree.Direction.TheVariants as direction
 use Rattle.typed_tree.specs.declared.tree.Representation.{Representation}
@@ -48,7 +51,7 @@ use Rattle.code_scheme.specs.Code.{Placed, placed, if_code, if_else_code, while_
 use Rattle.code_scheme.specs.Code.{order_instr, next_instr, row_code, arms_code, case_code, width_code, write_instr, parameter_code, line_end_code, call_code}
 use Rattle.code_scheme.specs.Code.{passed_code, write_code, stmt_code, stmt_step, default_width, ordinal_instr, ordinal_width, whole_code}
 use Rattle.code_scheme.specs.Depth.{call_depth, greatest, passed_depth, stmt_depth, stmt_depth_step, arms_depth, parameter_depth, width_depth, whole_depth}
-use Rattle.typed_tree.specs.WellFormed.{is_well_formed_width, is_well_formed_parameter, is_well_formed_test, is_well_formed_stmt, fits_target, whole_indexes}
+use Rattle.typed_tree.specs.WellFormed.{are_whole, is_well_formed_width, is_well_formed_parameter, is_well_formed_test, is_well_formed_stmt, fits_target, whole_indexes}
 use Rattle.typed_tree.specs.WellFormed.{stmt_is_well_formed, is_control, is_well_formed_call, is_well_formed_passed, is_well_formed_whole, length_of}
 use Rattle.code_generator.proofs.Reach.{Stands, StandsAt, stands_front, stands_back, Comes, comes_less, comes_on, stays_here}
 use Rattle.code_generator.proofs.Setting.{branched, goes_around, Setting, outline, around, exact_around, on, Based, later, linked, limit_far, Here, goes_on}
@@ -271,22 +274,23 @@ module _ (g : Setting) (known : CallsAt g) where
       (goes_on g instr.WriteLine (base ++ held) (base ++ held) place s.output (s.output ++ 10 ∷ []) stands.0 refl))
   line_end_runs false place base held s stands based = nothing_runs place base held s based
 
-  write_runs : (number : ℕ) (ps : List WriteParameter) (ends_line : Bool)
-      → ExecutesAs g (λ scope _. write_code scope ps ends_line) (greatest (map parameter_depth ps))
-      (all_hold (map (is_well_formed_parameter (outline g) g.number) ps))
-      (λ e. effect.enter number e.visible >>= λ _. all_of (map parameter_of ps) e >>= λ _. line_ended ends_line)
-  write_runs number ps ends_line place base held s stands good based high deep =
-      let s1 = entered g number s in
+  write_runs : (writing : Writing)
+      → ExecutesAs g (λ scope _. write_code scope writing) (greatest (map parameter_depth writing.parameters.items))
+      (all_hold (map (is_well_formed_parameter (outline g) g.number) writing.parameters.items))
+      (λ e. effect.enter writing.number e.visible >>= λ _. all_of (map parameter_of writing.parameters.items) e >>= λ _. line_ended writing.ends_line)
+  write_runs writing place base held s stands good based high deep =
+      let s1 = entered g writing.number s in
+      let ps = writing.parameters.items in
       let code_of : WriteParameter → Placed = λ p scope _. parameter_code scope p in
       let c = flat_map (parameter_code g.scope) ps in
       let same : placed (map (λ code. code g.scope) (map code_of ps)) place ≡ c = placed_flat parameter_code g.scope ps place in
-      done_then g (kept_on g held) c (line_end_code ends_line) place _ held (all_of (map parameter_of ps) (around g)) (λ _. line_ended ends_line) s1
-      (exact_parameters (around g) (exact_around g) ps) stands
+      done_then g (kept_on g held) c (line_end_code writing.ends_line) place _ held (all_of (map parameter_of ps) (around g))
+      (λ _. line_ended writing.ends_line) s1 (exact_parameters (around g) (exact_around g) ps) stands
       (λ front.
       subst (λ p. Executes g (on g (base ++ held) place s.output) held (place + length p) (all_of (map parameter_of ps) (around g)) s1) same
       (all_run code_of parameter_depth (is_well_formed_parameter (outline g) g.number) parameter_of ((exact_around g).written) ps (each_parameter ps) 0 place
       base held s1 (subst (Stands g.target place) (sym same) front) good based high deep))
-      (λ base2 t rest based2. line_end_runs ends_line (place + length c) base2 held t rest based2)
+      (λ base2 t rest based2. line_end_runs writing.ends_line (place + length c) base2 held t rest based2)
 
   -- a condition, a jump where it is false, and what comes at either place
   condition_then : {A : Type 0} (aim : ℕ → Aim A) (condition : Expr) (target : ℕ) (c : List Instr) (place : ℕ) (base held : List Cell)
@@ -310,14 +314,17 @@ module _ (g : Setting) (known : CallsAt g) where
       (so base2 t rest.1 based2) (not_so base2 t rest.1 based2)))
 
   -- a call of a procedure
-  calling_runs : (call : Call) (actuals : List Passed)
-      → ExecutesAs g (λ scope _. call_code scope call (map (passed_code scope) actuals)) (call_depth (map passed_depth actuals))
-      (is_well_formed_call (outline g) g.number false call (map (is_well_formed_passed (outline g) g.number) actuals))
-      (λ e. call_of call (map passing_of actuals) e >>= λ _. give tt)
-  calling_runs call actuals place base held s stands good based high deep =
+  calling_runs : (calling : ProcedureCall)
+      → ExecutesAs g (λ scope _. call_code scope calling.call (map (passed_code scope) calling.actuals.items))
+      (call_depth (map passed_depth calling.actuals.items))
+      (is_well_formed_call (outline g) g.number false calling.call (map (is_well_formed_passed (outline g) g.number) calling.actuals.items))
+      (λ e. call_of calling.call (map passing_of calling.actuals.items) e >>= λ _. give tt)
+  calling_runs calling place base held s stands good based high deep =
+      let call = calling.call in
+      let actuals = calling.actuals.items in
       returns_executes g _ held (place + length (call_code g.scope call (map (passed_code g.scope) actuals)))
       (call_of call (map passing_of actuals) (around g)) s
-      ((exact_around g).calls call actuals) (call_runs g known false call actuals place base held s stands good based deep)
+      ((exact_around g).calls call actuals) (call_runs g known false call actuals place base held s stands good based high deep)
 
 -- what is shown of a statement, in each setting
 abbrev pub StmtRuns : Stmt → Type 0
@@ -397,13 +404,13 @@ if_else_runs g known number condition consequence alternative few place base hel
     alternative.1 g known (omega arith) no base2 held t (stands_back g.target yes code behind inside).1 (and_parts _ _ parts.1).1 based2 high (omega arith)))
 
 -- a while statement
-while_runs : (g : Setting) (known : CallsRun g.depth) (number : ℕ) (condition : Expr) (body : (s : Stmt) × StmtRuns s) → repeats body.0 ≤ g.slack
-    → ExecutesAs g (λ scope. while_code (expr_code scope condition) (stmt_code body.0) scope) (max (expr_depth condition) (stmt_depth body.0))
-    (is_well_formed_expr (outline g) g.number condition && is_well_formed_stmt (outline g) g.number body.0)
-    (λ e. effect.enter number e.visible >>= λ _. effect.looped (while_round (value_of condition) (effect_of body.0) e) tt)
-while_runs g known number condition body few place base held s stands good based high deep =
-    let s1 = entered g number s in
-    let test = expr_code g.scope condition in
+while_runs : (g : Setting) (known : CallsRun g.depth) (head : LoopHead) (body : (s : Stmt) × StmtRuns s) → repeats body.0 ≤ g.slack
+    → ExecutesAs g (λ scope. while_code (expr_code scope head.condition) (stmt_code body.0) scope) (max (expr_depth head.condition) (stmt_depth body.0))
+    (is_well_formed_expr (outline g) g.number head.condition && is_well_formed_stmt (outline g) g.number body.0)
+    (λ e. effect.enter head.number e.visible >>= λ _. effect.looped (while_round (value_of head.condition) (effect_of body.0) e) tt)
+while_runs g known head body few place base held s stands good based high deep =
+    let s1 = entered g head.number s in
+    let test = expr_code g.scope head.condition in
     let inside = place + length test + 1 in
     let code = stmt_code body.0 g.scope inside in
     let end = inside + length code + 1 in
@@ -414,15 +421,15 @@ while_runs g known number condition body few place base held s stands good based
     let jump = stands_back g.target inside code back within in
     let e : end ≡ place + length (test ++ (instr.JumpIfFalse end ∷ (code ++ back))) =
     omega (arith, length-append test (instr.JumpIfFalse end ∷ (code ++ back)), length-append code back) in
-    let parts = and_parts (is_well_formed_expr (outline g) g.number condition) (is_well_formed_stmt (outline g) g.number body.0) good in
+    let parts = and_parts (is_well_formed_expr (outline g) g.number head.condition) (is_well_formed_stmt (outline g) g.number body.0) good in
     let hold : Unit {0} → List Cell = λ _. held in
-    let round : Round (Unit {0}) = while_round (value_of condition) (effect_of body.0) (around g) in
+    let round : Round (Unit {0}) = while_round (value_of head.condition) (effect_of body.0) (around g) in
     let aim : ℕ → Aim (Option (Unit {0})) = round_on g (λ _. Unit {0}) hold place end held 0 in
     let does = effect_of body.0 (around g) in
     let runs : RoundRuns g (λ _. Unit {0}) hold place end held round =
     λ start base2 t fits based2.
-    then_runs g (value_on g held (place + length test)) (aim t.turns) _ (value_of condition (around g)) (λ v. turn_if (is_so v) does) t
-    ((exact_around g).values condition) (expr_runs g (known g refl) condition place base2 held t front parts.0 based2 (omega arith))
+    then_runs g (value_on g held (place + length test)) (aim t.turns) _ (value_of head.condition (around g)) (λ v. turn_if (is_so v) does) t
+    ((exact_around g).values head.condition) (expr_runs g (known g refl) head.condition place base2 held t front parts.0 based2 (omega arith))
     (λ v u x fewer.
     let tested = on g ((x.0 ++ held) ++ Number (number_of v) ∷ []) (place + length test) u.output in
     branched g (λ b. Runs g (aim t.turns) tested (turn_if b does) u) end (x.0 ++ held) (number_of v) (place + length test) u.output here.0
@@ -442,23 +449,24 @@ while_runs g known number condition body few place base held s stands good based
       omega arith,
     )))))
     (λ came. inr ((x.0, x.1), comes_less g.target (u.turns - u.turns + 0) 1 tested _ (omega arith) came, omega arith))) in
-    let goes = (goes_around g).whiles condition body.0 in
+    let goes = (goes_around g).whiles head.condition body.0 in
     subst (λ p. Executes g (on g (base ++ held) place s.output) held p (effect.looped round tt) s1) e
-    (loops g (λ _. Unit {0}) hold place end held round goes (λ start. exact_while_round (around g) (exact_around g) condition body.0) runs tt base s1 tt based)
+    (loops g (λ _. Unit {0}) hold place end held round goes
+    (λ start. exact_while_round (around g) (exact_around g) head.condition body.0) runs tt base s1 tt based)
 
 -- a repeat statement
-repeat_runs : (g : Setting) (known : CallsRun g.depth) (number : ℕ) (condition : Expr) (ss : List ((s : Stmt) × StmtRuns s))
+repeat_runs : (g : Setting) (known : CallsRun g.depth) (head : LoopHead) (ss : List ((s : Stmt) × StmtRuns s))
     → greatest (map repeats (bare ss)) + 1 ≤ g.slack
-    → ExecutesAs g (λ scope. repeat_code (placed (map (λ code. code scope) (map stmt_code (bare ss)))) (expr_code scope condition))
-    (max (greatest (map stmt_depth (bare ss))) (expr_depth condition))
-    (all_hold (map (is_well_formed_stmt (outline g) g.number) (bare ss)) && is_well_formed_expr (outline g) g.number condition)
-    (λ e. effect.enter number e.visible >>= λ _. effect.looped (repeat_round (all_of (map effect_of (bare ss))) (value_of condition) e) tt)
-repeat_runs g known number condition ss few place base held s stands good based high deep =
-    let s1 = entered g number s in
+    → ExecutesAs g (λ scope. repeat_code (placed (map (λ code. code scope) (map stmt_code (bare ss)))) (expr_code scope head.condition))
+    (max (greatest (map stmt_depth (bare ss))) (expr_depth head.condition))
+    (all_hold (map (is_well_formed_stmt (outline g) g.number) (bare ss)) && is_well_formed_expr (outline g) g.number head.condition)
+    (λ e. effect.enter head.number e.visible >>= λ _. effect.looped (repeat_round (all_of (map effect_of (bare ss))) (value_of head.condition) e) tt)
+repeat_runs g known head ss few place base held s stands good based high deep =
+    let s1 = entered g head.number s in
     let h = reset g (g.slack - 1) g.scope.height in
     let known_there = known h refl in
     let code = placed (map (λ c. c g.scope) (map stmt_code (bare ss))) place in
-    let test = expr_code g.scope condition in
+    let test = expr_code g.scope head.condition in
     let last = place + length code in
     let end = last + length test + 1 in
     let back = instr.JumpIfFalse place ∷ [] in
@@ -466,23 +474,23 @@ repeat_runs g known number condition ss few place base held s stands good based 
     let jump = stands_back g.target last test back behind in
     let e : end ≡ place + length (code ++ (test ++ back)) = omega (arith, length-append code (test ++ back), length-append test back) in
     let parts = and_parts (all_hold (map (is_well_formed_stmt (outline g) g.number) (bare ss)))
-    (is_well_formed_expr (outline g) g.number condition) good in
+    (is_well_formed_expr (outline g) g.number head.condition) good in
     let hold : Unit {0} → List Cell = λ _. held in
     let statements = all_of (map effect_of (bare ss)) in
-    let round : Round (Unit {0}) = repeat_round statements (value_of condition) (around g) in
+    let round : Round (Unit {0}) = repeat_round statements (value_of head.condition) (around g) in
     let until : Value → Action (Option (Unit {0})) = λ v. give (if is_so v then None else Some tt) in
-    let rest : Action (Option (Unit {0})) = statements (around g) >>= λ _. value_of condition (around g) >>= until in
+    let rest : Action (Option (Unit {0})) = statements (around g) >>= λ _. value_of head.condition (around g) >>= until in
     let aim : ℕ → Aim (Option (Unit {0})) = round_on h (λ _. Unit {0}) hold place end held 1 in
     let inside : (left : ℕ) (base2 : List Cell) (t : effect.State) → t.turns ≡ left → Based h t base2
     → Rounds h (λ _. Unit {0}) hold place end held 1 (suc left) (on g (base2 ++ held) place t.output) rest t =
     λ left base2 t is based2.
-    then_runs h (kept_on h held last) (aim (suc left)) _ (statements (around g)) (λ _. value_of condition (around g) >>= until) t
+    then_runs h (kept_on h held last) (aim (suc left)) _ (statements (around g)) (λ _. value_of head.condition (around g) >>= until) t
     (exact_statements (around g) (exact_around g) (bare ss))
     (all_run h known_there stmt_code stmt_depth (is_well_formed_stmt (outline g) g.number) effect_of ((exact_around g).statements) (bare ss)
     (each_statement h known ss 0 (omega arith)) 0 place base2 held t (stands_front g.target place code (test ++ back) stands) parts.0 based2 high (omega arith))
     (λ _ u x fewer.
-    then_runs h (value_on h held (last + length test)) (aim (suc left)) _ (value_of condition (around g)) until u ((exact_around g).values condition)
-    (expr_runs h known_there condition last x.0 held u (stands_front g.target last test back behind) parts.1 x.1 (omega arith))
+    then_runs h (value_on h held (last + length test)) (aim (suc left)) _ (value_of head.condition (around g)) until u ((exact_around g).values head.condition)
+    (expr_runs h known_there head.condition last x.0 held u (stands_front g.target last test back behind) parts.1 x.1 (omega arith))
     (λ v w y fewest.
     let tested = on g ((y.0 ++ held) ++ Number (number_of v) ∷ []) (last + length test) w.output in
     branched g (λ b. Runs h (aim (suc left)) tested (give (if b then None else Some tt)) w) place (y.0 ++ held) (number_of v) (last + length test) w.output
@@ -501,9 +509,9 @@ repeat_runs g known number condition ss few place base held s stands good based 
     (rounds_from_reset g (g.slack - 1) g.scope.height (λ _. Unit {0}) hold place end held left _ rest (record t { turns = left }) (omega arith) refl
     (inside left base2 (record t { turns = left }) refl
     (to_reset g (g.slack - 1) g.scope.height (record t { turns = left }) base2 (later g left t base2 (omega (arith, is)) based2))))) in
-    let goes = (goes_around g).repeats (bare ss) condition in
+    let goes = (goes_around g).repeats (bare ss) head.condition in
     subst (λ p. Executes g (on g (base ++ held) place s.output) held p (effect.looped round tt) s1) e
-    (loops g (λ _. Unit {0}) hold place end held round goes (λ start. exact_repeat_round (around g) (exact_around g) (bare ss) condition) runs tt
+    (loops g (λ _. Unit {0}) hold place end held round goes (λ start. exact_repeat_round (around g) (exact_around g) (bare ss) head.condition) runs tt
     base s1 tt based)
 
 -- ---- a for statement
@@ -538,18 +546,18 @@ stepped g s base held n l output direction.DownTo place head based high room fit
     steps g s base held n l output based high room instr.Subtract (frames.of_two dyadic.Subtract) (n -ℤ pos 1) place head at1 at2 at3 at4 at5 refl
     (difference_is n (pos 1) fit one_fits fit')
 
-module _ (g : Setting) (known : CallsRun g.depth) (control : ℕ) (scalar : IsScalar g control) (way : Direction) (body : (s : Stmt) × StmtRuns s)
+module _ (g : Setting) (known : CallsRun g.depth) (head : ForHead) (scalar : IsScalar g head.control) (body : (s : Stmt) × StmtRuns s)
     (few : repeats body.0 ≤ g.slack)
-    (good : is_well_formed_stmt (outline g) g.number body.0 ≡ true) (head : ℕ) (held : List Cell)
+    (good : is_well_formed_stmt (outline g) g.number body.0 ≡ true) (start : ℕ) (held : List Cell)
     (high : length held ≡ g.scope.height) (room : g.below + length held + max 4 (stmt_depth body.0 + 2) ≤ g.limit) (l : ℤ) (fit_last : Fits l) where
   abbrev inner : Setting
   inner = reset g g.slack (count (g.scope.height + 2))
 
   abbrev body_code : List Instr
-  body_code = stmt_code body.0 (holding 2 g.scope) (head + 2)
+  body_code = stmt_code body.0 (holding 2 g.scope) (start + 2)
 
   abbrev behind : ℕ
-  behind = head + 2 + length body_code
+  behind = start + 2 + length body_code
 
   abbrev out : ℕ
   out = behind + 9
@@ -558,20 +566,20 @@ module _ (g : Setting) (known : CallsRun g.depth) (control : ℕ) (scalar : IsSc
   hold n = held ++ Number n ∷ Number l ∷ []
 
   abbrev fit : ℤ → Type 0
-  fit n = Fits n × (has_values way n l ≡ true)
+  fit n = Fits n × (has_values head.direction n l ≡ true)
 
   abbrev round : Round ℤ
-  round = for_round control way l (effect_of body.0) (around g)
+  round = for_round head l (effect_of body.0) (around g)
 
   enough : g.below + length held + 4 ≤ g.limit
   enough = omega arith
 
   -- behind the body
   turns_back : (n : ℤ) (base : List Cell) (s : effect.State) (bound : ℕ) (same : Bool) → int_eq n l ≡ same → fit n → s.turns < bound → Based g s base
-      → Stands g.target behind (for_next g.scope way head out)
+      → Stands g.target behind (for_next g.scope head.direction start out)
       → Comes g.target 4 (on g (base ++ hold n) behind s.output) (on g (base ++ hold n) (if not same then behind + 4 else out) s.output)
-      → Rounds g fit hold head out (hold l) 0 bound (on g (base ++ hold n) behind s.output)
-      (give (if same then None else Some (next_value way n))) s
+      → Rounds g fit hold start out (hold l) 0 bound (on g (base ++ hold n) behind s.output)
+      (give (if same then None else Some (next_value head.direction n))) s
   turns_back n base s bound true is fits fewer based stands came = inr (
     (base, based),
     comes_less g.target (s.turns - s.turns + 0) 4 _ _ (omega arith)
@@ -579,37 +587,37 @@ module _ (g : Setting) (known : CallsRun g.depth) (control : ℕ) (scalar : IsSc
     omega arith,
   )
   turns_back n base s bound false is fits fewer based stands came =
-      let next = next_fits way n l fits.0 fit_last fits.1 is in
+      let next = next_fits head.direction n l fits.0 fit_last fits.1 is in
       let p : behind + 1 + 1 + 1 + 1 ≡ behind + 4 = omega arith in
       let rest = stands.1.1.1.1 in
-      let again = stepped g s base held n l s.output way (behind + 1 + 1 + 1 + 1) head based high enough fits.0 next.fits rest.0 rest.1.0 rest.1.1.0
+      let again = stepped g s base held n l s.output head.direction (behind + 1 + 1 + 1 + 1) start based high enough fits.0 next.fits rest.0 rest.1.0 rest.1.1.0
       rest.1.1.1.0 rest.1.1.1.1.0 in
-      let from = subst (λ q. Comes g.target 1 (on g (base ++ hold n) q s.output) (on g (base ++ hold (next_value way n)) head s.output)) p again in
+      let from = subst (λ q. Comes g.target 1 (on g (base ++ hold n) q s.output) (on g (base ++ hold (next_value head.direction n)) start s.output)) p again in
       inr (
         (base, based, fewer, (next.fits, next.has)),
         comes_less g.target (s.turns - s.turns + 0) 5 _ _ (omega arith) (comes_on g.target 4 1 _ _ _ came from),
         omega arith,
       )
 
-  for_round_runs : Stands g.target head (for_begin g.scope control) → Stands g.target (head + 2) body_code
-      → Stands g.target behind (for_next g.scope way head out) → RoundRuns g fit hold head out (hold l) round
+  for_round_runs : Stands g.target start (for_begin g.scope head.control) → Stands g.target (start + 2) body_code
+      → Stands g.target behind (for_next g.scope head.direction start out) → RoundRuns g fit hold start out (hold l) round
   for_round_runs beginning inside next n base s fits based =
-      let s1 : effect.State = record s { store = kept s.store (g.environment.variables control) (value.Number n) } in
-      let base1 = slice_set base (slot g control scalar) (Number n) in
-      let based1 = variable_kept g control scalar s base n based fits.0 in
-      let came = begins g s base held n l s.output based high enough control head scalar fits.0 beginning.0 beginning.1.0 in
+      let s1 : effect.State = record s { store = kept s.store (g.environment.variables head.control) (value.Number n) } in
+      let base1 = slice_set base (slot g head.control scalar) (Number n) in
+      let based1 = variable_kept g head.control scalar s base n based fits.0 in
+      let came = begins g s base held n l s.output based high enough head.control start scalar fits.0 beginning.0 beginning.1.0 in
       let long : length (hold n) ≡ length held + 2 = length-append held (Number n ∷ Number l ∷ []) in
       let reach = limit_far g in
       let body_action = effect_of body.0 (around g) in
-      turned g fit hold head out (hold l) s.turns s1 _ (λ _. body_action >>= λ _. give (value_behind way l n)) refl (λ left is.
-      rounds_later g fit hold head out (hold l) 0 s.turns s.turns _ (on g (base1 ++ hold n) (head + 2) s.output)
-      (body_action >>= λ _. give (value_behind way l n)) (record s1 { turns = left }) (omega (arith, is))
+      turned g fit hold start out (hold l) s.turns s1 _ (λ _. body_action >>= λ _. give (value_behind head.direction l n)) refl (λ left is.
+      rounds_later g fit hold start out (hold l) 0 s.turns s.turns _ (on g (base1 ++ hold n) (start + 2) s.output)
+      (body_action >>= λ _. give (value_behind head.direction l n)) (record s1 { turns = left }) (omega (arith, is))
       (comes_less g.target (s.turns - left) 2 _ _ (omega (arith, is)) came)
-      (then_runs g (kept_on g (hold n) behind) (round_on g fit hold head out (hold l) 0 s.turns) _ body_action (λ _. give (value_behind way l n))
+      (then_runs g (kept_on g (hold n) behind) (round_on g fit hold start out (hold l) 0 s.turns) _ body_action (λ _. give (value_behind head.direction l n))
       (record s1 { turns = left })
       ((exact_around g).statements body.0)
       (executes_from_reset g g.slack (count (g.scope.height + 2)) _ (hold n) behind body_action (record s1 { turns = left }) refl
-      (body.1 inner known few (head + 2) base1 (hold n) (record s1 { turns = left }) inside good
+      (body.1 inner known few (start + 2) base1 (hold n) (record s1 { turns = left }) inside good
       (to_reset g g.slack (count (g.scope.height + 2)) (record s1 { turns = left }) base1 (later g left s1 base1 (omega (arith, is)) based1))
       (omega (arith, long, high, reach, room)) (omega (arith, long, room))))
       (λ _ u x fewer.
@@ -618,30 +626,30 @@ module _ (g : Setting) (known : CallsRun g.depth) (control : ℕ) (scalar : IsSc
       next.0 next.1.0 next.1.1.0 next.1.1.1.0 refl refl))))
 
   goes : GoesRoundByRound round
-  goes = (goes_around g).fors control way l body.0
+  goes = (goes_around g).fors head l body.0
 
   exact_rounds : (n : ℤ) → UsesTurnsExactly (round n)
-  exact_rounds n = exact_for_round (around g) (exact_around g) control way l body.0 n
+  exact_rounds n = exact_for_round (around g) (exact_around g) head l body.0 n
 
   -- behind the loop
-  module _ (ending : Stands g.target out (for_end g.scope control)) where
+  module _ (ending : Stands g.target out (for_end g.scope head.control)) where
     leaves_it : (n : ℤ) (base : List Cell) (s : effect.State) → Fits n → Based g s base
-        → Executes g (on g (base ++ hold n) out s.output) held (out + 4) (effect.undefine (g.environment.variables control)) s
+        → Executes g (on g (base ++ hold n) out s.output) held (out + 4) (effect.undefine (g.environment.variables head.control)) s
     leaves_it n base s fits based =
-        let c = slot g control scalar in
-        let based' = variable_forgotten g control scalar s base based in
-        inr (done g 4 _ (slice_set base c Undefined) held (out + 4) (record s { store = forgotten s.store (g.environment.variables control) })
+        let c = slot g head.control scalar in
+        let based' = variable_forgotten g head.control scalar s base based in
+        inr (done g 4 _ (slice_set base c Undefined) held (out + 4) (record s { store = forgotten s.store (g.environment.variables head.control) })
         based'
-        (leaves g s base held n l s.output based high enough control out scalar fits fit_last ending.0 ending.1.0 ending.1.1.0 ending.1.1.1.0))
+        (leaves g s base held n l s.output based high enough head.control out scalar fits fit_last ending.0 ending.1.0 ending.1.1.0 ending.1.1.1.0))
 
-    module _ (first_fits last_fits : RangeTest) (site_first : first_fits.site < length g.tree.sites.items) (site_last : last_fits.site < length
-        g.tree.sites.items) (place : ℕ) (at : place + 8 ≡ head) (entry : Stands g.target place (for_entry g.scope first_fits way last_fits out))
-        (beginning : Stands g.target head (for_begin g.scope control)) (inside : Stands g.target (head + 2) body_code)
-        (next : Stands g.target behind (for_next g.scope way head out)) where
+    module _ (site_first : head.first.fits.site < length g.tree.sites.items) (site_last : head.last.fits.site < length g.tree.sites.items) (place : ℕ)
+        (at : place + 8 ≡ start) (entry : Stands g.target place (for_entry g.scope head out))
+        (beginning : Stands g.target start (for_begin g.scope head.control))
+        (inside : Stands g.target (start + 2) body_code) (next : Stands g.target behind (for_next g.scope head.direction start out)) where
       -- the tests of the bounds, and the rounds
-      tested : (n : ℤ) (base : List Cell) (s : effect.State) → Fits n → has_values way n l ≡ true → Based g s base
+      tested : (n : ℤ) (base : List Cell) (s : effect.State) → Fits n → has_values head.direction n l ≡ true → Based g s base
           → Executes g (on g (base ++ hold n) (place + 4) s.output) (hold l) out
-          (for_rounds control first_fits way last_fits (effect_of body.0) (around g) n l) s
+          (for_rounds head (effect_of body.0) (around g) n l) s
       tested n base s fits has based =
           let here = base ++ hold n in
           let one = held ++ Number n ∷ [] in
@@ -650,7 +658,7 @@ module _ (g : Setting) (known : CallsRun g.depth) (control : ℕ) (scalar : IsSc
           let full = based.full in
           let long : length here ≡ g.below + length held + 2 = omega (arith, length-append base (hold n), length-append held (Number n ∷ Number l ∷ [])) in
           let p : place + 1 + 1 + 1 + 1 ≡ place + 4 = omega arith in
-          let q : place + 1 + 1 + 1 + 1 + 1 + 1 + 1 + 1 ≡ head = omega (arith, at) in
+          let q : place + 1 + 1 + 1 + 1 + 1 + 1 + 1 + 1 ≡ start = omega (arith, at) in
           let a = loads_held g s base held (Number n ∷ Number l ∷ []) [] here 0 (Number n) (place + 1 + 1 + 1 + 1) s.output based high
           (sym (append-nil here)) refl (omega arith) rest.0 in
           let b = stores_held g s base held (Number n ∷ Number l ∷ []) (here ++ Number n ∷ []) 0 (Number n) (place + 1 + 1 + 1 + 1 + 1 + 1) s.output based
@@ -659,81 +667,79 @@ module _ (g : Setting) (known : CallsRun g.depth) (control : ℕ) (scalar : IsSc
           ∙ sym (append_assoc base one (Number l ∷ [])) in
           let in_frame' = linked g s base one based in
           let loop = subst (λ m. Executes g (on g here m s.output) (hold l) out (effect.looped round n) s) (sym q)
-          (loops g fit hold head out (hold l) round goes exact_rounds (for_round_runs beginning inside next) n base s (fits, has) based) in
-          let last_test : Action (Unit {0}) = require (effect.is_in last_fits.range (value.Number l)) last_fits.site >>= λ _. effect.looped round n in
+          (loops g fit hold start out (hold l) round goes exact_rounds (for_round_runs beginning inside next) n base s (fits, has) based) in
+          let last_test : Action (Unit {0}) = require (effect.is_in head.last.fits.range (value.Number l)) head.last.fits.site >>= λ _. effect.looped round n in
           let six = place + 1 + 1 + 1 + 1 + 1 + 1 in
           let last_here = subst (λ cs. Executes g (on g cs (six + 1) s.output) (hold l) out last_test s) (sym split)
-          (range_then g (kept_on g (hold l) out) last_fits (value.Number l) (base ++ one) (six + 1) s (effect.looped round n) rest.1.1.1.0 site_last in_frame'
+          (range_then g (kept_on g (hold l) out) head.last.fits (value.Number l) (base ++ one) (six + 1) s
+          (effect.looped round n) rest.1.1.1.0 site_last in_frame'
           fit_last (λ _. subst (λ cs. Executes g (on g cs (six + 1 + 1) s.output) (hold l) out (effect.looped round n) s) split loop)) in
-          subst (λ m. Executes g (on g here m s.output) (hold l) out (for_rounds control first_fits way last_fits (effect_of body.0) (around g) n l) s) p
-          (runs_from g (kept_on g (hold l) out) 1 _ _ (for_rounds control first_fits way last_fits (effect_of body.0) (around g) n l) s a
-          (range_then g (kept_on g (hold l) out) first_fits (value.Number n) here (place + 1 + 1 + 1 + 1 + 1) s last_test rest.1.0 site_first in_frame fits
+          subst (λ m. Executes g (on g here m s.output) (hold l) out (for_rounds head (effect_of body.0) (around g) n l) s) p
+          (runs_from g (kept_on g (hold l) out) 1 _ _ (for_rounds head (effect_of body.0) (around g) n l) s a
+          (range_then g (kept_on g (hold l) out) head.first.fits (value.Number n) here (place + 1 + 1 + 1 + 1 + 1) s last_test rest.1.0 site_first in_frame fits
           (λ _. runs_from g (kept_on g (hold l) out) 1 _ _ last_test s b last_here)))
 
       -- from the values of the bounds on
-      from_bounds : (n : ℤ) (base : List Cell) (s : effect.State) (has : Bool) → has_values way n l ≡ has → Fits n → Based g s base
+      from_bounds : (n : ℤ) (base : List Cell) (s : effect.State) (has : Bool) → has_values head.direction n l ≡ has → Fits n → Based g s base
           → Comes g.target 4 (on g (base ++ hold n) place s.output) (on g (base ++ hold n) (if has then place + 4 else out) s.output)
           → Executes g (on g (base ++ hold n) place s.output) held (out + 4)
-          (((if has then for_rounds control first_fits way last_fits (effect_of body.0) (around g) n l else give tt) >>= λ _. effect.undefine
-          (g.environment.variables control))) s
+          (((if has then for_rounds head (effect_of body.0) (around g) n l else give tt) >>= λ _. effect.undefine
+          (g.environment.variables head.control))) s
       from_bounds n base s true has fits based came =
-          runs_from g (kept_on g held (out + 4)) 4 _ _ ((for_rounds control first_fits way last_fits (effect_of body.0) (around g) n l >>= λ _. effect.undefine
-          (g.environment.variables control))) s came
+          runs_from g (kept_on g held (out + 4)) 4 _ _ ((for_rounds head (effect_of body.0) (around g) n l >>= λ _. effect.undefine
+          (g.environment.variables head.control))) s came
           (then_runs g (kept_on g (hold l) out) (kept_on g held (out + 4)) _
-          (for_rounds control first_fits way last_fits (effect_of body.0) (around g) n l)
-          (λ _. effect.undefine (g.environment.variables control)) s
-          ((exact_around g).counted control first_fits way last_fits body.0 n l) (tested n base s fits has based)
+          (for_rounds head (effect_of body.0) (around g) n l)
+          (λ _. effect.undefine (g.environment.variables head.control)) s
+          ((exact_around g).counted head body.0 n l) (tested n base s fits has based)
           (λ _ t x le. leaves_it l x.0 t fit_last x.1))
       from_bounds n base s false has fits based came =
-          runs_from g (kept_on g held (out + 4)) 4 _ _ (effect.undefine (g.environment.variables control)) s came (leaves_it n base s fits based)
+          runs_from g (kept_on g held (out + 4)) 4 _ _ (effect.undefine (g.environment.variables head.control)) s came (leaves_it n base s fits based)
 
       for_between_runs : (n : ℤ) (base : List Cell) (s : effect.State) → Fits n → Based g s base
           → Executes g (on g (base ++ hold n) place s.output) held (out + 4)
-          ((for_between control first_fits way last_fits (effect_of body.0) (around g) n l >>= λ _. effect.undefine
-          (g.environment.variables control))) s
+          ((for_between head (effect_of body.0) (around g) n l >>= λ _. effect.undefine
+          (g.environment.variables head.control))) s
       for_between_runs n base s fits based =
-          from_bounds n base s (has_values way n l) refl fits based
-          (ordered g s base held n l s.output way place out based high enough entry.0 entry.1.0 entry.1.1.0 entry.1.1.1.0)
+          from_bounds n base s (has_values head.direction n l) refl fits based
+          (ordered g s base held n l s.output head.direction place out based high enough entry.0 entry.1.0 entry.1.1.0 entry.1.1.1.0)
 
-for_runs : (g : Setting) (known : CallsRun g.depth) (number control : ℕ) (first : Expr) (first_fits : RangeTest) (way : Direction) (last : Expr)
-    (last_fits : RangeTest)
-    (body : (s : Stmt) × StmtRuns s) → repeats body.0 ≤ g.slack
-    → ExecutesAs g (λ scope. for_code control (expr_code scope first) first_fits way (expr_code scope last) last_fits (stmt_code body.0) scope)
-    (max (max (expr_depth first) (expr_depth last + 1)) (max 4 (stmt_depth body.0 + 2)))
-    (is_control (outline g) g.number control && (is_well_formed_expr (outline g) g.number first
-    && (fits_target (outline g) g.number first_fits control [] && (is_well_formed_expr (outline g) g.number last
-    && (fits_target (outline g) g.number last_fits control [] && is_well_formed_stmt (outline g) g.number body.0)))))
-    (λ e. effect.enter number e.visible >>= λ _. value_of first e >>= λ a. value_of last e >>= λ b. for_between control first_fits way last_fits
-    (effect_of body.0) e
-    (number_of a) (number_of b)
-    >>= λ _. effect.undefine (e.visible.variables control))
-for_runs g known number control first first_fits way last last_fits body few place base held s stands good based high deep =
-    let s1 = entered g number s in
+for_runs : (g : Setting) (known : CallsRun g.depth) (head : ForHead) (body : (s : Stmt) × StmtRuns s) → repeats body.0 ≤ g.slack
+    → ExecutesAs g (for_code head (stmt_code body.0))
+    (max (max (expr_depth head.first.value) (expr_depth head.last.value + 1)) (max 4 (stmt_depth body.0 + 2)))
+    (is_control (outline g) g.number head.control && (is_well_formed_expr (outline g) g.number head.first.value
+    && (fits_target (outline g) g.number head.first.fits head.control [] && (is_well_formed_expr (outline g) g.number head.last.value
+    && (fits_target (outline g) g.number head.last.fits head.control [] && is_well_formed_stmt (outline g) g.number body.0)))))
+    (λ e. effect.enter head.number e.visible >>= λ _. value_of head.first.value e >>= λ a. value_of head.last.value e >>= λ b.
+    for_between head (effect_of body.0) e (number_of a) (number_of b) >>= λ _. effect.undefine (e.visible.variables head.control))
+for_runs g known head body few place base held s stands good based high deep =
+    let s1 = entered g head.number s in
+    let first = head.first.value in
+    let last = head.last.value in
     let a = expr_code g.scope first in
     let b = expr_code g.scope last in
-    let head = place + length a + length b + 8 in
-    let inside = stmt_code body.0 (holding 2 g.scope) (head + 2) in
-    let out' = head + 2 + length inside + 9 in
-    let entry = for_entry g.scope first_fits way last_fits out' in
-    let begin = for_begin g.scope control in
-    let next = for_next g.scope way head out' in
-    let end = for_end g.scope control in
+    let start = place + length a + length b + 8 in
+    let inside = stmt_code body.0 (holding 2 g.scope) (start + 2) in
+    let out' = start + 2 + length inside + 9 in
+    let entry = for_entry g.scope head out' in
+    let begin = for_begin g.scope head.control in
+    let next = for_next g.scope head.direction start out' in
+    let end = for_end g.scope head.control in
     let test = place + length a + length b in
     let loop = begin ++ (inside ++ (next ++ end)) in
-    let e : out' + 4 ≡ place + length (for_code control a first_fits way b last_fits (stmt_code body.0) g.scope place) =
-    omega (arith, length-For control a first_fits way b last_fits (stmt_code body.0) g.scope place) in
-    let p1 = and_parts (is_control (outline g) g.number control) _ good in
+    let e : out' + 4 ≡ place + length (for_code head (stmt_code body.0) g.scope place) =
+    omega (arith, length-For head (stmt_code body.0) g.scope place) in
+    let p1 = and_parts (is_control (outline g) g.number head.control) _ good in
     let p2 = and_parts (is_well_formed_expr (outline g) g.number first) _ p1.1 in
-    let p3 = and_parts (fits_target (outline g) g.number first_fits control []) _ p2.1 in
+    let p3 = and_parts (fits_target (outline g) g.number head.first.fits head.control []) _ p2.1 in
     let p4 = and_parts (is_well_formed_expr (outline g) g.number last) _ p3.1 in
-    let p5 = and_parts (fits_target (outline g) g.number last_fits control []) (is_well_formed_stmt (outline g) g.number body.0) p4.1 in
-    let site_of : (fits : RangeTest) → fits_target (outline g) g.number fits control [] ≡ true → fits.site < sites g =
+    let p5 = and_parts (fits_target (outline g) g.number head.last.fits head.control []) (is_well_formed_stmt (outline g) g.number body.0) p4.1 in
+    let site_of : (fits : RangeTest) → fits_target (outline g) g.number fits head.control [] ≡ true → fits.site < sites g =
     λ fits well. ltb-true fits.site (sites g)
     (and_parts (nat_lt fits.site (sites g)) _ (and_parts (is_well_formed_test (outline g) g.number fits) _ well).0).0 in
-    let scalar = is_scalar g control p1.0 in
+    let scalar = is_scalar g head.control p1.0 in
     let rest : Value → Value → Action (Unit {0}) =
-    λ v w. for_between control first_fits way last_fits (effect_of body.0) (around g) (number_of v) (number_of w) >>= λ _.
-    effect.undefine (g.environment.variables control) in
+    λ v w. for_between head (effect_of body.0) (around g) (number_of v) (number_of w) >>= λ _. effect.undefine (g.environment.variables head.control) in
     let there : ℕ → Aim (Unit {0}) = λ _. kept_on g held (out' + 4) in
     subst (λ q. Executes g (on g (base ++ held) place s.output) held q (value_of first (around g) >>= (λ v. value_of last (around g) >>= λ w. rest v w)) s1) e
     (expr_then g (known g refl) there first (b ++ (entry ++ loop)) place base held (λ v. value_of last (around g) >>= λ w. rest v w) s1 stands p2.0 based
@@ -748,15 +754,15 @@ for_runs g known number control first first_fits way last last_fits body few pla
     (λ base3 w u from_entry based3 fit' room3.
     let l = number_of w in
     let from_begin = stands_back g.target test entry loop from_entry in
-    let from_inside = stands_back g.target head begin (inside ++ (next ++ end)) from_begin in
-    let from_next = stands_back g.target (head + 2) inside (next ++ end) from_inside in
+    let from_inside = stands_back g.target start begin (inside ++ (next ++ end)) from_begin in
+    let from_next = stands_back g.target (start + 2) inside (next ++ end) from_inside in
     let two : (base3 ++ (held ++ Number n ∷ [])) ++ Number l ∷ [] ≡ base3 ++ (held ++ Number n ∷ Number l ∷ []) =
     append_assoc base3 (held ++ Number n ∷ []) (Number l ∷ []) ∙ ap (λ cs. base3 ++ cs) (append_assoc held (Number n ∷ []) (Number l ∷ [])) in
     subst (λ cells. Executes g (on g cells test u.output) held (out' + 4) (rest v w) u) (sym two)
-    (for_between_runs g known control scalar way body few p5.1 head held high (omega arith) l fit'
-    (stands_back g.target (head + 2 + length inside) next end from_next) first_fits last_fits (site_of first_fits p3.0) (site_of last_fits p5.0) test refl
-    (stands_front g.target test entry loop from_entry) (stands_front g.target head begin (inside ++ (next ++ end)) from_begin)
-    (stands_front g.target (head + 2) inside (next ++ end) from_inside) (stands_front g.target (head + 2 + length inside) next end from_next) n base3 u fit
+    (for_between_runs g known head scalar body few p5.1 start held high (omega arith) l fit'
+    (stands_back g.target (start + 2 + length inside) next end from_next) (site_of head.first.fits p3.0) (site_of head.last.fits p5.0) test refl
+    (stands_front g.target test entry loop from_entry) (stands_front g.target start begin (inside ++ (next ++ end)) from_begin)
+    (stands_front g.target (start + 2) inside (next ++ end) from_inside) (stands_front g.target (start + 2 + length inside) next end from_next) n base3 u fit
     based3)))))
 
 -- ---- a case statement
@@ -854,40 +860,40 @@ module _ (g : Setting) (known : CallsRun g.depth) (site : ℕ) (within : site < 
             (arms_run rows arms (max before (repeats arm.0)) next base s few parts.1 (omega arith) based from_jump.1)
       ]) came
 
-case_runs : (g : Setting) (known : CallsRun g.depth) (number site : ℕ) (index : Expr) (rows : List (Vec ℤ)) (arms : List ((s : Stmt) × StmtRuns s))
-    (well : Bool)
-    → greatest (map repeats (bare arms)) ≤ g.slack
-    → ExecutesAs g (λ scope. case_code site (expr_code scope index) rows (map stmt_code (bare arms)) scope)
-    (max (expr_depth index) (max 3 (arms_depth rows (map stmt_depth (bare arms)) + 1)))
-    (nat_lt site (sites g) && (is_well_formed_expr (outline g) g.number index && (well && all_hold (map
+case_runs : (g : Setting) (known : CallsRun g.depth) (head : CaseHead) (arms : List ((s : Stmt) × StmtRuns s)) → greatest (map repeats (bare arms)) ≤ g.slack
+    → ExecutesAs g (case_code head (map stmt_code (bare arms)))
+    (max (expr_depth head.index) (max 3 (arms_depth head.constants.items (map stmt_depth (bare arms)) + 1)))
+    (nat_lt head.site (sites g) && (is_well_formed_expr (outline g) g.number head.index && (list_all are_whole head.constants.items && all_hold (map
     (is_well_formed_stmt (outline g) g.number) (bare arms)))))
-    (λ e. effect.enter number e.visible >>= λ _. value_of index e >>= λ v. arm_of site rows (map effect_of (bare arms)) (number_of v) e)
-case_runs g known number site index rows arms well few place base held s stands good based high deep =
-    let s1 = entered g number s in
-    let test = expr_code g.scope index in
+    (λ e. effect.enter head.number e.visible >>= λ _. value_of head.index e >>= λ v.
+    arm_of head.site head.constants.items (map effect_of (bare arms)) (number_of v) e)
+case_runs g known head arms few place base held s stands good based high deep =
+    let s1 = entered g head.number s in
+    let rows = head.constants.items in
+    let test = expr_code g.scope head.index in
     let codes = map stmt_code (bare arms) in
     let first = place + length test in
     let out = first + length (arms_code g.scope 0 rows codes first) + 1 in
     let all = arms_code g.scope out rows codes first in
     let pop = instr.JumpIfFalse (out + 1) ∷ [] in
     let same : first + length all + 1 ≡ out = ap (λ m. first + m + 1) (length-arms g.scope rows codes out 0 first) in
-    let p1 = and_parts (nat_lt site (sites g)) _ good in
-    let p2 = and_parts (is_well_formed_expr (outline g) g.number index) _ p1.1 in
-    let p3 = and_parts well (all_hold (map (is_well_formed_stmt (outline g) g.number) (bare arms))) p2.1 in
-    let within = ltb-true site (sites g) p1.0 in
-    let next : Value → Action (Unit {0}) = λ v. arm_of site rows (map effect_of (bare arms)) (number_of v) (around g) in
-    expr_then g (known g refl) (kept_on g held) index (all ++ (instr.Fail site ∷ pop)) place base held next s1 stands p2.0 based (omega arith)
+    let p1 = and_parts (nat_lt head.site (sites g)) _ good in
+    let p2 = and_parts (is_well_formed_expr (outline g) g.number head.index) _ p1.1 in
+    let p3 = and_parts (list_all are_whole rows) (all_hold (map (is_well_formed_stmt (outline g) g.number) (bare arms))) p2.1 in
+    let within = ltb-true head.site (sites g) p1.0 in
+    let next : Value → Action (Unit {0}) = λ v. arm_of head.site rows (map effect_of (bare arms)) (number_of v) (around g) in
+    expr_then g (known g refl) (kept_on g held) head.index (all ++ (instr.Fail head.site ∷ pop)) place base held next s1 stands p2.0 based (omega arith)
     (λ base2 v t from_arms based2 fit room2.
     let n = number_of v in
     let here = held ++ Number n ∷ [] in
-    let end = first + length (all ++ (instr.Fail site ∷ pop)) in
-    let at_end = stands_back g.target first all (instr.Fail site ∷ pop) from_arms in
+    let end = first + length (all ++ (instr.Fail head.site ∷ pop)) in
+    let at_end = stands_back g.target first all (instr.Fail head.site ∷ pop) from_arms in
     let popping = subst (λ p. StandsAt g.target p (instr.JumpIfFalse (out + 1)) true) same at_end.1.0 in
-    let e : out + 1 ≡ end = omega (arith, same, length-append all (instr.Fail site ∷ pop)) in
+    let e : out + 1 ≡ end = omega (arith, same, length-append all (instr.Fail head.site ∷ pop)) in
     subst (λ cells. Executes g (on g cells first t.output) held end (next v) t) (one_held g base2 held n)
     (subst (λ q. Executes g (on g (base2 ++ here) first t.output) held q (next v) t) e
     (behind_executes g _ here held out (out + 1) (next v) t
-    (arms_run g known site within out pop held high n rows arms 0 first base2 t few p3.1 (omega arith) based2 from_arms)
+    (arms_run g known head.site within out pop held high n rows arms 0 first base2 t few p3.1 (omega arith) based2 from_arms)
     (λ base3 u based3.
     subst (λ cells. Comes g.target 0 (on g cells out u.output) (on g (base3 ++ held) (out + 1) u.output)) (sym (one_held g base3 held n))
     (popped_there g (base3 ++ held) n out u.output popping (linked g u base3 held based3))))))
@@ -906,14 +912,10 @@ module _ (x : Stmt-F Stmt) where
 
 stmt_layer : (y : Stmt-F ((s : Stmt) × StmtRuns s)) → StmtRuns (roll-Stmt (map-Stmt ((s : Stmt) × StmtRuns s) Stmt (λ s. s.0) y))
 stmt_layer (Empty number) = rolled_stmt (Empty number) (λ g known few. empty_runs g known number)
-stmt_layer (Assign number becomes target indexes fits v) =
-    rolled_stmt (Assign number becomes target indexes fits v) (λ g known few. assign_runs g (known g refl) number target fits v indexes.items)
-stmt_layer (Copy number becomes target indexes type_id v value_indexes) =
-    rolled_stmt (Copy number becomes target indexes type_id v value_indexes)
-    (λ g known few. copy_runs g (known g refl) number target type_id v indexes.items value_indexes.items)
-stmt_layer (Write number name parameters ends_line) =
-    rolled_stmt (Write number name parameters ends_line) (λ g known few. write_runs g (known g refl) number parameters.items ends_line)
-stmt_layer (Calling call actuals) = rolled_stmt (Calling call actuals) (λ g known few. calling_runs g (known g refl) call actuals.items)
+stmt_layer (Assign assignment) = rolled_stmt (Assign assignment) (λ g known few. assign_runs g (known g refl) assignment)
+stmt_layer (Copy copying) = rolled_stmt (Copy copying) (λ g known few. copy_runs g (known g refl) copying)
+stmt_layer (Write writing) = rolled_stmt (Write writing) (λ g known few. write_runs g (known g refl) writing)
+stmt_layer (Calling calling) = rolled_stmt (Calling calling) (λ g known few. calling_runs g (known g refl) calling)
 stmt_layer (Compound number statements) =
     rolled_stmt (map-Stmt ((s : Stmt) × StmtRuns s) Stmt (λ s. s.0) (Compound number statements))
     (λ g known few. compound_runs g known number statements.items few)
@@ -923,18 +925,14 @@ stmt_layer (If number condition consequence None) =
 stmt_layer (If number condition consequence (Some alternative)) =
     rolled_stmt (map-Stmt ((s : Stmt) × StmtRuns s) Stmt (λ s. s.0) (If number condition consequence (Some alternative)))
     (λ g known few. if_else_runs g known number condition consequence.value alternative.value few)
-stmt_layer (While number loop_number word condition body) =
-    rolled_stmt (map-Stmt ((s : Stmt) × StmtRuns s) Stmt (λ s. s.0) (While number loop_number word condition body))
-    (λ g known few. while_runs g known number condition body.value few)
-stmt_layer (Repeat number loop_number word statements condition) =
-    rolled_stmt (map-Stmt ((s : Stmt) × StmtRuns s) Stmt (λ s. s.0) (Repeat number loop_number word statements condition))
-    (λ g known few. repeat_runs g known number condition statements.items few)
-stmt_layer (For number loop_number word control first first_fits way last last_fits body) =
-    rolled_stmt (map-Stmt ((s : Stmt) × StmtRuns s) Stmt (λ s. s.0) (For number loop_number word control first first_fits way last last_fits body))
-    (λ g known few. for_runs g known number control first first_fits way last last_fits body.value few)
-stmt_layer (Case number site index constants arms) =
-    rolled_stmt (map-Stmt ((s : Stmt) × StmtRuns s) Stmt (λ s. s.0) (Case number site index constants arms))
-    (λ g known few. case_runs g known number site index constants.items arms.items _ few)
+stmt_layer (While head body) =
+    rolled_stmt (map-Stmt ((s : Stmt) × StmtRuns s) Stmt (λ s. s.0) (While head body)) (λ g known few. while_runs g known head body.value few)
+stmt_layer (Repeat head statements) =
+    rolled_stmt (map-Stmt ((s : Stmt) × StmtRuns s) Stmt (λ s. s.0) (Repeat head statements)) (λ g known few. repeat_runs g known head statements.items few)
+stmt_layer (For head body) =
+    rolled_stmt (map-Stmt ((s : Stmt) × StmtRuns s) Stmt (λ s. s.0) (For head body)) (λ g known few. for_runs g known head body.value few)
+stmt_layer (Case head arms) =
+    rolled_stmt (map-Stmt ((s : Stmt) × StmtRuns s) Stmt (λ s. s.0) (Case head arms)) (λ g known few. case_runs g known head arms.items few)
 
 -- the code of a statement keeps store and cells alike, or stops as the statement does
 pub stmt_runs : (s : Stmt) → StmtRuns s

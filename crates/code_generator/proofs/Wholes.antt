@@ -253,6 +253,13 @@ module _ (g : Setting) where
   pub same_type : (t type_id : TypeId) → is_same t type_id ≡ true → t ≡ type_id
   same_type t type_id e = ap (λ n. record { index = n }) (eqb-true t.index type_id.index e)
 
+  -- the types of a whole value of a type: that one, if it is structured
+  abbrev pub is_whole_type : TypeId → TypeId → Bool
+  is_whole_type type_id id = is_same id type_id && is_structured g.tree.types id
+
+  pub wanted_type : (t type_id : TypeId) → is_whole_type type_id t ≡ true → t ≡ type_id
+  wanted_type t type_id e = same_type t type_id (and_parts (is_same t type_id) (is_structured g.tree.types t) e).0
+
   -- what may be copied to a type has as many cells
   pub copied_cells : (target : TypeId) (source : Option TypeId) (cells : ℕ) → may_copy (outline g) g.number target source cells ≡ true
       → cells_of g.tree.types target ≡ cells
@@ -348,7 +355,6 @@ module _ (g : Setting) where
       based pushed (length-map characters.items (λ c. value.Number (pos c)))
       (characters_fit characters.items (and_parts (nat_le (length characters.items) 65536) (list_all is_character characters.items) well).1)))
   whole_runs (VariableOf access type_id cells defined) indexes place base held s stands good well based deep =
-      let wanted : TypeId → Bool = λ id. is_same id type_id && not (is_ordinal g.tree.types id) in
       let parts = and_parts (leads_to_whole (outline g) g.number type_id access.root access.selectors.items
       (length (expressions g indexes))) (is_value_of (outline g) g.number type_id cells && nat_lt defined (sites g)) well in
       let parts' = and_parts (is_value_of (outline g) g.number type_id cells) (nat_lt defined (sites g)) parts.1 in
@@ -357,9 +363,9 @@ module _ (g : Setting) where
       let few = leb-true cells 65536 sizes.1 in
       let same : row_length cells ≡ cells = omega arith in
       let more = start_within 1 (map (λ i. i + 1) (depths g indexes)) in
-      let led_to = leads g wanted access.root access.selectors.items (length (expressions g indexes)) parts.0 in
-      let its = same_type led_to.last type_id (and_parts (is_same led_to.last type_id) (not (is_ordinal g.tree.types led_to.last)) led_to.is_wanted).0 in
-      let start = begins g access wanted (length (expressions g indexes)) (codes g indexes) led_to in
+      let led_to = leads g (is_whole_type type_id) access.root access.selectors.items (length (expressions g indexes)) parts.0 in
+      let its = wanted_type led_to.last type_id led_to.is_wanted in
+      let start = begins g access (is_whole_type type_id) (length (expressions g indexes)) (codes g indexes) led_to in
       let counts = led_to.counts in
       let c = address_code g.scope access (codes g indexes) in
       let load = instr.LoadMany (row_length cells) ∷ instr.CheckDefined defined (row_length cells) ∷ [] in

@@ -13,6 +13,10 @@ use Rattle.pcode_assembler.specs.declared.instr.Instr.TheVariants as instr
 use Rattle.pcode_assembler.specs.Bounds.{in_bounds, is_level, is_offset}
 use Rattle.typed_tree.specs.declared.tree.Tree.{Tree}
 use Rattle.typed_tree.specs.declared.tree.Block.{Block}
+use Rattle.typed_tree.specs.declared.tree.Assignment.{Assignment}
+use Rattle.typed_tree.specs.declared.tree.Copying.{Copying}
+use Rattle.typed_tree.specs.declared.tree.Writing.{Writing}
+use Rattle.typed_tree.specs.declared.tree.ForHead.{ForHead}
 use Rattle.typed_tree.specs.declared.tree.Monadic.{Monadic}
 use Rattle.typed_tree.specs.declared.tree.Monadic.TheVariants as monadic
 use Rattle.typed_tree.specs.declared.tree.Calculation.{Calculation}
@@ -26,7 +30,6 @@ use Rattle.typed_tree.specs.declared.tree.Relation.TheVariants as relation
 use Rattle.typed_tree.specs.declared.tree.Access.{Access}
 use Rattle.typed_tree.specs.declared.tree.Selector.{Selector}
 use Rattle.typed_tree.specs.declared.tree.Selector.TheVariants.{Element, Field}
-use Rattle.typed_tree.specs.declared.tree.RangeTest.{RangeTest}
 use Rattle.typed_tree.specs.declared.tree.Direction.{Direction}
 use Rattle.typed_tree.specs.declared.tree.Direction.TheVariants as direction
 use Rattle.typed_tree.specs.declared.tree.Representation.TheVariants as representation
@@ -62,7 +65,7 @@ use Rattle.code_scheme.specs.Code.{field_code, selectors_code, address_code, var
 use Rattle.code_scheme.specs.Code.{joined, placed, Placed, calculation_code, shift_code, monadic_code, relation_instr, dyadic_code, expr_code, link_code}
 use Rattle.code_scheme.specs.Code.{expr_step, link_step}
 use Rattle.code_scheme.specs.Code.{width_code, parameter_code, write_instr, line_end_code, stmt_code, stmt_step, range_check, order_instr, next_instr}
-use Rattle.code_scheme.specs.Code.{row_code, arms_code, for_entry, for_begin, for_next, for_end, program_code, compare_code, whole_code}
+use Rattle.code_scheme.specs.Code.{row_code, arms_code, for_entry, for_begin, for_next, for_end, program_code, compare_code, whole_code, write_code}
 use Rattle.code_scheme.specs.Code.{written_code, block_code, blocks_code, end_code, routines_of}
 use Rattle.code_scheme.specs.Depth.{block_depth}
 
@@ -120,6 +123,10 @@ dyadic_in_bounds (dyadic.Relation r) = relation_in_bounds r
 characters_in_bounds : (cs : List ℕ) → InBounds (map (λ c. instr.LoadConstant (pos c)) cs)
 characters_in_bounds [] = refl
 characters_in_bounds (c ∷ cs) = characters_in_bounds cs
+
+line_end_in_bounds : (ends_line : Bool) → InBounds (line_end_code ends_line)
+line_end_in_bounds true = refl
+line_end_in_bounds false = refl
 
 -- instructions that are in bounds, one after another
 record AreInBounds (is : List Instr) : Type 0 where
@@ -346,20 +353,24 @@ module _ (scope : Scope) (homes : HomesIn scope) where
   value_in_bounds value indexes =
       subst (λ codes. InBounds (whole_code scope value codes)) (index_pieces_are indexes) (whole_in_bounds scope homes value (index_pieces indexes))
 
-  assign_in_bounds : (target : Access) (indexes : List Expr) (fits : RangeTest) (value : Expr) → InBounds (assign_code scope target indexes fits value)
-  assign_in_bounds target indexes fits value =
-      let checked = expr_code scope value ++ (range_check fits ∷ []) in
-      subst (λ codes. InBounds (store_code checked (reached scope target codes))) (index_pieces_are indexes)
-      (store_in checked _ (append_in_bounds (expr_code scope value) _ (expr_in_bounds value) refl) (reached_in scope homes target (index_pieces indexes)))
+  assign_in_bounds : (assignment : Assignment) → InBounds (assign_code scope assignment)
+  assign_in_bounds assignment =
+      let indexes = assignment.indexes.items in
+      let value = expr_code scope assignment.value in
+      let check = range_check assignment.fits ∷ [] in
+      subst (λ codes. InBounds (store_code (value ++ check) (reached scope assignment.target codes))) (index_pieces_are indexes)
+      (store_in (value ++ check) _ (append_in_bounds value check (expr_in_bounds assignment.value) refl)
+      (reached_in scope homes assignment.target (index_pieces indexes)))
 
-  copy_in_bounds : (target : Access) (indexes : List Expr) (value : Whole) (value_indexes : List Expr)
-      → InBounds (copy_code scope target indexes value value_indexes)
-  copy_in_bounds target indexes value value_indexes =
+  copy_in_bounds : (copying : Copying) → InBounds (copy_code scope copying)
+  copy_in_bounds copying =
+      let indexes = copying.indexes.items in
+      let target = copying.target in
       append_in_bounds (address_code scope target (index_codes scope indexes)) _
       (subst (λ codes. InBounds (address_code scope target codes)) (index_pieces_are indexes)
       (address_in _ (reached_in scope homes target (index_pieces indexes))))
-      (append_in_bounds (whole_code scope value (index_codes scope value_indexes)) _ (value_in_bounds value value_indexes)
-      (ap (λ b. b && true) (cut_at (length_of value) 65536)))
+      (append_in_bounds (whole_code scope copying.value (index_codes scope copying.value_indexes.items)) _
+      (value_in_bounds copying.value copying.value_indexes.items) (ap (λ b. b && true) (cut_at (length_of copying.value) 65536)))
 
   width_in_bounds : (width : Option Width) (value : Written) → InBounds (width_code scope width value)
   width_in_bounds None (Ordinal value representation) = refl
@@ -385,9 +396,10 @@ module _ (scope : Scope) (homes : HomesIn scope) where
       let whole = append_in_bounds (written_code scope p.value) (width ++ last) (written_in_bounds p.value) behind in
       append_in_bounds (parameter_code scope p) (flat_map (parameter_code scope) ps) whole (parameters_in_bounds ps)
 
-line_end_in_bounds : (ends_line : Bool) → InBounds (line_end_code ends_line)
-line_end_in_bounds true = refl
-line_end_in_bounds false = refl
+  writing_in_bounds : (writing : Writing) → InBounds (write_code scope writing)
+  writing_in_bounds writing =
+      append_in_bounds (flat_map (parameter_code scope) writing.parameters.items) (line_end_code writing.ends_line)
+      (parameters_in_bounds writing.parameters.items) (line_end_in_bounds writing.ends_line)
 
 abbrev StmtInBounds : Stmt → Type 0
 StmtInBounds s = (scope : Scope) → HomesIn scope → (place : ℕ) → InBounds (stmt_code s scope place)
@@ -420,25 +432,24 @@ way_in_bounds direction.DownTo = (refl, refl)
 held_in_bounds : (scope : Scope) (n : ℕ) → nat_le (held_offset scope n) 16777215 ≡ true
 held_in_bounds scope n = cut_at (scope.above + scope.height + n) 16777215
 
-entry_in_bounds : (scope : Scope) (first_fits : RangeTest) (way : Direction) (last_fits : RangeTest) (out : ℕ)
-    → InBounds (for_entry scope first_fits way last_fits out)
-entry_in_bounds scope first_fits way last_fits out =
+entry_in_bounds : (scope : Scope) (head : ForHead) (out : ℕ) → InBounds (for_entry scope head out)
+entry_in_bounds scope head out =
     (one_more (instr.Load 0 (held_offset scope 0)) _ (held_in_bounds scope 0)
     (one_more (instr.Load 0 (held_offset scope 1)) _ (held_in_bounds scope 1)
-    (one_more (order_instr way) _ (way_in_bounds way).0
+    (one_more (order_instr head.direction) _ (way_in_bounds head.direction).0
     (one_more (instr.JumpIfFalse out) _ refl
     (one_more (instr.Load 0 (held_offset scope 0)) _ (held_in_bounds scope 0)
-    (one_more (range_check first_fits) _ refl
+    (one_more (range_check head.first.fits) _ refl
     (one_more (instr.Store 0 (held_offset scope 0)) _ (held_in_bounds scope 0)
-    (one_more (range_check last_fits) _ refl no_more)))))))).all
+    (one_more (range_check head.last.fits) _ refl no_more)))))))).all
 
 begin_in_bounds : (scope : Scope) → HomesIn scope → (control : ℕ) → InBounds (for_begin scope control)
 begin_in_bounds scope homes control =
     (one_more (instr.Load 0 (held_offset scope 0)) _ (held_in_bounds scope 0)
     (one_more (instr.Store 0 (control_offset scope control)) _ (homes control) no_more)).all
 
-next_in_bounds : (scope : Scope) (way : Direction) (head out : ℕ) → InBounds (for_next scope way head out)
-next_in_bounds scope way head out =
+next_in_bounds : (scope : Scope) (way : Direction) (round out : ℕ) → InBounds (for_next scope way round out)
+next_in_bounds scope way round out =
     (one_more (instr.Load 0 (held_offset scope 0)) _ (held_in_bounds scope 0)
     (one_more (instr.Load 0 (held_offset scope 1)) _ (held_in_bounds scope 1)
     (one_more instr.NotEqual _ refl
@@ -447,7 +458,7 @@ next_in_bounds scope way head out =
     (one_more (instr.LoadConstant (pos 1)) _ refl
     (one_more (next_instr way) _ (way_in_bounds way).1
     (one_more (instr.Store 0 (held_offset scope 0)) _ (held_in_bounds scope 0)
-    (one_more (instr.Jump head) _ refl no_more))))))))).all
+    (one_more (instr.Jump round) _ refl no_more))))))))).all
 
 end_in_bounds : (scope : Scope) → HomesIn scope → (control : ℕ) → InBounds (for_end scope control)
 end_in_bounds scope homes control =
@@ -478,18 +489,12 @@ arms_in_bounds scope homes out (row ∷ rows) (arm ∷ arms) place =
 
 stmt_layer : (y : Stmt-F ProvedStmt) → StmtInBounds (roll-Stmt (bare_stmt y))
 stmt_layer (Empty number) = rolled_stmt (Empty number) (λ scope homes place. refl)
-stmt_layer (Assign number becomes target indexes fits value) =
-    rolled_stmt (Assign number becomes target indexes fits value) (λ scope homes place. assign_in_bounds scope homes target indexes.items fits value)
-stmt_layer (Copy number becomes target indexes type_id value value_indexes) =
-    rolled_stmt (Copy number becomes target indexes type_id value value_indexes)
-    (λ scope homes place. copy_in_bounds scope homes target indexes.items value value_indexes.items)
-stmt_layer (Write number name parameters ends_line) =
-    rolled_stmt (Write number name parameters ends_line) (λ scope homes place.
-    append_in_bounds (flat_map (parameter_code scope) parameters.items) (line_end_code ends_line)
-    (parameters_in_bounds scope homes parameters.items) (line_end_in_bounds ends_line))
-stmt_layer (Calling call actuals) =
-    rolled_stmt (Calling call actuals) (λ scope homes place.
-    call_in_bounds scope homes call (map (passed_code scope) actuals.items) (all_passed scope homes actuals.items))
+stmt_layer (Assign assignment) = rolled_stmt (Assign assignment) (λ scope homes place. assign_in_bounds scope homes assignment)
+stmt_layer (Copy copying) = rolled_stmt (Copy copying) (λ scope homes place. copy_in_bounds scope homes copying)
+stmt_layer (Write writing) = rolled_stmt (Write writing) (λ scope homes place. writing_in_bounds scope homes writing)
+stmt_layer (Calling calling) =
+    rolled_stmt (Calling calling) (λ scope homes place.
+    call_in_bounds scope homes calling.call (map (passed_code scope) calling.actuals.items) (all_passed scope homes calling.actuals.items))
 stmt_layer (Compound number statements) =
     rolled_stmt (bare_stmt (Compound number statements)) (λ scope homes place. stmts_in_bounds scope homes statements.items place)
 stmt_layer (If number condition consequence None) =
@@ -502,37 +507,42 @@ stmt_layer (If number condition consequence (Some alternative)) =
     let no = yes + length (stmt_code consequence.value.0 scope yes) + 1 in
     append_in_bounds (expr_code scope condition) _ (expr_in_bounds scope homes condition)
     (append_in_bounds (stmt_code consequence.value.0 scope yes) _ (consequence.value.1 scope homes yes) (alternative.value.1 scope homes no)))
-stmt_layer (While number loop_number word condition body) =
-    rolled_stmt (bare_stmt (While number loop_number word condition body)) (λ scope homes place.
-    let inside = place + length (expr_code scope condition) + 1 in
-    append_in_bounds (expr_code scope condition) _ (expr_in_bounds scope homes condition)
+stmt_layer (While head body) =
+    rolled_stmt (bare_stmt (While head body)) (λ scope homes place.
+    let inside = place + length (expr_code scope head.condition) + 1 in
+    append_in_bounds (expr_code scope head.condition) _ (expr_in_bounds scope homes head.condition)
     (append_in_bounds (stmt_code body.value.0 scope inside) (instr.Jump place ∷ []) (body.value.1 scope homes inside) refl))
-stmt_layer (Repeat number loop_number word statements condition) =
-    rolled_stmt (bare_stmt (Repeat number loop_number word statements condition)) (λ scope homes place.
+stmt_layer (Repeat head statements) =
+    rolled_stmt (bare_stmt (Repeat head statements)) (λ scope homes place.
     append_in_bounds (placed (map (λ c. c scope) (map stmt_code (map (λ s. s.0) statements.items))) place) _
     (stmts_in_bounds scope homes statements.items place)
-    (append_in_bounds (expr_code scope condition) (instr.JumpIfFalse place ∷ []) (expr_in_bounds scope homes condition) refl))
-stmt_layer (For number loop_number word control first first_fits way last last_fits body) =
-    rolled_stmt (bare_stmt (For number loop_number word control first first_fits way last last_fits body)) (λ scope homes place.
-    let head = place + length (expr_code scope first) + length (expr_code scope last) + 8 in
-    let inside = stmt_code body.value.0 (holding 2 scope) (head + 2) in
-    let out = head + 2 + length inside + 9 in
-    let behind = for_next scope way head out ++ for_end scope control in
-    let round = for_begin scope control ++ (inside ++ behind) in
-    append_in_bounds (expr_code scope first) _ (expr_in_bounds scope homes first)
-    (append_in_bounds (expr_code scope last) _ (expr_in_bounds scope homes last)
-    (append_in_bounds (for_entry scope first_fits way last_fits out) round (entry_in_bounds scope first_fits way last_fits out)
-    (append_in_bounds (for_begin scope control) (inside ++ behind) (begin_in_bounds scope homes control)
-    (append_in_bounds inside behind (body.value.1 (holding 2 scope) homes (head + 2))
-    (append_in_bounds (for_next scope way head out) (for_end scope control) (next_in_bounds scope way head out) (end_in_bounds scope homes control)))))))
-stmt_layer (Case number site index constants arms) =
-    rolled_stmt (bare_stmt (Case number site index constants arms)) (λ scope homes place.
+    (append_in_bounds (expr_code scope head.condition) (instr.JumpIfFalse place ∷ []) (expr_in_bounds scope homes head.condition) refl))
+stmt_layer (For head body) =
+    rolled_stmt (bare_stmt (For head body)) (λ scope homes place.
+    let first = expr_code scope head.first.value in
+    let last = expr_code scope head.last.value in
+    let round = place + length first + length last + 8 in
+    let inside = stmt_code body.value.0 (holding 2 scope) (round + 2) in
+    let out = round + 2 + length inside + 9 in
+    let begin = for_begin scope head.control in
+    let next = for_next scope head.direction round out in
+    let behind = next ++ for_end scope head.control in
+    append_in_bounds first _ (expr_in_bounds scope homes head.first.value)
+    (append_in_bounds last _ (expr_in_bounds scope homes head.last.value)
+    (append_in_bounds (for_entry scope head out) (begin ++ (inside ++ behind)) (entry_in_bounds scope head out)
+    (append_in_bounds begin (inside ++ behind) (begin_in_bounds scope homes head.control)
+    (append_in_bounds inside behind (body.value.1 (holding 2 scope) homes (round + 2))
+    (append_in_bounds next (for_end scope head.control) (next_in_bounds scope head.direction round out) (end_in_bounds scope homes head.control)))))))
+stmt_layer (Case head arms) =
+    rolled_stmt (bare_stmt (Case head arms)) (λ scope homes place.
+    let index = expr_code scope head.index in
+    let rows = head.constants.items in
     let codes = map stmt_code (map (λ (s : ProvedStmt). s.0) arms.items) in
-    let first = place + length (expr_code scope index) in
-    let out = first + length (arms_code scope 0 constants.items codes first) + 1 in
-    append_in_bounds (expr_code scope index) _ (expr_in_bounds scope homes index)
-    (append_in_bounds (arms_code scope out constants.items codes first) (instr.Fail site ∷ instr.JumpIfFalse (out + 1) ∷ [])
-    (arms_in_bounds scope homes out constants.items arms.items first) refl))
+    let first = place + length index in
+    let out = first + length (arms_code scope 0 rows codes first) + 1 in
+    append_in_bounds index _ (expr_in_bounds scope homes head.index)
+    (append_in_bounds (arms_code scope out rows codes first) (instr.Fail head.site ∷ instr.JumpIfFalse (out + 1) ∷ [])
+    (arms_in_bounds scope homes out rows arms.items first) refl))
 
 stmt_in_bounds : (s : Stmt) → StmtInBounds s
 stmt_in_bounds = ind-Stmt StmtInBounds (λ x y is. subst (λ z. StmtInBounds (roll-Stmt z)) is (stmt_layer y))

@@ -327,15 +327,14 @@ module _ (types : List Form) where
 
   stmt_layer : (y : Stmt-F StmtHere) → StmtWithin (roll-Stmt (bare_stmt y))
   stmt_layer (Empty number) = rolled_stmt (Empty number) (omega arith)
-  stmt_layer (Assign number becomes target indexes fits value) =
-      rolled_stmt (Assign number becomes target indexes fits value)
-      (omega (arith, store_within indexes.items value))
-  stmt_layer (Copy number becomes target indexes type_id value value_indexes) =
-      rolled_stmt (Copy number becomes target indexes type_id value value_indexes)
-      (omega (arith, address_within indexes.items, value_within value value_indexes.items))
-  stmt_layer (Write number name parameters ends_line) =
-      rolled_stmt (Write number name parameters ends_line) (parameters_within parameters.items 0 8 (omega arith) (omega arith))
-  stmt_layer (Calling call actuals) = rolled_stmt (Calling call actuals) (omega (arith, calling_within 4 actuals.items))
+  stmt_layer (Assign assignment) =
+      rolled_stmt (Assign assignment) (omega (arith, store_within assignment.indexes.items assignment.value))
+  stmt_layer (Copy copying) =
+      rolled_stmt (Copy copying)
+      (omega (arith, address_within copying.indexes.items, value_within copying.value copying.value_indexes.items))
+  stmt_layer (Write writing) =
+      rolled_stmt (Write writing) (parameters_within writing.parameters.items 0 8 (omega arith) (omega arith))
+  stmt_layer (Calling calling) = rolled_stmt (Calling calling) (omega (arith, calling_within 4 calling.actuals.items))
   stmt_layer (Compound number statements) =
       rolled_stmt (bare_stmt (Compound number statements)) (row_within stmt_depth (stmt_need types) statements.items 0 8 (omega arith))
   stmt_layer (If number condition consequence None) =
@@ -343,17 +342,17 @@ module _ (types : List Form) where
   stmt_layer (If number condition consequence (Some alternative)) =
       rolled_stmt (bare_stmt (If number condition consequence (Some alternative)))
       (omega (arith, expr_within condition, consequence.value.1, alternative.value.1))
-  stmt_layer (While number loop_number word condition body) =
-      rolled_stmt (bare_stmt (While number loop_number word condition body)) (omega (arith, expr_within condition, body.value.1))
-  stmt_layer (Repeat number loop_number word statements condition) =
-      rolled_stmt (bare_stmt (Repeat number loop_number word statements condition))
-      (omega (arith, expr_within condition, row_within stmt_depth (stmt_need types) statements.items 0 8 (omega arith)))
-  stmt_layer (For number loop_number word control first first_fits way last last_fits body) =
-      rolled_stmt (bare_stmt (For number loop_number word control first first_fits way last last_fits body))
-      (omega (arith, expr_within first, expr_within last, body.value.1))
-  stmt_layer (Case number site index constants arms) =
-      rolled_stmt (bare_stmt (Case number site index constants arms))
-      (omega (arith, expr_within index, arms_within constants.items arms.items))
+  stmt_layer (While head body) =
+      rolled_stmt (bare_stmt (While head body)) (omega (arith, expr_within head.condition, body.value.1))
+  stmt_layer (Repeat head statements) =
+      rolled_stmt (bare_stmt (Repeat head statements))
+      (omega (arith, expr_within head.condition, row_within stmt_depth (stmt_need types) statements.items 0 8 (omega arith)))
+  stmt_layer (For head body) =
+      rolled_stmt (bare_stmt (For head body))
+      (omega (arith, expr_within head.first.value, expr_within head.last.value, body.value.1))
+  stmt_layer (Case head arms) =
+      rolled_stmt (bare_stmt (Case head arms))
+      (omega (arith, expr_within head.index, arms_within head.constants.items arms.items))
 
   -- the same of a statement
   pub stmt_within : (s : Stmt) → stmt_depth s ≤ stmt_need types s

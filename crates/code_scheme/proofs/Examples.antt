@@ -166,10 +166,18 @@ module _ (heap : Vec ℕ Global) (some_call : Call) where
 
   abbrev assign : ℕ → ℕ → ℕ → ℕ → Expr → Stmt
   assign number access_number root site value =
-      roll-Stmt (Assign number some_call.name (access access_number root) (vec [] (omega arith)) (test site) value)
+      roll-Stmt
+      (Assign (record {
+        number = number;
+        becomes = some_call.name;
+        target = access access_number root;
+        indexes = vec [] (omega arith);
+        fits = test site;
+        value = value;
+      }))
 
   abbrev calls : ℕ → ℕ → Passed → Stmt
-  calls number block actual = roll-Stmt (Calling (call number block) (vec (actual ∷ []) (omega arith)))
+  calls number block actual = roll-Stmt (Calling (record { call = call number block; actuals = vec (actual ∷ []) (omega arith) }))
 
   abbrev calling : ℕ → ℕ → Passed → Expr
   calling number block actual = roll-Expr (CallOf (call number block) (vec (actual ∷ []) (omega arith)))
@@ -270,7 +278,9 @@ module _ (heap : Vec ℕ Global) (some_call : Call) where
       program
       (block of_integers
       (compound 1
-      (assign 2 3 0 0 (constant 4 (pos 7)) ∷ roll-Stmt (Write 5 some_call.name (vec (b_in_seven ∷ []) (omega arith)) true) ∷ []) (omega arith))
+      (assign 2 3 0 0 (constant 4 (pos 7))
+      ∷ roll-Stmt (Write (record { number = 5; name = some_call.name; parameters = vec (b_in_seven ∷ []) (omega arith); ends_line = true })) ∷ [])
+      (omega arith))
       ∷ [])
       (declared 0 kind.Local ∷ declared 0 kind.Local ∷ []) (omega arith) (omega arith)
 
@@ -307,7 +317,16 @@ module _ (heap : Vec ℕ Global) (some_call : Call) where
   -- a statement, the variable to which it copies, and the value with its cells
   abbrev copies : TypeId → ℕ → Stmt
   copies type_id cells =
-      roll-Stmt (Copy 1 some_call.name (access 2 0) (vec [] (omega arith)) type_id (VariableOf (access 3 1) type_id cells 0) (vec [] (omega arith)))
+      roll-Stmt
+      (Copy (record {
+        number = 1;
+        becomes = some_call.name;
+        target = access 2 0;
+        indexes = vec [] (omega arith);
+        type_id = type_id;
+        value = VariableOf (access 3 1) type_id cells 0;
+        value_indexes = vec [] (omega arith);
+      }))
 
   copied_record_needs : stmt_need bare_forms (copies (numbered 3) 0) ≡ 8 + 8 + 8
   copied_record_needs = simp needs

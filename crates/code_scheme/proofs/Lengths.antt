@@ -9,10 +9,11 @@ use Rattle.std.proofs.lemmas.List.Sums.{sum_by-cons}
 use Rattle.pcode_assembler.specs.declared.instr.Instr.{Instr}
 use Rattle.pcode_assembler.specs.declared.instr.Instr.TheVariants as instr
 use Rattle.typed_tree.specs.declared.tree.Access.{Access}
+use Rattle.typed_tree.specs.declared.tree.Assignment.{Assignment}
 use Rattle.typed_tree.specs.declared.tree.Block.{Block}
 use Rattle.typed_tree.specs.declared.tree.Call.{Call}
+use Rattle.typed_tree.specs.declared.tree.Copying.{Copying}
 use Rattle.typed_tree.specs.declared.tree.FunctionResult.{FunctionResult}
-use Rattle.typed_tree.specs.declared.tree.RangeTest.{RangeTest}
 use Rattle.typed_tree.specs.declared.tree.Relation.{Relation}
 use Rattle.typed_tree.specs.declared.tree.Selector.{Selector}
 use Rattle.typed_tree.specs.declared.tree.Selector.TheVariants.{Element, Field}
@@ -21,6 +22,7 @@ use Rattle.typed_tree.specs.declared.tree.Width.{Width}
 use Rattle.typed_tree.specs.declared.tree.Whole.{Whole}
 use Rattle.typed_tree.specs.declared.tree.Whole.TheVariants.{Text, Variable as VariableOf}
 use Rattle.typed_tree.specs.declared.tree.WriteParameter.{WriteParameter}
+use Rattle.typed_tree.specs.declared.tree.Writing.{Writing}
 use Rattle.typed_tree.specs.declared.tree.Written.{Written}
 use Rattle.typed_tree.specs.declared.tree.Written.TheVariants.{Ordinal, String}
 use Rattle.typed_tree.specs.declared.tree.Expr.{Expr}
@@ -329,36 +331,45 @@ module _ (s t : Scope) (alike : Alike s t) where
   index_alike : (indexes : List Expr) → AsLong (index_codes s indexes) (index_codes t indexes)
   index_alike indexes = all_alike (expr_code s) (expr_code t) expr_alike indexes
 
-  assign_alike : (target : Access) (indexes : List Expr) (fits : RangeTest) (value : Expr)
-      → length (assign_code s target indexes fits value) ≡ length (assign_code t target indexes fits value)
-  assign_alike target indexes fits value =
-      let here = reached s target (index_codes s indexes) in
-      let there = reached t target (index_codes t indexes) in
-      let check = range_check fits ∷ [] in
-      let valued : length (expr_code s value ++ check) ≡ length (expr_code t value ++ check) =
-      omega (arith, expr_alike value, length-append (expr_code s value) check, length-append (expr_code t value) check) in
-      store_long (expr_code s value ++ check) here
-      ∙ ap (λ at. store_length at (length (address_of here)) (length (expr_code s value ++ check)))
-      (at_alike target (index_codes s indexes) (index_codes t indexes))
-      ∙ ap (λ n. store_length (is_at there) n (length (expr_code s value ++ check)))
-      (address_alike target (index_codes s indexes) (index_codes t indexes) (index_alike indexes))
-      ∙ ap (store_length (is_at there) (length (address_of there))) valued
-      ∙ sym (store_long (expr_code t value ++ check) there)
-
-  copy_alike : (target : Access) (indexes : List Expr) (value : Whole) (value_indexes : List Expr)
-      → length (copy_code s target indexes value value_indexes) ≡ length (copy_code t target indexes value value_indexes)
-  copy_alike target indexes value value_indexes =
-      let last = instr.StoreMany (row_length (length_of value)) ∷ [] in
-      let here = whole_code s value (index_codes s value_indexes) in
-      let there = whole_code t value (index_codes t value_indexes) in
+  assign_alike : (assignment : Assignment) → length (assign_code s assignment) ≡ length (assign_code t assignment)
+  assign_alike assignment =
+      let here = index_codes s assignment.indexes.items in
+      let there = index_codes t assignment.indexes.items in
+      let way = reached s assignment.target here in
+      let other = reached t assignment.target there in
+      let check = range_check assignment.fits ∷ [] in
+      let value = expr_code s assignment.value ++ check in
+      let value' = expr_code t assignment.value ++ check in
+      let valued : length value ≡ length value' =
       omega (
         arith,
-        address_alike target (index_codes s indexes) (index_codes t indexes) (index_alike indexes),
-        whole_alike value (index_codes s value_indexes) (index_codes t value_indexes) (index_alike value_indexes),
-        length-append (address_code s target (index_codes s indexes)) (here ++ last),
-        length-append (address_code t target (index_codes t indexes)) (there ++ last),
-        length-append here last,
-        length-append there last,
+        expr_alike assignment.value,
+        length-append (expr_code s assignment.value) check,
+        length-append (expr_code t assignment.value) check,
+      ) in
+      store_long value way
+      ∙ ap (λ at. store_length at (length (address_of way)) (length value)) (at_alike assignment.target here there)
+      ∙ ap (λ n. store_length (is_at other) n (length value)) (address_alike assignment.target here there (index_alike assignment.indexes.items))
+      ∙ ap (store_length (is_at other) (length (address_of other))) valued
+      ∙ sym (store_long value' other)
+
+  copy_alike : (copying : Copying) → length (copy_code s copying) ≡ length (copy_code t copying)
+  copy_alike copying =
+      let here = index_codes s copying.indexes.items in
+      let there = index_codes t copying.indexes.items in
+      let within = index_codes s copying.value_indexes.items in
+      let within' = index_codes t copying.value_indexes.items in
+      let last = instr.StoreMany (row_length (length_of copying.value)) ∷ [] in
+      let value = whole_code s copying.value within in
+      let value' = whole_code t copying.value within' in
+      omega (
+        arith,
+        address_alike copying.target here there (index_alike copying.indexes.items),
+        whole_alike copying.value within within' (index_alike copying.value_indexes.items),
+        length-append (address_code s copying.target here) (value ++ last),
+        length-append (address_code t copying.target there) (value' ++ last),
+        length-append value last,
+        length-append value' last,
       )
 
   written_alike : (value : Written) → length (written_code s value) ≡ length (written_code t value)
@@ -398,13 +409,14 @@ module _ (s t : Scope) (alike : Alike s t) where
         length-append (parameter_code t p) (flat_map (parameter_code t) ps),
       )
 
-  write_alike : (ps : List WriteParameter) (ends_line : Bool) → length (write_code s ps ends_line) ≡ length (write_code t ps ends_line)
-  write_alike ps ends_line =
+  write_alike : (writing : Writing) → length (write_code s writing) ≡ length (write_code t writing)
+  write_alike writing =
+      let end = line_end_code writing.ends_line in
       omega (
         arith,
-        parameters_alike ps,
-        length-append (flat_map (parameter_code s) ps) (line_end_code ends_line),
-        length-append (flat_map (parameter_code t) ps) (line_end_code ends_line),
+        parameters_alike writing.parameters.items,
+        length-append (flat_map (parameter_code s) writing.parameters.items) end,
+        length-append (flat_map (parameter_code t) writing.parameters.items) end,
       )
 
   calling_alike : (call : Call) (actuals : List Passed)
@@ -450,14 +462,10 @@ arms_alike s t alike (row ∷ rows) (x ∷ xs) = omega (arith, x.1 s t alike, ar
 
 stmt_layer : (y : Stmt-F HereStmt) → StmtAlike (roll-Stmt (bare_stmt y))
 stmt_layer (Empty number) = rolled_stmt (Empty number) (λ s t alike. refl)
-stmt_layer (Assign number becomes target indexes fits value) =
-    rolled_stmt (Assign number becomes target indexes fits value) (λ s t alike. assign_alike s t alike target indexes.items fits value)
-stmt_layer (Copy number becomes target indexes type_id value value_indexes) =
-    rolled_stmt (Copy number becomes target indexes type_id value value_indexes) (λ s t alike.
-    copy_alike s t alike target indexes.items value value_indexes.items)
-stmt_layer (Write number name parameters ends_line) =
-    rolled_stmt (Write number name parameters ends_line) (λ s t alike. write_alike s t alike parameters.items ends_line)
-stmt_layer (Calling call actuals) = rolled_stmt (Calling call actuals) (λ s t alike. calling_alike s t alike call actuals.items)
+stmt_layer (Assign assignment) = rolled_stmt (Assign assignment) (λ s t alike. assign_alike s t alike assignment)
+stmt_layer (Copy copying) = rolled_stmt (Copy copying) (λ s t alike. copy_alike s t alike copying)
+stmt_layer (Write writing) = rolled_stmt (Write writing) (λ s t alike. write_alike s t alike writing)
+stmt_layer (Calling calling) = rolled_stmt (Calling calling) (λ s t alike. calling_alike s t alike calling.call calling.actuals.items)
 stmt_layer (Compound number statements) =
     rolled_stmt (bare_stmt (Compound number statements)) (λ s t alike. sizes_alike s t alike statements.items)
 stmt_layer (If number condition consequence None) =
@@ -466,18 +474,18 @@ stmt_layer (If number condition consequence None) =
 stmt_layer (If number condition consequence (Some alternative)) =
     rolled_stmt (bare_stmt (If number condition consequence (Some alternative))) (λ s t alike.
     omega (arith, expr_alike s t alike condition, consequence.value.1 s t alike, alternative.value.1 s t alike))
-stmt_layer (While number loop_number word condition body) =
-    rolled_stmt (bare_stmt (While number loop_number word condition body)) (λ s t alike.
-    omega (arith, expr_alike s t alike condition, body.value.1 s t alike))
-stmt_layer (Repeat number loop_number word statements condition) =
-    rolled_stmt (bare_stmt (Repeat number loop_number word statements condition)) (λ s t alike.
-    omega (arith, expr_alike s t alike condition, sizes_alike s t alike statements.items))
-stmt_layer (For number loop_number word control first first_fits way last last_fits body) =
-    rolled_stmt (bare_stmt (For number loop_number word control first first_fits way last last_fits body)) (λ s t alike.
-    omega (arith, expr_alike s t alike first, expr_alike s t alike last, body.value.1 (holding 2 s) (holding 2 t) alike))
-stmt_layer (Case number site index constants arms) =
-    rolled_stmt (bare_stmt (Case number site index constants arms)) (λ s t alike.
-    omega (arith, expr_alike s t alike index, arms_alike (holding 1 s) (holding 1 t) alike constants.items arms.items))
+stmt_layer (While head body) =
+    rolled_stmt (bare_stmt (While head body)) (λ s t alike.
+    omega (arith, expr_alike s t alike head.condition, body.value.1 s t alike))
+stmt_layer (Repeat head statements) =
+    rolled_stmt (bare_stmt (Repeat head statements)) (λ s t alike.
+    omega (arith, expr_alike s t alike head.condition, sizes_alike s t alike statements.items))
+stmt_layer (For head body) =
+    rolled_stmt (bare_stmt (For head body)) (λ s t alike.
+    omega (arith, expr_alike s t alike head.first.value, expr_alike s t alike head.last.value, body.value.1 (holding 2 s) (holding 2 t) alike))
+stmt_layer (Case head arms) =
+    rolled_stmt (bare_stmt (Case head arms)) (λ s t alike.
+    omega (arith, expr_alike s t alike head.index, arms_alike (holding 1 s) (holding 1 t) alike head.constants.items arms.items))
 
 stmt_alike : (x : Stmt) → StmtAlike x
 stmt_alike = ind-Stmt StmtAlike (λ x y is. subst (λ z. StmtAlike (roll-Stmt z)) is (stmt_layer y))

@@ -6,15 +6,10 @@ use Rattle.std.specs.Global.{Vec, Box}
 use Rattle.std.proofs.lemmas.List.{map_more, flat_map_more}
 use Rattle.std.proofs.lemmas.Simd.{map-map}
 use Rattle.pcode_assembler.specs.declared.instr.Instr.{Instr}
-use Rattle.place.specs.declared.Place.{Place as SourcePlace}
-use Rattle.types.specs.declared.form.TypeId.{TypeId}
-use Rattle.typed_tree.specs.declared.tree.Access.{Access}
-use Rattle.typed_tree.specs.declared.tree.Direction.{Direction}
-use Rattle.typed_tree.specs.declared.tree.RangeTest.{RangeTest}
-use Rattle.typed_tree.specs.declared.tree.Whole.{Whole}
 use Rattle.typed_tree.specs.declared.tree.Expr.{Expr}
-use Rattle.typed_tree.specs.declared.tree.Call.{Call}
-use Rattle.typed_tree.specs.declared.tree.Passed.{Passed}
+use Rattle.typed_tree.specs.declared.tree.LoopHead.{LoopHead}
+use Rattle.typed_tree.specs.declared.tree.ForHead.{ForHead}
+use Rattle.typed_tree.specs.declared.tree.CaseHead.{CaseHead}
 use Rattle.typed_tree.specs.declared.tree.Block.{Block}
 use Rattle.typed_tree.specs.declared.tree.Tree.{Tree}
 use Rattle.typed_tree.specs.declared.tree.Variable.{Variable}
@@ -30,7 +25,6 @@ use Rattle.typed_tree.specs.declared.tree.Stmt.TheFolds.{map-Stmt, fold-roll-Stm
 use Rattle.code_scheme.specs.Scopes.{Scope, block_scope, holding, home_or_none, homes_from}
 use Rattle.code_scheme.specs.Code.{Placed, placed, row_code, arms_code, expr_code, stmt_code, stmt_step}
 use Rattle.code_scheme.specs.Code.{block_code, end_code}
-use Rattle.code_scheme.specs.Code.{assign_code, call_code, copy_code, passed_code}
 use Rattle.code_scheme.specs.declared.home.Home.{Home}
 use Rattle.code_scheme.specs.declared.routine.Routine.{Routine}
 use Rattle.code_scheme.specs.Sizes.{IsScopeOf, refers}
@@ -94,11 +88,11 @@ arms_measured scope out (row ∷ rows) (arm ∷ arms) place =
 
 layer : (y : Stmt-F MeasuredStmt) → IsMeasured (roll-Stmt (bare y))
 layer (Empty number) = rolled (Empty number) (λ scope place. refl)
-layer (Assign number becomes target indexes fits value) = rolled (Assign number becomes target indexes fits value) (λ scope place. refl)
-layer (Copy number becomes target indexes type_id value value_indexes) =
-    rolled (Copy number becomes target indexes type_id value value_indexes) (λ scope place. refl)
-layer (Write number name parameters ends_line) = rolled (Write number name parameters ends_line) (λ scope place. refl)
-layer (Calling call actuals) = rolled (Calling call actuals) (λ scope place. refl)
+layer (Assign assignment) = rolled (Assign assignment) (λ scope place. refl)
+layer (Copy copying) =
+    rolled (Copy copying) (λ scope place. refl)
+layer (Write writing) = rolled (Write writing) (λ scope place. refl)
+layer (Calling calling) = rolled (Calling calling) (λ scope place. refl)
 layer (Compound number statements) =
     rolled (bare (Compound number statements)) (λ scope place. all_measured scope statements.items place)
 layer (If number condition consequence None) =
@@ -113,30 +107,30 @@ layer (If number condition consequence (Some alternative)) =
     length-If-else test (stmt_code consequence.value.0) (stmt_code alternative.value.0) scope place
     ∙ ap (λ n. length test + 1 + n + 1 + length (stmt_code alternative.value.0 scope no)) (consequence.value.1 scope yes)
     ∙ ap (λ n. length test + 1 + (measured consequence.value.0 scope).size + 1 + n) (alternative.value.1 scope no))
-layer (While number loop_number word condition body) =
-    rolled (bare (While number loop_number word condition body)) (λ scope place.
-    let test = expr_code scope condition in
+layer (While head body) =
+    rolled (bare (While head body)) (λ scope place.
+    let test = expr_code scope head.condition in
     length-While test (stmt_code body.value.0) scope place ∙ ap (λ n. length test + 1 + n + 1) (body.value.1 scope (place + length test + 1)))
-layer (Repeat number loop_number word statements condition) =
-    rolled (bare (Repeat number loop_number word statements condition)) (λ scope place.
-    let test = expr_code scope condition in
+layer (Repeat head statements) =
+    rolled (bare (Repeat head statements)) (λ scope place.
+    let test = expr_code scope head.condition in
     length-Repeat (placed (map (λ code. code scope) (map stmt_code (map (λ s. s.0) statements.items)))) test place
     ∙ ap (λ n. n + (length test + 1)) (all_measured scope statements.items place))
-layer (For number loop_number word control first first_fits way last last_fits body) =
-    rolled (bare (For number loop_number word control first first_fits way last last_fits body)) (λ scope place.
-    let a = expr_code scope first in
-    let b = expr_code scope last in
-    length-For control a first_fits way b last_fits (stmt_code body.value.0) scope place
+layer (For head body) =
+    rolled (bare (For head body)) (λ scope place.
+    let a = expr_code scope head.first.value in
+    let b = expr_code scope head.last.value in
+    length-For head (stmt_code body.value.0) scope place
     ∙ ap (λ n. length a + length b + 10 + n + 13) (body.value.1 (holding 2 scope) (place + length a + length b + 8 + 2)))
-layer (Case number site index constants arms) =
-    rolled (bare (Case number site index constants arms)) (λ scope place.
-    let test = expr_code scope index in
+layer (Case head arms) =
+    rolled (bare (Case head arms)) (λ scope place.
+    let test = expr_code scope head.index in
     let codes = map stmt_code (map (λ (s : MeasuredStmt). s.0) arms.items) in
     let first = place + length test in
-    let out = first + length (arms_code scope 0 constants.items codes first) + 1 in
-    let all = arms_code scope out constants.items codes first in
-    let last = instr.Fail site ∷ instr.JumpIfFalse (out + 1) ∷ [] in
-    let e = arms_measured scope out constants.items arms.items first in
+    let out = first + length (arms_code scope 0 head.constants.items codes first) + 1 in
+    let all = arms_code scope out head.constants.items codes first in
+    let last = instr.Fail head.site ∷ instr.JumpIfFalse (out + 1) ∷ [] in
+    let e = arms_measured scope out head.constants.items arms.items first in
     omega (arith, e, length-append test (all ++ last), length-append all last))
 
 -- the size of a statement is the length of its code, wherever that stands
@@ -195,65 +189,43 @@ measured-If-else scope number condition consequence alternative =
 abbrev pub while_measured : List Instr → Measured → Measured
 while_measured test inside = record { size = length test + 1 + inside.size + 1; inner = table_of inside }
 
-pub measured-While : (scope : Scope) (number loop_number : ℕ) (word : SourcePlace) (condition : Expr) (body : Box Stmt)
-    → measured (stmt.While number loop_number word condition body) scope ≡ while_measured (expr_code scope condition) (measured body.value scope)
-measured-While scope number loop_number word condition body =
-    ap (λ s. measured s scope) (sym (stmt.rolls-While number loop_number word condition body))
-    ∙ ap (λ m. m scope) (fold-roll-Stmt (Scope → Measured) measured_step (While number loop_number word condition body))
+pub measured-While : (scope : Scope) (head : LoopHead) (body : Box Stmt)
+    → measured (stmt.While head body) scope ≡ while_measured (expr_code scope head.condition) (measured body.value scope)
+measured-While scope head body =
+    ap (λ s. measured s scope) (sym (stmt.rolls-While head body))
+    ∙ ap (λ m. m scope) (fold-roll-Stmt (Scope → Measured) measured_step (While head body))
 
 abbrev pub repeat_measured : List Measured → List Instr → Measured
 repeat_measured ms test = record { size = all_sizes ms + (length test + 1); inner = all_tables ms }
 
-pub measured-Repeat : (scope : Scope) (number loop_number : ℕ) (word : SourcePlace) (statements : Vec Stmt) (condition : Expr)
-    → measured (stmt.Repeat number loop_number word statements condition) scope ≡ repeat_measured (map (λ s. measured s scope) statements.items)
-    (expr_code scope condition)
-measured-Repeat scope number loop_number word statements condition =
-    ap (λ s. measured s scope) (sym (stmt.rolls-Repeat number loop_number word statements condition))
-    ∙ ap (λ m. m scope) (fold-roll-Stmt (Scope → Measured) measured_step (Repeat number loop_number word statements condition))
-    ∙ ap (λ ms. repeat_measured ms (expr_code scope condition)) (map-map (λ (measure : Scope → Measured). measure scope) measured statements.items)
+pub measured-Repeat : (scope : Scope) (head : LoopHead) (statements : Vec Stmt)
+    → measured (stmt.Repeat head statements) scope ≡ repeat_measured (map (λ s. measured s scope) statements.items) (expr_code scope head.condition)
+measured-Repeat scope head statements =
+    ap (λ s. measured s scope) (sym (stmt.rolls-Repeat head statements))
+    ∙ ap (λ m. m scope) (fold-roll-Stmt (Scope → Measured) measured_step (Repeat head statements))
+    ∙ ap (λ ms. repeat_measured ms (expr_code scope head.condition)) (map-map (λ (measure : Scope → Measured). measure scope) measured statements.items)
 
 abbrev pub for_measured : List Instr → List Instr → Measured → Measured
 for_measured first last inside = record { size = length first + length last + 10 + inside.size + 13; inner = table_of inside }
 
-pub measured-For : (scope : Scope) (number loop_number : ℕ) (word : SourcePlace) (control : ℕ) (first : Expr) (first_fits : RangeTest) (way : Direction)
-    (last : Expr) (last_fits : RangeTest) (body : Box Stmt)
-    → measured (stmt.For number loop_number word control first first_fits way last last_fits body) scope ≡ for_measured (expr_code scope first)
-    (expr_code scope last) (measured body.value (holding 2 scope))
-measured-For scope number loop_number word control first first_fits way last last_fits body =
-    ap (λ s. measured s scope) (sym (stmt.rolls-For number loop_number word control first first_fits way last last_fits body))
-    ∙ ap (λ m. m scope) (fold-roll-Stmt (Scope → Measured) measured_step (For number loop_number word control first first_fits way last last_fits body))
+pub measured-For : (scope : Scope) (head : ForHead) (body : Box Stmt)
+    → measured (stmt.For head body) scope ≡ for_measured (expr_code scope head.first.value) (expr_code scope head.last.value)
+    (measured body.value (holding 2 scope))
+measured-For scope head body =
+    ap (λ s. measured s scope) (sym (stmt.rolls-For head body))
+    ∙ ap (λ m. m scope) (fold-roll-Stmt (Scope → Measured) measured_step (For head body))
 
 abbrev pub case_measured : List Instr → List (Vec ℤ) → List Measured → Measured
 case_measured test rows ms = record { size = length test + arms_size rows ms + 2; inner = arms_table rows ms }
 
-pub measured-Case : (scope : Scope) (number site : ℕ) (index : Expr) (constants : Vec (Vec ℤ)) (arms : Vec Stmt)
-    → measured (stmt.Case number site index constants arms) scope ≡ case_measured (expr_code scope index) constants.items
+pub measured-Case : (scope : Scope) (head : CaseHead) (arms : Vec Stmt)
+    → measured (stmt.Case head arms) scope ≡ case_measured (expr_code scope head.index) head.constants.items
     (map (λ s. measured s (holding 1 scope)) arms.items)
-measured-Case scope number site index constants arms =
-    ap (λ s. measured s scope) (sym (stmt.rolls-Case number site index constants arms))
-    ∙ ap (λ m. m scope) (fold-roll-Stmt (Scope → Measured) measured_step (Case number site index constants arms))
-    ∙ ap (λ ms. case_measured (expr_code scope index) constants.items ms)
+measured-Case scope head arms =
+    ap (λ s. measured s scope) (sym (stmt.rolls-Case head arms))
+    ∙ ap (λ m. m scope) (fold-roll-Stmt (Scope → Measured) measured_step (Case head arms))
+    ∙ ap (λ ms. case_measured (expr_code scope head.index) head.constants.items ms)
     (map-map (λ (measure : Scope → Measured). measure (holding 1 scope)) measured arms.items)
-
-pub measured-Assign : (scope : Scope) (number : ℕ) (becomes : SourcePlace) (target : Access) (indexes : Vec Expr) (fits : RangeTest) (value : Expr)
-    → measured (stmt.Assign number becomes target indexes fits value) scope ≡ record
-    { size = length (assign_code scope target indexes.items fits value); inner = [] }
-measured-Assign scope number becomes target indexes fits value =
-    ap (λ s. measured s scope) (sym (stmt.rolls-Assign number becomes target indexes fits value))
-    ∙ ap (λ m. m scope) (fold-roll-Stmt (Scope → Measured) measured_step (Assign number becomes target indexes fits value))
-
-pub measured-Copy : (scope : Scope) (number : ℕ) (becomes : SourcePlace) (target : Access) (indexes : Vec Expr) (type_id : TypeId) (value : Whole)
-    (value_indexes : Vec Expr) → measured (stmt.Copy number becomes target indexes type_id value value_indexes) scope ≡ record
-    { size = length (copy_code scope target indexes.items value value_indexes.items); inner = [] }
-measured-Copy scope number becomes target indexes type_id value value_indexes =
-    ap (λ s. measured s scope) (sym (stmt.rolls-Copy number becomes target indexes type_id value value_indexes))
-    ∙ ap (λ m. m scope) (fold-roll-Stmt (Scope → Measured) measured_step (Copy number becomes target indexes type_id value value_indexes))
-
-pub measured-Call : (scope : Scope) (call : Call) (actuals : Vec Passed)
-    → measured (stmt.Call call actuals) scope ≡ record { size = length (call_code scope call (map (passed_code scope) actuals.items)); inner = [] }
-measured-Call scope call actuals =
-    ap (λ s. measured s scope) (sym (stmt.rolls-Call call actuals))
-    ∙ ap (λ m. m scope) (fold-roll-Stmt (Scope → Measured) measured_step (Calling call actuals))
 
 -- what is told of the first statements, and of one more
 all_sizes-push : (ms : List Measured) (m : Measured) → all_sizes (ms ++ m ∷ []) ≡ all_sizes ms + m.size

@@ -1,5 +1,5 @@
 -- Pieces of code, one after another.
-use Rattle.std.proofs.Common.{◌≡◌, ℕ, Bool, ◌+◌, ◌<◌, ◌≤◌, max, length, length-append, take, get_or, List, [], ◌∷◌, ◌++◌, map, refl, ap, sym, ◌∙◌, append-nil}
+use Rattle.std.proofs.Common.{◌≡◌, ℕ, ◌+◌, ◌<◌, ◌≤◌, max, length, length-append, take, get_or, List, [], ◌∷◌, ◌++◌, map, refl, ap, sym, ◌∙◌, append-nil}
 use Rattle.std.proofs.Common.{append_assoc, arith, Some, None}
 use Rattle.std.specs.List.{flat_map}
 use Rattle.std.specs.Prelude.{ℤ, fold}
@@ -10,11 +10,8 @@ use Rattle.std.proofs.lemmas.List.{take_all, take_more, flat_map_more, map_push,
 use Rattle.std.specs.Global.{Vec, Box}
 use Rattle.pcode_assembler.specs.declared.instr.Instr.{Instr}
 use Rattle.pcode_assembler.specs.declared.instr.Instr.TheVariants as instr
-use Rattle.place.specs.declared.Place.{Place as SourcePlace}
 use Rattle.typed_tree.specs.declared.tree.Access.{Access}
-use Rattle.typed_tree.specs.declared.tree.Direction.{Direction}
 use Rattle.typed_tree.specs.declared.tree.RangeTest.{RangeTest}
-use Rattle.typed_tree.specs.declared.tree.WriteParameter.{WriteParameter}
 use Rattle.typed_tree.specs.declared.tree.Whole.{Whole}
 use Rattle.types.specs.declared.form.TypeId.{TypeId}
 use Rattle.typed_tree.specs.declared.tree.Expr.{Expr}
@@ -30,22 +27,24 @@ use Rattle.typed_tree.specs.declared.tree.Expr.TheOpen.Expr-F.{Variable as Varia
 use Rattle.typed_tree.specs.declared.tree.Expr.TheOpen.Expr-F.{Compare as Compare-layer, Call as CallOf-layer}
 use Rattle.typed_tree.specs.declared.tree.Expr.TheOpen.Passed-F.{Value as Value-layer, Whole as Whole-layer, Reference as Reference-layer}
 use Rattle.typed_tree.specs.declared.tree.Expr.TheFolds.{fold-roll-Expr, fold-roll-Passed, fold_out-Link}
+use Rattle.typed_tree.specs.declared.tree.LoopHead.{LoopHead}
+use Rattle.typed_tree.specs.declared.tree.ForHead.{ForHead}
+use Rattle.typed_tree.specs.declared.tree.CaseHead.{CaseHead}
 use Rattle.typed_tree.specs.declared.tree.Stmt.{Stmt}
-use Rattle.typed_tree.specs.declared.tree.Stmt.TheVariants.{Empty, rolls-Empty, Assign, rolls-Assign, Write, rolls-Write, Compound, rolls-Compound, If}
+use Rattle.typed_tree.specs.declared.tree.Stmt.TheVariants.{Compound, rolls-Compound, If}
 use Rattle.typed_tree.specs.declared.tree.Stmt.TheVariants.{rolls-If, While, rolls-While, Repeat, rolls-Repeat, For, rolls-For, Case, rolls-Case}
-use Rattle.typed_tree.specs.declared.tree.Stmt.TheVariants.{Copy, rolls-Copy, Call as Calling, rolls-Call}
-use Rattle.typed_tree.specs.declared.tree.Stmt.TheOpen.Stmt-F.{Empty as Empty-layer, Assign as Assign-layer, Write as Write-layer, Compound as Compound-layer}
+use Rattle.typed_tree.specs.declared.tree.Stmt.TheOpen.Stmt-F.{Compound as Compound-layer}
 use Rattle.typed_tree.specs.declared.tree.Stmt.TheOpen.Stmt-F.{If as If-layer, While as While-layer, Repeat as Repeat-layer, For as For-layer}
-use Rattle.typed_tree.specs.declared.tree.Stmt.TheOpen.Stmt-F.{Case as Case-layer, Copy as Copy-layer, Call as Call-layer}
+use Rattle.typed_tree.specs.declared.tree.Stmt.TheOpen.Stmt-F.{Case as Case-layer}
 use Rattle.typed_tree.specs.declared.tree.Stmt.TheFolds.{fold-roll-Stmt}
 use Rattle.typed_tree.specs.WellFormed.{length_of}
 use Rattle.code_scheme.specs.Scopes.{Scope, called_routine, holding, row_length}
 use Rattle.code_scheme.specs.Code.{joined, placed, Placed, if_code, if_else_code, while_code, repeat_code, for_code, for_entry, for_begin, for_next}
-use Rattle.code_scheme.specs.Code.{for_end, case_code, dyadic_code, monadic_code, expr_step, link_step, expr_code, link_code, variable_code, assign_code}
-use Rattle.code_scheme.specs.Code.{write_code, parameter_code, line_end_code, stmt_step, stmt_code, compare_code, whole_code}
-use Rattle.code_scheme.specs.Code.{address_code, call_code, copy_code, index_codes, passed_code, passed_step, range_check, statements_code}
-use Rattle.code_scheme.specs.Depth.{greatest, arms_depth, expr_depth, parameter_depth, stmt_depth, stmt_depth_step}
-use Rattle.code_scheme.specs.Depth.{access_depth, call_depth, expr_depth_step, index_depths, link_depth_step, passed_depth, passed_depth_step, store_depth}
+use Rattle.code_scheme.specs.Code.{for_end, case_code, dyadic_code, monadic_code, expr_step, link_step, expr_code, link_code, variable_code}
+use Rattle.code_scheme.specs.Code.{stmt_step, stmt_code, compare_code, whole_code}
+use Rattle.code_scheme.specs.Code.{address_code, call_code, index_codes, passed_code, passed_step, range_check, statements_code}
+use Rattle.code_scheme.specs.Depth.{arms_depth, expr_depth}
+use Rattle.code_scheme.specs.Depth.{access_depth, call_depth, expr_depth_step, index_depths, link_depth_step, passed_depth, passed_depth_step}
 use Rattle.code_scheme.specs.Depth.{PassedDepth, actuals_depth, whole_depth}
 use Rattle.code_scheme.specs.Sizes.{capped}
 
@@ -117,35 +116,6 @@ stmt_code-Compound scope place number statements =
     ∙ ap (λ code. code scope place) (fold-roll-Stmt Placed stmt_step (Compound-layer number statements))
     ∙ ap (λ pieces. placed pieces place) (map-map (λ code. code scope) stmt_code statements.items)
 
-pub stmt_code-Empty : (scope : Scope) (place number : ℕ) → stmt_code (Empty number) scope place ≡ []
-stmt_code-Empty scope place number =
-    ap (λ s. stmt_code s scope place) (sym (rolls-Empty number)) ∙ ap (λ code. code scope place) (fold-roll-Stmt Placed stmt_step (Empty-layer number))
-
-pub stmt_code-Assign : (scope : Scope) (place number : ℕ) (becomes : SourcePlace) (target : Access) (indexes : Vec Expr) (fits : RangeTest) (value : Expr)
-    → stmt_code (Assign number becomes target indexes fits value) scope place ≡ assign_code scope target indexes.items fits value
-stmt_code-Assign scope place number becomes target indexes fits value =
-    ap (λ s. stmt_code s scope place) (sym (rolls-Assign number becomes target indexes fits value))
-    ∙ ap (λ code. code scope place) (fold-roll-Stmt Placed stmt_step (Assign-layer number becomes target indexes fits value))
-
-pub stmt_code-Copy : (scope : Scope) (place number : ℕ) (becomes : SourcePlace) (target : Access) (indexes : Vec Expr) (type_id : TypeId) (value : Whole)
-    (value_indexes : Vec Expr) → stmt_code (Copy number becomes target indexes type_id value value_indexes) scope place ≡ copy_code scope target indexes.items
-    value value_indexes.items
-stmt_code-Copy scope place number becomes target indexes type_id value value_indexes =
-    ap (λ s. stmt_code s scope place) (sym (rolls-Copy number becomes target indexes type_id value value_indexes))
-    ∙ ap (λ code. code scope place) (fold-roll-Stmt Placed stmt_step (Copy-layer number becomes target indexes type_id value value_indexes))
-
-pub stmt_code-Write : (scope : Scope) (place number : ℕ) (name : SourcePlace) (parameters : Vec WriteParameter) (ends_line : Bool)
-    → stmt_code (Write number name parameters ends_line) scope place ≡ write_code scope parameters.items ends_line
-stmt_code-Write scope place number name parameters ends_line =
-    ap (λ s. stmt_code s scope place) (sym (rolls-Write number name parameters ends_line))
-    ∙ ap (λ code. code scope place) (fold-roll-Stmt Placed stmt_step (Write-layer number name parameters ends_line))
-
-pub stmt_code-Call : (scope : Scope) (place : ℕ) (call : Call) (actuals : Vec Passed)
-    → stmt_code (Calling call actuals) scope place ≡ call_code scope call (map (passed_code scope) actuals.items)
-stmt_code-Call scope place call actuals =
-    ap (λ s. stmt_code s scope place) (sym (rolls-Call call actuals))
-    ∙ ap (λ code. code scope place) (fold-roll-Stmt Placed stmt_step (Call-layer call actuals))
-
 -- an if statement without `else`, and one with it
 pub stmt_code-If : (scope : Scope) (place number : ℕ) (condition : Expr) (consequence : Box Stmt)
     → stmt_code (If number condition consequence None) scope place ≡ if_code (expr_code scope condition) (stmt_code consequence.value) scope place
@@ -161,19 +131,18 @@ stmt_code-If-else scope place number condition consequence alternative =
     ∙ ap (λ code. code scope place) (fold-roll-Stmt Placed stmt_step (If-layer number condition consequence (Some alternative)))
 
 -- a while statement, and a repeat statement
-pub stmt_code-While : (scope : Scope) (place number loop_number : ℕ) (word : SourcePlace) (condition : Expr) (body : Box Stmt)
-    → stmt_code (While number loop_number word condition body) scope place ≡ while_code (expr_code scope condition) (stmt_code body.value) scope place
-stmt_code-While scope place number loop_number word condition body =
-    ap (λ s. stmt_code s scope place) (sym (rolls-While number loop_number word condition body))
-    ∙ ap (λ code. code scope place) (fold-roll-Stmt Placed stmt_step (While-layer number loop_number word condition body))
+pub stmt_code-While : (scope : Scope) (place : ℕ) (head : LoopHead) (body : Box Stmt)
+    → stmt_code (While head body) scope place ≡ while_code (expr_code scope head.condition) (stmt_code body.value) scope place
+stmt_code-While scope place head body =
+    ap (λ s. stmt_code s scope place) (sym (rolls-While head body))
+    ∙ ap (λ code. code scope place) (fold-roll-Stmt Placed stmt_step (While-layer head body))
 
-pub stmt_code-Repeat : (scope : Scope) (place number loop_number : ℕ) (word : SourcePlace) (statements : Vec Stmt) (condition : Expr)
-    → stmt_code (Repeat number loop_number word statements condition) scope place ≡ repeat_code (statements_code scope statements.items)
-    (expr_code scope condition) place
-stmt_code-Repeat scope place number loop_number word statements condition =
-    ap (λ s. stmt_code s scope place) (sym (rolls-Repeat number loop_number word statements condition))
-    ∙ ap (λ code. code scope place) (fold-roll-Stmt Placed stmt_step (Repeat-layer number loop_number word statements condition))
-    ∙ ap (λ pieces. repeat_code (placed pieces) (expr_code scope condition) place) (map-map (λ code. code scope) stmt_code statements.items)
+pub stmt_code-Repeat : (scope : Scope) (place : ℕ) (head : LoopHead) (statements : Vec Stmt)
+    → stmt_code (Repeat head statements) scope place ≡ repeat_code (statements_code scope statements.items) (expr_code scope head.condition) place
+stmt_code-Repeat scope place head statements =
+    ap (λ s. stmt_code s scope place) (sym (rolls-Repeat head statements))
+    ∙ ap (λ code. code scope place) (fold-roll-Stmt Placed stmt_step (Repeat-layer head statements))
+    ∙ ap (λ pieces. repeat_code (placed pieces) (expr_code scope head.condition) place) (map-map (λ code. code scope) stmt_code statements.items)
 
 pub length-While : (test : List Instr) (body : Placed) (scope : Scope) (place : ℕ)
     → length (while_code test body scope place) ≡ length test + 1 + length (body scope (place + length test + 1)) + 1
@@ -196,26 +165,25 @@ length-Repeat statements test place =
     )
 
 -- a for statement
-pub stmt_code-For : (scope : Scope) (place number loop_number : ℕ) (word : SourcePlace) (control : ℕ) (first : Expr) (first_fits : RangeTest) (way : Direction)
-    (last : Expr) (last_fits : RangeTest) (body : Box Stmt)
-    → stmt_code (For number loop_number word control first first_fits way last last_fits body) scope place ≡ for_code control (expr_code scope first)
-    first_fits way (expr_code scope last) last_fits (stmt_code body.value) scope place
-stmt_code-For scope place number loop_number word control first first_fits way last last_fits body =
-    ap (λ s. stmt_code s scope place) (sym (rolls-For number loop_number word control first first_fits way last last_fits body))
-    ∙ ap (λ code. code scope place)
-    (fold-roll-Stmt Placed stmt_step (For-layer number loop_number word control first first_fits way last last_fits body))
+pub stmt_code-For : (scope : Scope) (place : ℕ) (head : ForHead) (body : Box Stmt)
+    → stmt_code (For head body) scope place ≡ for_code head (stmt_code body.value) scope place
+stmt_code-For scope place head body =
+    ap (λ s. stmt_code s scope place) (sym (rolls-For head body))
+    ∙ ap (λ code. code scope place) (fold-roll-Stmt Placed stmt_step (For-layer head body))
 
-pub length-For : (control : ℕ) (first : List Instr) (first_fits : RangeTest) (way : Direction) (last : List Instr) (last_fits : RangeTest) (body : Placed)
-    (scope : Scope) (place : ℕ) → length (for_code control first first_fits way last last_fits body scope place) ≡ length first + length last + 10 + length
-    (body (holding 2 scope) (place + length first + length last + 8 + 2)) + 13
-length-For control first first_fits way last last_fits body scope place =
-    let head = place + length first + length last + 8 in
-    let inside = body (holding 2 scope) (head + 2) in
-    let out = head + 2 + length inside + 9 in
-    let entry = for_entry scope first_fits way last_fits out in
-    let begin = for_begin scope control in
-    let next = for_next scope way head out in
-    let done = for_end scope control in
+pub length-For : (head : ForHead) (body : Placed) (scope : Scope) (place : ℕ)
+    → length (for_code head body scope place) ≡ length (expr_code scope head.first.value) + length (expr_code scope head.last.value) + 10 + length
+    (body (holding 2 scope) (place + length (expr_code scope head.first.value) + length (expr_code scope head.last.value) + 8 + 2)) + 13
+length-For head body scope place =
+    let first = expr_code scope head.first.value in
+    let last = expr_code scope head.last.value in
+    let round = place + length first + length last + 8 in
+    let inside = body (holding 2 scope) (round + 2) in
+    let out = round + 2 + length inside + 9 in
+    let entry = for_entry scope head out in
+    let begin = for_begin scope head.control in
+    let next = for_next scope head.direction round out in
+    let done = for_end scope head.control in
     omega (
       arith,
       length-append first (last ++ (entry ++ (begin ++ (inside ++ (next ++ done))))),
@@ -227,12 +195,11 @@ length-For control first first_fits way last last_fits body scope place =
     )
 
 -- a case statement
-pub stmt_code-Case : (scope : Scope) (place number site : ℕ) (index : Expr) (constants : Vec (Vec ℤ)) (arms : Vec Stmt)
-    → stmt_code (Case number site index constants arms) scope place ≡ case_code site (expr_code scope index) constants.items (map stmt_code arms.items) scope
-    place
-stmt_code-Case scope place number site index constants arms =
-    ap (λ s. stmt_code s scope place) (sym (rolls-Case number site index constants arms))
-    ∙ ap (λ code. code scope place) (fold-roll-Stmt Placed stmt_step (Case-layer number site index constants arms))
+pub stmt_code-Case : (scope : Scope) (place : ℕ) (head : CaseHead) (arms : Vec Stmt)
+    → stmt_code (Case head arms) scope place ≡ case_code head (map stmt_code arms.items) scope place
+stmt_code-Case scope place head arms =
+    ap (λ s. stmt_code s scope place) (sym (rolls-Case head arms))
+    ∙ ap (λ code. code scope place) (fold-roll-Stmt Placed stmt_step (Case-layer head arms))
 
 -- how many instructions they have
 pub length-If : (test : List Instr) (consequence : Placed) (scope : Scope) (place : ℕ)
@@ -250,14 +217,6 @@ length-If-else test consequence alternative scope place =
     let no = yes + length code + 1 in
     let behind = instr.Jump (no + length (alternative scope no)) ∷ alternative scope no in
     omega (arith, length-append test (instr.JumpIfFalse no ∷ (code ++ behind)), length-append code behind)
-
--- how many instructions a write has
-pub length-Write : (scope : Scope) (place number : ℕ) (name : SourcePlace) (parameters : Vec WriteParameter) (ends_line : Bool)
-    → length (stmt_code (Write number name parameters ends_line) scope place) ≡ length (flat_map (parameter_code scope) parameters.items) + length
-    (line_end_code ends_line)
-length-Write scope place number name parameters ends_line =
-    ap length (stmt_code-Write scope place number name parameters ends_line)
-    ∙ length-append (flat_map (parameter_code scope) parameters.items) (line_end_code ends_line)
 
 -- how many cells an expression needs that accesses a variable, or compares two whole values
 pub expr_depth-Variable : (access : Access) (indexes : Vec Expr) (defined : ℕ)
@@ -295,64 +254,6 @@ pub passed_depth-Reference : (type_id : TypeId) (access : Access) (indexes : Vec
 passed_depth-Reference type_id access indexes =
     ap passed_depth (sym (actual.rolls-Reference type_id access indexes))
     ∙ fold-roll-Passed ℕ PassedDepth ℕ expr_depth_step passed_depth_step link_depth_step (Reference-layer type_id access indexes)
-
--- how many cells an assignment needs, a write, and a compound statement
-pub stmt_depth-Assign : (number : ℕ) (becomes : SourcePlace) (target : Access) (indexes : Vec Expr) (fits : RangeTest) (value : Expr)
-    → stmt_depth (Assign number becomes target indexes fits value) ≡ store_depth (index_depths indexes.items)
-    (expr_depth value)
-stmt_depth-Assign number becomes target indexes fits value =
-    ap stmt_depth (sym (rolls-Assign number becomes target indexes fits value))
-    ∙ fold-roll-Stmt ℕ stmt_depth_step (Assign-layer number becomes target indexes fits value)
-
-pub stmt_depth-Copy : (number : ℕ) (becomes : SourcePlace) (target : Access) (indexes : Vec Expr) (type_id : TypeId) (value : Whole)
-    (value_indexes : Vec Expr) → stmt_depth (Copy number becomes target indexes type_id value value_indexes) ≡ max (access_depth (index_depths indexes.items))
-    (whole_depth value (index_depths value_indexes.items) + 1)
-stmt_depth-Copy number becomes target indexes type_id value value_indexes =
-    ap stmt_depth (sym (rolls-Copy number becomes target indexes type_id value value_indexes))
-    ∙ fold-roll-Stmt ℕ stmt_depth_step (Copy-layer number becomes target indexes type_id value value_indexes)
-
-pub stmt_depth-Write : (number : ℕ) (name : SourcePlace) (parameters : Vec WriteParameter) (ends_line : Bool)
-    → stmt_depth (Write number name parameters ends_line) ≡ greatest (map parameter_depth parameters.items)
-stmt_depth-Write number name parameters ends_line =
-    ap stmt_depth (sym (rolls-Write number name parameters ends_line)) ∙ fold-roll-Stmt ℕ stmt_depth_step (Write-layer number name parameters ends_line)
-
-pub stmt_depth-Call : (call : Call) (actuals : Vec Passed) → stmt_depth (Calling call actuals) ≡ call_depth (map passed_depth actuals.items)
-stmt_depth-Call call actuals = ap stmt_depth (sym (rolls-Call call actuals)) ∙ fold-roll-Stmt ℕ stmt_depth_step (Call-layer call actuals)
-
-pub stmt_depth-Compound : (number : ℕ) (statements : Vec Stmt) → stmt_depth (Compound number statements) ≡ greatest (map stmt_depth statements.items)
-stmt_depth-Compound number statements =
-    ap stmt_depth (sym (rolls-Compound number statements)) ∙ fold-roll-Stmt ℕ stmt_depth_step (Compound-layer number statements)
-
-pub stmt_depth-If : (number : ℕ) (condition : Expr) (consequence : Box Stmt)
-    → stmt_depth (If number condition consequence None) ≡ max (expr_depth condition) (max (stmt_depth consequence.value) 0)
-stmt_depth-If number condition consequence =
-    ap stmt_depth (sym (rolls-If number condition consequence None)) ∙ fold-roll-Stmt ℕ stmt_depth_step (If-layer number condition consequence None)
-
-pub stmt_depth-If-else : (number : ℕ) (condition : Expr) (consequence alternative : Box Stmt)
-    → stmt_depth (If number condition consequence (Some alternative)) ≡ max (expr_depth condition) (max (stmt_depth consequence.value)
-    (stmt_depth alternative.value))
-stmt_depth-If-else number condition consequence alternative =
-    ap stmt_depth (sym (rolls-If number condition consequence (Some alternative)))
-    ∙ fold-roll-Stmt ℕ stmt_depth_step (If-layer number condition consequence (Some alternative))
-
-pub stmt_depth-While : (number loop_number : ℕ) (word : SourcePlace) (condition : Expr) (body : Box Stmt)
-    → stmt_depth (While number loop_number word condition body) ≡ max (expr_depth condition) (stmt_depth body.value)
-stmt_depth-While number loop_number word condition body =
-    ap stmt_depth (sym (rolls-While number loop_number word condition body))
-    ∙ fold-roll-Stmt ℕ stmt_depth_step (While-layer number loop_number word condition body)
-
-pub stmt_depth-Repeat : (number loop_number : ℕ) (word : SourcePlace) (statements : Vec Stmt) (condition : Expr)
-    → stmt_depth (Repeat number loop_number word statements condition) ≡ max (greatest (map stmt_depth statements.items)) (expr_depth condition)
-stmt_depth-Repeat number loop_number word statements condition =
-    ap stmt_depth (sym (rolls-Repeat number loop_number word statements condition))
-    ∙ fold-roll-Stmt ℕ stmt_depth_step (Repeat-layer number loop_number word statements condition)
-
-pub stmt_depth-For : (number loop_number : ℕ) (word : SourcePlace) (control : ℕ) (first : Expr) (first_fits : RangeTest) (way : Direction) (last : Expr)
-    (last_fits : RangeTest) (body : Box Stmt) → stmt_depth (For number loop_number word control first first_fits way last last_fits body) ≡ max
-    (max (expr_depth first) (expr_depth last + 1)) (max 4 (stmt_depth body.value + 2))
-stmt_depth-For number loop_number word control first first_fits way last last_fits body =
-    ap stmt_depth (sym (rolls-For number loop_number word control first first_fits way last last_fits body))
-    ∙ fold-roll-Stmt ℕ stmt_depth_step (For-layer number loop_number word control first first_fits way last last_fits body)
 
 -- no arm behind the last one needs a cell
 pub arms_depth-none : (rows : List (Vec ℤ)) → arms_depth rows [] ≡ 0

@@ -10,6 +10,11 @@ use Rattle.pcode_assembler.specs.declared.instr.Instr.TheVariants as instr
 use Rattle.typed_tree.specs.declared.tree.Tree.{Tree}
 use Rattle.typed_tree.specs.declared.tree.Block.{Block}
 use Rattle.typed_tree.specs.declared.tree.FunctionResult.{FunctionResult}
+use Rattle.typed_tree.specs.declared.tree.Assignment.{Assignment}
+use Rattle.typed_tree.specs.declared.tree.Copying.{Copying}
+use Rattle.typed_tree.specs.declared.tree.Writing.{Writing}
+use Rattle.typed_tree.specs.declared.tree.ForHead.{ForHead}
+use Rattle.typed_tree.specs.declared.tree.CaseHead.{CaseHead}
 use Rattle.typed_tree.specs.declared.tree.Call.{Call}
 use Rattle.typed_tree.specs.declared.tree.Access.{Access}
 use Rattle.typed_tree.specs.declared.tree.Selector.{Selector}
@@ -231,17 +236,17 @@ index_codes scope = map (expr_code scope)
 
 -- the code of an assignment (6.8.2.2): the target's address, if it is no cell of a frame; the value, its check, its
 -- store
-abbrev pub assign_code : Scope → Access → List Expr → RangeTest → Expr → List Instr
-assign_code scope target indexes fits value =
-    store_code (expr_code scope value ++ (range_check fits ∷ []))
-    (reached scope target (index_codes scope indexes))
+abbrev pub assign_code : Scope → Assignment → List Instr
+assign_code scope assignment =
+    store_code (expr_code scope assignment.value ++ (range_check assignment.fits ∷ []))
+    (reached scope assignment.target (index_codes scope assignment.indexes.items))
 
 -- the code of an assignment of a whole value: the target's address, the components of the value, and their store
-abbrev pub copy_code : Scope → Access → List Expr → Whole → List Expr → List Instr
-copy_code scope target indexes value value_indexes =
-    address_code scope target (index_codes scope indexes)
-    ++ (whole_code scope value (index_codes scope value_indexes)
-    ++ (instr.StoreMany (row_length (length_of value)) ∷ []))
+abbrev pub copy_code : Scope → Copying → List Instr
+copy_code scope copying =
+    address_code scope copying.target (index_codes scope copying.indexes.items)
+    ++ (whole_code scope copying.value (index_codes scope copying.value_indexes.items)
+    ++ (instr.StoreMany (row_length (length_of copying.value)) ∷ []))
 
 -- the width of an ordinal that has none
 abbrev pub ordinal_width : Representation → ℤ
@@ -287,8 +292,9 @@ line_end_code true = instr.WriteLine ∷ []
 line_end_code false = []
 
 -- the code of a write or writeln: each value in turn
-abbrev pub write_code : Scope → List WriteParameter → Bool → List Instr
-write_code scope parameters ends_line = flat_map (parameter_code scope) parameters ++ line_end_code ends_line
+abbrev pub write_code : Scope → Writing → List Instr
+write_code scope writing =
+    flat_map (parameter_code scope) writing.parameters.items ++ line_end_code writing.ends_line
 
 -- what is known where the code of a statement is made: its block's scope, and its place
 abbrev pub Placed : Type 0
@@ -331,27 +337,27 @@ next_instr direction.DownTo = instr.Subtract
 
 -- The code behind both bounds, whose values are held from then on: a jump out of the loop where they leave no value,
 -- and the tests of the first and of the last.
-abbrev pub for_entry : Scope → RangeTest → Direction → RangeTest → ℕ → List Instr
-for_entry scope first_fits way last_fits out =
-    instr.Load 0 (held_offset scope 0) ∷ instr.Load 0 (held_offset scope 1) ∷ order_instr way ∷ instr.JumpIfFalse out
-    ∷ instr.Load 0 (held_offset scope 0) ∷ range_check first_fits ∷ instr.Store 0 (held_offset scope 0)
-    ∷ range_check last_fits ∷ []
+abbrev pub for_entry : Scope → ForHead → ℕ → List Instr
+for_entry scope head out =
+    instr.Load 0 (held_offset scope 0) ∷ instr.Load 0 (held_offset scope 1) ∷ order_instr head.direction
+    ∷ instr.JumpIfFalse out ∷ instr.Load 0 (held_offset scope 0) ∷ range_check head.first.fits
+    ∷ instr.Store 0 (held_offset scope 0) ∷ range_check head.last.fits ∷ []
 
 -- where a control variable begins, which the block declares whose statement the for statement is in
 abbrev pub control_offset : Scope → ℕ → ℕ
 control_offset scope control = (variable_home scope control).start
 
--- at the head of a round the control variable gets the value that is held
+-- where a round begins, the control variable gets the value that is held
 abbrev pub for_begin : Scope → ℕ → List Instr
 for_begin scope control =
     instr.Load 0 (held_offset scope 0) ∷ instr.Store 0 (control_offset scope control) ∷ []
 
--- behind the body: out of the loop with the last value, or else to the head with the next one
+-- behind the body: out of the loop with the last value, or else to the next round with the next one
 abbrev pub for_next : Scope → Direction → ℕ → ℕ → List Instr
-for_next scope way head out =
+for_next scope way round out =
     instr.Load 0 (held_offset scope 0) ∷ instr.Load 0 (held_offset scope 1) ∷ instr.NotEqual ∷ instr.JumpIfFalse out
     ∷ instr.Load 0 (held_offset scope 0) ∷ instr.LoadConstant (pos 1) ∷ next_instr way
-    ∷ instr.Store 0 (held_offset scope 0) ∷ instr.Jump head ∷ []
+    ∷ instr.Store 0 (held_offset scope 0) ∷ instr.Jump round ∷ []
 
 -- Behind the loop nothing more is held, and the control variable is undefined. The program's frame, to which the static
 -- links lead, has no return, so its third cell never gets a value.
@@ -361,13 +367,15 @@ for_end scope control =
     ∷ instr.Load (links_to scope 0) 2 ∷ instr.Store 0 (control_offset scope control) ∷ []
 
 -- the code of a for statement (6.8.3.9)
-abbrev pub for_code : ℕ → List Instr → RangeTest → Direction → List Instr → RangeTest → Placed → Placed
-for_code control first first_fits way last last_fits body scope place =
-    let head = place + length first + length last + 8 in
-    let inside = body (holding 2 scope) (head + 2) in
-    let out = head + 2 + length inside + 9 in
-    first ++ (last ++ (for_entry scope first_fits way last_fits out
-    ++ (for_begin scope control ++ (inside ++ (for_next scope way head out ++ for_end scope control)))))
+abbrev pub for_code : ForHead → Placed → Placed
+for_code head body scope place =
+    let first = expr_code scope head.first.value in
+    let last = expr_code scope head.last.value in
+    let round = place + length first + length last + 8 in
+    let inside = body (holding 2 scope) (round + 2) in
+    let out = round + 2 + length inside + 9 in
+    first ++ (last ++ (for_entry scope head out ++ (for_begin scope head.control
+    ++ (inside ++ (for_next scope head.direction round out ++ for_end scope head.control)))))
 
 -- the index is compared with a constant, and a jump to the arm is taken where it is the same
 abbrev pub comparison : Scope → ℕ → ℤ → List Instr
@@ -390,33 +398,30 @@ arms_code scope out (row ∷ rows) (arm ∷ arms) place =
 
 -- the code of a case statement (6.8.3.5): the index, which is held; the arms; an error where it equals no constant; and
 -- what takes the index away, a conditional jump to the next instruction
-abbrev pub case_code : ℕ → List Instr → List (Vec ℤ) → List Placed → Placed
-case_code site index rows arms scope place =
+abbrev pub case_code : CaseHead → List Placed → Placed
+case_code head arms scope place =
+    let index = expr_code scope head.index in
+    let rows = head.constants.items in
     let first = place + length index in
     let out = first + length (arms_code scope 0 rows arms first) + 1 in
-    index ++ (arms_code scope out rows arms first ++ (instr.Fail site ∷ instr.JumpIfFalse (out + 1) ∷ []))
+    index ++ (arms_code scope out rows arms first ++ (instr.Fail head.site ∷ instr.JumpIfFalse (out + 1) ∷ []))
 
 abbrev pub stmt_step : Stmt-F Placed → Placed
 stmt_step (Empty number) scope place = []
-stmt_step (Assign number becomes target indexes fits value) scope place =
-    assign_code scope target indexes.items fits value
-stmt_step (Copy number becomes target indexes type_id value value_indexes) scope place =
-    copy_code scope target indexes.items value value_indexes.items
-stmt_step (Write number name parameters ends_line) scope place = write_code scope parameters.items ends_line
-stmt_step (Calling call actuals) scope place = call_code scope call (map (passed_code scope) actuals.items)
+stmt_step (Assign assignment) scope place = assign_code scope assignment
+stmt_step (Copy copying) scope place = copy_code scope copying
+stmt_step (Write writing) scope place = write_code scope writing
+stmt_step (Calling calling) scope place = call_code scope calling.call (map (passed_code scope) calling.actuals.items)
 stmt_step (Compound number statements) scope place = placed (map (λ code. code scope) statements.items) place
 stmt_step (If number condition consequence None) scope place =
     if_code (expr_code scope condition) consequence.value scope place
 stmt_step (If number condition consequence (Some alternative)) scope place =
     if_else_code (expr_code scope condition) consequence.value alternative.value scope place
-stmt_step (While number loop_number word condition body) scope place =
-    while_code (expr_code scope condition) body.value scope place
-stmt_step (Repeat number loop_number word statements condition) scope place =
-    repeat_code (placed (map (λ code. code scope) statements.items)) (expr_code scope condition) place
-stmt_step (For number loop_number word control first first_fits way last last_fits body) scope place =
-    for_code control (expr_code scope first) first_fits way (expr_code scope last) last_fits body.value scope place
-stmt_step (Case number site index constants arms) scope place =
-    case_code site (expr_code scope index) constants.items arms.items scope place
+stmt_step (While head body) scope place = while_code (expr_code scope head.condition) body.value scope place
+stmt_step (Repeat head statements) scope place =
+    repeat_code (placed (map (λ code. code scope) statements.items)) (expr_code scope head.condition) place
+stmt_step (For head body) scope place = for_code head body.value scope place
+stmt_step (Case head arms) scope place = case_code head arms.items scope place
 
 -- the code of a statement at a place
 abbrev pub stmt_code : Stmt → Placed

@@ -141,22 +141,22 @@ arms_depth (row ∷ rows) (depth ∷ depths) = max depth (arms_depth rows depths
 
 abbrev pub stmt_depth_step : Stmt-F ℕ → ℕ
 stmt_depth_step (Empty number) = 0
-stmt_depth_step (Assign number becomes target indexes fits value) =
-    store_depth (index_depths indexes.items) (expr_depth value)
-stmt_depth_step (Copy number becomes target indexes type_id value value_indexes) =
-    max (access_depth (index_depths indexes.items)) (whole_depth value (index_depths value_indexes.items) + 1)
-stmt_depth_step (Write number name parameters ends_line) = greatest (map parameter_depth parameters.items)
-stmt_depth_step (Calling call actuals) = call_depth (map passed_depth actuals.items)
+stmt_depth_step (Assign assignment) =
+    store_depth (index_depths assignment.indexes.items) (expr_depth assignment.value)
+stmt_depth_step (Copy copying) =
+    max (access_depth (index_depths copying.indexes.items))
+    (whole_depth copying.value (index_depths copying.value_indexes.items) + 1)
+stmt_depth_step (Write writing) = greatest (map parameter_depth writing.parameters.items)
+stmt_depth_step (Calling calling) = call_depth (map passed_depth calling.actuals.items)
 stmt_depth_step (Compound number statements) = greatest statements.items
 stmt_depth_step (If number condition consequence alternative) =
     max (expr_depth condition) (max consequence.value (alternative_depth alternative))
-stmt_depth_step (While number loop_number word condition body) = max (expr_depth condition) body.value
-stmt_depth_step (Repeat number loop_number word statements condition) =
-    max (greatest statements.items) (expr_depth condition)
-stmt_depth_step (For number loop_number word control first first_fits way last last_fits body) =
-    max (max (expr_depth first) (expr_depth last + 1)) (max 4 (body.value + 2))
-stmt_depth_step (Case number site index constants arms) =
-    max (expr_depth index) (max 3 (arms_depth constants.items arms.items + 1))
+stmt_depth_step (While head body) = max (expr_depth head.condition) body.value
+stmt_depth_step (Repeat head statements) = max (greatest statements.items) (expr_depth head.condition)
+stmt_depth_step (For head body) =
+    max (max (expr_depth head.first.value) (expr_depth head.last.value + 1)) (max 4 (body.value + 2))
+stmt_depth_step (Case head arms) =
+    max (expr_depth head.index) (max 3 (arms_depth head.constants.items arms.items + 1))
 
 -- how many cells the evaluation of a statement needs at once
 abbrev pub stmt_depth : Stmt → ℕ

@@ -101,21 +101,20 @@ module _ (types : List Form) where
   -- a statement, which has no value, and what is in it; the target of an assignment is an expression of one cell
   abbrev pub stmt_need_step : Stmt-F ℕ → ℕ
   stmt_need_step (Empty number) = 8
-  stmt_need_step (Assign number becomes target indexes fits value) =
-      8 + access_need (index_needs indexes.items) + expr_need value
-  stmt_need_step (Copy number becomes target indexes type_id value value_indexes) =
-      8 + reached_need type_id (index_needs indexes.items) + whole_need value (index_needs value_indexes.items)
-  stmt_need_step (Write number name parameters ends_line) = 8 + sum_by parameter_need parameters.items
-  stmt_need_step (Calling call actuals) = 8 + sum_by passed_need actuals.items
+  stmt_need_step (Assign assignment) =
+      8 + access_need (index_needs assignment.indexes.items) + expr_need assignment.value
+  stmt_need_step (Copy copying) =
+      8 + reached_need copying.type_id (index_needs copying.indexes.items)
+      + whole_need copying.value (index_needs copying.value_indexes.items)
+  stmt_need_step (Write writing) = 8 + sum_by parameter_need writing.parameters.items
+  stmt_need_step (Calling calling) = 8 + sum_by passed_need calling.actuals.items
   stmt_need_step (Compound number statements) = 8 + sum statements.items
   stmt_need_step (If number condition consequence alternative) =
       8 + expr_need condition + consequence.value + alternative_need alternative
-  stmt_need_step (While number loop_number word condition body) = 8 + expr_need condition + body.value
-  stmt_need_step (Repeat number loop_number word statements condition) =
-      8 + sum statements.items + expr_need condition
-  stmt_need_step (For number loop_number word control first first_fits way last last_fits body) =
-      8 + expr_need first + expr_need last + body.value
-  stmt_need_step (Case number site index constants arms) = 8 + expr_need index + sum arms.items
+  stmt_need_step (While head body) = 8 + expr_need head.condition + body.value
+  stmt_need_step (Repeat head statements) = 8 + sum statements.items + expr_need head.condition
+  stmt_need_step (For head body) = 8 + expr_need head.first.value + expr_need head.last.value + body.value
+  stmt_need_step (Case head arms) = 8 + expr_need head.index + sum arms.items
 
   abbrev pub stmt_need : Stmt → ℕ
   stmt_need = fold-Stmt ℕ stmt_need_step

@@ -76,14 +76,11 @@ arms_table (row ∷ rows) (m ∷ ms) = table_of m ++ arms_table rows ms
 
 abbrev pub measured_step : Stmt-F (Scope → Measured) → Scope → Measured
 measured_step (Empty number) scope = record { size = 0; inner = [] }
-measured_step (Assign number becomes target indexes fits value) scope =
-    record { size = length (assign_code scope target indexes.items fits value); inner = [] }
-measured_step (Copy number becomes target indexes type_id value value_indexes) scope =
-    record { size = length (copy_code scope target indexes.items value value_indexes.items); inner = [] }
-measured_step (Write number name parameters ends_line) scope =
-    record { size = length (write_code scope parameters.items ends_line); inner = [] }
-measured_step (Call call actuals) scope =
-    record { size = length (call_code scope call (map (passed_code scope) actuals.items)); inner = [] }
+measured_step (Assign assignment) scope = record { size = length (assign_code scope assignment); inner = [] }
+measured_step (Copy copying) scope = record { size = length (copy_code scope copying); inner = [] }
+measured_step (Write writing) scope = record { size = length (write_code scope writing); inner = [] }
+measured_step (Call calling) scope =
+    record { size = length (call_code scope calling.call (map (passed_code scope) calling.actuals.items)); inner = [] }
 measured_step (Compound number statements) scope =
     let parts = map (λ (measure : Scope → Measured). measure scope) statements.items in
     record { size = all_sizes parts; inner = all_tables parts }
@@ -97,23 +94,24 @@ measured_step (If number condition consequence (Some alternative)) scope =
       size = length (expr_code scope condition) + 1 + yes.size + 1 + no.size;
       inner = table_of yes ++ table_of no;
     }
-measured_step (While number loop_number word condition body) scope =
+measured_step (While head body) scope =
     let inside = body.value scope in
-    record { size = length (expr_code scope condition) + 1 + inside.size + 1; inner = table_of inside }
-measured_step (Repeat number loop_number word statements condition) scope =
+    record { size = length (expr_code scope head.condition) + 1 + inside.size + 1; inner = table_of inside }
+measured_step (Repeat head statements) scope =
     let parts = map (λ (measure : Scope → Measured). measure scope) statements.items in
-    record { size = all_sizes parts + (length (expr_code scope condition) + 1); inner = all_tables parts }
-measured_step (For number loop_number word control first first_fits way last last_fits body) scope =
+    record { size = all_sizes parts + (length (expr_code scope head.condition) + 1); inner = all_tables parts }
+measured_step (For head body) scope =
     let inside = body.value (holding 2 scope) in
     record {
-      size = length (expr_code scope first) + length (expr_code scope last) + 10 + inside.size + 13;
+      size = length (expr_code scope head.first.value) + length (expr_code scope head.last.value) + 10
+          + inside.size + 13;
       inner = table_of inside;
     }
-measured_step (Case number site index constants arms) scope =
+measured_step (Case head arms) scope =
     let parts = map (λ (measure : Scope → Measured). measure (holding 1 scope)) arms.items in
     record {
-      size = length (expr_code scope index) + arms_size constants.items parts + 2;
-      inner = arms_table constants.items parts;
+      size = length (expr_code scope head.index) + arms_size head.constants.items parts + 2;
+      inner = arms_table head.constants.items parts;
     }
 
 -- how many instructions a statement has, and those in it

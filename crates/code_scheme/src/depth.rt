@@ -1,4 +1,4 @@
-ghost use Rattle.std.specs.Prelude.{◌≡◌, map};
+ghost use Rattle.std.specs.Prelude.{◌≡◌, ◌+◌, map, max};
 ghost use Rattle.code_scheme.specs.Depth.{access_depth, arms_depth, block_depth, call_depth, expr_depth, greatest};
 ghost use Rattle.code_scheme.specs.Depth.{index_depths, monadic_depth, parameter_depth, passed_depth, result_depth};
 ghost use Rattle.code_scheme.specs.Depth.{shift_depth, stmt_depth, store_depth, whole_depth, width_depth};
@@ -8,7 +8,8 @@ ghost use Rattle.typed_tree.specs.WellFormed.{length_of};
 
 use crate::scope::LINKS;
 use typed_tree::tree::{
-    Block, Expr, FunctionResult, Monadic, Passed, Shift, Stmt, Whole, WriteParameter, Written,
+    Assignment, Block, Copying, Expr, ForHead, FunctionResult, Monadic, Passed, Shift, Stmt, Whole,
+    WriteParameter, Written,
 };
 
 /// How many cells the evaluation of the block needs at once, or the greatest number of 32 bits.
@@ -32,18 +33,10 @@ fn needed_by(stmt: &Stmt) -> u32
 {
     match stmt {
         Stmt::Empty { .. } => 0,
-        Stmt::Assign { indexes, value, .. } => needed_by_assign(indexes.as_slice(), value),
-        Stmt::Copy {
-            indexes,
-            value,
-            value_indexes,
-            ..
-        } => needed_by_access(indexes.as_slice()).max(needed_by_whole(
-            value,
-            value_indexes.as_slice(),
-        ).saturating_add(1)),
-        Stmt::Write { parameters, .. } => needed_by_parameters(parameters.as_slice()),
-        Stmt::Call { actuals, .. } => needed_by_call(actuals.as_slice()),
+        Stmt::Assign(assignment) => needed_by_assign(assignment),
+        Stmt::Copy(copying) => needed_by_copy(copying),
+        Stmt::Write(writing) => needed_by_parameters(writing.parameters.as_slice()),
+        Stmt::Call(calling) => needed_by_call(calling.actuals.as_slice()),
         Stmt::Compound { statements, .. } => needed_by_statements(statements),
         Stmt::If {
             condition,
@@ -57,31 +50,17 @@ fn needed_by(stmt: &Stmt) -> u32
                 Some(alternative) => depth.max(needed_by(alternative)),
             }
         }
-        Stmt::While {
-            condition,
-            body,
-            ..
-        } => needed_by_expr(condition).max(needed_by(body)),
-        Stmt::Repeat {
-            statements,
-            condition,
-            ..
-        } => needed_by_statements(statements).max(needed_by_expr(condition)),
-        Stmt::For {
-            first,
-            last,
-            body,
-            ..
-        } => {
-            let bounds = needed_by_expr(first).max(needed_by_expr(last).saturating_add(1));
-            bounds.max(needed_by(body).saturating_add(2).max(4))
+        Stmt::While { head, body } => needed_by_expr(&head.condition).max(needed_by(body)),
+        Stmt::Repeat { head, statements } => {
+            needed_by_statements(statements).max(needed_by_expr(&head.condition))
         }
-        Stmt::Case {
-            index,
-            constants,
-            arms,
-            ..
-        } => needed_by_expr(index).max(needed_by_arms(constants, arms).saturating_add(1).max(3)),
+        Stmt::For { head, body } => {
+            needed_by_bounds(head).max(needed_by(body).saturating_add(2).max(4))
+        }
+        Stmt::Case { head, arms } => {
+            let arms = needed_by_arms(&head.constants, arms).saturating_add(1);
+            needed_by_expr(&head.index).max(arms.max(3))
+        }
     }
 }
 
@@ -114,10 +93,30 @@ fn needed_by_arms(constants: &Vec<Vec<i32>>, arms: &Vec<Stmt>) -> u32
 }
 
 /// The same of an assignment: the target's address, where it is pushed, lies below the value.
-fn needed_by_assign(indexes: &[Expr], value: &Expr) -> u32
-    ensures { result ≡ capped (store_depth (index_depths indexes.now) (expr_depth value.now)) }
+fn needed_by_assign(assignment: &Assignment) -> u32
+    ensures { result ≡ capped (store_depth (index_depths assignment.now.indexes.items)
+        (expr_depth assignment.now.value)) }
 {
-    needed_by_access(indexes).max(needed_by_expr(value).saturating_add(1))
+    let address = needed_by_access(assignment.indexes.as_slice());
+    address.max(needed_by_expr(&assignment.value).saturating_add(1))
+}
+
+/// The same of an assignment of a whole value.
+fn needed_by_copy(copying: &Copying) -> u32
+    ensures { result ≡ capped (max (access_depth (index_depths copying.now.indexes.items))
+        (whole_depth copying.now.value (index_depths copying.now.value_indexes.items) + 1)) }
+{
+    let address = needed_by_access(copying.indexes.as_slice());
+    let value = needed_by_whole(&copying.value, copying.value_indexes.as_slice());
+    address.max(value.saturating_add(1))
+}
+
+/// The same of the bounds of a for statement: the value of the first lies below that of the last.
+fn needed_by_bounds(head: &ForHead) -> u32
+    ensures { result ≡ capped (max (expr_depth head.now.first.value) (expr_depth head.now.last.value + 1)) }
+{
+    let first = needed_by_expr(&head.first.value);
+    first.max(needed_by_expr(&head.last.value).saturating_add(1))
 }
 
 /// The same of the values of a write or writeln.

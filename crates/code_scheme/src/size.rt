@@ -10,14 +10,14 @@ ghost use Rattle.code_scheme.specs.Code.{whole_code, width_code, write_code, wri
 ghost use Rattle.code_scheme.specs.Sizes.{arms_size as size_of_arms, capped, is_at, measured, refers as is_reference};
 ghost use Rattle.code_scheme.specs.Sizes.{table_of, AreTold, ArmsAreTold, IsScopeOf, IsTold};
 ghost use Rattle.typed_tree.specs.declared.tree.Call.{Call};
-ghost use Rattle.typed_tree.specs.declared.tree.RangeTest.{RangeTest};
 ghost use Rattle.typed_tree.specs.declared.tree.Tree.{Tree};
 
 use crate::scope::{behind_fields, selectors_from};
 use std::alloc::AllocError;
 use typed_tree::tree::{
-    Access, Block, Calculation, Dyadic, Expr, FunctionResult, Monadic, Passed, Selector, Shift,
-    Stmt, Tree, Variable, VariableKind, Whole, WriteParameter, Written,
+    Access, Assignment, Block, Calculation, Copying, Dyadic, Expr, ForHead, FunctionResult,
+    Monadic, Passed, Selector, Shift, Stmt, Tree, Variable, VariableKind, Whole, WriteParameter,
+    Writing, Written,
 };
 
 /// How many instructions the program has, or the greatest number of 32 bits.
@@ -61,31 +61,10 @@ fn stmt_size(variables: &[Variable], stmt: &Stmt) -> u32
 {
     match stmt {
         Stmt::Empty { .. } => 0,
-        Stmt::Assign {
-            target,
-            indexes,
-            value,
-            ..
-        } => assign_size(variables, target, indexes.as_slice(), value),
-        Stmt::Copy {
-            target,
-            indexes,
-            value,
-            value_indexes,
-            ..
-        } => copy_size(
-            variables,
-            target,
-            indexes.as_slice(),
-            value,
-            value_indexes.as_slice(),
-        ),
-        Stmt::Write {
-            parameters,
-            ends_line,
-            ..
-        } => write_size(variables, parameters.as_slice(), *ends_line),
-        Stmt::Call { actuals, .. } => call_size(variables, actuals.as_slice()),
+        Stmt::Assign(assignment) => assign_size(variables, assignment),
+        Stmt::Copy(copying) => copy_size(variables, copying),
+        Stmt::Write(writing) => write_size(variables, writing),
+        Stmt::Call(calling) => call_size(variables, calling.actuals.as_slice()),
         Stmt::Compound { statements, .. } => statements_size(variables, statements),
         Stmt::If {
             condition,
@@ -99,28 +78,24 @@ fn stmt_size(variables: &[Variable], stmt: &Stmt) -> u32
                 Some(alternative) => with_else(size, stmt_size(variables, alternative)),
             }
         }
-        Stmt::While {
-            condition,
-            body,
-            ..
-        } => while_size(variables, condition, stmt_size(variables, body)),
-        Stmt::Repeat {
-            statements,
-            condition,
-            ..
-        } => repeat_size(variables, statements_size(variables, statements), condition),
-        Stmt::For {
-            first,
-            last,
-            body,
-            ..
-        } => for_size(variables, first, last, stmt_size(variables, body)),
-        Stmt::Case {
-            index,
-            constants,
-            arms,
-            ..
-        } => case_size(variables, index, arms_size(variables, constants, arms)),
+        Stmt::While { head, body } => {
+            while_size(variables, &head.condition, stmt_size(variables, body))
+        }
+        Stmt::Repeat { head, statements } => {
+            repeat_size(
+                variables,
+                statements_size(variables, statements),
+                &head.condition,
+            )
+        }
+        Stmt::For { head, body } => for_size(variables, head, stmt_size(variables, body)),
+        Stmt::Case { head, arms } => {
+            case_size(
+                variables,
+                &head.index,
+                arms_size(variables, &head.constants, arms),
+            )
+        }
     }
 }
 
@@ -179,31 +154,10 @@ fn measure_parts(
 {
     match stmt {
         Stmt::Empty { .. } => Ok(0),
-        Stmt::Assign {
-            target,
-            indexes,
-            value,
-            ..
-        } => Ok(assign_size(variables, target, indexes.as_slice(), value)),
-        Stmt::Copy {
-            target,
-            indexes,
-            value,
-            value_indexes,
-            ..
-        } => Ok(copy_size(
-            variables,
-            target,
-            indexes.as_slice(),
-            value,
-            value_indexes.as_slice(),
-        )),
-        Stmt::Write {
-            parameters,
-            ends_line,
-            ..
-        } => Ok(write_size(variables, parameters.as_slice(), *ends_line)),
-        Stmt::Call { actuals, .. } => Ok(call_size(variables, actuals.as_slice())),
+        Stmt::Assign(assignment) => Ok(assign_size(variables, assignment)),
+        Stmt::Copy(copying) => Ok(copy_size(variables, copying)),
+        Stmt::Write(writing) => Ok(write_size(variables, writing)),
+        Stmt::Call(calling) => Ok(call_size(variables, calling.actuals.as_slice())),
         Stmt::Compound { statements, .. } => measure_statements(sizes, variables, statements),
         Stmt::If {
             condition,
@@ -221,35 +175,21 @@ fn measure_parts(
                 Some(alternative) => Ok(with_else(size, measure(sizes, variables, alternative)?)),
             }
         }
-        Stmt::While {
-            condition,
-            body,
-            ..
-        } => Ok(while_size(variables, condition, measure(sizes, variables, body)?)),
-        Stmt::Repeat {
-            statements,
-            condition,
-            ..
-        } => Ok(repeat_size(
+        Stmt::While { head, body } => {
+            Ok(while_size(variables, &head.condition, measure(sizes, variables, body)?))
+        }
+        Stmt::Repeat { head, statements } => Ok(repeat_size(
             variables,
             measure_statements(sizes, variables, statements)?,
-            condition,
+            &head.condition,
         )),
-        Stmt::For {
-            first,
-            last,
-            body,
-            ..
-        } => Ok(for_size(variables, first, last, measure(sizes, variables, body)?)),
-        Stmt::Case {
-            index,
-            constants,
-            arms,
-            ..
-        } => Ok(case_size(
+        Stmt::For { head, body } => {
+            Ok(for_size(variables, head, measure(sizes, variables, body)?))
+        }
+        Stmt::Case { head, arms } => Ok(case_size(
             variables,
-            index,
-            measure_arms(sizes, variables, constants, arms)?,
+            &head.index,
+            measure_arms(sizes, variables, &head.constants, arms)?,
         )),
     }
 }
@@ -295,39 +235,37 @@ fn measure_arms(
 }
 
 /// How many instructions an assignment has, or the greatest number of 32 bits.
-fn assign_size(variables: &[Variable], target: &Access, indexes: &[Expr], value: &Expr) -> u32
-    ensures { (scope : Scope) (fits : RangeTest) → IsScopeOf variables.now scope →
-        result ≡ capped (length (assign_code scope target.now indexes.now fits value.now)) }
+fn assign_size(variables: &[Variable], assignment: &Assignment) -> u32
+    ensures { (scope : Scope) → IsScopeOf variables.now scope →
+        result ≡ capped (length (assign_code scope assignment.now)) }
 {
-    let size = expr_size(variables, value).saturating_add(2);
+    let target = &assignment.target;
+    let size = expr_size(variables, &assignment.value).saturating_add(2);
     if lies_in_frame(variables, target) {
         return size;
     }
-    address_size(variables, target, indexes).saturating_add(size)
+    address_size(variables, target, assignment.indexes.as_slice()).saturating_add(size)
 }
 
 /// The same of an assignment of a whole value.
-fn copy_size(
-    variables: &[Variable],
-    target: &Access,
-    indexes: &[Expr],
-    value: &Whole,
-    value_indexes: &[Expr],
-) -> u32
+fn copy_size(variables: &[Variable], copying: &Copying) -> u32
     ensures { (scope : Scope) → IsScopeOf variables.now scope →
-        result ≡ capped (length (copy_code scope target.now indexes.now value.now value_indexes.now)) }
+        result ≡ capped (length (copy_code scope copying.now)) }
 {
-    address_size(variables, target, indexes)
-        .saturating_add(whole_size(variables, value, value_indexes))
+    let value = whole_size(variables, &copying.value, copying.value_indexes.as_slice());
+    address_size(variables, &copying.target, copying.indexes.as_slice())
+        .saturating_add(value)
         .saturating_add(1)
 }
 
 /// The same of a write or writeln.
-fn write_size(variables: &[Variable], parameters: &[WriteParameter], ends_line: bool) -> u32
+fn write_size(variables: &[Variable], writing: &Writing) -> u32
     ensures { (scope : Scope) → IsScopeOf variables.now scope →
-        result ≡ capped (length (write_code scope parameters.now ends_line)) }
+        result ≡ capped (length (write_code scope writing.now)) }
 {
-    parameters_size(variables, parameters).saturating_add(line_end_size(ends_line))
+    parameters_size(variables, writing.parameters.as_slice()).saturating_add(line_end_size(
+        writing.ends_line,
+    ))
 }
 
 /// The same of an if statement without `else`, whose consequence has so many.
@@ -364,12 +302,12 @@ fn repeat_size(variables: &[Variable], statements: u32, condition: &Expr) -> u32
 }
 
 /// The same of a for statement, whose body has so many.
-fn for_size(variables: &[Variable], first: &Expr, last: &Expr, body: u32) -> u32
-    ensures { (scope : Scope) → IsScopeOf variables.now scope →
-        result ≡ capped (length (expr_code scope first.now) + length (expr_code scope last.now) + 10 + body + 13) }
+fn for_size(variables: &[Variable], head: &ForHead, body: u32) -> u32
+    ensures { (scope : Scope) → IsScopeOf variables.now scope → result ≡ capped (length
+        (expr_code scope head.now.first.value) + length (expr_code scope head.now.last.value) + 10 + body + 13) }
 {
-    expr_size(variables, first)
-        .saturating_add(expr_size(variables, last))
+    expr_size(variables, &head.first.value)
+        .saturating_add(expr_size(variables, &head.last.value))
         .saturating_add(10)
         .saturating_add(body)
         .saturating_add(13)

@@ -73,28 +73,25 @@ emit_stmt-returns-in_ok-emit_stmt-in-While t c =
     let scope = c.args.scope.now in
     let before = c.args.code.now.items in
     let place = length before in
-    let condition = c.in-While.condition in
+    let head = c.in-While.head in
     let body = c.in-While.body in
-    let number = c.in-While.number in
-    let loop_number = c.in-While.loop_number in
-    let word = c.in-While.place in
-    let test = expr_code scope condition in
+    let test = expr_code scope head.condition in
     let now = c.pass.new.self in
     let answer = c.put.result in
     let after = c.put.new.code.items in
     let done = c.emit_stmt-in-While.new.code.items in
     let left = c.emit_stmt-in-While.new.sizes in
-    let begins : c.place_of-head.result ≡ capped (length before) = search rules in
+    let begins : c.place_of-round.result ≡ capped (length before) = search rules in
     let jumping = c.in_ok-emit_test-in-While.ensures
     ∙ ap (λ n. (before ++ test) ++ instr.JumpIfFalse (capped (length (before ++ test) + 1 + n)) ∷ [])
     (c.saturating_add-in-While.ensures ∙ ap (λ n. capped (n + 1)) c.next-in-While.ensures) in
     same_emitted answer before after c.args.sizes.now left _ _ _ _
-    (ap (λ s. stmt_code s scope place) c.in-While.is ∙ stmt_code-While scope place number loop_number word condition body
+    (ap (λ s. stmt_code s scope place) c.in-While.is ∙ stmt_code-While scope place head body
     ∙ ap (λ s. while_code test (stmt_code s) scope place) (sym c.deref-in-While.ensures))
-    (ap (λ s. table_of (measured s scope)) c.in-While.is ∙ ap table_of (measured-While scope number loop_number word condition body)
+    (ap (λ s. table_of (measured s scope)) c.in-While.is ∙ ap table_of (measured-While scope head body)
     ∙ ap (λ s. table_of (while_measured test (measured s scope))) (sym c.deref-in-While.ensures))
     (passed_emitted answer before after c.args.sizes.now now left _ (table_of (measured c.deref-in-While.result.now scope)) _ c.pass.ensures
-    (while_emitted answer test c.deref-in-While.result.now scope before c.emit_test-in-While.new.code.items done after now left c.place_of-head.result
+    (while_emitted answer test c.deref-in-While.result.now scope before c.emit_test-in-While.new.code.items done after now left c.place_of-round.result
     jumping c.in_ok-emit_stmt-in-While.ensures begins c.put.ensures))
 
 pub emit_stmt-returns-in_ok-emit_next-in-For : goal.emit_stmt-returns-in_ok-emit_next-in-For
@@ -102,10 +99,7 @@ emit_stmt-returns-in_ok-emit_next-in-For t c =
     let scope = c.args.scope.now in
     let before = c.args.code.now.items in
     let place = length before in
-    let first = expr_code scope c.in-For.first in
-    let last = expr_code scope c.in-For.last in
-    let way = c.in-For.direction in
-    let control = c.in-For.control in
+    let head = c.in-For.head in
     let body = c.in-For.body in
     let inner = holding 2 scope in
     let now = c.pass.new.self in
@@ -115,23 +109,18 @@ emit_stmt-returns-in_ok-emit_next-in-For t c =
     let begun = c.emit_begin.new.code.items in
     let done = c.emit_stmt-in-For.new.code.items in
     let left = c.emit_stmt-in-For.new.sizes in
-    let head = c.saturating_add-head.result in
+    let round = c.saturating_add-round.result in
     let out = c.saturating_add-out.result in
-    let entered = c.in_ok-emit_begin-in-For.ensures ∙ ap (λ xs. xs ++ for_begin scope control) c.in_ok-emit_entry-in-For.ensures in
-    let ended = subst (λ xs. OnOk answer (after ≡ xs ++ for_end scope control)) c.in_ok-emit_next-in-For.ensures c.emit_end.ensures in
-    let size = c.in-For.is in
+    let entered = c.in_ok-emit_begin-in-For.ensures ∙ ap (λ xs. xs ++ for_begin scope head.control) c.in_ok-emit_entry-in-For.ensures in
+    let ended = subst (λ xs. OnOk answer (after ≡ xs ++ for_end scope head.control)) c.in_ok-emit_next-in-For.ensures c.emit_end.ensures in
     same_emitted answer before after c.args.sizes.now left _ _ _ _
-    (ap (λ s. stmt_code s scope place) c.in-For.is
-    ∙ stmt_code-For scope place c.in-For.number c.in-For.loop_number c.in-For.place control c.in-For.first c.in-For.first_fits way c.in-For.last
-    c.in-For.last_fits body
-    ∙ ap (λ s. for_code control first c.in-For.first_fits way last c.in-For.last_fits (stmt_code s) scope place) (sym c.deref-in-For.ensures))
-    (ap (λ s. table_of (measured s scope)) c.in-For.is
-    ∙ ap table_of (measured-For scope c.in-For.number c.in-For.loop_number c.in-For.place control c.in-For.first c.in-For.first_fits way c.in-For.last
-    c.in-For.last_fits body)
-    ∙ ap (λ s. table_of (for_measured first last (measured s inner))) (sym c.deref-in-For.ensures))
+    (ap (λ s. stmt_code s scope place) c.in-For.is ∙ stmt_code-For scope place head body
+    ∙ ap (λ s. for_code head (stmt_code s) scope place) (sym c.deref-in-For.ensures))
+    (ap (λ s. table_of (measured s scope)) c.in-For.is ∙ ap table_of (measured-For scope head body)
+    ∙ ap (λ s. table_of (for_measured (expr_code scope head.first.value) (expr_code scope head.last.value) (measured s inner))) (sym c.deref-in-For.ensures))
     (passed_emitted answer before after c.args.sizes.now now left _ (table_of (measured c.deref-in-For.result.now inner)) _ c.pass.ensures
-    (for_emitted answer control first c.in-For.first_fits way last c.in-For.last_fits c.deref-in-For.result.now scope before bounds begun done after now left
-    head out c.in_ok-emit_bounds-in-For.ensures (search rules) (search rules) entered
+    (for_emitted answer head c.deref-in-For.result.now scope before bounds begun done after now left round out c.in_ok-emit_bounds-in-For.ensures
+    (search rules) (search rules) entered
     (subst (λ sc. Emits (Ok tt) begun done now left (stmt_code c.deref-in-For.result.now sc (length begun)) (table_of (measured c.deref-in-For.result.now sc)))
     c.holding.ensures c.in_ok-emit_stmt-in-For.ensures) ended))
 
@@ -140,26 +129,23 @@ emit_stmt-returns-in_ok-emit_expr-in-Repeat t c =
     let scope = c.args.scope.now in
     let before = c.args.code.now.items in
     let place = length before in
-    let condition = c.in-Repeat.condition in
+    let head = c.in-Repeat.head in
     let statements = c.in-Repeat.statements in
-    let number = c.in-Repeat.number in
-    let loop_number = c.in-Repeat.loop_number in
-    let word = c.in-Repeat.place in
-    let test = expr_code scope condition in
+    let test = expr_code scope head.condition in
     let now = c.pass.new.self in
     let answer = c.put-in-Repeat.result in
     let after = c.put-in-Repeat.new.code.items in
     let done = c.emit_statements-in-Repeat.new.code.items in
     let left = c.emit_statements-in-Repeat.new.sizes in
-    let begins : c.place_of-head-in-Repeat.result ≡ capped (length before) = search rules in
-    let tested = subst (λ xs. OnOk answer (after ≡ xs ++ instr.JumpIfFalse c.place_of-head-in-Repeat.result ∷ [])) c.in_ok-emit_expr-in-Repeat.ensures
-    c.put-in-Repeat.ensures in
+    let round = c.place_of-round-in-Repeat.result in
+    let begins : round ≡ capped (length before) = search rules in
+    let tested = subst (λ xs. OnOk answer (after ≡ xs ++ instr.JumpIfFalse round ∷ [])) c.in_ok-emit_expr-in-Repeat.ensures c.put-in-Repeat.ensures in
     same_emitted answer before after c.args.sizes.now left _ _ _ _
-    (ap (λ s. stmt_code s scope place) c.in-Repeat.is ∙ stmt_code-Repeat scope place number loop_number word statements condition)
-    (ap (λ s. table_of (measured s scope)) c.in-Repeat.is ∙ ap table_of (measured-Repeat scope number loop_number word statements condition))
+    (ap (λ s. stmt_code s scope place) c.in-Repeat.is ∙ stmt_code-Repeat scope place head statements)
+    (ap (λ s. table_of (measured s scope)) c.in-Repeat.is ∙ ap table_of (measured-Repeat scope head statements))
     (passed_emitted answer before after c.args.sizes.now now left _ (statements_table scope statements.items) _ c.pass.ensures
-    (repeat_emitted answer (statements_code scope statements.items) test before done after now left (statements_table scope statements.items)
-    c.place_of-head-in-Repeat.result c.in_ok-emit_statements-in-Repeat.ensures begins tested))
+    (repeat_emitted answer (statements_code scope statements.items) test before done after now left (statements_table scope statements.items) round
+    c.in_ok-emit_statements-in-Repeat.ensures begins tested))
 
 pub emit_stmt-returns-in_ok-emit_test-in-None : goal.emit_stmt-returns-in_ok-emit_test-in-None
 emit_stmt-returns-in_ok-emit_test-in-None t c =
@@ -284,17 +270,13 @@ emit_stmt-returns-in_ok-emit_arms-in-Case t c =
     let scope = c.args.scope.now in
     let before = c.args.code.now.items in
     let place = length before in
-    let index = expr_code scope c.in-Case.index in
-    let rows = c.in-Case.constants.items in
-    let arms = c.in-Case.arms.items in
+    let head = c.in-Case.head in
+    let arms = c.in-Case.arms in
     let answer = c.emit_no_arm.result in
     let after = c.emit_no_arm.new.code.items in
     let left = c.emit_arms.new.sizes in
     same_emitted answer before after c.args.sizes.now left _ _ _ _
-    (ap (λ s. stmt_code s scope place) c.in-Case.is
-    ∙ stmt_code-Case scope place c.in-Case.number c.in-Case.site c.in-Case.index c.in-Case.constants c.in-Case.arms)
-    (ap (λ s. table_of (measured s scope)) c.in-Case.is
-    ∙ ap table_of (measured-Case scope c.in-Case.number c.in-Case.site c.in-Case.index c.in-Case.constants c.in-Case.arms))
-    (case_emitted answer c.in-Case.site index rows arms scope before c.emit_expr-in-Case.new.code.items c.emit_arms.new.code.items after c.args.sizes.now
-    c.pass.new.self left c.saturating_sub-out.result c.pass.ensures (search rules) c.in_ok-emit_expr-in-Case.ensures c.in_ok-emit_arms-in-Case.ensures
-    c.emit_no_arm.ensures)
+    (ap (λ s. stmt_code s scope place) c.in-Case.is ∙ stmt_code-Case scope place head arms)
+    (ap (λ s. table_of (measured s scope)) c.in-Case.is ∙ ap table_of (measured-Case scope head arms))
+    (case_emitted answer head arms.items scope before c.emit_expr-in-Case.new.code.items c.emit_arms.new.code.items after c.args.sizes.now c.pass.new.self left
+    c.saturating_sub-out.result c.pass.ensures (search rules) c.in_ok-emit_expr-in-Case.ensures c.in_ok-emit_arms-in-Case.ensures c.emit_no_arm.ensures)

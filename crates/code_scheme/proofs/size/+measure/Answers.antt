@@ -6,9 +6,8 @@ use Rattle.std.specs.declared.alloc.AllocError.{AllocError}
 use Rattle.std.proofs.lemmas.List.{drop_all, drop_more, nil_from_length, take_all}
 use Rattle.typed_tree.specs.declared.tree.Stmt.TheVariants.{If}
 use Rattle.code_scheme.specs.Scopes.{holding}
-use Rattle.code_scheme.specs.Code.{assign_code, call_code, copy_code, passed_code}
 use Rattle.code_scheme.specs.Sizes.{capped, Measured, measured, all_sizes, all_tables, arms_size, arms_table, table_of, IsTold, AreTold}
-use Rattle.code_scheme.proofs.Measures.{measured-Assign, measured-Call, measured-Copy, measured-Compound, measured-If, measured-If-else, measured-While}
+use Rattle.code_scheme.proofs.Measures.{measured-Compound, measured-If, measured-If-else, measured-While}
 use Rattle.code_scheme.proofs.Measures.{measured-Repeat, measured-For}
 use Rattle.code_scheme.proofs.Measures.{plain_scope, plainly}
 use Rattle.code_scheme.proofs.Measures.{measured-Case, arms_size-none, arms_table-none, sizes_one_more, tables_one_more, set_at_seam}
@@ -58,42 +57,6 @@ measure_statements-loop-statement-preserved t c = λ scope h.
           ∙ tables_one_more scope c.args.sizes.now.items items i statement c.loop-statement-test.true c.statement-item.is,
     )
 
-pub measure_parts-returns-in-Assign : goal.measure_parts-returns-in-Assign
-measure_parts-returns-in-Assign t c = λ scope h.
-    let target = c.in-Assign.target in
-    let fits = c.in-Assign.fits in
-    let value = c.in-Assign.value in
-    let is = ap (λ s. measured s scope) c.in-Assign.is
-    ∙ measured-Assign scope c.in-Assign.number c.in-Assign.becomes target c.in-Assign.indexes fits value in (
-      c.assign_size.ensures scope fits h
-          ∙ ap (λ indexes. capped (length (assign_code scope target indexes fits value))) c.as_slice.ensures.value
-          ∙ ap (λ m. capped m.size) (sym is),
-      sym (append-nil c.args.sizes.now.items) ∙ ap (λ m. c.args.sizes.now.items ++ m.inner) (sym is),
-    )
-
-pub measure_parts-returns-in-Copy : goal.measure_parts-returns-in-Copy
-measure_parts-returns-in-Copy t c = λ scope h.
-    let target = c.in-Copy.target in
-    let value = c.in-Copy.value in
-    let is = ap (λ s. measured s scope) c.in-Copy.is
-    ∙ measured-Copy scope c.in-Copy.number c.in-Copy.becomes target c.in-Copy.indexes c.in-Copy.type_id value c.in-Copy.value_indexes in (
-      c.copy_size.ensures scope h
-          ∙ ap (λ indexes. capped (length (copy_code scope target indexes value c.as_slice-in-Copy-2.result.now))) c.as_slice-in-Copy.ensures.value
-          ∙ ap (λ indexes. capped (length (copy_code scope target c.in-Copy.indexes.items value indexes))) c.as_slice-in-Copy-2.ensures.value
-          ∙ ap (λ m. capped m.size) (sym is),
-      sym (append-nil c.args.sizes.now.items) ∙ ap (λ m. c.args.sizes.now.items ++ m.inner) (sym is),
-    )
-
-pub measure_parts-returns-in-Call : goal.measure_parts-returns-in-Call
-measure_parts-returns-in-Call t c = λ scope h.
-    let call = c.in-Call.call in
-    let is = ap (λ s. measured s scope) c.in-Call.is ∙ measured-Call scope call c.in-Call.actuals in (
-      c.call_size.ensures scope call h
-          ∙ ap (λ actuals. capped (length (call_code scope call (map (passed_code scope) actuals)))) c.as_slice-in-Call.ensures.value
-          ∙ ap (λ m. capped m.size) (sym is),
-      sym (append-nil c.args.sizes.now.items) ∙ ap (λ m. c.args.sizes.now.items ++ m.inner) (sym is),
-    )
-
 pub measure_statements-returns : goal.measure_statements-returns
 measure_statements-returns t c = λ scope h.
     let so_far = c.loop-statement.invariant scope h in
@@ -116,9 +79,7 @@ measure_parts-returns-in-Compound t c = λ scope h.
 
 pub measure_parts-returns-in_ok-measure-in-While : goal.measure_parts-returns-in_ok-measure-in-While
 measure_parts-returns-in_ok-measure-in-While t c = λ scope h.
-    let condition = c.in-While.condition in
-    let body = c.in-While.body in
-    let is = ap (λ s. measured s scope) c.in-While.is ∙ measured-While scope c.in-While.number c.in-While.loop_number c.in-While.place condition body in
+    let is = ap (λ s. measured s scope) c.in-While.is ∙ measured-While scope c.in-While.head c.in-While.body in
     let one = c.in_ok-measure-in-While.ensures scope h in
     let same = ap (λ s. measured s scope) c.deref-in-While.ensures in (
       omega (arith, c.while_size.ensures scope h, one.0, ap (λ m. m.size) same, ap (λ m. m.size) is),
@@ -129,10 +90,7 @@ measure_parts-returns-in_ok-measure-in-While t c = λ scope h.
 
 pub measure_parts-returns-in_ok-measure_statements-in-Repeat : goal.measure_parts-returns-in_ok-measure_statements-in-Repeat
 measure_parts-returns-in_ok-measure_statements-in-Repeat t c = λ scope h.
-    let condition = c.in-Repeat.condition in
-    let statements = c.in-Repeat.statements in
-    let is = ap (λ s. measured s scope) c.in-Repeat.is
-    ∙ measured-Repeat scope c.in-Repeat.number c.in-Repeat.loop_number c.in-Repeat.place statements condition in
+    let is = ap (λ s. measured s scope) c.in-Repeat.is ∙ measured-Repeat scope c.in-Repeat.head c.in-Repeat.statements in
     let all = c.in_ok-measure_statements-in-Repeat.ensures scope h in (
       omega (arith, c.repeat_size.ensures scope h, all.0, ap (λ m. m.size) is),
       all.1 ∙ ap (λ m. c.args.sizes.now.items ++ m.inner) (sym is),
@@ -140,13 +98,8 @@ measure_parts-returns-in_ok-measure_statements-in-Repeat t c = λ scope h.
 
 pub measure_parts-returns-in_ok-measure-in-For : goal.measure_parts-returns-in_ok-measure-in-For
 measure_parts-returns-in_ok-measure-in-For t c = λ scope h.
-    let first = c.in-For.first in
-    let last = c.in-For.last in
-    let body = c.in-For.body in
     let inner = holding 2 scope in
-    let is = ap (λ s. measured s scope) c.in-For.is
-    ∙ measured-For scope c.in-For.number c.in-For.loop_number c.in-For.place c.in-For.control first c.in-For.first_fits c.in-For.direction last
-    c.in-For.last_fits body in
+    let is = ap (λ s. measured s scope) c.in-For.is ∙ measured-For scope c.in-For.head c.in-For.body in
     let one = c.in_ok-measure-in-For.ensures inner h in
     let same = ap (λ s. measured s inner) c.deref-in-For.ensures in (
       omega (arith, c.for_size.ensures scope h, one.0, ap (λ m. m.size) same, ap (λ m. m.size) is),
@@ -268,7 +221,7 @@ measure_arms-returns t c = λ scope h.
 
 pub measure_parts-returns-in_ok-measure_arms-in-Case : goal.measure_parts-returns-in_ok-measure_arms-in-Case
 measure_parts-returns-in_ok-measure_arms-in-Case t c = λ scope h.
-    let is = ap (λ s. measured s scope) c.in-Case.is ∙ measured-Case scope c.in-Case.number c.in-Case.site c.in-Case.index c.in-Case.constants c.in-Case.arms in
+    let is = ap (λ s. measured s scope) c.in-Case.is ∙ measured-Case scope c.in-Case.head c.in-Case.arms in
     let all = c.in_ok-measure_arms-in-Case.ensures (holding 1 scope) h in (
       omega (arith, c.case_size.ensures scope h, all.0, ap (λ m. m.size) is),
       all.1 ∙ ap (λ m. c.args.sizes.now.items ++ m.inner) (sym is),

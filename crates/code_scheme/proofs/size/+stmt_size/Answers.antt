@@ -4,21 +4,16 @@ use Rattle.std.specs.Global.{Vec}
 use Rattle.std.proofs.lemmas.List.{drop_all, drop_more, nil_from_length}
 use Rattle.typed_tree.specs.declared.tree.Stmt.TheVariants.{If}
 use Rattle.code_scheme.specs.Scopes.{holding}
-use Rattle.code_scheme.specs.Code.{assign_code, call_code, copy_code, expr_code, passed_code, statements_code, stmt_code, write_code}
+use Rattle.code_scheme.specs.Code.{expr_code, statements_code, stmt_code}
 use Rattle.code_scheme.specs.Sizes.{arms_size, capped, measured}
-use Rattle.code_scheme.proofs.Pieces.{stmt_code-Assign, stmt_code-Copy, stmt_code-Empty, stmt_code-Compound, stmt_code-Write, stmt_code-If}
+use Rattle.code_scheme.proofs.Pieces.{stmt_code-Compound, stmt_code-If}
 use Rattle.code_scheme.proofs.Pieces.{stmt_code-If-else, stmt_code-While}
 use Rattle.code_scheme.proofs.Pieces.{stmt_code-Repeat, stmt_code-For, length-For, length-While, length-Repeat, length-If, length-If-else}
-use Rattle.code_scheme.proofs.Pieces.{stmts_one_more, all_stmts, stmt_code-Call}
+use Rattle.code_scheme.proofs.Pieces.{stmts_one_more, all_stmts}
 use Rattle.code_scheme.proofs.Measures.{arms_size-none, measured-Case}
 use Rattle.code_scheme.proofs.Measures.{is_measured}
 use Rattle.code_scheme.proofs.size.+stmt_size.Goals.{arms_size-in-Some, arms_size-in_default}
 use Rattle.code_scheme.proofs.size.+stmt_size.Goals as goal
-
-pub stmt_size-returns-in-Empty : goal.stmt_size-returns-in-Empty
-stmt_size-returns-in-Empty t c = λ scope place h.
-    let whole = ap (λ s. stmt_code s scope place) c.in-Empty.is ∙ stmt_code-Empty scope place c.in-Empty.number in
-    ap (λ xs. capped (length xs)) (sym whole)
 
 pub statements_size-returns : goal.statements_size-returns
 statements_size-returns t c = λ scope place h.
@@ -32,37 +27,32 @@ stmt_size-returns-in-Compound t c = λ scope place h.
 
 pub stmt_size-returns-in-While : goal.stmt_size-returns-in-While
 stmt_size-returns-in-While t c = λ scope place h.
-    let condition = c.in-While.condition in
+    let test = expr_code scope c.in-While.head.condition in
     let body = c.in-While.body in
-    let whole = ap (λ s. stmt_code s scope place) c.in-While.is
-    ∙ stmt_code-While scope place c.in-While.number c.in-While.loop_number c.in-While.place condition body in
-    let long = ap length whole ∙ length-While (expr_code scope condition) (stmt_code body.value) scope place in
-    let inside = c.stmt_size-in-While.ensures scope (place + length (expr_code scope condition) + 1) h in
+    let whole = ap (λ s. stmt_code s scope place) c.in-While.is ∙ stmt_code-While scope place c.in-While.head body in
+    let long = ap length whole ∙ length-While test (stmt_code body.value) scope place in
+    let inside = c.stmt_size-in-While.ensures scope (place + length test + 1) h in
     let size = c.while_size.ensures scope h in
     grind (arith, long, inside, size)
 
 pub stmt_size-returns-in-Repeat : goal.stmt_size-returns-in-Repeat
 stmt_size-returns-in-Repeat t c = λ scope place h.
-    let condition = c.in-Repeat.condition in
+    let head = c.in-Repeat.head in
     let statements = c.in-Repeat.statements in
-    let whole = ap (λ s. stmt_code s scope place) c.in-Repeat.is
-    ∙ stmt_code-Repeat scope place c.in-Repeat.number c.in-Repeat.loop_number c.in-Repeat.place statements condition in
-    let long = ap length whole ∙ length-Repeat (statements_code scope statements.items) (expr_code scope condition) place in
+    let whole = ap (λ s. stmt_code s scope place) c.in-Repeat.is ∙ stmt_code-Repeat scope place head statements in
+    let long = ap length whole ∙ length-Repeat (statements_code scope statements.items) (expr_code scope head.condition) place in
     let inside = c.statements_size-in-Repeat.ensures scope place h in
     let size = c.repeat_size.ensures scope h in
     grind (arith, long, inside, size)
 
 pub stmt_size-returns-in-For : goal.stmt_size-returns-in-For
 stmt_size-returns-in-For t c = λ scope place h.
-    let first = expr_code scope c.in-For.first in
-    let last = expr_code scope c.in-For.last in
+    let head = c.in-For.head in
     let body = c.in-For.body in
-    let whole = ap (λ s. stmt_code s scope place) c.in-For.is
-    ∙ stmt_code-For scope place c.in-For.number c.in-For.loop_number c.in-For.place c.in-For.control c.in-For.first c.in-For.first_fits c.in-For.direction
-    c.in-For.last c.in-For.last_fits body in
-    let long = ap length whole
-    ∙ length-For c.in-For.control first c.in-For.first_fits c.in-For.direction last c.in-For.last_fits (stmt_code body.value) scope place in
-    let inside = c.stmt_size-in-For.ensures (holding 2 scope) (place + length first + length last + 8 + 2) h in
+    let start = place + length (expr_code scope head.first.value) + length (expr_code scope head.last.value) + 8 + 2 in
+    let whole = ap (λ s. stmt_code s scope place) c.in-For.is ∙ stmt_code-For scope place head body in
+    let long = ap length whole ∙ length-For head (stmt_code body.value) scope place in
+    let inside = c.stmt_size-in-For.ensures (holding 2 scope) start h in
     let size = c.for_size.ensures scope h in
     grind (arith, long, inside, size)
 
@@ -77,36 +67,6 @@ statements_size-loop-statement-preserved t c = λ scope place h.
     let more = ap length (stmts_one_more scope place items c.loop-statement.statement-index statement c.loop-statement-test.true c.statement-item.is)
     ∙ length-append done (stmt_code statement scope next) in
     grind (arith, before, one, more, c.saturating_add-size.ensures)
-
-pub stmt_size-returns-in-Assign : goal.stmt_size-returns-in-Assign
-stmt_size-returns-in-Assign t c = λ scope place h.
-    let target = c.in-Assign.target in
-    let fits = c.in-Assign.fits in
-    let value = c.in-Assign.value in
-    let whole = ap (λ s. stmt_code s scope place) c.in-Assign.is
-    ∙ stmt_code-Assign scope place c.in-Assign.number c.in-Assign.becomes target c.in-Assign.indexes fits value in
-    c.assign_size.ensures scope fits h
-    ∙ ap (λ indexes. capped (length (assign_code scope target indexes fits value))) c.as_slice.ensures.value
-    ∙ ap (λ xs. capped (length xs)) (sym whole)
-
-pub stmt_size-returns-in-Copy : goal.stmt_size-returns-in-Copy
-stmt_size-returns-in-Copy t c = λ scope place h.
-    let target = c.in-Copy.target in
-    let value = c.in-Copy.value in
-    let whole = ap (λ s. stmt_code s scope place) c.in-Copy.is
-    ∙ stmt_code-Copy scope place c.in-Copy.number c.in-Copy.becomes target c.in-Copy.indexes c.in-Copy.type_id value c.in-Copy.value_indexes in
-    c.copy_size.ensures scope h
-    ∙ ap (λ indexes. capped (length (copy_code scope target indexes value c.as_slice-in-Copy-2.result.now))) c.as_slice-in-Copy.ensures.value
-    ∙ ap (λ indexes. capped (length (copy_code scope target c.in-Copy.indexes.items value indexes))) c.as_slice-in-Copy-2.ensures.value
-    ∙ ap (λ xs. capped (length xs)) (sym whole)
-
-pub stmt_size-returns-in-Write : goal.stmt_size-returns-in-Write
-stmt_size-returns-in-Write t c = λ scope place h.
-    let ends_line = c.in-Write.ends_line in
-    let whole = ap (λ s. stmt_code s scope place) c.in-Write.is
-    ∙ stmt_code-Write scope place c.in-Write.number c.in-Write.name c.in-Write.parameters ends_line in
-    c.write_size.ensures scope h ∙ ap (λ ps. capped (length (write_code scope ps ends_line))) c.as_slice-in-Write.ensures.value
-    ∙ ap (λ xs. capped (length xs)) (sym whole)
 
 pub stmt_size-returns-in-None : goal.stmt_size-returns-in-None
 stmt_size-returns-in-None t c = λ scope place h.
@@ -176,14 +136,6 @@ arms_size-returns t c = λ scope h.
 
 pub stmt_size-returns-in-Case : goal.stmt_size-returns-in-Case
 stmt_size-returns-in-Case t c = λ scope place h.
-    let is = ap (λ s. measured s scope) c.in-Case.is ∙ measured-Case scope c.in-Case.number c.in-Case.site c.in-Case.index c.in-Case.constants c.in-Case.arms in
+    let is = ap (λ s. measured s scope) c.in-Case.is ∙ measured-Case scope c.in-Case.head c.in-Case.arms in
     let long = is_measured c.args.stmt.now scope place ∙ ap (λ m. m.size) is in
     omega (arith, long, c.case_size.ensures scope h, c.arms_size.ensures (holding 1 scope) h)
-
-pub stmt_size-returns-in-Call : goal.stmt_size-returns-in-Call
-stmt_size-returns-in-Call t c = λ scope place h.
-    let call = c.in-Call.call in
-    let whole = ap (λ s. stmt_code s scope place) c.in-Call.is ∙ stmt_code-Call scope place call c.in-Call.actuals in
-    c.call_size.ensures scope call h
-    ∙ ap (λ actuals. capped (length (call_code scope call (map (passed_code scope) actuals)))) c.as_slice-in-Call.ensures.value
-    ∙ ap (λ xs. capped (length xs)) (sym whole)
