@@ -33,8 +33,7 @@ pub passed_emitted : (answer : Result (Unit {0}) AllocError) (before after : Lis
     Instr)
     → now ≡ rest_of sizes → Emits answer before after now left code inner → Emits answer before after sizes left code
     (own ∷ inner)
-passed_emitted answer before after sizes now left own inner code is h rest e few =
-    h rest (is ∙ ap rest_of e) few
+passed_emitted answer before after sizes now left own inner code is h rest e few = h rest (is ∙ ap rest_of e) few
 
 -- behind an instruction
 pub behind_emitted : (answer : Result (Unit {0}) AllocError) (before more after : List Instr) (sizes left table : List ℕ) (i : Instr)

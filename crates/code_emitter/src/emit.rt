@@ -1,8 +1,9 @@
 ghost use Rattle.std.specs.Prelude.{◌≡◌, ◌+◌, ◌*◌, [], ◌∷◌, ◌++◌, OnOk, length, map};
 ghost use Rattle.pcode_assembler.specs.declared.instr.Instr.TheVariants.{Fail, Jump, JumpIfFalse};
 ghost use Rattle.code_scheme.specs.Scopes.{holding};
-ghost use Rattle.code_scheme.specs.Code.{arms_code, expr_code, for_begin, for_end, for_entry, for_next, next_instr};
-ghost use Rattle.code_scheme.specs.Code.{order_instr, row_code, statements_code, stmt_code};
+ghost use Rattle.code_scheme.specs.Code.{arms_code, expr_code, for_begin, for_code, for_end, for_entry, for_next};
+ghost use Rattle.code_scheme.specs.Code.{next_instr, order_instr, repeat_code, row_code, statements_code, stmt_code};
+ghost use Rattle.code_scheme.specs.Code.{while_code};
 ghost use Rattle.code_scheme.specs.Sizes.{arms_table, capped, measured, table_of};
 ghost use Rattle.code_emitter.specs.Emitted.{Emits, statements_table};
 
@@ -15,7 +16,7 @@ use code_scheme::scope::Scope;
 use code_scheme::size::row_size;
 use pcode_assembler::instr::Instr;
 use std::alloc::AllocError;
-use typed_tree::tree::{Direction, Expr, ForHead, Stmt};
+use typed_tree::tree::{Direction, Expr, ForHead, LoopHead, Stmt};
 
 /// The return of the program's frame, which never gets a value.
 const UNDEFINED: u32 = 2;
@@ -57,28 +58,9 @@ pub fn emit_stmt(
                 emit_stmt(code, scope, sizes, alternative)
             }
         },
-        Stmt::While { head, body } => {
-            let round = place_of(code);
-            emit_test(code, scope, &head.condition, sizes.next().saturating_add(1))?;
-            emit_stmt(code, scope, sizes, body)?;
-            put(code, Instr::Jump { target: round })
-        }
-        Stmt::Repeat { head, statements } => {
-            let round = place_of(code);
-            emit_statements(code, scope, sizes, statements)?;
-            emit_expr(code, scope, &head.condition)?;
-            put(code, Instr::JumpIfFalse { target: round })
-        }
-        Stmt::For { head, body } => {
-            emit_bounds(code, scope, head)?;
-            let round = place_of(code).saturating_add(8);
-            let out = round.saturating_add(11).saturating_add(sizes.next());
-            emit_entry(code, scope, head, out)?;
-            emit_begin(code, scope, head.control)?;
-            emit_stmt(code, &scope.holding(2), sizes, body)?;
-            emit_next(code, scope, head.direction, round, out)?;
-            emit_end(code, scope, head.control)
-        }
+        Stmt::While { head, body } => emit_while(code, scope, sizes, head, body),
+        Stmt::Repeat { head, statements } => emit_repeat(code, scope, sizes, head, statements),
+        Stmt::For { head, body } => emit_for(code, scope, sizes, head, body),
         Stmt::Case { head, arms } => {
             let out = place_of(code).saturating_add(size).saturating_sub(1);
             emit_expr(code, scope, &head.index)?;
@@ -104,6 +86,67 @@ fn emit_statements(
         emit_stmt(code, scope, sizes, statement)?;
     }
     Ok(())
+}
+
+/// A while statement, where the sizes are those of its body and of what comes after.
+#[cycle(emit_stmt)]
+fn emit_while(
+    code: &mut Vec<Instr>,
+    scope: &Scope,
+    sizes: &mut Sizes,
+    head: &LoopHead,
+    body: &Stmt,
+) -> Result<(), AllocError>
+    ensures { Emits result code.old.items code.new.items sizes.old sizes.new
+        (while_code (expr_code scope.now head.now.condition) (stmt_code body.now) scope.now (length code.old.items))
+        (table_of (measured body.now scope.now)) }
+{
+    let round = place_of(code);
+    emit_test(code, scope, &head.condition, sizes.next().saturating_add(1))?;
+    emit_stmt(code, scope, sizes, body)?;
+    put(code, Instr::Jump { target: round })
+}
+
+/// The same of a repeat statement.
+#[cycle(emit_stmt)]
+fn emit_repeat(
+    code: &mut Vec<Instr>,
+    scope: &Scope,
+    sizes: &mut Sizes,
+    head: &LoopHead,
+    statements: &Vec<Stmt>,
+) -> Result<(), AllocError>
+    ensures { Emits result code.old.items code.new.items sizes.old sizes.new
+        (repeat_code (statements_code scope.now statements.now.items) (expr_code scope.now head.now.condition)
+        (length code.old.items)) (statements_table scope.now statements.now.items) }
+{
+    let round = place_of(code);
+    emit_statements(code, scope, sizes, statements)?;
+    emit_expr(code, scope, &head.condition)?;
+    put(code, Instr::JumpIfFalse { target: round })
+}
+
+/// The same of a for statement.
+#[cycle(emit_stmt)]
+fn emit_for(
+    code: &mut Vec<Instr>,
+    scope: &Scope,
+    sizes: &mut Sizes,
+    head: &ForHead,
+    body: &Stmt,
+) -> Result<(), AllocError>
+    ensures { Emits result code.old.items code.new.items sizes.old sizes.new
+        (for_code head.now (stmt_code body.now) scope.now (length code.old.items))
+        (table_of (measured body.now (holding 2 scope.now))) }
+{
+    emit_bounds(code, scope, head)?;
+    let round = place_of(code).saturating_add(8);
+    let out = round.saturating_add(11).saturating_add(sizes.next());
+    emit_entry(code, scope, head, out)?;
+    emit_begin(code, scope, head.control)?;
+    emit_stmt(code, &scope.holding(2), sizes, body)?;
+    emit_next(code, scope, head.direction, round, out)?;
+    emit_end(code, scope, head.control)
 }
 
 /// The arms of a case statement, each behind its row of constants, and a jump out of the statement behind each.

@@ -1,8 +1,8 @@
 -- The code of an assignment, to an ordinal or of a whole value: the target is accessed first, then comes the value, and the
 -- components of the target get it; or it stops as the assignment does.
 use Rattle.code_generator.proofs.Words.{◌≡◌, ℕ, ◌+◌, ◌<◌, ◌≤◌, max, List, [], ◌∷◌, ◌++◌, length, map, Option, Some, Ok, inr, refl, sym, ap, ◌∙◌, subst, arith}
-use Rattle.code_generator.proofs.Words.{length-append, append_assoc, Bool, true, slice_set, ℤ, pos, nat_lt, not, ◌&&◌, and_parts, ltb-true, Instr, Form, TypeId}
-use Rattle.code_generator.proofs.Words.{components_of, cells_of, is_ordinal, Expr, RangeTest, all_hold, is_well_formed_expr, Value, Place, Action, ◌>>=◌}
+use Rattle.code_generator.proofs.Words.{length-append, append_assoc, true, slice_set, ℤ, pos, nat_lt, ◌&&◌, and_parts, ltb-true, Instr, Form, TypeId}
+use Rattle.code_generator.proofs.Words.{components_of, cells_of, is_ordinal, Expr, all_hold, is_well_formed_expr, Value, Place, Action, ◌>>=◌}
 use Rattle.code_generator.proofs.Words.{number_of, require, value_of, Cell, Number, expr_code, expr_depth, row_length, start_within}
 use Rattle.pcode_assembler.specs.declared.instr.Instr.TheVariants as instr
 use Rattle.typed_tree.specs.declared.tree.Assignment.{Assignment}

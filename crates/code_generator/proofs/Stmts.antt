@@ -51,8 +51,8 @@ use Rattle.code_scheme.specs.Code.{Placed, placed, if_code, if_else_code, while_
 use Rattle.code_scheme.specs.Code.{order_instr, next_instr, row_code, arms_code, case_code, width_code, write_instr, parameter_code, line_end_code, call_code}
 use Rattle.code_scheme.specs.Code.{passed_code, write_code, stmt_code, stmt_step, default_width, ordinal_instr, ordinal_width, whole_code}
 use Rattle.code_scheme.specs.Depth.{call_depth, greatest, passed_depth, stmt_depth, stmt_depth_step, arms_depth, parameter_depth, width_depth, whole_depth}
-use Rattle.typed_tree.specs.WellFormed.{are_whole, is_well_formed_width, is_well_formed_parameter, is_well_formed_test, is_well_formed_stmt, fits_target, whole_indexes}
-use Rattle.typed_tree.specs.WellFormed.{stmt_is_well_formed, is_control, is_well_formed_call, is_well_formed_passed, is_well_formed_whole, length_of}
+use Rattle.typed_tree.specs.WellFormed.{is_well_formed_width, is_well_formed_parameter, is_well_formed_test, is_well_formed_stmt, fits_target, whole_indexes}
+use Rattle.typed_tree.specs.WellFormed.{are_whole, stmt_is_well_formed, is_control, is_well_formed_call, is_well_formed_passed, is_well_formed_whole, length_of}
 use Rattle.code_generator.proofs.Reach.{Stands, StandsAt, stands_front, stands_back, Comes, comes_less, comes_on, stays_here}
 use Rattle.code_generator.proofs.Setting.{branched, goes_around, Setting, outline, around, exact_around, on, Based, later, linked, limit_far, Here, goes_on}
 use Rattle.code_generator.proofs.Setting.{jumps, fails, entered}
@@ -185,8 +185,7 @@ module _ (g : Setting) (known : CallsAt g) where
 
   -- a value that is written, and its width
   abbrev ParameterRuns : WriteParameter → Type 0
-  ParameterRuns p =
-      ExecutesAs g (λ scope _. parameter_code scope p) (parameter_depth p) (is_well_formed_parameter (outline g) g.number p) (parameter_of p)
+  ParameterRuns p = ExecutesAs g (λ scope _. parameter_code scope p) (parameter_depth p) (is_well_formed_parameter (outline g) g.number p) (parameter_of p)
 
   -- a string that is written, with these index expressions in it
   abbrev StringRuns : Whole → Vec Expr → Option Width → List Expr → Type 0
@@ -324,7 +323,7 @@ module _ (g : Setting) (known : CallsAt g) where
       let actuals = calling.actuals.items in
       returns_executes g _ held (place + length (call_code g.scope call (map (passed_code g.scope) actuals)))
       (call_of call (map passing_of actuals) (around g)) s
-      ((exact_around g).calls call actuals) (call_runs g known false call actuals place base held s stands good based high deep)
+      ((exact_around g).calls call actuals) (call_runs g known false call actuals place base held s stands good based deep)
 
 -- what is shown of a statement, in each setting
 abbrev pub StmtRuns : Stmt → Type 0
@@ -352,8 +351,7 @@ compound_runs g known number ss few place base held s stands good based high dee
     (each_statement g known ss 0 few) 0 place base held (entered g number s) stands good based high deep
 
 empty_runs : (g : Setting) (known : CallsRun g.depth) (number : ℕ) → ExecutesAs g (λ _ _. []) 0 true (λ e. effect.enter number e.visible)
-empty_runs g known number place base held s stands good based high deep =
-    nothing_runs g (known g refl) place base held (entered g number s) based
+empty_runs g known number place base held s stands good based high deep = nothing_runs g (known g refl) place base held (entered g number s) based
 
 -- an if statement without `else`
 if_runs : (g : Setting) (known : CallsRun g.depth) (number : ℕ) (condition : Expr) (consequence : (s : Stmt) × StmtRuns s)
@@ -631,10 +629,17 @@ module _ (g : Setting) (known : CallsRun g.depth) (head : ForHead) (scalar : IsS
   exact_rounds : (n : ℤ) → UsesTurnsExactly (round n)
   exact_rounds n = exact_for_round (around g) (exact_around g) head l body.0 n
 
+  -- all rounds from a value on, and what comes behind them
+  abbrev rounds : ℤ → Action (Unit {0})
+  rounds n = for_rounds head (effect_of body.0) (around g) n l
+
+  abbrev undefined : Action (Unit {0})
+  undefined = effect.undefine (g.environment.variables head.control)
+
   -- behind the loop
   module _ (ending : Stands g.target out (for_end g.scope head.control)) where
     leaves_it : (n : ℤ) (base : List Cell) (s : effect.State) → Fits n → Based g s base
-        → Executes g (on g (base ++ hold n) out s.output) held (out + 4) (effect.undefine (g.environment.variables head.control)) s
+        → Executes g (on g (base ++ hold n) out s.output) held (out + 4) undefined s
     leaves_it n base s fits based =
         let c = slot g head.control scalar in
         let based' = variable_forgotten g head.control scalar s base based in
@@ -648,8 +653,7 @@ module _ (g : Setting) (known : CallsRun g.depth) (head : ForHead) (scalar : IsS
         (inside : Stands g.target (start + 2) body_code) (next : Stands g.target behind (for_next g.scope head.direction start out)) where
       -- the tests of the bounds, and the rounds
       tested : (n : ℤ) (base : List Cell) (s : effect.State) → Fits n → has_values head.direction n l ≡ true → Based g s base
-          → Executes g (on g (base ++ hold n) (place + 4) s.output) (hold l) out
-          (for_rounds head (effect_of body.0) (around g) n l) s
+          → Executes g (on g (base ++ hold n) (place + 4) s.output) (hold l) out (rounds n) s
       tested n base s fits has based =
           let here = base ++ hold n in
           let one = held ++ Number n ∷ [] in
@@ -671,35 +675,25 @@ module _ (g : Setting) (known : CallsRun g.depth) (head : ForHead) (scalar : IsS
           let last_test : Action (Unit {0}) = require (effect.is_in head.last.fits.range (value.Number l)) head.last.fits.site >>= λ _. effect.looped round n in
           let six = place + 1 + 1 + 1 + 1 + 1 + 1 in
           let last_here = subst (λ cs. Executes g (on g cs (six + 1) s.output) (hold l) out last_test s) (sym split)
-          (range_then g (kept_on g (hold l) out) head.last.fits (value.Number l) (base ++ one) (six + 1) s
-          (effect.looped round n) rest.1.1.1.0 site_last in_frame'
-          fit_last (λ _. subst (λ cs. Executes g (on g cs (six + 1 + 1) s.output) (hold l) out (effect.looped round n) s) split loop)) in
-          subst (λ m. Executes g (on g here m s.output) (hold l) out (for_rounds head (effect_of body.0) (around g) n l) s) p
-          (runs_from g (kept_on g (hold l) out) 1 _ _ (for_rounds head (effect_of body.0) (around g) n l) s a
+          (range_then g (kept_on g (hold l) out) head.last.fits (value.Number l) (base ++ one) (six + 1) s (effect.looped round n) rest.1.1.1.0 site_last
+          in_frame' fit_last (λ _. subst (λ cs. Executes g (on g cs (six + 1 + 1) s.output) (hold l) out (effect.looped round n) s) split loop)) in
+          subst (λ m. Executes g (on g here m s.output) (hold l) out (rounds n) s) p
+          (runs_from g (kept_on g (hold l) out) 1 _ _ (rounds n) s a
           (range_then g (kept_on g (hold l) out) head.first.fits (value.Number n) here (place + 1 + 1 + 1 + 1 + 1) s last_test rest.1.0 site_first in_frame fits
           (λ _. runs_from g (kept_on g (hold l) out) 1 _ _ last_test s b last_here)))
 
       -- from the values of the bounds on
       from_bounds : (n : ℤ) (base : List Cell) (s : effect.State) (has : Bool) → has_values head.direction n l ≡ has → Fits n → Based g s base
           → Comes g.target 4 (on g (base ++ hold n) place s.output) (on g (base ++ hold n) (if has then place + 4 else out) s.output)
-          → Executes g (on g (base ++ hold n) place s.output) held (out + 4)
-          (((if has then for_rounds head (effect_of body.0) (around g) n l else give tt) >>= λ _. effect.undefine
-          (g.environment.variables head.control))) s
+          → Executes g (on g (base ++ hold n) place s.output) held (out + 4) ((if has then rounds n else give tt) >>= λ _. undefined) s
       from_bounds n base s true has fits based came =
-          runs_from g (kept_on g held (out + 4)) 4 _ _ ((for_rounds head (effect_of body.0) (around g) n l >>= λ _. effect.undefine
-          (g.environment.variables head.control))) s came
-          (then_runs g (kept_on g (hold l) out) (kept_on g held (out + 4)) _
-          (for_rounds head (effect_of body.0) (around g) n l)
-          (λ _. effect.undefine (g.environment.variables head.control)) s
-          ((exact_around g).counted head body.0 n l) (tested n base s fits has based)
-          (λ _ t x le. leaves_it l x.0 t fit_last x.1))
-      from_bounds n base s false has fits based came =
-          runs_from g (kept_on g held (out + 4)) 4 _ _ (effect.undefine (g.environment.variables head.control)) s came (leaves_it n base s fits based)
+          runs_from g (kept_on g held (out + 4)) 4 _ _ (rounds n >>= λ _. undefined) s came
+          (then_runs g (kept_on g (hold l) out) (kept_on g held (out + 4)) _ (rounds n) (λ _. undefined) s ((exact_around g).counted head body.0 n l)
+          (tested n base s fits has based) (λ _ t x le. leaves_it l x.0 t fit_last x.1))
+      from_bounds n base s false has fits based came = runs_from g (kept_on g held (out + 4)) 4 _ _ undefined s came (leaves_it n base s fits based)
 
       for_between_runs : (n : ℤ) (base : List Cell) (s : effect.State) → Fits n → Based g s base
-          → Executes g (on g (base ++ hold n) place s.output) held (out + 4)
-          ((for_between head (effect_of body.0) (around g) n l >>= λ _. effect.undefine
-          (g.environment.variables head.control))) s
+          → Executes g (on g (base ++ hold n) place s.output) held (out + 4) (for_between head (effect_of body.0) (around g) n l >>= λ _. undefined) s
       for_between_runs n base s fits based =
           from_bounds n base s (has_values head.direction n l) refl fits based
           (ordered g s base held n l s.output head.direction place out based high enough entry.0 entry.1.0 entry.1.1.0 entry.1.1.1.0)

@@ -2,8 +2,8 @@
 -- stored from an address on is what the program writes to the components there.
 use Rattle.code_generator.proofs.Words.{◌≡◌, ℕ, zero, suc, ◌+◌, ◌-◌, ◌<◌, ◌≤◌, ◌⊎◌, inl, inr, List, [], ◌∷◌, ◌++◌, length, map, take, drop, Option, Some, None}
 use Rattle.code_generator.proofs.Words.{Ok, refl, sym, ap, ◌∙◌, subst, arith, length-append, append_assoc, append-nil, Bool, true, false, slice_get, slice_set}
-use Rattle.code_generator.proofs.Words.{pos, nat_eq, nat_lt, not, ◌&&◌, list_all, and_parts, eqb-true, ltb-true, length-map, all_hold, Instr, TypeId}
-use Rattle.code_generator.proofs.Words.{components_of, Form, cells_of, is_ordinal, Value, Place, stored, UsesTurnsExactly, Gives, Action, ◌>>=◌}
+use Rattle.code_generator.proofs.Words.{pos, nat_eq, nat_lt, ◌&&◌, list_all, and_parts, eqb-true, ltb-true, length-map, all_hold, Instr, TypeId}
+use Rattle.code_generator.proofs.Words.{components_of, Form, cells_of, Value, Place, stored, UsesTurnsExactly, Gives, Action, ◌>>=◌}
 use Rattle.code_generator.proofs.Words.{number_of, value_of, Cell, Number, State, row_length, start_within}
 use Rattle.std.specs.Prelude.{nat_le}
 use Rattle.std.proofs.lemmas.Bool.{leb-true}

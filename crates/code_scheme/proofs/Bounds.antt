@@ -170,8 +170,7 @@ fetch_in (At level start) h = (one_more (instr.Load level start) _ (both _ _ h.0
 fetch_in (By address) h = append_in_bounds address _ h refl
 
 store_in : (value : List Instr) (r : Reached) → InBounds value → ReachedIn r → InBounds (store_code value r)
-store_in value (At level start) valued h =
-    append_in_bounds value _ valued (one_more (instr.Store level start) _ (both _ _ h.0 h.1) no_more).all
+store_in value (At level start) valued h = append_in_bounds value _ valued (one_more (instr.Store level start) _ (both _ _ h.0 h.1) no_more).all
 store_in value (By address) valued h = append_in_bounds address _ h (append_in_bounds value _ valued refl)
 
 from_in : (level start : ℕ) (selectors : List Selector) (codes : List Instrs) → is_level level ≡ true → is_offset start ≡ true
@@ -421,8 +420,7 @@ stmts_in_bounds scope homes (s ∷ statements) place =
 
 rolled_stmt : (x : Stmt-F Stmt) → ((scope : Scope) → HomesIn scope → (place : ℕ) → InBounds (stmt_step (map-Stmt Stmt Placed stmt_code x) scope place))
     → StmtInBounds (roll-Stmt x)
-rolled_stmt x in_bounds scope homes place =
-    subst (λ code. InBounds (code scope place)) (sym (fold-roll-Stmt Placed stmt_step x)) (in_bounds scope homes place)
+rolled_stmt x in_bounds scope homes place = subst (λ code. InBounds (code scope place)) (sym (fold-roll-Stmt Placed stmt_step x)) (in_bounds scope homes place)
 
 -- the instructions of a for statement
 way_in_bounds : (way : Direction) → (in_bounds (order_instr way) ≡ true) × (in_bounds (next_instr way) ≡ true)

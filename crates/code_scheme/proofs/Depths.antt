@@ -112,8 +112,7 @@ one_layer (MonadicOf number operation operand) = one_of (bare_one (MonadicOf num
 one_layer (Chain first rest) =
     one_of (bare_one (Chain first rest))
     (omega (arith, first.value.1, start_within (expr_depth first.value.0) (map link_depth (map (λ (l : LinkHere). l.0) rest.items))))
-one_layer (Compare number r left left_indexes right right_indexes) =
-    one_of (bare_one (Compare number r left left_indexes right right_indexes)) (omega arith)
+one_layer (Compare number r left left_indexes right right_indexes) = one_of (bare_one (Compare number r left left_indexes right right_indexes)) (omega arith)
 one_layer (CallOf call actuals) =
     one_of (bare_one (CallOf call actuals))
     (omega (arith, held_within 4 (map passed_depth (map (λ (p : PassedHere). p.0) actuals.items))))
@@ -224,8 +223,7 @@ module _ (types : List Form) where
 
   expr_layer : (y : Expr-F HereWithin PassedHereWithin LinkHereWithin) → ExprWithin (roll-Expr (bare_expr y))
   expr_layer (Constant number n) = rolled_expr (Constant number n) (omega arith)
-  expr_layer (Variable access indexes defined) =
-      rolled_expr (bare_expr (Variable access indexes defined)) (omega (arith, access_within indexes.items))
+  expr_layer (Variable access indexes defined) = rolled_expr (bare_expr (Variable access indexes defined)) (omega (arith, access_within indexes.items))
   expr_layer (MonadicOf number operation operand) =
       rolled_expr (bare_expr (MonadicOf number operation operand)) (omega (arith, operand.value.1, monadic_within operation))
   expr_layer (Chain first rest) =
@@ -234,8 +232,7 @@ module _ (types : List Form) where
   expr_layer (Compare number r left left_indexes right right_indexes) =
       rolled_expr (bare_expr (Compare number r left left_indexes right right_indexes))
       (omega (arith, whole_within left left_indexes.items, whole_within right right_indexes.items))
-  expr_layer (CallOf call actuals) =
-      rolled_expr (bare_expr (CallOf call actuals)) (omega (arith, actuals_within 4 actuals.items))
+  expr_layer (CallOf call actuals) = rolled_expr (bare_expr (CallOf call actuals)) (omega (arith, actuals_within 4 actuals.items))
 
   link_layer : (y : Link-F HereWithin PassedHereWithin LinkHereWithin)
       → LinkWithin (roll-Link (map-Link HereWithin PassedHereWithin LinkHereWithin Expr Passed Link (λ e. e.0) (λ p. p.0) (λ l. l.0) y))
@@ -288,8 +285,7 @@ module _ (types : List Form) where
   -- a value that is written, and its cells
   written_within : (value : Written) → (written_depth value ≤ written_need types value) × (written_cells value ≤ written_depth value)
   written_within (Ordinal value representation) = (expr_within value, needs_one value)
-  written_within (String value indexes) =
-      (omega (arith, value_within value indexes.items), cells_within value (index_depths indexes.items))
+  written_within (String value indexes) = (omega (arith, value_within value indexes.items), cells_within value (index_depths indexes.items))
 
   -- both together
   parameter_within : (p : WriteParameter) → parameter_depth p ≤ parameter_need types p + 1
@@ -327,13 +323,11 @@ module _ (types : List Form) where
 
   stmt_layer : (y : Stmt-F StmtHere) → StmtWithin (roll-Stmt (bare_stmt y))
   stmt_layer (Empty number) = rolled_stmt (Empty number) (omega arith)
-  stmt_layer (Assign assignment) =
-      rolled_stmt (Assign assignment) (omega (arith, store_within assignment.indexes.items assignment.value))
+  stmt_layer (Assign assignment) = rolled_stmt (Assign assignment) (omega (arith, store_within assignment.indexes.items assignment.value))
   stmt_layer (Copy copying) =
       rolled_stmt (Copy copying)
       (omega (arith, address_within copying.indexes.items, value_within copying.value copying.value_indexes.items))
-  stmt_layer (Write writing) =
-      rolled_stmt (Write writing) (parameters_within writing.parameters.items 0 8 (omega arith) (omega arith))
+  stmt_layer (Write writing) = rolled_stmt (Write writing) (parameters_within writing.parameters.items 0 8 (omega arith) (omega arith))
   stmt_layer (Calling calling) = rolled_stmt (Calling calling) (omega (arith, calling_within 4 calling.actuals.items))
   stmt_layer (Compound number statements) =
       rolled_stmt (bare_stmt (Compound number statements)) (row_within stmt_depth (stmt_need types) statements.items 0 8 (omega arith))
@@ -342,8 +336,7 @@ module _ (types : List Form) where
   stmt_layer (If number condition consequence (Some alternative)) =
       rolled_stmt (bare_stmt (If number condition consequence (Some alternative)))
       (omega (arith, expr_within condition, consequence.value.1, alternative.value.1))
-  stmt_layer (While head body) =
-      rolled_stmt (bare_stmt (While head body)) (omega (arith, expr_within head.condition, body.value.1))
+  stmt_layer (While head body) = rolled_stmt (bare_stmt (While head body)) (omega (arith, expr_within head.condition, body.value.1))
   stmt_layer (Repeat head statements) =
       rolled_stmt (bare_stmt (Repeat head statements))
       (omega (arith, expr_within head.condition, row_within stmt_depth (stmt_need types) statements.items 0 8 (omega arith)))

@@ -96,8 +96,7 @@ store_length false address value = address + (value + 1)
 
 store_long : (value : List Instr) (r : Reached) → length (store_code value r) ≡ store_length (is_at r) (length (address_of r)) (length value)
 store_long value (At level start) = length-append value (instr.Store level start ∷ [])
-store_long value (By address) =
-    omega (arith, length-append address (value ++ (instr.StoreIndirect ∷ [])), length-append value (instr.StoreIndirect ∷ []))
+store_long value (By address) = omega (arith, length-append address (value ++ (instr.StoreIndirect ∷ [])), length-append value (instr.StoreIndirect ∷ []))
 
 -- whether there is an address to push
 abbrev lies_at : Bool → List Selector → Bool
@@ -229,8 +228,7 @@ module _ (s t : Scope) (alike : Alike s t) where
   rows_alike : {X : Type 0} (f g : X → List Instr) (xs : List ((x : X) × (length (f x) ≡ length (g x))))
       → AsLong (map f (map (λ x. x.0) xs)) (map g (map (λ x. x.0) xs))
   rows_alike f g [] = refl
-  rows_alike f g (x ∷ xs) =
-      ap (λ n. n ∷ map length (map f (map (λ y. y.0) xs))) x.1 ∙ ap (λ ns. length (g x.0) ∷ ns) (rows_alike f g xs)
+  rows_alike f g (x ∷ xs) = ap (λ n. n ∷ map length (map f (map (λ y. y.0) xs))) x.1 ∙ ap (λ ns. length (g x.0) ∷ ns) (rows_alike f g xs)
 
   rolled : (x : Expr-F Expr Passed Link)
       → length (expr_step s (map-Expr Expr Passed Link (List Instr) (List Instr) (List Instr) (expr_code s) (passed_code s) (link_code s) x)) ≡ length
@@ -374,8 +372,7 @@ module _ (s t : Scope) (alike : Alike s t) where
 
   written_alike : (value : Written) → length (written_code s value) ≡ length (written_code t value)
   written_alike (Ordinal value representation) = expr_alike value
-  written_alike (String value indexes) =
-      whole_alike value (index_codes s indexes.items) (index_codes t indexes.items) (index_alike indexes.items)
+  written_alike (String value indexes) = whole_alike value (index_codes s indexes.items) (index_codes t indexes.items) (index_alike indexes.items)
 
   width_alike : (width : Option Width) (value : Written) → length (width_code s width value) ≡ length (width_code t width value)
   width_alike None value = refl
@@ -466,8 +463,7 @@ stmt_layer (Assign assignment) = rolled_stmt (Assign assignment) (λ s t alike. 
 stmt_layer (Copy copying) = rolled_stmt (Copy copying) (λ s t alike. copy_alike s t alike copying)
 stmt_layer (Write writing) = rolled_stmt (Write writing) (λ s t alike. write_alike s t alike writing)
 stmt_layer (Calling calling) = rolled_stmt (Calling calling) (λ s t alike. calling_alike s t alike calling.call calling.actuals.items)
-stmt_layer (Compound number statements) =
-    rolled_stmt (bare_stmt (Compound number statements)) (λ s t alike. sizes_alike s t alike statements.items)
+stmt_layer (Compound number statements) = rolled_stmt (bare_stmt (Compound number statements)) (λ s t alike. sizes_alike s t alike statements.items)
 stmt_layer (If number condition consequence None) =
     rolled_stmt (bare_stmt (If number condition consequence None)) (λ s t alike.
     omega (arith, expr_alike s t alike condition, consequence.value.1 s t alike))

@@ -89,12 +89,10 @@ arms_measured scope out (row ∷ rows) (arm ∷ arms) place =
 layer : (y : Stmt-F MeasuredStmt) → IsMeasured (roll-Stmt (bare y))
 layer (Empty number) = rolled (Empty number) (λ scope place. refl)
 layer (Assign assignment) = rolled (Assign assignment) (λ scope place. refl)
-layer (Copy copying) =
-    rolled (Copy copying) (λ scope place. refl)
+layer (Copy copying) = rolled (Copy copying) (λ scope place. refl)
 layer (Write writing) = rolled (Write writing) (λ scope place. refl)
 layer (Calling calling) = rolled (Calling calling) (λ scope place. refl)
-layer (Compound number statements) =
-    rolled (bare (Compound number statements)) (λ scope place. all_measured scope statements.items place)
+layer (Compound number statements) = rolled (bare (Compound number statements)) (λ scope place. all_measured scope statements.items place)
 layer (If number condition consequence None) =
     rolled (bare (If number condition consequence None)) (λ scope place.
     let test = expr_code scope condition in
@@ -289,5 +287,4 @@ in_block tree routines number = homes_refer tree 0 tree.variables.items
 pub length-block : (tree : Tree) (number : ℕ) (block : Block) (scope : Scope) (place : ℕ)
     → length (block_code tree number block scope place) ≡ 1 + length (stmt_code block.body scope (place + 1)) + length
     (end_code scope number block.heading.result)
-length-block tree number block scope place =
-    omega (arith, length-append (stmt_code block.body scope (place + 1)) (end_code scope number block.heading.result))
+length-block tree number block scope place = omega (arith, length-append (stmt_code block.body scope (place + 1)) (end_code scope number block.heading.result))

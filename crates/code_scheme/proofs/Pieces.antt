@@ -263,8 +263,7 @@ arms_depth-none (row ∷ rows) = refl
 -- a loop over pieces, at its end
 pub joined_at_end : {X : Type 0} (piece_of : X → List Instr) (code start : List Instr) (xs ys : List X) (i : ℕ)
     → code ≡ start ++ flat_map piece_of (take i xs) → length xs ≤ i → xs ≡ ys → code ≡ start ++ flat_map piece_of ys
-joined_at_end piece_of code start xs ys i e h same =
-    e ∙ ap (λ zs. start ++ flat_map piece_of zs) (take_all i xs h ∙ same)
+joined_at_end piece_of code start xs ys i e h same = e ∙ ap (λ zs. start ++ flat_map piece_of zs) (take_all i xs h ∙ same)
 
 -- and one piece further
 pub joined_one_more : {X : Type 0} (piece_of : X → List Instr) (code more start : List Instr) (xs : List X) (i : ℕ) (x : X)
@@ -335,8 +334,7 @@ expr_code-Monadic scope number operation operand =
 
 pub length-link_code : (scope : Scope) (link : Link) → length (link_code scope link) ≡ length (expr_code scope link.operand) + length
     (dyadic_code link.operation)
-length-link_code scope link =
-    ap length (link_code-is scope link) ∙ length-append (expr_code scope link.operand) (dyadic_code link.operation)
+length-link_code scope link = ap length (link_code-is scope link) ∙ length-append (expr_code scope link.operand) (dyadic_code link.operation)
 
 -- how many instructions the first links have, and one more
 pub length-links_more : (scope : Scope) (links : List Link) (i : ℕ) (link : Link) → i < length links → link ≡ get_or links i link

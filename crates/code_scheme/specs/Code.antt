@@ -293,8 +293,7 @@ line_end_code false = []
 
 -- the code of a write or writeln: each value in turn
 abbrev pub write_code : Scope → Writing → List Instr
-write_code scope writing =
-    flat_map (parameter_code scope) writing.parameters.items ++ line_end_code writing.ends_line
+write_code scope writing = flat_map (parameter_code scope) writing.parameters.items ++ line_end_code writing.ends_line
 
 -- what is known where the code of a statement is made: its block's scope, and its place
 abbrev pub Placed : Type 0
@@ -349,8 +348,7 @@ control_offset scope control = (variable_home scope control).start
 
 -- where a round begins, the control variable gets the value that is held
 abbrev pub for_begin : Scope → ℕ → List Instr
-for_begin scope control =
-    instr.Load 0 (held_offset scope 0) ∷ instr.Store 0 (control_offset scope control) ∷ []
+for_begin scope control = instr.Load 0 (held_offset scope 0) ∷ instr.Store 0 (control_offset scope control) ∷ []
 
 -- behind the body: out of the loop with the last value, or else to the next round with the next one
 abbrev pub for_next : Scope → Direction → ℕ → ℕ → List Instr

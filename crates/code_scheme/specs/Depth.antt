@@ -141,8 +141,7 @@ arms_depth (row ∷ rows) (depth ∷ depths) = max depth (arms_depth rows depths
 
 abbrev pub stmt_depth_step : Stmt-F ℕ → ℕ
 stmt_depth_step (Empty number) = 0
-stmt_depth_step (Assign assignment) =
-    store_depth (index_depths assignment.indexes.items) (expr_depth assignment.value)
+stmt_depth_step (Assign assignment) = store_depth (index_depths assignment.indexes.items) (expr_depth assignment.value)
 stmt_depth_step (Copy copying) =
     max (access_depth (index_depths copying.indexes.items))
     (whole_depth copying.value (index_depths copying.value_indexes.items) + 1)
@@ -155,8 +154,7 @@ stmt_depth_step (While head body) = max (expr_depth head.condition) body.value
 stmt_depth_step (Repeat head statements) = max (greatest statements.items) (expr_depth head.condition)
 stmt_depth_step (For head body) =
     max (max (expr_depth head.first.value) (expr_depth head.last.value + 1)) (max 4 (body.value + 2))
-stmt_depth_step (Case head arms) =
-    max (expr_depth head.index) (max 3 (arms_depth head.constants.items arms.items + 1))
+stmt_depth_step (Case head arms) = max (expr_depth head.index) (max 3 (arms_depth head.constants.items arms.items + 1))
 
 -- how many cells the evaluation of a statement needs at once
 abbrev pub stmt_depth : Stmt → ℕ

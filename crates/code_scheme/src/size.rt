@@ -81,21 +81,17 @@ fn stmt_size(variables: &[Variable], stmt: &Stmt) -> u32
         Stmt::While { head, body } => {
             while_size(variables, &head.condition, stmt_size(variables, body))
         }
-        Stmt::Repeat { head, statements } => {
-            repeat_size(
-                variables,
-                statements_size(variables, statements),
-                &head.condition,
-            )
-        }
+        Stmt::Repeat { head, statements } => repeat_size(
+            variables,
+            statements_size(variables, statements),
+            &head.condition,
+        ),
         Stmt::For { head, body } => for_size(variables, head, stmt_size(variables, body)),
-        Stmt::Case { head, arms } => {
-            case_size(
-                variables,
-                &head.index,
-                arms_size(variables, &head.constants, arms),
-            )
-        }
+        Stmt::Case { head, arms } => case_size(
+            variables,
+            &head.index,
+            arms_size(variables, &head.constants, arms),
+        ),
     }
 }
 
@@ -263,9 +259,8 @@ fn write_size(variables: &[Variable], writing: &Writing) -> u32
     ensures { (scope : Scope) → IsScopeOf variables.now scope →
         result ≡ capped (length (write_code scope writing.now)) }
 {
-    parameters_size(variables, writing.parameters.as_slice()).saturating_add(line_end_size(
-        writing.ends_line,
-    ))
+    let size = parameters_size(variables, writing.parameters.as_slice());
+    size.saturating_add(line_end_size(writing.ends_line))
 }
 
 /// The same of an if statement without `else`, whose consequence has so many.

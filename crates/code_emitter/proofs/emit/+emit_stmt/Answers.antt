@@ -68,84 +68,88 @@ emit_stmt-returns-in-Compound t c =
     (passed_emitted c.emit_statements.result before c.emit_statements.new.code.items c.args.sizes.now c.pass.new.self c.emit_statements.new.sizes _
     (statements_table scope items) _ c.pass.ensures c.emit_statements.ensures)
 
-pub emit_stmt-returns-in_ok-emit_stmt-in-While : goal.emit_stmt-returns-in_ok-emit_stmt-in-While
-emit_stmt-returns-in_ok-emit_stmt-in-While t c =
+pub emit_while-returns : goal.emit_while-returns
+emit_while-returns t c =
+    let before = c.args.code.now.items in
+    let test = expr_code c.args.scope.now c.args.head.now.condition in
+    let begins : c.place_of-round.result ≡ capped (length before) = search rules in
+    let jumping = c.in_ok-emit_test.ensures ∙ ap (λ n. (before ++ test) ++ instr.JumpIfFalse (capped (length (before ++ test) + 1 + n)) ∷ [])
+    (c.saturating_add.ensures ∙ ap (λ n. capped (n + 1)) c.next.ensures) in
+    while_emitted c.put.result test c.args.body.now c.args.scope.now before c.emit_test.new.code.items c.emit_stmt.new.code.items c.put.new.code.items
+    c.args.sizes.now c.emit_stmt.new.sizes c.place_of-round.result jumping c.in_ok-emit_stmt.ensures begins c.put.ensures
+
+pub emit_stmt-returns-in-While : goal.emit_stmt-returns-in-While
+emit_stmt-returns-in-While t c =
     let scope = c.args.scope.now in
     let before = c.args.code.now.items in
     let place = length before in
     let head = c.in-While.head in
     let body = c.in-While.body in
     let test = expr_code scope head.condition in
-    let now = c.pass.new.self in
-    let answer = c.put.result in
-    let after = c.put.new.code.items in
-    let done = c.emit_stmt-in-While.new.code.items in
-    let left = c.emit_stmt-in-While.new.sizes in
-    let begins : c.place_of-round.result ≡ capped (length before) = search rules in
-    let jumping = c.in_ok-emit_test-in-While.ensures
-    ∙ ap (λ n. (before ++ test) ++ instr.JumpIfFalse (capped (length (before ++ test) + 1 + n)) ∷ [])
-    (c.saturating_add-in-While.ensures ∙ ap (λ n. capped (n + 1)) c.next-in-While.ensures) in
-    same_emitted answer before after c.args.sizes.now left _ _ _ _
+    same_emitted c.emit_while.result before c.emit_while.new.code.items c.args.sizes.now c.emit_while.new.sizes _ _ _ _
     (ap (λ s. stmt_code s scope place) c.in-While.is ∙ stmt_code-While scope place head body
     ∙ ap (λ s. while_code test (stmt_code s) scope place) (sym c.deref-in-While.ensures))
     (ap (λ s. table_of (measured s scope)) c.in-While.is ∙ ap table_of (measured-While scope head body)
     ∙ ap (λ s. table_of (while_measured test (measured s scope))) (sym c.deref-in-While.ensures))
-    (passed_emitted answer before after c.args.sizes.now now left _ (table_of (measured c.deref-in-While.result.now scope)) _ c.pass.ensures
-    (while_emitted answer test c.deref-in-While.result.now scope before c.emit_test-in-While.new.code.items done after now left c.place_of-round.result
-    jumping c.in_ok-emit_stmt-in-While.ensures begins c.put.ensures))
+    (passed_emitted c.emit_while.result before c.emit_while.new.code.items c.args.sizes.now c.pass.new.self c.emit_while.new.sizes _
+    (table_of (measured c.deref-in-While.result.now scope)) _ c.pass.ensures c.emit_while.ensures)
 
-pub emit_stmt-returns-in_ok-emit_next-in-For : goal.emit_stmt-returns-in_ok-emit_next-in-For
-emit_stmt-returns-in_ok-emit_next-in-For t c =
+pub emit_for-returns : goal.emit_for-returns
+emit_for-returns t c =
+    let scope = c.args.scope.now in
+    let head = c.args.head.now in
+    let body = c.args.body.now in
+    let begun = c.emit_begin.new.code.items in
+    let done = c.emit_stmt.new.code.items in
+    let after = c.emit_end.new.code.items in
+    let left = c.emit_stmt.new.sizes in
+    let entered = c.in_ok-emit_begin.ensures ∙ ap (λ xs. xs ++ for_begin scope head.control) c.in_ok-emit_entry.ensures in
+    let emits = subst (λ sc. Emits (Ok tt) begun done c.args.sizes.now left (stmt_code body sc (length begun)) (table_of (measured body sc)))
+    c.holding.ensures c.in_ok-emit_stmt.ensures in
+    let ended = subst (λ xs. OnOk c.emit_end.result (after ≡ xs ++ for_end scope head.control)) c.in_ok-emit_next.ensures c.emit_end.ensures in
+    for_emitted c.emit_end.result head body scope c.args.code.now.items c.emit_bounds.new.code.items begun done after c.args.sizes.now left
+    c.saturating_add-round.result c.saturating_add-out.result c.in_ok-emit_bounds.ensures (search rules) (search rules) entered emits ended
+
+pub emit_stmt-returns-in-For : goal.emit_stmt-returns-in-For
+emit_stmt-returns-in-For t c =
     let scope = c.args.scope.now in
     let before = c.args.code.now.items in
     let place = length before in
     let head = c.in-For.head in
     let body = c.in-For.body in
     let inner = holding 2 scope in
-    let now = c.pass.new.self in
-    let answer = c.emit_end.result in
-    let after = c.emit_end.new.code.items in
-    let bounds = c.emit_bounds.new.code.items in
-    let begun = c.emit_begin.new.code.items in
-    let done = c.emit_stmt-in-For.new.code.items in
-    let left = c.emit_stmt-in-For.new.sizes in
-    let round = c.saturating_add-round.result in
-    let out = c.saturating_add-out.result in
-    let entered = c.in_ok-emit_begin-in-For.ensures ∙ ap (λ xs. xs ++ for_begin scope head.control) c.in_ok-emit_entry-in-For.ensures in
-    let ended = subst (λ xs. OnOk answer (after ≡ xs ++ for_end scope head.control)) c.in_ok-emit_next-in-For.ensures c.emit_end.ensures in
-    same_emitted answer before after c.args.sizes.now left _ _ _ _
+    same_emitted c.emit_for.result before c.emit_for.new.code.items c.args.sizes.now c.emit_for.new.sizes _ _ _ _
     (ap (λ s. stmt_code s scope place) c.in-For.is ∙ stmt_code-For scope place head body
     ∙ ap (λ s. for_code head (stmt_code s) scope place) (sym c.deref-in-For.ensures))
     (ap (λ s. table_of (measured s scope)) c.in-For.is ∙ ap table_of (measured-For scope head body)
     ∙ ap (λ s. table_of (for_measured (expr_code scope head.first.value) (expr_code scope head.last.value) (measured s inner))) (sym c.deref-in-For.ensures))
-    (passed_emitted answer before after c.args.sizes.now now left _ (table_of (measured c.deref-in-For.result.now inner)) _ c.pass.ensures
-    (for_emitted answer head c.deref-in-For.result.now scope before bounds begun done after now left round out c.in_ok-emit_bounds-in-For.ensures
-    (search rules) (search rules) entered
-    (subst (λ sc. Emits (Ok tt) begun done now left (stmt_code c.deref-in-For.result.now sc (length begun)) (table_of (measured c.deref-in-For.result.now sc)))
-    c.holding.ensures c.in_ok-emit_stmt-in-For.ensures) ended))
+    (passed_emitted c.emit_for.result before c.emit_for.new.code.items c.args.sizes.now c.pass.new.self c.emit_for.new.sizes _
+    (table_of (measured c.deref-in-For.result.now inner)) _ c.pass.ensures c.emit_for.ensures)
 
-pub emit_stmt-returns-in_ok-emit_expr-in-Repeat : goal.emit_stmt-returns-in_ok-emit_expr-in-Repeat
-emit_stmt-returns-in_ok-emit_expr-in-Repeat t c =
+pub emit_repeat-returns : goal.emit_repeat-returns
+emit_repeat-returns t c =
+    let scope = c.args.scope.now in
+    let before = c.args.code.now.items in
+    let after = c.put.new.code.items in
+    let statements = c.args.statements.now.items in
+    let round = c.place_of-round.result in
+    let begins : round ≡ capped (length before) = search rules in
+    let tested = subst (λ xs. OnOk c.put.result (after ≡ xs ++ instr.JumpIfFalse round ∷ [])) c.in_ok-emit_expr.ensures c.put.ensures in
+    repeat_emitted c.put.result (statements_code scope statements) (expr_code scope c.args.head.now.condition) before c.emit_statements.new.code.items after
+    c.args.sizes.now c.emit_statements.new.sizes (statements_table scope statements) round c.in_ok-emit_statements.ensures begins tested
+
+pub emit_stmt-returns-in-Repeat : goal.emit_stmt-returns-in-Repeat
+emit_stmt-returns-in-Repeat t c =
     let scope = c.args.scope.now in
     let before = c.args.code.now.items in
     let place = length before in
     let head = c.in-Repeat.head in
     let statements = c.in-Repeat.statements in
-    let test = expr_code scope head.condition in
-    let now = c.pass.new.self in
-    let answer = c.put-in-Repeat.result in
-    let after = c.put-in-Repeat.new.code.items in
-    let done = c.emit_statements-in-Repeat.new.code.items in
-    let left = c.emit_statements-in-Repeat.new.sizes in
-    let round = c.place_of-round-in-Repeat.result in
-    let begins : round ≡ capped (length before) = search rules in
-    let tested = subst (λ xs. OnOk answer (after ≡ xs ++ instr.JumpIfFalse round ∷ [])) c.in_ok-emit_expr-in-Repeat.ensures c.put-in-Repeat.ensures in
-    same_emitted answer before after c.args.sizes.now left _ _ _ _
+    same_emitted c.emit_repeat.result before c.emit_repeat.new.code.items c.args.sizes.now c.emit_repeat.new.sizes _ _ _ _
     (ap (λ s. stmt_code s scope place) c.in-Repeat.is ∙ stmt_code-Repeat scope place head statements)
     (ap (λ s. table_of (measured s scope)) c.in-Repeat.is ∙ ap table_of (measured-Repeat scope head statements))
-    (passed_emitted answer before after c.args.sizes.now now left _ (statements_table scope statements.items) _ c.pass.ensures
-    (repeat_emitted answer (statements_code scope statements.items) test before done after now left (statements_table scope statements.items) round
-    c.in_ok-emit_statements-in-Repeat.ensures begins tested))
+    (passed_emitted c.emit_repeat.result before c.emit_repeat.new.code.items c.args.sizes.now c.pass.new.self c.emit_repeat.new.sizes _
+    (statements_table scope statements.items) _ c.pass.ensures c.emit_repeat.ensures)
 
 pub emit_stmt-returns-in_ok-emit_test-in-None : goal.emit_stmt-returns-in_ok-emit_test-in-None
 emit_stmt-returns-in_ok-emit_test-in-None t c =
@@ -278,5 +282,5 @@ emit_stmt-returns-in_ok-emit_arms-in-Case t c =
     same_emitted answer before after c.args.sizes.now left _ _ _ _
     (ap (λ s. stmt_code s scope place) c.in-Case.is ∙ stmt_code-Case scope place head arms)
     (ap (λ s. table_of (measured s scope)) c.in-Case.is ∙ ap table_of (measured-Case scope head arms))
-    (case_emitted answer head arms.items scope before c.emit_expr-in-Case.new.code.items c.emit_arms.new.code.items after c.args.sizes.now c.pass.new.self left
+    (case_emitted answer head arms.items scope before c.emit_expr.new.code.items c.emit_arms.new.code.items after c.args.sizes.now c.pass.new.self left
     c.saturating_sub-out.result c.pass.ensures (search rules) c.in_ok-emit_expr-in-Case.ensures c.in_ok-emit_arms-in-Case.ensures c.emit_no_arm.ensures)
