@@ -34,6 +34,7 @@ use Rattle.operations.specs.Answers.{positive, value_before}
 use Rattle.interpreter_state.specs.declared.activation.Activation.{Activation as KeptActivation}
 use Rattle.interpreter_state.specs.declared.store.Place.{Place as KeptPlace}
 use Rattle.interpreter_state.specs.declared.work.Caller.{Caller}
+use Rattle.interpreter_state.specs.declared.work.Rounds.TheVariants.{Between, Behind}
 use Rattle.interpreter_state.specs.declared.work.Work.{Work}
 use Rattle.interpreter_state.specs.declared.work.Work.TheVariants as work
 use Rattle.interpreter_state.specs.contracts.store.PlaceOrd.TheImpl.{ghosts as places}
@@ -232,14 +233,14 @@ resumed env (work.WhileTurn head body) next operands =
     >>= λ _. next below)
     operands
 resumed env (work.Unless head statements) next operands = unless_so env head.now statements.now next operands
-resumed env (work.Bounds head body) next operands =
+resumed env (work.For head Between body) next operands =
     with_top
     (λ last rest. with_top
     (λ first below. for_between head.now (effect_of body.now) env (number_of first) (number_of last)
     >>= λ _. forgetting (env.visible.variables head.now.control) next below)
     rest)
     operands
-resumed env (work.Next head value last body) next operands = do
+resumed env (work.For head (Behind value last) body) next operands = do
   _ ← further (counting env head.now last body.now) (give (value_before head.now.direction last value))
   forgetting (env.visible.variables head.now.control) next operands
 resumed env (work.Case head arms) next operands =

@@ -1,11 +1,12 @@
 ghost use Rattle.std.specs.Prelude.{◌+◌};
+ghost use Rattle.interpreter_state.specs.declared.work.Rounds.TheVariants.{Between, Behind};
 ghost use Rattle.interpreter.specs.Pending.{Does, counting_on, forgetting, line_ending, repeating, resumed, whiling};
 ghost use Rattle.interpreter.specs.Pending.{writing, writing_one, writing_row};
 ghost use Rattle.interpreter.specs.Size.{Adds, Lightens, size_of_expression, size_of_parameter, size_of_whole};
 ghost use Rattle.interpreter.specs.Size.{size_of_width};
 
 use crate::interpreter::Run;
-use interpreter_state::work::{Work, put};
+use interpreter_state::work::{Rounds, Work, put};
 use meaning::outcome::Ending;
 use meaning::store::{Ordinal, Value};
 use operations::arms::arm_at;
@@ -82,7 +83,11 @@ impl<'t> Run<'t, '_> {
             Stmt::For { head, body } => self.plan_values(
                 &head.first.value,
                 &head.last.value,
-                Work::Bounds { head, body },
+                Work::For {
+                    head,
+                    rounds: Rounds::Between,
+                    body,
+                },
             ),
             Stmt::Case { head, arms } => {
                 self.plan(Work::Value(&head.index), Work::Case { head, arms })
@@ -175,8 +180,8 @@ impl<'t> Run<'t, '_> {
         head: &'t ForHead,
         body: &'t Stmt,
     ) -> Result<Option<Ending>, AllocError>
-        ensures fewer { Lightens (Work.Bounds head.entry body.entry) self.old result self.new }
-        ensures does { Does (λ env. resumed env (Work.Bounds head.entry body.entry)) self.old result self.new }
+        ensures fewer { Lightens (Work.For head.entry Between body.entry) self.old result self.new }
+        ensures does { Does (λ env. resumed env (Work.For head.entry Between body.entry)) self.old result self.new }
     {
         let last = self.popped_number();
         let first = self.popped_number();
@@ -202,10 +207,9 @@ impl<'t> Run<'t, '_> {
         self.keep(place, Value::Number(Ordinal::new(value)))?;
         self.turn(
             Work::Statement(body),
-            Work::Next {
+            Work::For {
                 head,
-                value,
-                last,
+                rounds: Rounds::Behind { value, last },
                 body,
             },
         )
@@ -218,8 +222,9 @@ impl<'t> Run<'t, '_> {
         last: i32,
         body: &'t Stmt,
     ) -> Result<Option<Ending>, AllocError>
-        ensures fewer { Lightens (Work.Next head.entry value last body.entry) self.old result self.new }
-        ensures does { Does (λ env. resumed env (Work.Next head.entry value last body.entry)) self.old result self.new }
+        ensures fewer { Lightens (Work.For head.entry (Behind value last) body.entry) self.old result self.new }
+        ensures does { Does (λ env. resumed env (Work.For head.entry (Behind value last) body.entry))
+            self.old result self.new }
     {
         match value_toward(head.direction, last, value) {
             Some(value) => self.for_round(head, value, last, body),
