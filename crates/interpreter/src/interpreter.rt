@@ -7,7 +7,7 @@ ghost use Rattle.interpreter.specs.Size.{Adds, Lightens, Shrinks, size_of, size_
 use interpreter_state::activation::Activation;
 use interpreter_state::operand::Operand;
 use interpreter_state::store::Place;
-use interpreter_state::work::{Caller, Rounds, Work, put};
+use interpreter_state::work::{Caller, Work, put};
 use meaning::outcome::{Ending, Outcome};
 use meaning::store::Value;
 use std::alloc::{AllocError, Global};
@@ -143,16 +143,7 @@ impl<'t> Run<'t, '_> {
             } => self.choose(consequence, alternative),
             Work::WhileTurn { head, body } => self.while_turn(head, body),
             Work::Unless { head, statements } => self.unless(head, statements),
-            Work::For {
-                head,
-                rounds: Rounds::Between,
-                body,
-            } => self.bounds(head, body),
-            Work::For {
-                head,
-                rounds: Rounds::Behind { value, last },
-                body,
-            } => self.next_round(head, value, last, body),
+            Work::For { head, rounds, body } => self.rounds(head, rounds, body),
             Work::Case { head, arms } => self.case(head, arms),
             Work::Parameters {
                 parameters,

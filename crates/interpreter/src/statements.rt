@@ -175,11 +175,23 @@ impl<'t> Run<'t, '_> {
         }
     }
 
-    pub(crate) fn bounds(
+    pub(crate) fn rounds(
         &mut self,
         head: &'t ForHead,
+        rounds: Rounds,
         body: &'t Stmt,
     ) -> Result<Option<Ending>, AllocError>
+        ensures fewer { Lightens (Work.For head.entry rounds body.entry) self.old result self.new }
+        ensures does { Does (λ env. resumed env (Work.For head.entry rounds body.entry)) self.old result self.new }
+    {
+        match rounds {
+            Rounds::Between => self.bounds(head, body),
+            Rounds::Behind { value, last } => self.next_round(head, value, last, body),
+        }
+    }
+
+    // The rounds of a for between its bounds.
+    fn bounds(&mut self, head: &'t ForHead, body: &'t Stmt) -> Result<Option<Ending>, AllocError>
         ensures fewer { Lightens (Work.For head.entry Between body.entry) self.old result self.new }
         ensures does { Does (λ env. resumed env (Work.For head.entry Between body.entry)) self.old result self.new }
     {
@@ -215,7 +227,8 @@ impl<'t> Run<'t, '_> {
         )
     }
 
-    pub(crate) fn next_round(
+    // The rounds of a for behind that with a value of its control variable.
+    fn next_round(
         &mut self,
         head: &'t ForHead,
         value: i32,
