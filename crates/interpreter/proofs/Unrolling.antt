@@ -52,7 +52,7 @@ use Rattle.meaning.specs.Store.{Place, kept, part}
 use Rattle.meaning.specs.Effect.{State, Reply, Action, ◌>>=◌, and_then, give, require, use_turn, another, looped}
 use Rattle.meaning.specs.Effect.{fetch, fetch_all, store, store_all, undefine, write, is_in, number_of, row_text, text_of}
 use Rattle.meaning.specs.Meaning.{Combination, Execution, effect_step, operated, combined, in_turn, all_of}
-use Rattle.meaning.specs.Meaning.{compared, selected, accessed, whole_of, default_width, written_of, width_of, parameter_of}
+use Rattle.meaning.specs.Meaning.{compared, selected, whole_of, default_width, written_of, width_of, parameter_of}
 use Rattle.meaning.specs.Meaning.{line_ended, is_so, turn_if, for_between, arm_of}
 use Rattle.meaning.specs.Meaning.{value_of, values_of, link_of, effect_of, Passing, all_passed, call_of, passing_of}
 use Rattle.operations.specs.Answers.{bounds_tested, positive, value_before}

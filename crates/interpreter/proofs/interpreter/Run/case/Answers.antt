@@ -1,4 +1,4 @@
-use Rattle.std.proofs.Common.{◌≡◌, ◌+◌, ℤ, List, Vec, Global, Option, Some, None, Bor, option_map, reverse, sym, ◌∙◌, ap, ap₂, subst}
+use Rattle.std.proofs.Common.{◌≡◌, ◌+◌, ℤ, List, Vec, Global, Option, Some, Bor, option_map, reverse, sym, ◌∙◌, ap, ap₂, subst}
 use Rattle.interpreter.specs.declared.interpreter.Run.{Run}
 use Rattle.typed_tree.specs.declared.tree.Stmt.{Stmt}
 use Rattle.meaning.specs.Effect.{Reply, and_then}
