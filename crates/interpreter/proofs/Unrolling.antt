@@ -61,7 +61,7 @@ use Rattle.interpreter.specs.Pending.{Resumption, pending_of, resumed, chosen, f
 use Rattle.interpreter.specs.Pending.{forgetting, turning, turning_tested, whiling, repeating, counting_on, line_ending, linking}
 use Rattle.interpreter.specs.Pending.{giving, giving_number, giving_place, giving_row, with_top, with_row, top_of, top_place, top_row, below_top}
 use Rattle.interpreter.specs.Pending.{writing, writing_one, writing_row, placing, accessing, selecting, comparing}
-use Rattle.interpreter.specs.Pending.{calling, left_below, passing, taken_from, tested, top_in_hand}
+use Rattle.interpreter.specs.Pending.{assigning, assigning_row, calling, left_below, passing, performing, taken_from, tested, top_in_hand}
 use Rattle.meaning.proofs.Expressions.{value-Variable, value-Monadic, value-Chain, value-Compare, value-Call, combination-Link}
 use Rattle.meaning.proofs.Expressions.{passing-Value, passing-Whole, passing-Reference}
 use Rattle.meaning.proofs.Replies.{and_then-and_then, and_then-same}
@@ -155,43 +155,37 @@ pub does-Empty : (n : ℕ) (given : Stmt) → given ≡ stmt.Empty n → (env : 
     executed env outer given works operands s ≡ pending_of env outer works operands (entered n env s)
 does-Empty n given is env outer works operands s = executed-rolled (Empty-F n) given (stmt.Empty n) is (stmt.rolls-Empty n) env outer works operands s
 
-pub does-Assign : (assignment : Assignment) (given : Stmt) → given ≡ stmt.Assign assignment → (all : List Expr) → all ≡ assignment.indexes.items →
+pub does-Assign : (assignment : Assignment) (given : Stmt) → given ≡ stmt.Assign assignment →
     (env : Surroundings) (outer : Resumption) (works : List Work) (operands : List Argument) (s : State) →
     executed env outer given works operands s ≡
-    placing env assignment.target all (evaluated env outer assignment.value (work.Store assignment.fits ∷ works)) operands
-    (entered assignment.target.number env (entered assignment.number env s))
-does-Assign assignment given is all same env outer works operands s =
+    assigning env assignment (pending_of env outer works) operands (entered assignment.target.number env (entered assignment.number env s))
+does-Assign assignment given is env outer works operands s =
     let then_rest : Unit {0} → Action (Unit {0}) = λ _. pending_of env outer works operands in
     let target = assignment.target in
     let fits = assignment.fits in
-    let value = assignment.value in
-    let place : List Expr → Reply (Option Place) =
-    λ l. selected target.selectors.items (values_of l) env (env.visible.variables target.root) (entered target.number env (entered assignment.number env s)) in
+    let value : Action Value = value_of assignment.value env in
+    let place : Reply (Option Place) = selected target.selectors.items (values_of assignment.indexes.items) env (env.visible.variables target.root)
+    (entered target.number env (entered assignment.number env s)) in
     let stored : Option Place → Value → Action (Unit {0}) = λ p v. require (is_in fits.range v) fits.site >>= λ _. store p v in
     executed-rolled (Assign-F assignment) given (stmt.Assign assignment) is (stmt.rolls-Assign assignment) env outer works operands s
-    ∙ and_then-and_then (place assignment.indexes.items) (λ p. value_of value env >>= stored p) then_rest
-    ∙ and_then-same (place assignment.indexes.items) _ _ (λ p t. and_then-and_then (value_of value env t) (stored p) then_rest
-    ∙ and_then-same (value_of value env t) _ _ (λ v u. and_then-and_then (require (is_in fits.range v) fits.site u) (λ _. store p v) then_rest))
-    ∙ ap (λ l. and_then (place l) (λ p. evaluated env outer value (work.Store fits ∷ works) (OfPlace p ∷ operands))) (sym same)
+    ∙ and_then-and_then place (λ p. value >>= stored p) then_rest
+    ∙ and_then-same place _ _ (λ p t. and_then-and_then (value t) (stored p) then_rest
+    ∙ and_then-same (value t) _ _ (λ v u. and_then-and_then (require (is_in fits.range v) fits.site u) (λ _. store p v) then_rest))
 
-pub does-Copy : (copying : Copying) (given : Stmt) → given ≡ stmt.Copy copying → (all others : List Expr) → all ≡ copying.indexes.items →
-    others ≡ copying.value_indexes.items → (env : Surroundings) (outer : Resumption) (works : List Work) (operands : List Argument) (s : State) →
+pub does-Copy : (copying : Copying) (given : Stmt) → given ≡ stmt.Copy copying →
+    (env : Surroundings) (outer : Resumption) (works : List Work) (operands : List Argument) (s : State) →
     executed env outer given works operands s ≡
-    placing env copying.target all
-    (giving_row (whole_of copying.value (values_of others) env) (pending_of env outer (work.StoreRow copying.type_id ∷ works))) operands
-    (entered copying.target.number env (entered copying.number env s))
-does-Copy copying given is all others same alike env outer works operands s =
+    assigning_row env copying (pending_of env outer works) operands (entered copying.target.number env (entered copying.number env s))
+does-Copy copying given is env outer works operands s =
     let then_rest : Unit {0} → Action (Unit {0}) = λ _. pending_of env outer works operands in
     let target = copying.target in
-    let place : List Expr → Reply (Option Place) =
-    λ l. selected target.selectors.items (values_of l) env (env.visible.variables target.root) (entered target.number env (entered copying.number env s)) in
-    let row : List Expr → Action (List Value) = λ l. whole_of copying.value (values_of l) env in
+    let place : Reply (Option Place) = selected target.selectors.items (values_of copying.indexes.items) env (env.visible.variables target.root)
+    (entered target.number env (entered copying.number env s)) in
+    let row : Action (List Value) = whole_of copying.value (values_of copying.value_indexes.items) env in
     let stored : Option Place → List Value → Action (Unit {0}) = λ p values. store_all p (components_of env.visible.types copying.type_id) values in
     executed-rolled (Copy-F copying) given (stmt.Copy copying) is (stmt.rolls-Copy copying) env outer works operands s
-    ∙ and_then-and_then (place copying.indexes.items) (λ p. row copying.value_indexes.items >>= stored p) then_rest
-    ∙ and_then-same (place copying.indexes.items) _ _ (λ p t. and_then-and_then (row copying.value_indexes.items t) (stored p) then_rest)
-    ∙ ap (λ l. and_then (place l) (λ p. row copying.value_indexes.items >>= λ values. stored p values >>= then_rest)) (sym same)
-    ∙ ap (λ l. and_then (place all) (λ p. row l >>= λ values. stored p values >>= then_rest)) (sym alike)
+    ∙ and_then-and_then place (λ p. row >>= stored p) then_rest
+    ∙ and_then-same place _ _ (λ p t. and_then-and_then (row t) (stored p) then_rest)
 
 pub does-Write : (writing : Writing) (given : Stmt) → given ≡ stmt.Write writing → (all : Bor (List WriteParameter)) → all.now ≡ writing.parameters.items →
     (env : Surroundings) (outer : Resumption) (works : List Work) (operands : List Argument) (s : State) →
@@ -571,17 +565,15 @@ does-Call call actuals given is same_call same all alike env outer works operand
     ∙ ap (λ (l : List Passed). calling env same_call l next operands (entered call.number env s)) (sym alike)
 
 -- a procedure, whose value is discarded
-pub does-procedure : (procedure : ProcedureCall) (given : Stmt) → given ≡ stmt.Call procedure → (all : List Passed) → all ≡ procedure.actuals.items →
+pub does-procedure : (procedure : ProcedureCall) (given : Stmt) → given ≡ stmt.Call procedure →
     (env : Surroundings) (outer : Resumption) (works : List Work) (operands : List Argument) (s : State) →
     executed env outer given works operands s ≡
-    calling env procedure.call all (pending_of env outer (work.Discard ∷ works)) operands (entered procedure.call.number env s)
-does-procedure procedure given is all same env outer works operands s =
+    performing env procedure (pending_of env outer works) operands (entered procedure.call.number env s)
+does-procedure procedure given is env outer works operands s =
     let then_rest : Unit {0} → Action (Unit {0}) = λ _. pending_of env outer works operands in
-    let next = pending_of env outer (work.Discard ∷ works) in
     executed-rolled (Call-F procedure) given (stmt.Call procedure) is (stmt.rolls-Call procedure) env outer works operands s
     ∙ and_then-and_then (call_of procedure.call (map passing_of procedure.actuals.items) env s) (λ _. give tt) then_rest
-    ∙ called-as procedure.call procedure.actuals.items env next operands s
-    ∙ ap (λ (l : List Passed). calling env procedure.call l next operands (entered procedure.call.number env s)) (sym same)
+    ∙ called-as procedure.call procedure.actuals.items env (pending_of env outer (work.Discard ∷ works)) operands s
 
 -- actual parameters, the first one and then the others
 pub does-passed : (first : Bor Passed) (rest all : Bor (List Passed)) → all.now ≡ first.now ∷ rest.now → (env : Surroundings) (next : Resumption)

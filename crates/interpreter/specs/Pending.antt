@@ -17,8 +17,11 @@ use Rattle.typed_tree.specs.declared.tree.Passed.{Passed}
 use Rattle.typed_tree.specs.declared.tree.WriteParameter.{WriteParameter}
 use Rattle.typed_tree.specs.declared.tree.Access.{Access}
 use Rattle.typed_tree.specs.declared.tree.Selector.{Selector}
+use Rattle.typed_tree.specs.declared.tree.Assignment.{Assignment}
+use Rattle.typed_tree.specs.declared.tree.Copying.{Copying}
 use Rattle.typed_tree.specs.declared.tree.ForHead.{ForHead}
 use Rattle.typed_tree.specs.declared.tree.LoopHead.{LoopHead}
+use Rattle.typed_tree.specs.declared.tree.ProcedureCall.{ProcedureCall}
 use Rattle.typed_tree.specs.declared.tree.RangeTest.{RangeTest}
 use Rattle.typed_tree.specs.declared.tree.Expr.{Expr}
 use Rattle.typed_tree.specs.declared.tree.Stmt.{Stmt}
@@ -360,6 +363,23 @@ turning_tested env first condition second next operands = do
 abbrev pub calling : Surroundings → Call → List Passed → Resumption → Resumption
 calling env call actuals next =
     passing env (map passing_of actuals) (activating env call.block (length actuals) next)
+
+-- the place of a target and the value, which is stored there, and then the rest
+abbrev pub assigning : Surroundings → Assignment → Resumption → Resumption
+assigning env assignment next =
+    placing env assignment.target assignment.indexes.items
+    (giving (value_of assignment.value env) (resumed env (work.Store assignment.fits) next))
+
+-- the same of a structured value
+abbrev pub assigning_row : Surroundings → Copying → Resumption → Resumption
+assigning_row env copying next =
+    placing env copying.target copying.indexes.items
+    (giving_row (whole_of copying.value (values_of copying.value_indexes.items) env)
+    (resumed env (work.StoreRow copying.type_id) next))
+
+-- a procedure, and then the rest
+abbrev pub performing : Surroundings → ProcedureCall → Resumption → Resumption
+performing env procedure next = calling env procedure.call procedure.actuals.items (resumed env work.Discard next)
 
 -- what is pending in an activation, the next first, and what goes on behind it
 abbrev pub pending_of : Surroundings → Resumption → List Work → Resumption

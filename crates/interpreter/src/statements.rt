@@ -1,9 +1,9 @@
 ghost use Rattle.std.specs.Prelude.{◌+◌};
 ghost use Rattle.interpreter_state.specs.declared.work.Rounds.TheVariants.{Between, Behind};
-ghost use Rattle.interpreter.specs.Pending.{Does, counting_on, forgetting, line_ending, repeating, resumed, whiling};
-ghost use Rattle.interpreter.specs.Pending.{writing, writing_one, writing_row};
-ghost use Rattle.interpreter.specs.Size.{Adds, Lightens, size_of_expression, size_of_parameter, size_of_whole};
-ghost use Rattle.interpreter.specs.Size.{size_of_width};
+ghost use Rattle.interpreter.specs.Pending.{Does, assigning, assigning_row, counting_on, forgetting, line_ending};
+ghost use Rattle.interpreter.specs.Pending.{performing, repeating, resumed, whiling, writing, writing_one, writing_row};
+ghost use Rattle.interpreter.specs.Size.{Adds, Lightens, size_of_assignment, size_of_copying, size_of_expression};
+ghost use Rattle.interpreter.specs.Size.{size_of_parameter, size_of_procedure, size_of_whole, size_of_width};
 
 use crate::interpreter::Run;
 use interpreter_state::work::{Rounds, Work, put};
@@ -17,7 +17,8 @@ use operations::rows::length_of;
 use operations::text::{write_ordinal, write_row, write_row_in};
 use std::alloc::AllocError;
 use typed_tree::tree::{
-    CaseHead, Expr, ForHead, LoopHead, Representation, Stmt, Whole, Width, WriteParameter, Written,
+    Assignment, CaseHead, Copying, Expr, ForHead, LoopHead, ProcedureCall, Representation, Stmt,
+    Whole, Width, WriteParameter, Written,
 };
 
 // The steps of statements.
@@ -41,30 +42,10 @@ impl<'t> Run<'t, '_> {
     {
         match statement {
             Stmt::Empty { .. } => Ok(None),
-            Stmt::Assign(assignment) => {
-                put(&mut self.pending, Work::Store(assignment.fits))?;
-                self.access(
-                    &assignment.target,
-                    &assignment.indexes,
-                    Work::Value(&assignment.value),
-                )
-            }
-            Stmt::Copy(copying) => {
-                put(&mut self.pending, Work::StoreRow(copying.type_id))?;
-                self.access(
-                    &copying.target,
-                    &copying.indexes,
-                    Work::Whole {
-                        value: &copying.value,
-                        indexes: &copying.value_indexes,
-                    },
-                )
-            }
+            Stmt::Assign(assignment) => self.assignment(assignment),
+            Stmt::Copy(copying) => self.copying(copying),
             Stmt::Write(writing) => self.parameters(&writing.parameters, writing.ends_line),
-            Stmt::Call(calling) => {
-                put(&mut self.pending, Work::Discard)?;
-                self.call(&calling.call, &calling.actuals)
-            }
+            Stmt::Call(procedure) => self.procedure(procedure),
             Stmt::Compound { statements, .. } => self.statements(statements),
             Stmt::If {
                 condition,
@@ -93,6 +74,44 @@ impl<'t> Run<'t, '_> {
                 self.plan(Work::Value(&head.index), Work::Case { head, arms })
             }
         }
+    }
+
+    // The place of the target and the value, which is stored there.
+    fn assignment(&mut self, assignment: &'t Assignment) -> Result<Option<Ending>, AllocError>
+        ensures size { Adds (size_of_assignment assignment.now) self.old result self.new }
+        ensures does { Does (λ env. assigning env assignment.now) self.old result self.new }
+    {
+        put(&mut self.pending, Work::Store(assignment.fits))?;
+        self.access(
+            &assignment.target,
+            &assignment.indexes,
+            Work::Value(&assignment.value),
+        )
+    }
+
+    // The place of the target and the row of the value, which is stored there.
+    fn copying(&mut self, copying: &'t Copying) -> Result<Option<Ending>, AllocError>
+        ensures size { Adds (size_of_copying copying.now) self.old result self.new }
+        ensures does { Does (λ env. assigning_row env copying.now) self.old result self.new }
+    {
+        put(&mut self.pending, Work::StoreRow(copying.type_id))?;
+        self.access(
+            &copying.target,
+            &copying.indexes,
+            Work::Whole {
+                value: &copying.value,
+                indexes: &copying.value_indexes,
+            },
+        )
+    }
+
+    // A call whose value is dropped.
+    fn procedure(&mut self, procedure: &'t ProcedureCall) -> Result<Option<Ending>, AllocError>
+        ensures size { Adds (size_of_procedure procedure.now) self.old result self.new }
+        ensures does { Does (λ env. performing env procedure.now) self.old result self.new }
+    {
+        put(&mut self.pending, Work::Discard)?;
+        self.call(&procedure.call, &procedure.actuals)
     }
 
     pub(crate) fn choose(
