@@ -383,20 +383,20 @@ module _ (tree : Tree) (blocks : List BlockClaims) (declares : DeclareTheirs tre
 
   layer : (y : Stmt-F KeptStmt) → IsKeptLayer (bare y)
   layer (Empty number) well context stands yields = keeps-enter at number at.visible
-  layer (Assign number becomes target indexes fits value) well context stands yields =
-      let one = yields-then context (flow.enter number) (λ _. walk.assignment becomes target (flow.index_pieces indexes.items) fits value) tt yields in
-      keeps-then at _ _ (keeps-enter at number at.visible) (λ _. keeps-assignment becomes target indexes.items fits value context stands one.2)
-  layer (Copy number becomes target indexes type_id value value_indexes) well context stands yields =
-      let one = yields-then context (flow.enter number)
-      (λ _. walk.copying becomes target (flow.index_pieces indexes.items) value value_indexes.items) tt yields in
-      keeps-then at _ _ (keeps-enter at number at.visible)
-      (λ _. keeps-copying becomes target indexes.items type_id value value_indexes.items context stands one.2)
-  layer (Write number name parameters ends_line) well context stands yields =
-      let one = yields-then context (flow.enter number) (λ _. walk.all_of (map flow.parameter_walk parameters.items)) tt yields in
-      keeps-then at _ _ (keeps-enter at number at.visible)
-      (λ _. keeps-then at _ _ (keeps-parameters parameters.items context stands one.2) (λ _. keeps-line_ended at ends_line))
-  layer (Calling call actuals) well context stands yields =
-      keeps-then at _ _ (call-kept tree blocks declares block at grounds calls leave call actuals.items context stands yields) (λ _. keeps-give at tt)
+  layer (Assign assignment) well context stands yields =
+      let one = yields-then context (flow.enter assignment.number) (λ _. walk.assignment assignment.becomes assignment.target (flow.index_pieces assignment.indexes.items) assignment.fits assignment.value) tt yields in
+      keeps-then at _ _ (keeps-enter at assignment.number at.visible) (λ _. keeps-assignment assignment.becomes assignment.target assignment.indexes.items assignment.fits assignment.value context stands one.2)
+  layer (Copy copying) well context stands yields =
+      let one = yields-then context (flow.enter copying.number)
+      (λ _. walk.copying copying.becomes copying.target (flow.index_pieces copying.indexes.items) copying.value copying.value_indexes.items) tt yields in
+      keeps-then at _ _ (keeps-enter at copying.number at.visible)
+      (λ _. keeps-copying copying.becomes copying.target copying.indexes.items copying.type_id copying.value copying.value_indexes.items context stands one.2)
+  layer (Write writing) well context stands yields =
+      let one = yields-then context (flow.enter writing.number) (λ _. walk.all_of (map flow.parameter_walk writing.parameters.items)) tt yields in
+      keeps-then at _ _ (keeps-enter at writing.number at.visible)
+      (λ _. keeps-then at _ _ (keeps-parameters writing.parameters.items context stands one.2) (λ _. keeps-line_ended at writing.ends_line))
+  layer (Calling calling) well context stands yields =
+      keeps-then at _ _ (call-kept tree blocks declares block at grounds calls leave calling.call calling.actuals.items context stands yields) (λ _. keeps-give at tt)
   layer (Compound number statements) well context stands yields =
       let one = yields-then context (flow.enter number) (λ _. walk.all_of (map statement_walk (bodies statements.items))) tt yields in
       keeps-then at _ _ (keeps-enter at number at.visible) (λ _. keeps-all statements.items well context stands one.2)
@@ -423,47 +423,47 @@ module _ (tree : Tree) (blocks : List BlockClaims) (declares : DeclareTheirs tre
       (λ _. keeps-then at _ _ (keeps-value condition context two.0 stands two.1)
       (λ v. keeps-chosen (meaning.is_so v) (effect_of consequence.value.0 here) (effect_of alternative.value.0 here)
       (consequence.value.1 each.0 context stands both.0) (alternative.value.1 each.1 context stands both.1)))
-  layer (While number loop_number place condition body) well context stands yields =
-      let parts = and_parts (well_expr condition) (well_stmt body.value.0) well in
+  layer (While head body) well context stands yields =
+      let parts = and_parts (well_expr head.condition) (well_stmt body.value.0) well in
       let walking = statement_walk body.value.0 in
-      let one = yields-then context (flow.enter number) (λ _. walk.loop_walk loop_number place None (walk.while_round condition walking)) tt yields in
-      keeps-then at _ _ (keeps-enter at number at.visible)
-      (λ _. keeps-while condition (effect_of body.value.0) walking (body.value.1 parts.1) loop_number place context stands one.2)
-  layer (Repeat number loop_number place statements condition) well context stands yields =
+      let one = yields-then context (flow.enter head.number) (λ _. walk.loop_walk head.loop_number head.place None (walk.while_round head.condition walking)) tt yields in
+      keeps-then at _ _ (keeps-enter at head.number at.visible)
+      (λ _. keeps-while head.condition (effect_of body.value.0) walking (body.value.1 parts.1) head.loop_number head.place context stands one.2)
+  layer (Repeat head statements) well context stands yields =
       let inner = bodies statements.items in
-      let parts = and_parts (all_hold (map well_stmt inner)) (well_expr condition) well in
+      let parts = and_parts (all_hold (map well_stmt inner)) (well_expr head.condition) well in
       let walking = walk.all_of (map statement_walk inner) in
-      let one = yields-then context (flow.enter number) (λ _. walk.loop_walk loop_number place None (walk.repeat_round walking condition)) tt yields in
-      keeps-then at _ _ (keeps-enter at number at.visible)
-      (λ _. keeps-repeat condition (meaning.all_of (map effect_of inner)) walking (keeps-all statements.items parts.0) loop_number place context stands one.2)
-  layer (For number loop_number place control first first_fits direction last last_fits body) well context stands yields =
-      let is_test = λ (fits : RangeTest). fits_target (outline_of tree) block fits control [] in
+      let one = yields-then context (flow.enter head.number) (λ _. walk.loop_walk head.loop_number head.place None (walk.repeat_round walking head.condition)) tt yields in
+      keeps-then at _ _ (keeps-enter at head.number at.visible)
+      (λ _. keeps-repeat head.condition (meaning.all_of (map effect_of inner)) walking (keeps-all statements.items parts.0) head.loop_number head.place context stands one.2)
+  layer (For head body) well context stands yields =
+      let is_test = λ (fits : RangeTest). fits_target (outline_of tree) block fits head.control [] in
       let is_body = well_stmt body.value.0 in
-      let controls = and_parts (is_control (outline_of tree) block control)
-      (well_expr first && (is_test first_fits && (well_expr last && (is_test last_fits && is_body)))) well in
-      let two = and_parts (well_expr first) (is_test first_fits && (well_expr last && (is_test last_fits && is_body))) controls.1 in
-      let three = and_parts (is_test first_fits) (well_expr last && (is_test last_fits && is_body)) two.1 in
-      let four = and_parts (well_expr last) (is_test last_fits && is_body) three.1 in
-      let five = and_parts (is_test last_fits) is_body four.1 in
+      let controls = and_parts (is_control (outline_of tree) block head.control)
+      (well_expr head.first.value && (is_test head.first.fits && (well_expr head.last.value && (is_test head.last.fits && is_body)))) well in
+      let two = and_parts (well_expr head.first.value) (is_test head.first.fits && (well_expr head.last.value && (is_test head.last.fits && is_body))) controls.1 in
+      let three = and_parts (is_test head.first.fits) (well_expr head.last.value && (is_test head.last.fits && is_body)) two.1 in
+      let four = and_parts (well_expr head.last.value) (is_test head.last.fits && is_body) three.1 in
+      let five = and_parts (is_test head.last.fits) is_body four.1 in
       let walking = statement_walk body.value.0 in
-      let whole = λ (from to : Known). walk.for_walk loop_number place walking (way_of control direction first first_fits last last_fits from to) in
-      let one = yields-then context (flow.enter number) (λ _. flow.◌>>=◌ (value_walk first) (λ from. flow.◌>>=◌ (value_walk last) (whole from)))
+      let whole = λ (from to : Known). walk.for_walk head.loop_number head.place walking (way_of head.control head.direction head.first.value head.first.fits head.last.value head.last.fits from to) in
+      let one = yields-then context (flow.enter head.number) (λ _. flow.◌>>=◌ (value_walk head.first.value) (λ from. flow.◌>>=◌ (value_walk head.last.value) (whole from)))
       tt yields in
-      keeps-then at _ _ (keeps-enter at number at.visible)
-      (λ _. keeps-for loop_number place control first first_fits direction last last_fits (effect_of body.value.0) walking (body.value.1 five.1)
-      (control-own control controls.0) context stands one.2)
-  layer (Case number site index constants arms) well context stands yields =
+      keeps-then at _ _ (keeps-enter at head.number at.visible)
+      (λ _. keeps-for head.loop_number head.place head.control head.first.value head.first.fits head.direction head.last.value head.last.fits (effect_of body.value.0) walking (body.value.1 five.1)
+      (control-own head.control controls.0) context stands one.2)
+  layer (Case head arms) well context stands yields =
       let inner = bodies arms.items in
       let sites = (outline_of tree).sites in
-      let one = and_parts (nat_lt site sites) (well_expr index && (list_all are_whole constants.items && all_hold (map well_stmt inner))) well in
-      let two = and_parts (well_expr index) (list_all are_whole constants.items && all_hold (map well_stmt inner)) one.1 in
-      let three = and_parts (list_all are_whole constants.items) (all_hold (map well_stmt inner)) two.1 in
-      let chosen = walk.case_walk site index constants.items (map statement_walk inner) in
-      let entered = yields-then context (flow.enter number) (λ _. flow.◌>>=◌ (value_walk index) chosen) tt yields in
-      let valued = yields-then context (value_walk index) chosen tt entered.2 in
-      keeps-then at _ _ (keeps-enter at number at.visible)
-      (λ _. keeps-then at _ _ (keeps-value index context valued.0 stands valued.1)
-      (λ v. keeps-case site index constants.items arms.items three.1 context stands valued.0 valued.2 (number_of v)))
+      let one = and_parts (nat_lt head.site sites) (well_expr head.index && (list_all are_whole head.constants.items && all_hold (map well_stmt inner))) well in
+      let two = and_parts (well_expr head.index) (list_all are_whole head.constants.items && all_hold (map well_stmt inner)) one.1 in
+      let three = and_parts (list_all are_whole head.constants.items) (all_hold (map well_stmt inner)) two.1 in
+      let chosen = walk.case_walk head.site head.index head.constants.items (map statement_walk inner) in
+      let entered = yields-then context (flow.enter head.number) (λ _. flow.◌>>=◌ (value_walk head.index) chosen) tt yields in
+      let valued = yields-then context (value_walk head.index) chosen tt entered.2 in
+      keeps-then at _ _ (keeps-enter at head.number at.visible)
+      (λ _. keeps-then at _ _ (keeps-value head.index context valued.0 stands valued.1)
+      (λ v. keeps-case head.site head.index head.constants.items arms.items three.1 context stands valued.0 valued.2 (number_of v)))
 
   rolled : (x : Stmt-F Stmt) → IsKeptLayer x → IsKeptStmt (roll-Stmt x)
   rolled x kept well context stands yields =

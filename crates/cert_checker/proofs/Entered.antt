@@ -146,23 +146,23 @@ statement-parts : (y : Stmt-F EnteredStmt)
     → Enters (statement_step (map-Stmt Stmt (Walking (Unit {0})) statement_walk (map-Stmt EnteredStmt Stmt (λ s. s.0) y)))
     (statement_entries (map-Stmt Stmt (List ℕ) entries_of_statement (map-Stmt EnteredStmt Stmt (λ s. s.0) y)))
 statement-parts (Empty number) context state = refl
-statement-parts (Assign number becomes target indexes fits value) context state =
-    let reached = access_walk target (index_pieces indexes.items) context state in
-    let first = value_walk value context reached.after in
-    let rest = stores becomes target fits value reached.value first.value context first.after in
-    ap (λ numbers. number ∷ numbers)
-    (and_then reached.linked (first.linked ++ rest.linked) _ _ (access-entered target indexes.items context state)
-    (and_no_more first.linked rest.linked _ (value-entered value context reached.after)
-    (stores-silent becomes target fits value reached.value first.value context first.after)))
-statement-parts (Copy number becomes target indexes type_id value value_indexes) context state =
-    let reached = access_walk target (index_pieces indexes.items) context state in
-    let first = whole_walk value (index_pieces value_indexes.items) context reached.after in
-    ap (λ numbers. number ∷ numbers)
-    (and_then reached.linked (first.linked ++ []) _ _ (access-entered target indexes.items context state)
-    (and_no_more first.linked [] _ (whole-entered value value_indexes.items context reached.after) refl))
-statement-parts (Write number name parameters ends_line) context state =
-    ap (λ numbers. number ∷ numbers) (all-entered parameter_walk entries_of_parameter parameter-entered parameters.items context state)
-statement-parts (Calling call actuals) context state = call-entered call actuals.items context state
+statement-parts (Assign assignment) context state =
+    let reached = access_walk assignment.target (index_pieces assignment.indexes.items) context state in
+    let first = value_walk assignment.value context reached.after in
+    let rest = stores assignment.becomes assignment.target assignment.fits assignment.value reached.value first.value context first.after in
+    ap (λ numbers. assignment.number ∷ numbers)
+    (and_then reached.linked (first.linked ++ rest.linked) _ _ (access-entered assignment.target assignment.indexes.items context state)
+    (and_no_more first.linked rest.linked _ (value-entered assignment.value context reached.after)
+    (stores-silent assignment.becomes assignment.target assignment.fits assignment.value reached.value first.value context first.after)))
+statement-parts (Copy copying) context state =
+    let reached = access_walk copying.target (index_pieces copying.indexes.items) context state in
+    let first = whole_walk copying.value (index_pieces copying.value_indexes.items) context reached.after in
+    ap (λ numbers. copying.number ∷ numbers)
+    (and_then reached.linked (first.linked ++ []) _ _ (access-entered copying.target copying.indexes.items context state)
+    (and_no_more first.linked [] _ (whole-entered copying.value copying.value_indexes.items context reached.after) refl))
+statement-parts (Write writing) context state =
+    ap (λ numbers. writing.number ∷ numbers) (all-entered parameter_walk entries_of_parameter parameter-entered writing.parameters.items context state)
+statement-parts (Calling calling) context state = call-entered calling.call calling.actuals.items context state
 statement-parts (Compound number statements) context state = ap (λ numbers. number ∷ numbers) (statements-entered statements.items context state)
 statement-parts (If number condition consequence None) context state =
     let first = value_walk condition context state in
@@ -178,31 +178,31 @@ statement-parts (If number condition consequence (Some alternative)) context sta
     (and_then first.linked (yes.linked ++ no.linked) _ _ (value-entered condition context state)
     (and_then yes.linked no.linked _ _ (consequence.value.1 context (where_so true condition first.value first.after))
     (alternative.value.1 context (where_so false condition first.value first.after))))
-statement-parts (While number loop_number place condition body) context state =
-    ap (λ numbers. number ∷ numbers) (loop-entered loop_number place None (while_round condition (statement_walk body.value.0))
-    (entries_of_expression condition ++ entries_of_statement body.value.0)
-    (while-entered condition (statement_walk body.value.0) (entries_of_statement body.value.0) body.value.1) context state)
-statement-parts (Repeat number loop_number place statements condition) context state =
+statement-parts (While head body) context state =
+    ap (λ numbers. head.number ∷ numbers) (loop-entered head.loop_number head.place None (while_round head.condition (statement_walk body.value.0))
+    (entries_of_expression head.condition ++ entries_of_statement body.value.0)
+    (while-entered head.condition (statement_walk body.value.0) (entries_of_statement body.value.0) body.value.1) context state)
+statement-parts (Repeat head statements) context state =
     let inner = map statement_walk (map (λ (s : EnteredStmt). s.0) statements.items) in
     let numbers = joined (map entries_of_statement (map (λ (s : EnteredStmt). s.0) statements.items)) in
-    ap (λ numbers. number ∷ numbers) (loop-entered loop_number place None (repeat_round (all_of inner) condition) (numbers ++ entries_of_expression condition)
-    (repeat-entered (all_of inner) condition numbers (statements-entered statements.items)) context state)
-statement-parts (For number loop_number place control first first_fits direction last last_fits body) context state =
-    let from = value_walk first context state in
-    let to = value_walk last context from.after in
-    let way = way_of control direction first first_fits last last_fits from.value to.value in
-    let rest = for_walk loop_number place (statement_walk body.value.0) way context to.after in
-    ap (λ numbers. number ∷ numbers)
-    (and_then from.linked (to.linked ++ rest.linked) _ _ (value-entered first context state)
-    (and_then to.linked rest.linked _ _ (value-entered last context from.after)
-    (for-entered loop_number place (statement_walk body.value.0) (entries_of_statement body.value.0) body.value.1 way context to.after)))
-statement-parts (Case number site index constants arms) context state =
+    ap (λ numbers. head.number ∷ numbers) (loop-entered head.loop_number head.place None (repeat_round (all_of inner) head.condition) (numbers ++ entries_of_expression head.condition)
+    (repeat-entered (all_of inner) head.condition numbers (statements-entered statements.items)) context state)
+statement-parts (For head body) context state =
+    let from = value_walk head.first.value context state in
+    let to = value_walk head.last.value context from.after in
+    let way = way_of head.control head.direction head.first.value head.first.fits head.last.value head.last.fits from.value to.value in
+    let rest = for_walk head.loop_number head.place (statement_walk body.value.0) way context to.after in
+    ap (λ numbers. head.number ∷ numbers)
+    (and_then from.linked (to.linked ++ rest.linked) _ _ (value-entered head.first.value context state)
+    (and_then to.linked rest.linked _ _ (value-entered head.last.value context from.after)
+    (for-entered head.loop_number head.place (statement_walk body.value.0) (entries_of_statement body.value.0) body.value.1 way context to.after)))
+statement-parts (Case head arms) context state =
     let inner = map statement_walk (map (λ (s : EnteredStmt). s.0) arms.items) in
-    let first = value_walk index context state in
-    let rest = case_walk site index constants.items inner first.value context first.after in
-    ap (λ numbers. number ∷ numbers)
-    (and_then first.linked rest.linked _ _ (value-entered index context state)
-    (case-entered site index constants.items arms.items first.value context first.after))
+    let first = value_walk head.index context state in
+    let rest = case_walk head.site head.index head.constants.items inner first.value context first.after in
+    ap (λ numbers. head.number ∷ numbers)
+    (and_then first.linked rest.linked _ _ (value-entered head.index context state)
+    (case-entered head.site head.index head.constants.items arms.items first.value context first.after))
 
 -- the use of a result enters nothing
 result-silent : (result : Option FunctionResult) → Enters (result_use result) []

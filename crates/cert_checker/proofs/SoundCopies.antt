@@ -1,9 +1,9 @@
 -- Copies of whole values are sound: the target is accessed, and then come the components, which are stored side by side.
-use Rattle.std.proofs.Common.{◌≡◌, ◌∙◌, sym, ap, subst, ℕ, Bool, true, not, ◌&&◌, length, List, Option, Some}
+use Rattle.std.proofs.Common.{◌≡◌, ◌∙◌, sym, ap, subst, ℕ, Bool, true, ◌&&◌, length, List, Option, Some}
 use Rattle.std.proofs.lemmas.Bool.{and_parts}
 use Rattle.types.specs.Components.{components_of}
 use Rattle.types.specs.Forms.{Form}
-use Rattle.types.specs.Types.{is_ordinal, is_same}
+use Rattle.types.specs.Types.{is_same, is_structured}
 use Rattle.types.specs.declared.form.TypeId.{TypeId}
 use Rattle.place.specs.declared.Place.{Place}
 use Rattle.typed_tree.specs.Accesses as accesses
@@ -58,10 +58,10 @@ module _ (world : World) (limits_are : world.limits ≡ all_limits world.tree) (
   leads-there : (type_id : TypeId) (root : ℕ) (selectors : List Selector) (n : ℕ) → leads_whole type_id root selectors n ≡ true
       → access_type root selectors ≡ Some type_id
   leads-there type_id root selectors n leads =
-      let wanted = λ (id : TypeId). is_same id type_id && not (is_ordinal (types_in world) id) in
+      let wanted = λ (id : TypeId). is_same id type_id && is_structured (types_in world) id in
       let found = type-of wanted (access_type root selectors) (leads-type outline block wanted root selectors n leads) in
       found.1 ∙ ap (λ (id : TypeId). Some id)
-      (same-type found.0 type_id (and_parts (is_same found.0 type_id) (not (is_ordinal (types_in world) found.0)) found.2).0)
+      (same-type found.0 type_id (and_parts (is_same found.0 type_id) (is_structured (types_in world) found.0) found.2).0)
 
   module _ (root : ℕ) (selectors : List Selector) (target : TypeId) (leads : access_type root selectors ≡ Some target) where
     abbrev under : List ℕ
@@ -125,7 +125,7 @@ module _ (world : World) (limits_are : world.limits ≡ all_limits world.tree) (
       let one = and_parts (are_well_formed outline block indexes) (there && (is_value && may)) well in
       let two = and_parts there (is_value && may) one.1 in
       let three = and_parts is_value may two.1 in
-      let wanted = λ (id : TypeId). is_same id type_id && not (is_ordinal (types_in world) id) in
+      let wanted = λ (id : TypeId). is_same id type_id && is_structured (types_in world) id in
       let seen = leads-seen outline block wanted root selectors (length indexes) two.0 in
       let tests = leads-tests outline block wanted root selectors (length indexes) two.0 in
       let leads_is = leads-there type_id root selectors (length indexes) two.0 in

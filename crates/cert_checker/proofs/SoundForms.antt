@@ -519,27 +519,27 @@ module _ (world : World) (limits_are : world.limits ≡ all_limits world.tree) (
   statement-layer : (y : Stmt-F ProvedStmt) → StmtLayer (map-Stmt ProvedStmt Stmt (λ s. s.0) y)
   statement-layer (Empty number) well text =
       plainly [] world block visible (effect.enter number visible) (flow.enter number) (sound-enter world block visible number)
-  statement-layer (Assign number becomes target indexes fits value) well text =
-      let does = assigned world limits_are block env laws calls target indexes.items fits value in
-      let walked = walk.assignment becomes target (flow.index_pieces indexes.items) fits value in
-      entered-among [] number does walked
-      (plainly [] world block visible does walked (assignment-sound world limits_are block env laws calls becomes target indexes.items fits value well))
-  statement-layer (Copy number becomes target indexes type_id value value_indexes) well text =
-      let does = copied world limits_are block env laws calls target indexes.items type_id value value_indexes.items in
-      let walked = walk.copying becomes target (flow.index_pieces indexes.items) value value_indexes.items in
-      entered-among [] number does walked
+  statement-layer (Assign assignment) well text =
+      let does = assigned world limits_are block env laws calls assignment.target assignment.indexes.items assignment.fits assignment.value in
+      let walked = walk.assignment assignment.becomes assignment.target (flow.index_pieces assignment.indexes.items) assignment.fits assignment.value in
+      entered-among [] assignment.number does walked
+      (plainly [] world block visible does walked (assignment-sound world limits_are block env laws calls assignment.becomes assignment.target assignment.indexes.items assignment.fits assignment.value well))
+  statement-layer (Copy copying) well text =
+      let does = copied world limits_are block env laws calls copying.target copying.indexes.items copying.type_id copying.value copying.value_indexes.items in
+      let walked = walk.copying copying.becomes copying.target (flow.index_pieces copying.indexes.items) copying.value copying.value_indexes.items in
+      entered-among [] copying.number does walked
       (plainly [] world block visible does walked
-      (copying-sound world limits_are block env laws calls becomes target indexes.items type_id value value_indexes.items well))
-  statement-layer (Write number name parameters ends_line) well text =
-      let written = meaning.all_of (map parameter_of parameters.items) env in
-      let walked = walk.all_of (map parameter_walk parameters.items) in
-      let does = effect.◌>>=◌ written (λ done. meaning.line_ended ends_line) in
-      entered-among [] number does walked
-      (plainly [] world block visible does walked (ended-sound ends_line written walked (parameters-sound parameters.items well)))
-  statement-layer (Calling call actuals) well text =
-      plainly [] world block visible (meaning.effect_step (map-Stmt Stmt Execution effect_of (Calling call actuals)) env)
-      (walk.statement_step (map-Stmt Stmt (Walking (Unit {0})) statement_walk (Calling call actuals)))
-      (procedure-sound world block env laws calls call actuals.items well)
+      (copying-sound world limits_are block env laws calls copying.becomes copying.target copying.indexes.items copying.type_id copying.value copying.value_indexes.items well))
+  statement-layer (Write writing) well text =
+      let written = meaning.all_of (map parameter_of writing.parameters.items) env in
+      let walked = walk.all_of (map parameter_walk writing.parameters.items) in
+      let does = effect.◌>>=◌ written (λ done. meaning.line_ended writing.ends_line) in
+      entered-among [] writing.number does walked
+      (plainly [] world block visible does walked (ended-sound writing.ends_line written walked (parameters-sound writing.parameters.items well)))
+  statement-layer (Calling calling) well text =
+      plainly [] world block visible (meaning.effect_step (map-Stmt Stmt Execution effect_of (Calling calling.call calling.actuals)) env)
+      (walk.statement_step (map-Stmt Stmt (Walking (Unit {0})) statement_walk (Calling calling.call calling.actuals)))
+      (procedure-sound world block env laws calls calling.call calling.actuals.items well)
   statement-layer (Compound number statements) well text =
       let inner = map (λ (s : ProvedStmt). s.0) statements.items in
       entered-among (all_inside (map inside_of inner)).controls number (meaning.all_of (map effect_of inner) env) (walk.all_of (map statement_walk inner))
@@ -574,115 +574,115 @@ module _ (world : World) (limits_are : world.limits ≡ all_limits world.tree) (
       (λ root. among-left root first.controls second.controls) (consequence.value.1 each.0 own.0))
       (among-more second.controls controls world block visible (effect_of alternative.value.0 env) (statement_walk alternative.value.0)
       (λ root. among-right root first.controls second.controls) (alternative.value.1 each.1 own.1))
-  statement-layer (While number loop_number place condition body) well text =
-      let parts = and_parts (well_expr condition) (well_stmt body.value.0) well in
-      let round = meaning.while_round (value_of condition) (effect_of body.value.0) env in
-      let walked = walk.while_round condition (statement_walk body.value.0) in
+  statement-layer (While head body) well text =
+      let parts = and_parts (well_expr head.condition) (well_stmt body.value.0) well in
+      let round = meaning.while_round (value_of head.condition) (effect_of body.value.0) env in
+      let walked = walk.while_round head.condition (statement_walk body.value.0) in
       let inside = inside_of body.value.0 in
       let loop = text.loops.0 in
       let own : Text inside (spares body.value.0) = record {
         roots = text.roots;
-        spared = (and_parts (spares_in_expr text.roots condition) (spares body.value.0 text.roots) text.spared).1;
+        spared = (and_parts (spares_in_expr text.roots head.condition) (spares body.value.0 text.roots) text.spared).1;
         loops = text.loops.1;
         controls = text.controls;
       } in
-      entered-among inside.controls number (effect.looped round tt) (walk.loop_walk loop_number place None walked)
-      (sound-loop inside.controls world limits_are block visible loop_number place round tt walked
-      (inside-entire loop_number inside.controls (controls-ordinal world.tree block body.value.0 parts.1) loop)
+      entered-among inside.controls head.number (effect.looped round tt) (walk.loop_walk head.loop_number head.place None walked)
+      (sound-loop inside.controls world limits_are block visible head.loop_number head.place round tt walked
+      (inside-entire head.loop_number inside.controls (controls-ordinal world.tree block body.value.0 parts.1) loop)
       (loop.0, loop.1, loop.2) (ap controls_of loop.1 ∙ loop.3)
-      (λ a. sound-while inside.controls world block env condition (effect_of body.value.0) (statement_walk body.value.0)
-      (value-sound world block env laws calls condition parts.0) (body.value.1 parts.1 own)))
-  statement-layer (Repeat number loop_number place statements condition) well text =
+      (λ a. sound-while inside.controls world block env head.condition (effect_of body.value.0) (statement_walk body.value.0)
+      (value-sound world block env laws calls head.condition parts.0) (body.value.1 parts.1 own)))
+  statement-layer (Repeat head statements) well text =
       let inner = map (λ (s : ProvedStmt). s.0) statements.items in
-      let parts = and_parts (all_hold (map well_stmt inner)) (well_expr condition) well in
+      let parts = and_parts (all_hold (map well_stmt inner)) (well_expr head.condition) well in
       let body = meaning.all_of (map effect_of inner) in
       let bodies = walk.all_of (map statement_walk inner) in
-      let round = meaning.repeat_round body (value_of condition) env in
-      let walked = walk.repeat_round bodies condition in
+      let round = meaning.repeat_round body (value_of head.condition) env in
+      let walked = walk.repeat_round bodies head.condition in
       let inside = all_inside (map inside_of inner) in
       let loop = text.loops.0 in
       let own : Text inside (all_spare (map spares inner)) = record {
         roots = text.roots;
-        spared = (and_parts (all_spare (map spares inner) text.roots) (spares_in_expr text.roots condition) text.spared).0;
+        spared = (and_parts (all_spare (map spares inner) text.roots) (spares_in_expr text.roots head.condition) text.spared).0;
         loops = text.loops.1;
         controls = text.controls;
       } in
-      entered-among inside.controls number (effect.looped round tt) (walk.loop_walk loop_number place None walked)
-      (sound-loop inside.controls world limits_are block visible loop_number place round tt walked
-      (inside-entire loop_number inside.controls (all-ordinal world.tree block inner parts.0) loop)
+      entered-among inside.controls head.number (effect.looped round tt) (walk.loop_walk head.loop_number head.place None walked)
+      (sound-loop inside.controls world limits_are block visible head.loop_number head.place round tt walked
+      (inside-entire head.loop_number inside.controls (all-ordinal world.tree block inner parts.0) loop)
       (loop.0, loop.1, loop.2) (ap controls_of loop.1 ∙ loop.3)
-      (λ a. sound-repeat inside.controls world block env condition body bodies (all-sound statements.items parts.0 own)
-      (value-sound world block env laws calls condition parts.1)))
-  statement-layer (For number loop_number place control first first_fits direction last last_fits body) well text =
-      let is_test = λ (fits : RangeTest). fits_target outline block fits control [] in
-      let controls = is_control outline block control in
-      let leads = leads_to_ordinal outline block control [] 0 in
+      (λ a. sound-repeat inside.controls world block env head.condition body bodies (all-sound statements.items parts.0 own)
+      (value-sound world block env laws calls head.condition parts.1)))
+  statement-layer (For head body) well text =
+      let is_test = λ (fits : RangeTest). fits_target outline block fits head.control [] in
+      let controls = is_control outline block head.control in
+      let leads = leads_to_ordinal outline block head.control [] 0 in
       let one = and_parts controls
-      (well_expr first && (is_test first_fits && (well_expr last && (is_test last_fits && well_stmt body.value.0)))) well in
-      let two = and_parts (well_expr first) (is_test first_fits && (well_expr last && (is_test last_fits && well_stmt body.value.0))) one.1 in
-      let three = and_parts (is_test first_fits) (well_expr last && (is_test last_fits && well_stmt body.value.0)) two.1 in
-      let four = and_parts (well_expr last) (is_test last_fits && well_stmt body.value.0) three.1 in
-      let five = and_parts (is_test last_fits) (well_stmt body.value.0) four.1 in
-      let leads_there = (and_parts (is_declared outline block is_local_kind control) leads one.0).1 in
+      (well_expr head.first.value && (is_test head.first.fits && (well_expr head.last.value && (is_test head.last.fits && well_stmt body.value.0)))) well in
+      let two = and_parts (well_expr head.first.value) (is_test head.first.fits && (well_expr head.last.value && (is_test head.last.fits && well_stmt body.value.0))) one.1 in
+      let three = and_parts (is_test head.first.fits) (well_expr head.last.value && (is_test head.last.fits && well_stmt body.value.0)) two.1 in
+      let four = and_parts (well_expr head.last.value) (is_test head.last.fits && well_stmt body.value.0) three.1 in
+      let five = and_parts (is_test head.last.fits) (well_stmt body.value.0) four.1 in
+      let leads_there = (and_parts (is_declared outline block is_local_kind head.control) leads one.0).1 in
       let execution = effect_of body.value.0 in
       let inside = inside_of body.value.0 in
       let loop = text.loops.0 in
-      let so = λ (roots : List ℕ). spares body.value.0 (control ∷ roots) in
-      let so_one = and_parts (is_none_of text.roots control)
-      (spares_in_expr text.roots first && (spares_in_expr text.roots last && so text.roots)) text.spared in
-      let so_two = and_parts (spares_in_expr text.roots first) (spares_in_expr text.roots last && so text.roots) so_one.1 in
-      let so_three = and_parts (spares_in_expr text.roots last) (so text.roots) so_two.1 in
+      let so = λ (roots : List ℕ). spares body.value.0 (head.control ∷ roots) in
+      let so_one = and_parts (is_none_of text.roots head.control)
+      (spares_in_expr text.roots head.first.value && (spares_in_expr text.roots head.last.value && so text.roots)) text.spared in
+      let so_two = and_parts (spares_in_expr text.roots head.first.value) (spares_in_expr text.roots head.last.value && so text.roots) so_one.1 in
+      let so_three = and_parts (spares_in_expr text.roots head.last.value) (so text.roots) so_two.1 in
       let own : Text inside (spares body.value.0) = record {
-        roots = control ∷ text.roots;
+        roots = head.control ∷ text.roots;
         spared = so_three.1;
         loops = text.loops.1;
-        controls = λ root among. text.controls root (or_right (nat_eq control root) (is_among root inside.controls) among);
+        controls = λ root among. text.controls root (or_right (nat_eq head.control root) (is_among root inside.controls) among);
       } in
-      let variable = control-declared world.tree block control one.0 in
-      let controls : Controls world.tree block control = record {
+      let variable = control-declared world.tree block head.control one.0 in
+      let controls : Controls world.tree block head.control = record {
         body = own_block;
         block_is = own_is;
-        among = text.controls control (or_left (nat_eq control control) (is_among control inside.controls) (eq-eqb control control refl));
+        among = text.controls head.control (or_left (nat_eq head.control head.control) (is_among head.control inside.controls) (eq-eqb head.control head.control refl));
         variable = variable.0;
         variable_is = variable.1;
         own = variable.2;
       } in
-      let of_text : (context : Context) → all_control control context.rounds ≡ true → IsControl world block env execution context control =
+      let of_text : (context : Context) → all_control head.control context.rounds ≡ true → IsControl world block env execution context head.control =
       λ context all. record {
-        seen = control-seen world.tree block control one.0;
-        ordinal = ordinal-values world.tree control (leads-type outline block (is_ordinal (types_in world)) control [] 0 leads_there);
-        hidden = λ alias among. hidden control alias one.0 among;
+        seen = control-seen world.tree block head.control one.0;
+        ordinal = ordinal-values world.tree head.control (leads-type outline block (is_ordinal (types_in world)) head.control [] 0 leads_there);
+        hidden = λ alias among. hidden head.control alias one.0 among;
         controls = all;
-        left = λ place alone.
-            text-kept (watching place visible) env.calls (spared_by block control controls place visible alone) refl body.value.0 (control ∷ text.roots)
-            (others-alone place control text.roots visible alone) so_three.1;
+        left = λ head.place alone.
+            text-kept (watching head.place visible) env.calls (spared_by block head.control controls head.place visible alone) refl body.value.0 (head.control ∷ text.roots)
+            (others-alone head.place head.control text.roots visible alone) so_three.1;
       } in
       let finish = λ (a b : Value).
-      effect.◌>>=◌ (meaning.for_between control first_fits direction last_fits execution env (effect.number_of a) (effect.number_of b))
-      (λ done. effect.undefine (visible.variables control)) in
-      entered-among (control ∷ inside.controls) number
-      (effect.◌>>=◌ (value_of first env) (λ a. effect.◌>>=◌ (value_of last env) (finish a)))
-      (flow.◌>>=◌ (value_walk first) (λ from. flow.◌>>=◌ (value_walk last) (λ to.
-      walk.for_walk loop_number place (statement_walk body.value.0) (way_of control direction first first_fits last last_fits from to))))
-      (for-sound loop_number place control first first_fits direction last last_fits execution (statement_walk body.value.0) inside.controls
+      effect.◌>>=◌ (meaning.for_between head.control head.first.fits head.direction head.last.fits execution env (effect.number_of a) (effect.number_of b))
+      (λ done. effect.undefine (visible.variables head.control)) in
+      entered-among (head.control ∷ inside.controls) head.number
+      (effect.◌>>=◌ (value_of head.first.value env) (λ a. effect.◌>>=◌ (value_of head.last.value env) (finish a)))
+      (flow.◌>>=◌ (value_walk head.first.value) (λ from. flow.◌>>=◌ (value_walk head.last.value) (λ to.
+      walk.for_walk head.loop_number head.place (statement_walk body.value.0) (way_of head.control head.direction head.first.value head.first.fits head.last.value head.last.fits from to))))
+      (for-sound head.loop_number head.place head.control head.first.value head.first.fits head.direction head.last.value head.last.fits execution (statement_walk body.value.0) inside.controls
       (ap controls_of loop.1 ∙ loop.3) (body.value.1 five.1 own) of_text
-      (ordinal-entire world.tree (control ∷ controls_inside world.tree loop_number)
-      (one-ordinal world.tree control (controls_inside world.tree loop_number) (control-ordinal world.tree block control one.0)
-      (inside-ordinal world.tree block loop_number inside.controls (controls-ordinal world.tree block body.value.0 five.1) loop)))
+      (ordinal-entire world.tree (head.control ∷ controls_inside world.tree head.loop_number)
+      (one-ordinal world.tree head.control (controls_inside world.tree head.loop_number) (control-ordinal world.tree block head.control one.0)
+      (inside-ordinal world.tree block head.loop_number inside.controls (controls-ordinal world.tree block body.value.0 five.1) loop)))
       (loop.0, loop.1, loop.2) two.0
-      (control-tested control first_fits three.0) four.0 (control-tested control last_fits five.0))
-  statement-layer (Case number site index constants arms) well text =
+      (control-tested head.control head.first.fits three.0) four.0 (control-tested head.control head.last.fits five.0))
+  statement-layer (Case head arms) well text =
       let inner = bodies arms.items in
-      let one = and_parts (nat_lt site (sites_in world)) (well_expr index && (list_all are_whole constants.items && all_hold (map well_stmt inner))) well in
-      let two = and_parts (well_expr index) (list_all are_whole constants.items && all_hold (map well_stmt inner)) one.1 in
-      let three = and_parts (list_all are_whole constants.items) (all_hold (map well_stmt inner)) two.1 in
+      let one = and_parts (nat_lt head.site (sites_in world)) (well_expr head.index && (list_all are_whole head.constants.items && all_hold (map well_stmt inner))) well in
+      let two = and_parts (well_expr head.index) (list_all are_whole head.constants.items && all_hold (map well_stmt inner)) one.1 in
+      let three = and_parts (list_all are_whole head.constants.items) (all_hold (map well_stmt inner)) two.1 in
       let so = all_spare (map spares inner) in
-      let own = text-with (all_inside (map inside_of inner)) (λ roots. spares_in_expr roots index && so roots) so
-      (λ roots is. (and_parts (spares_in_expr roots index) (so roots) is).1) text in
-      entered-among (all_inside (map inside_of inner)).controls number
-      (effect.◌>>=◌ (value_of index env) (λ v. meaning.arm_of site constants.items (map effect_of inner) (effect.number_of v) env))
-      (flow.◌>>=◌ (value_walk index) (walk.case_walk site index constants.items (map statement_walk inner)))
-      (case-sound site index constants.items arms.items (ltb-true site (sites_in world) one.0) two.0 three.1 own)
+      let own = text-with (all_inside (map inside_of inner)) (λ roots. spares_in_expr roots head.index && so roots) so
+      (λ roots is. (and_parts (spares_in_expr roots head.index) (so roots) is).1) text in
+      entered-among (all_inside (map inside_of inner)).controls head.number
+      (effect.◌>>=◌ (value_of head.index env) (λ v. meaning.arm_of head.site head.constants.items (map effect_of inner) (effect.number_of v) env))
+      (flow.◌>>=◌ (value_walk head.index) (walk.case_walk head.site head.index head.constants.items (map statement_walk inner)))
+      (case-sound head.site head.index head.constants.items arms.items (ltb-true head.site (sites_in world) one.0) two.0 three.1 own)
 
   along-statement : {a b : Bool} {inside other : Inside} {so also : Spares} {execution executed : Execution} {walking walked : Walking (Unit {0})} → a ≡ b
       → inside ≡ other → so ≡ also → execution ≡ executed → walking ≡ walked → SoundStatement b other also executed walked

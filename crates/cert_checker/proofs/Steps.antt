@@ -5,6 +5,7 @@ use Rattle.std.specs.Result.{IsErr, IsErrAnd}
 use Rattle.std.specs.Prelude.{MatchResult, if◌then◌else◌}
 use Rattle.place.specs.declared.Place.{Place as SourcePlace}
 use Rattle.typed_tree.specs.declared.tree.Expr.{Expr}
+use Rattle.typed_tree.specs.declared.tree.LoopHead.{LoopHead}
 use Rattle.typed_tree.specs.declared.tree.Stmt.{Stmt}
 use Rattle.typed_tree.specs.declared.tree.Stmt.TheVariants as stmt
 use Rattle.typed_tree.specs.declared.tree.Stmt.TheFolds.{the_lemmas as stmt_lemmas}
@@ -54,15 +55,15 @@ pub statement-If : (number : ℕ) (condition : Expr) (consequence : Box Stmt Glo
 statement-If number condition consequence None = search (rules, stmt_lemmas)
 statement-If number condition consequence (Some statement) = search (rules, stmt_lemmas)
 
-pub statement-While : (number loop_number : ℕ) (place : SourcePlace) (condition : Expr) (body : Box Stmt Global)
-    → statement_walk (stmt.While number loop_number place condition body)
-    ≡ (enter number >>= λ _. loop_walk loop_number place None (while_round condition (statement_walk body.value)))
-statement-While number loop_number place condition body = search (rules, stmt_lemmas)
+pub statement-While : (head : LoopHead) (body : Box Stmt Global)
+    → statement_walk (stmt.While head body)
+    ≡ (enter head.number >>= λ _. loop_walk head.loop_number head.place None (while_round head.condition (statement_walk body.value)))
+statement-While head body = search (rules, stmt_lemmas)
 
-pub statement-Repeat : (number loop_number : ℕ) (place : SourcePlace) (statements : Vec Stmt Global) (condition : Expr)
-    → statement_walk (stmt.Repeat number loop_number place statements condition)
-    ≡ (enter number >>= λ _. loop_walk loop_number place None (repeat_round (all_of (map statement_walk statements.items)) condition))
-statement-Repeat number loop_number place statements condition = search (rules, stmt_lemmas)
+pub statement-Repeat : (head : LoopHead) (statements : Vec Stmt Global)
+    → statement_walk (stmt.Repeat head statements)
+    ≡ (enter head.number >>= λ _. loop_walk head.loop_number head.place None (repeat_round (all_of (map statement_walk statements.items)) head.condition))
+statement-Repeat head statements = search (rules, stmt_lemmas)
 
 -- ---- what the checker did where it has the aliases of the loops
 
@@ -627,31 +628,29 @@ loop-found number control walk round tree claims tree_is claims_is own found loo
     }
 
 -- a loop from its entry on
-pub while-begun : (statement : Stmt) (number loop_number : ℕ) (place : SourcePlace) (condition : Expr) (body : Box Stmt Global) (inner : Stmt)
-    (old entered new : Walk) (before between end : Visits) (result : Result (Unit {0}) CheckFault)
-    → statement ≡ stmt.While number loop_number place condition body → inner ≡ body.value → Does (enter number) old before entered between tt
-    → Goes (loop_walk loop_number place None (while_round condition (statement_walk inner))) entered between result new end
+pub while-begun : (statement : Stmt) (head : LoopHead) (body : Box Stmt Global) (inner : Stmt) (old entered new : Walk) (before between end : Visits)
+    (result : Result (Unit {0}) CheckFault)
+    → statement ≡ stmt.While head body → inner ≡ body.value → Does (enter head.number) old before entered between tt
+    → Goes (loop_walk head.loop_number head.place None (while_round head.condition (statement_walk inner))) entered between result new end
     → Goes (statement_walk statement) old before result new end
-while-begun statement number loop_number place condition body inner old entered new before between end result is inner_is one two =
-    let looped = loop_walk loop_number place None (while_round condition (statement_walk body.value)) in
-    goes-as (statement_walk statement) (enter number >>= λ _. looped) old new before end result
-    (ap statement_walk is ∙ statement-While number loop_number place condition body)
-    (goes-then (enter number) (λ _. looped) old entered new before between end tt result one
-    (goes-as looped (loop_walk loop_number place None (while_round condition (statement_walk inner))) entered new between end result
-    (ap (λ s. loop_walk loop_number place None (while_round condition (statement_walk s))) (sym inner_is)) two))
+while-begun statement head body inner old entered new before between end result is inner_is one two =
+    let looped = λ (s : Stmt). loop_walk head.loop_number head.place None (while_round head.condition (statement_walk s)) in
+    goes-as (statement_walk statement) (enter head.number >>= λ _. looped body.value) old new before end result
+    (ap statement_walk is ∙ statement-While head body)
+    (goes-then (enter head.number) (λ _. looped body.value) old entered new before between end tt result one
+    (goes-as (looped body.value) (looped inner) entered new between end result (ap looped (sym inner_is)) two))
 
-pub repeat-begun : (statement : Stmt) (number loop_number : ℕ) (place : SourcePlace) (statements : Vec Stmt Global) (condition : Expr) (items : List Stmt)
-    (old entered new : Walk) (before between end : Visits) (result : Result (Unit {0}) CheckFault)
-    → statement ≡ stmt.Repeat number loop_number place statements condition → items ≡ statements.items → Does (enter number) old before entered between tt
-    → Goes (loop_walk loop_number place None (repeat_round (all_of (map statement_walk items)) condition)) entered between result new end
+pub repeat-begun : (statement : Stmt) (head : LoopHead) (statements : Vec Stmt Global) (items : List Stmt) (old entered new : Walk)
+    (before between end : Visits) (result : Result (Unit {0}) CheckFault)
+    → statement ≡ stmt.Repeat head statements → items ≡ statements.items → Does (enter head.number) old before entered between tt
+    → Goes (loop_walk head.loop_number head.place None (repeat_round (all_of (map statement_walk items)) head.condition)) entered between result new end
     → Goes (statement_walk statement) old before result new end
-repeat-begun statement number loop_number place statements condition items old entered new before between end result is items_are one two =
-    let looped = loop_walk loop_number place None (repeat_round (all_of (map statement_walk statements.items)) condition) in
-    goes-as (statement_walk statement) (enter number >>= λ _. looped) old new before end result
-    (ap statement_walk is ∙ statement-Repeat number loop_number place statements condition)
-    (goes-then (enter number) (λ _. looped) old entered new before between end tt result one
-    (goes-as looped (loop_walk loop_number place None (repeat_round (all_of (map statement_walk items)) condition)) entered new between end result
-    (ap (λ l. loop_walk loop_number place None (repeat_round (all_of (map statement_walk l)) condition)) (sym items_are)) two))
+repeat-begun statement head statements items old entered new before between end result is items_are one two =
+    let looped = λ (l : List Stmt). loop_walk head.loop_number head.place None (repeat_round (all_of (map statement_walk l)) head.condition) in
+    goes-as (statement_walk statement) (enter head.number >>= λ _. looped statements.items) old new before end result
+    (ap statement_walk is ∙ statement-Repeat head statements)
+    (goes-then (enter head.number) (λ _. looped statements.items) old entered new before between end tt result one
+    (goes-as (looped statements.items) (looped items) entered new between end result (ap looped (sym items_are)) two))
 
 -- ---- rounds
 
