@@ -17,7 +17,8 @@ use Rattle.typed_tree.specs.declared.tree.Passed.{Passed}
 use Rattle.typed_tree.specs.declared.tree.WriteParameter.{WriteParameter}
 use Rattle.typed_tree.specs.declared.tree.Access.{Access}
 use Rattle.typed_tree.specs.declared.tree.Selector.{Selector}
-use Rattle.typed_tree.specs.declared.tree.Direction.{Direction}
+use Rattle.typed_tree.specs.declared.tree.ForHead.{ForHead}
+use Rattle.typed_tree.specs.declared.tree.LoopHead.{LoopHead}
 use Rattle.typed_tree.specs.declared.tree.RangeTest.{RangeTest}
 use Rattle.typed_tree.specs.declared.tree.Expr.{Expr}
 use Rattle.typed_tree.specs.declared.tree.Stmt.{Stmt}
@@ -123,19 +124,19 @@ abbrev pub further : {A : Type 0} → Round A → Action (Option A) → Action (
 further round begun = begun >>= λ more. another more (looped round)
 
 -- the rounds of a while, and of a repeat
-abbrev pub while_rounds : Surroundings → Expr → Stmt → Round (Unit {0})
-while_rounds env condition body = while_round (value_of condition) (effect_of body) env
+abbrev pub while_rounds : Surroundings → LoopHead → Stmt → Round (Unit {0})
+while_rounds env head body = while_round (value_of head.condition) (effect_of body) env
 
-abbrev pub repeat_rounds : Surroundings → List Stmt → Expr → Round (Unit {0})
-repeat_rounds env statements condition = repeat_round (all_of (map effect_of statements)) (value_of condition) env
+abbrev pub repeat_rounds : Surroundings → LoopHead → List Stmt → Round (Unit {0})
+repeat_rounds env head statements = repeat_round (all_of (map effect_of statements)) (value_of head.condition) env
 
 -- the rounds of a for with values that haven't passed the last one
-abbrev pub counting : Surroundings → ℕ → Direction → ℤ → Stmt → Round ℤ
-counting env control direction last body n = do
-  _ ← store (env.visible.variables control) (Number n)
+abbrev pub counting : Surroundings → ForHead → ℤ → Stmt → Round ℤ
+counting env head last body n = do
+  _ ← store (env.visible.variables head.control) (Number n)
   _ ← use_turn
   _ ← effect_of body env
-  give (value_before direction last n)
+  give (value_before head.direction last n)
 
 -- a place is undefined from here, and then the rest
 abbrev pub forgetting : Option Place → Resumption → Resumption
@@ -144,28 +145,28 @@ forgetting place next operands = do
   next operands
 
 -- a while, and then the rest
-abbrev pub whiling : Surroundings → Expr → Stmt → Resumption → Resumption
-whiling env condition body next operands = do
-  _ ← looped (while_rounds env condition body) tt
+abbrev pub whiling : Surroundings → LoopHead → Stmt → Resumption → Resumption
+whiling env head body next operands = do
+  _ ← looped (while_rounds env head body) tt
   next operands
 
 -- a repeat, and then the rest
-abbrev pub repeating : Surroundings → List Stmt → Expr → Resumption → Resumption
-repeating env statements condition next operands = do
-  _ ← looped (repeat_rounds env statements condition) tt
+abbrev pub repeating : Surroundings → LoopHead → List Stmt → Resumption → Resumption
+repeating env head statements next operands = do
+  _ ← looped (repeat_rounds env head statements) tt
   next operands
 
 -- a for from a value of its control variable on, and then the rest
-abbrev pub counting_on : Surroundings → ℕ → Direction → ℤ → ℤ → Stmt → Resumption → Resumption
-counting_on env control direction value last body next operands = do
-  _ ← looped (counting env control direction last body) value
-  forgetting (env.visible.variables control) next operands
+abbrev pub counting_on : Surroundings → ForHead → ℤ → ℤ → Stmt → Resumption → Resumption
+counting_on env head value last body next operands = do
+  _ ← looped (counting env head last body) value
+  forgetting (env.visible.variables head.control) next operands
 
 -- further rounds of a repeat, unless the topmost operand ends it, and then the rest
-abbrev pub unless_so : Surroundings → List Stmt → Expr → Resumption → Resumption
-unless_so env statements condition next =
+abbrev pub unless_so : Surroundings → LoopHead → List Stmt → Resumption → Resumption
+unless_so env head statements next =
     with_top
-    (λ v below. further (repeat_rounds env statements condition) (give (if is_so v then None else Some tt))
+    (λ v below. further (repeat_rounds env head statements) (give (if is_so v then None else Some tt))
     >>= λ _. next below)
 
 -- the element of a place at an index, which is tested
@@ -225,27 +226,26 @@ resumed env (work.Choose consequence alternative) next operands =
     with_top
     (λ v below. chosen (is_so v) consequence.now alternative.now env >>= λ _. next below)
     operands
-resumed env (work.WhileTurn condition body) next operands =
+resumed env (work.WhileTurn head body) next operands =
     with_top
-    (λ v below. further (while_rounds env condition.now body.now) (turn_if (is_so v) (effect_of body.now env))
+    (λ v below. further (while_rounds env head.now body.now) (turn_if (is_so v) (effect_of body.now env))
     >>= λ _. next below)
     operands
-resumed env (work.Unless statements condition) next operands =
-    unless_so env statements.now condition.now next operands
-resumed env (work.Bounds control first_fits direction last_fits body) next operands =
+resumed env (work.Unless head statements) next operands = unless_so env head.now statements.now next operands
+resumed env (work.Bounds head body) next operands =
     with_top
     (λ last rest. with_top
-    (λ first below.
-    for_between control first_fits direction last_fits (effect_of body.now) env (number_of first) (number_of last)
-    >>= λ _. forgetting (env.visible.variables control) next below)
+    (λ first below. for_between head.now (effect_of body.now) env (number_of first) (number_of last)
+    >>= λ _. forgetting (env.visible.variables head.now.control) next below)
     rest)
     operands
-resumed env (work.Next control direction value last body) next operands = do
-  _ ← further (counting env control direction last body.now) (give (value_before direction last value))
-  forgetting (env.visible.variables control) next operands
-resumed env (work.Case site constants arms) next operands =
+resumed env (work.Next head value last body) next operands = do
+  _ ← further (counting env head.now last body.now) (give (value_before head.now.direction last value))
+  forgetting (env.visible.variables head.now.control) next operands
+resumed env (work.Case head arms) next operands =
     with_top
-    (λ v below. arm_of site constants.now (map effect_of arms.now) (number_of v) env >>= λ _. next below)
+    (λ v below. arm_of head.now.site head.now.constants.items (map effect_of arms.now) (number_of v) env
+    >>= λ _. next below)
     operands
 resumed env (work.Parameters parameters ends_line) next operands = do
   _ ← all_of (map parameter_of parameters.now) env

@@ -97,20 +97,21 @@ alternative_size (Some size) = size.value
 
 abbrev pub statement_size : Stmt-F ℕ → ℕ
 statement_size (Empty n) = 0
-statement_size (Assign n becomes target indexes fits value) =
-    3 + size_of_selectors target.selectors.items indexes.items + size_of_expression value
-statement_size (Copy n becomes target indexes type_id value value_indexes) =
-    3 + size_of_selectors target.selectors.items indexes.items + size_of_whole value value_indexes.items
-statement_size (Write n name parameters ends_line) = row_size 1 (map size_of_parameter parameters.items)
-statement_size (Calling call actuals) = 1 + call_size (map size_of_passed actuals.items)
+statement_size (Assign assignment) =
+    3 + size_of_selectors assignment.target.selectors.items assignment.indexes.items
+    + size_of_expression assignment.value
+statement_size (Copy copying) =
+    3 + size_of_selectors copying.target.selectors.items copying.indexes.items
+    + size_of_whole copying.value copying.value_indexes.items
+statement_size (Write writing) = row_size 1 (map size_of_parameter writing.parameters.items)
+statement_size (Calling calling) = 1 + call_size (map size_of_passed calling.actuals.items)
 statement_size (Compound n statements) = row_size 2 statements.items
 statement_size (If n condition consequence alternative) =
     3 + size_of_expression condition + consequence.value + alternative_size alternative
-statement_size (While n loop_number place condition body) = 2 + size_of_expression condition
-statement_size (Repeat n loop_number place statements condition) = 0
-statement_size (For n loop_number place control first first_fits direction last last_fits body) =
-    3 + size_of_expression first + size_of_expression last
-statement_size (Case n site index constants arms) = 2 + size_of_expression index + row_size 1 arms.items
+statement_size (While head body) = 2 + size_of_expression head.condition
+statement_size (Repeat head statements) = 0
+statement_size (For head body) = 3 + size_of_expression head.first.value + size_of_expression head.last.value
+statement_size (Case head arms) = 2 + size_of_expression head.index + row_size 1 arms.items
 
 abbrev pub size_of_statement : Stmt → ℕ
 size_of_statement = fold-Stmt ℕ statement_size
@@ -124,7 +125,7 @@ size_of (work.Statements statements) = row_size 2 (map size_of_statement stateme
 size_of (work.Statement statement) = size_of_statement statement.now
 size_of (work.Choose consequence alternative) =
     1 + size_of_statement consequence.now + size_of_alternative alternative.now
-size_of (work.Case site constants arms) = row_size 1 (map size_of_statement arms.now)
+size_of (work.Case head arms) = row_size 1 (map size_of_statement arms.now)
 size_of (work.Parameters parameters ends_line) = row_size 1 (map size_of_parameter parameters.now)
 size_of (work.Width width representation) = size_of_width width.now
 size_of (work.Select selectors indexes) = size_of_selectors selectors.now indexes.now

@@ -16,7 +16,7 @@ use operations::rows::length_of;
 use operations::text::{write_ordinal, write_row, write_row_in};
 use std::alloc::AllocError;
 use typed_tree::tree::{
-    Direction, Expr, RangeTest, Representation, Stmt, Whole, Width, WriteParameter, Written,
+    CaseHead, Expr, ForHead, LoopHead, Representation, Stmt, Whole, Width, WriteParameter, Written,
 };
 
 // The steps of statements.
@@ -40,42 +40,29 @@ impl<'t> Run<'t, '_> {
     {
         match statement {
             Stmt::Empty { .. } => Ok(None),
-            Stmt::Assign {
-                target,
-                indexes,
-                fits,
-                value,
-                ..
-            } => {
-                put(&mut self.pending, Work::Store(*fits))?;
-                self.access(target, indexes, Work::Value(value))
-            }
-            Stmt::Copy {
-                target,
-                indexes,
-                type_id,
-                value,
-                value_indexes,
-                ..
-            } => {
-                put(&mut self.pending, Work::StoreRow(*type_id))?;
+            Stmt::Assign(assignment) => {
+                put(&mut self.pending, Work::Store(assignment.fits))?;
                 self.access(
-                    target,
-                    indexes,
+                    &assignment.target,
+                    &assignment.indexes,
+                    Work::Value(&assignment.value),
+                )
+            }
+            Stmt::Copy(copying) => {
+                put(&mut self.pending, Work::StoreRow(copying.type_id))?;
+                self.access(
+                    &copying.target,
+                    &copying.indexes,
                     Work::Whole {
-                        value,
-                        indexes: value_indexes,
+                        value: &copying.value,
+                        indexes: &copying.value_indexes,
                     },
                 )
             }
-            Stmt::Write {
-                parameters,
-                ends_line,
-                ..
-            } => self.parameters(parameters, *ends_line),
-            Stmt::Call { call, actuals } => {
+            Stmt::Write(writing) => self.parameters(&writing.parameters, writing.ends_line),
+            Stmt::Call(calling) => {
                 put(&mut self.pending, Work::Discard)?;
-                self.call(call, actuals)
+                self.call(&calling.call, &calling.actuals)
             }
             Stmt::Compound { statements, .. } => self.statements(statements),
             Stmt::If {
@@ -90,50 +77,16 @@ impl<'t> Run<'t, '_> {
                     alternative,
                 },
             ),
-            Stmt::While {
-                condition,
-                body,
-                ..
-            } => self.while_round(condition, body),
-            Stmt::Repeat {
-                statements,
-                condition,
-                ..
-            } => self.repeat_round(statements, condition),
-            Stmt::For {
-                control,
-                first,
-                first_fits,
-                direction,
-                last,
-                last_fits,
-                body,
-                ..
-            } => self.plan_values(
-                first,
-                last,
-                Work::Bounds {
-                    control: *control,
-                    first_fits: *first_fits,
-                    direction: *direction,
-                    last_fits: *last_fits,
-                    body,
-                },
+            Stmt::While { head, body } => self.while_round(head, body),
+            Stmt::Repeat { head, statements } => self.repeat_round(head, statements),
+            Stmt::For { head, body } => self.plan_values(
+                &head.first.value,
+                &head.last.value,
+                Work::Bounds { head, body },
             ),
-            Stmt::Case {
-                site,
-                index,
-                constants,
-                arms,
-                ..
-            } => self.plan(
-                Work::Value(index),
-                Work::Case {
-                    site: *site,
-                    constants,
-                    arms,
-                },
-            ),
+            Stmt::Case { head, arms } => {
+                self.plan(Work::Value(&head.index), Work::Case { head, arms })
+            }
         }
     }
 
@@ -158,29 +111,28 @@ impl<'t> Run<'t, '_> {
     // The rounds of a while.
     fn while_round(
         &mut self,
-        condition: &'t Expr,
+        head: &'t LoopHead,
         body: &'t Stmt,
     ) -> Result<Option<Ending>, AllocError>
-        ensures size { Adds (2 + size_of_expression condition.now) self.old result self.new }
-        ensures does { Does (λ env. whiling env condition.now body.now) self.old result self.new }
+        ensures size { Adds (2 + size_of_expression head.now.condition) self.old result self.new }
+        ensures does { Does (λ env. whiling env head.now body.now) self.old result self.new }
     {
-        self.plan(Work::Value(condition), Work::WhileTurn { condition, body })
+        self.plan(Work::Value(&head.condition), Work::WhileTurn { head, body })
     }
 
     pub(crate) fn while_turn(
         &mut self,
-        condition: &'t Expr,
+        head: &'t LoopHead,
         body: &'t Stmt,
     ) -> Result<Option<Ending>, AllocError>
-        ensures fewer { Lightens (Work.WhileTurn condition.entry body.entry) self.old result self.new }
-        ensures does { Does (λ env. resumed env (Work.WhileTurn condition.entry body.entry))
-            self.old result self.new }
+        ensures fewer { Lightens (Work.WhileTurn head.entry body.entry) self.old result self.new }
+        ensures does { Does (λ env. resumed env (Work.WhileTurn head.entry body.entry)) self.old result self.new }
     {
         if truth_of(self.popped()) {
             self.tested_turn(
                 Work::Statement(body),
-                condition,
-                Work::WhileTurn { condition, body },
+                &head.condition,
+                Work::WhileTurn { head, body },
             )
         } else {
             Ok(None)
@@ -190,56 +142,47 @@ impl<'t> Run<'t, '_> {
     // The rounds of a repeat.
     fn repeat_round(
         &mut self,
+        head: &'t LoopHead,
         statements: &'t [Stmt],
-        condition: &'t Expr,
     ) -> Result<Option<Ending>, AllocError>
         ensures size { Adds 0 self.old result self.new }
-        ensures does { Does (λ env. repeating env statements.now condition.now) self.old result self.new }
+        ensures does { Does (λ env. repeating env head.now statements.now) self.old result self.new }
     {
         self.tested_turn(
             Work::Statements(statements),
-            condition,
-            Work::Unless {
-                statements,
-                condition,
-            },
+            &head.condition,
+            Work::Unless { head, statements },
         )
     }
 
     pub(crate) fn unless(
         &mut self,
+        head: &'t LoopHead,
         statements: &'t [Stmt],
-        condition: &'t Expr,
     ) -> Result<Option<Ending>, AllocError>
-        ensures fewer { Lightens (Work.Unless statements.entry condition.entry) self.old result self.new }
-        ensures does { Does (λ env. resumed env (Work.Unless statements.entry condition.entry))
-            self.old result self.new }
+        ensures fewer { Lightens (Work.Unless head.entry statements.entry) self.old result self.new }
+        ensures does { Does (λ env. resumed env (Work.Unless head.entry statements.entry)) self.old result self.new }
     {
         if truth_of(self.popped()) {
             Ok(None)
         } else {
-            self.repeat_round(statements, condition)
+            self.repeat_round(head, statements)
         }
     }
 
     pub(crate) fn bounds(
         &mut self,
-        control: u32,
-        first_fits: RangeTest,
-        direction: Direction,
-        last_fits: RangeTest,
+        head: &'t ForHead,
         body: &'t Stmt,
     ) -> Result<Option<Ending>, AllocError>
-        ensures fewer { Lightens (Work.Bounds control first_fits direction last_fits body.entry)
-            self.old result self.new }
-        ensures does { Does (λ env. resumed env (Work.Bounds control first_fits direction last_fits body.entry))
-            self.old result self.new }
+        ensures fewer { Lightens (Work.Bounds head.entry body.entry) self.old result self.new }
+        ensures does { Does (λ env. resumed env (Work.Bounds head.entry body.entry)) self.old result self.new }
     {
         let last = self.popped_number();
         let first = self.popped_number();
-        match tested_bounds(direction, first_fits, first, last_fits, last) {
-            Ok(Some((value, last))) => self.for_round(control, direction, value, last, body),
-            Ok(None) => self.forget(control),
+        match tested_bounds(head, first, last) {
+            Ok(Some((value, last))) => self.for_round(head, value, last, body),
+            Ok(None) => self.forget(head.control),
             Err(site) => Ok(Some(Ending::Error(site))),
         }
     }
@@ -247,22 +190,20 @@ impl<'t> Run<'t, '_> {
     // The rounds of a for, from a value of its control variable on.
     fn for_round(
         &mut self,
-        control: u32,
-        direction: Direction,
+        head: &'t ForHead,
         value: i32,
         last: i32,
         body: &'t Stmt,
     ) -> Result<Option<Ending>, AllocError>
         ensures size { Adds 0 self.old result self.new }
-        ensures does { Does (λ env. counting_on env control direction value last body.now) self.old result self.new }
+        ensures does { Does (λ env. counting_on env head.now value last body.now) self.old result self.new }
     {
-        let place = self.place(control)?;
+        let place = self.place(head.control)?;
         self.keep(place, Value::Number(Ordinal::new(value)))?;
         self.turn(
             Work::Statement(body),
             Work::Next {
-                control,
-                direction,
+                head,
                 value,
                 last,
                 body,
@@ -272,19 +213,17 @@ impl<'t> Run<'t, '_> {
 
     pub(crate) fn next_round(
         &mut self,
-        control: u32,
-        direction: Direction,
+        head: &'t ForHead,
         value: i32,
         last: i32,
         body: &'t Stmt,
     ) -> Result<Option<Ending>, AllocError>
-        ensures fewer { Lightens (Work.Next control direction value last body.entry) self.old result self.new }
-        ensures does { Does (λ env. resumed env (Work.Next control direction value last body.entry))
-            self.old result self.new }
+        ensures fewer { Lightens (Work.Next head.entry value last body.entry) self.old result self.new }
+        ensures does { Does (λ env. resumed env (Work.Next head.entry value last body.entry)) self.old result self.new }
     {
-        match value_toward(direction, last, value) {
-            Some(value) => self.for_round(control, direction, value, last, body),
-            None => self.forget(control),
+        match value_toward(head.direction, last, value) {
+            Some(value) => self.for_round(head, value, last, body),
+            None => self.forget(head.control),
         }
     }
 
@@ -300,17 +239,16 @@ impl<'t> Run<'t, '_> {
 
     pub(crate) fn case(
         &mut self,
-        site: u32,
-        constants: &'t [Vec<i32>],
+        head: &'t CaseHead,
         arms: &'t [Stmt],
     ) -> Result<Option<Ending>, AllocError>
-        ensures fewer { Lightens (Work.Case site constants.entry arms.entry) self.old result self.new }
-        ensures does { Does (λ env. resumed env (Work.Case site constants.entry arms.entry)) self.old result self.new }
+        ensures fewer { Lightens (Work.Case head.entry arms.entry) self.old result self.new }
+        ensures does { Does (λ env. resumed env (Work.Case head.entry arms.entry)) self.old result self.new }
     {
         let index = self.popped_number();
-        match arm_at(constants, arms, index) {
+        match arm_at(&head.constants, arms, index) {
             Some(arm) => self.do_next(Work::Statement(arm)),
-            None => Ok(Some(Ending::Error(site))),
+            None => Ok(Some(Ending::Error(head.site))),
         }
     }
 

@@ -3,8 +3,8 @@ ghost use Rattle.std.specs.Prelude.{◌≡◌, [], ◌∷◌, ◌++◌, OnOk};
 use crate::activation::Activation;
 use std::alloc::AllocError;
 use typed_tree::tree::{
-    Direction, Dyadic, Expr, Link, Monadic, Passed, RangeTest, Relation, Representation, Selector,
-    Stmt, Whole, Width, WriteParameter,
+    CaseHead, Dyadic, Expr, ForHead, Link, LoopHead, Monadic, Passed, RangeTest, Relation,
+    Representation, Selector, Stmt, Whole, Width, WriteParameter,
 };
 use types::TypeId;
 
@@ -21,34 +21,29 @@ pub enum Work<'t> {
     },
     /// A turn of a while, and its further rounds, if the topmost value asks for them.
     WhileTurn {
-        condition: &'t Expr,
+        head: &'t LoopHead,
         body: &'t Stmt,
     },
     /// Further rounds of a repeat, unless the topmost value ends it.
     Unless {
+        head: &'t LoopHead,
         statements: &'t [Stmt],
-        condition: &'t Expr,
     },
     /// A for statement, whose bounds are topmost, the last above the first.
     Bounds {
-        control: u32,
-        first_fits: RangeTest,
-        direction: Direction,
-        last_fits: RangeTest,
+        head: &'t ForHead,
         body: &'t Stmt,
     },
     /// The rounds of a for behind that with a value of its control variable.
     Next {
-        control: u32,
-        direction: Direction,
+        head: &'t ForHead,
         value: i32,
         last: i32,
         body: &'t Stmt,
     },
     /// The arms of a case, whose index is topmost.
     Case {
-        site: u32,
-        constants: &'t [Vec<i32>],
+        head: &'t CaseHead,
         arms: &'t [Stmt],
     },
     /// The parameters of a write, one after another, and behind them the line end of a writeln.

@@ -21,6 +21,7 @@ use Rattle.typed_tree.specs.declared.tree.Width.{Width}
 use Rattle.typed_tree.specs.declared.tree.Written.TheVariants.{Ordinal}
 use Rattle.types.specs.declared.form.OrdinalRange.{OrdinalRange}
 use Rattle.types.specs.Types.{integer}
+use Rattle.typed_tree.specs.declared.tree.ForHead.{ForHead}
 use Rattle.typed_tree.specs.declared.tree.Heading.{Heading}
 use Rattle.typed_tree.specs.declared.tree.VariableKind.{VariableKind}
 use Rattle.typed_tree.specs.declared.tree.VariableKind.TheVariants as kind
@@ -449,64 +450,73 @@ written_out environment = do
 abbrev integers : OrdinalRange
 integers = record { first = negsuc 2147483646; last = pos 2147483647 }
 
--- a for whose control variable has the values of a range, from bounds that are tested at the sites 8 and 9
-abbrev counts_out : OrdinalRange → Direction → ℤ → ℤ → Action (Unit {0})
-counts_out range direction first last = do
-  _ ← for_between 0 (record { site = 8; range = range }) direction (record { site = 9; range = range }) written_out everywhere first last
-  undefine (everywhere.visible.variables 0)
+module _ (some : ForHead) where
+  -- a for whose control variable has the values of a range, from bounds that are tested at the sites 8 and 9
+  abbrev counting : OrdinalRange → Direction → ForHead
+  counting range direction = record some {
+    control = 0;
+    first = record some.first { fits = record { site = 8; range = range } };
+    direction = direction;
+    last = record some.last { fits = record { site = 9; range = range } };
+  }
 
-abbrev of_for : OrdinalRange → Direction → ℤ → ℤ → ℕ → Meaning
-of_for range direction first last turns = ended (counts_out range direction first last (first_state [] turns))
+  abbrev counts_out : OrdinalRange → Direction → ℤ → ℤ → Action (Unit {0})
+  counts_out range direction first last = do
+    _ ← for_between (counting range direction) written_out everywhere first last
+    undefine (everywhere.visible.variables 0)
 
-upward : of_for integers To (pos 1) (pos 3) 3 ≡ record { output = 1 ∷ 2 ∷ 3 ∷ []; ending = Finished }
-unfolding everywhere
-upward = refl
+  abbrev of_for : OrdinalRange → Direction → ℤ → ℤ → ℕ → Meaning
+  of_for range direction first last turns = ended (counts_out range direction first last (first_state [] turns))
 
-downward : of_for integers DownTo (pos 2) (negsuc 0) 9 ≡ record { output = 2 ∷ 1 ∷ 0 ∷ 1 ∷ []; ending = Finished }
-unfolding everywhere
-downward = refl
+  upward : of_for integers To (pos 1) (pos 3) 3 ≡ record { output = 1 ∷ 2 ∷ 3 ∷ []; ending = Finished }
+  unfolding everywhere
+  upward = refl
 
--- the last value may be the last of type integer: behind it the control variable isn't increased
-to_maxint : of_for integers To (pos 2147483646) (pos 2147483647) 2 ≡ record { output = 2147483646 ∷ 2147483647 ∷ []; ending = Finished }
-unfolding everywhere
-to_maxint = refl
+  downward : of_for integers DownTo (pos 2) (negsuc 0) 9 ≡ record { output = 2 ∷ 1 ∷ 0 ∷ 1 ∷ []; ending = Finished }
+  unfolding everywhere
+  downward = refl
 
-down_to_the_least : of_for integers DownTo (negsuc 2147483645) (negsuc 2147483646) 2 ≡
-    record { output = 2147483646 ∷ 2147483647 ∷ []; ending = Finished }
-unfolding everywhere
-down_to_the_least = refl
+  -- the last value may be the last of type integer: behind it the control variable isn't increased
+  to_maxint : of_for integers To (pos 2147483646) (pos 2147483647) 2 ≡ record { output = 2147483646 ∷ 2147483647 ∷ []; ending = Finished }
+  unfolding everywhere
+  to_maxint = refl
 
--- where there is no value between the bounds, nothing is executed, no turn is used and no bound is tested
-never : of_for booleans To (pos 7) (pos 6) 0 ≡ record { output = []; ending = Finished }
-unfolding everywhere
-never = refl
+  down_to_the_least : of_for integers DownTo (negsuc 2147483645) (negsuc 2147483646) 2 ≡
+      record { output = 2147483646 ∷ 2147483647 ∷ []; ending = Finished }
+  unfolding everywhere
+  down_to_the_least = refl
 
--- with a turn less than it asks for
-for_wants_more : of_for integers To (pos 1) (pos 3) 2 ≡ record { output = 1 ∷ 2 ∷ []; ending = More }
-unfolding everywhere
-for_wants_more = refl
+  -- where there is no value between the bounds, nothing is executed, no turn is used and no bound is tested
+  never : of_for booleans To (pos 7) (pos 6) 0 ≡ record { output = []; ending = Finished }
+  unfolding everywhere
+  never = refl
 
--- both bounds are tested before the first value, and the first one first
-last_is_outside : of_for booleans To (pos 0) (pos 2) 5 ≡ record { output = []; ending = Error 9 }
-unfolding everywhere
-last_is_outside = refl
+  -- with a turn less than it asks for
+  for_wants_more : of_for integers To (pos 1) (pos 3) 2 ≡ record { output = 1 ∷ 2 ∷ []; ending = More }
+  unfolding everywhere
+  for_wants_more = refl
 
-both_are_outside : of_for booleans DownTo (pos 3) (pos 2) 5 ≡ record { output = []; ending = Error 8 }
-unfolding everywhere
-both_are_outside = refl
+  -- both bounds are tested before the first value, and the first one first
+  last_is_outside : of_for booleans To (pos 0) (pos 2) 5 ≡ record { output = []; ending = Error 9 }
+  unfolding everywhere
+  last_is_outside = refl
 
--- behind the for its control variable is undefined, also where nothing was executed
-undefined_behind : ended ((counts_out integers To (pos 1) (pos 1) >>= λ _. written_out everywhere) (first_state [] 1)) ≡
-    record { output = 1 ∷ []; ending = Error 7 }
-unfolding everywhere
-undefined_behind = refl
+  both_are_outside : of_for booleans DownTo (pos 3) (pos 2) 5 ≡ record { output = []; ending = Error 8 }
+  unfolding everywhere
+  both_are_outside = refl
 
-undefined_all_the_same :
-    ended ((store (everywhere.visible.variables 0) (Number (pos 5)) >>= λ _. counts_out integers To (pos 1) (pos 0) >>= λ _. written_out everywhere)
-    (first_state [] 1)) ≡
-    record { output = []; ending = Error 7 }
-unfolding everywhere
-undefined_all_the_same = refl
+  -- behind the for its control variable is undefined, also where nothing was executed
+  undefined_behind : ended ((counts_out integers To (pos 1) (pos 1) >>= λ _. written_out everywhere) (first_state [] 1)) ≡
+      record { output = 1 ∷ []; ending = Error 7 }
+  unfolding everywhere
+  undefined_behind = refl
+
+  undefined_all_the_same :
+      ended ((store (everywhere.visible.variables 0) (Number (pos 5)) >>= λ _. counts_out integers To (pos 1) (pos 0) >>= λ _. written_out everywhere)
+      (first_state [] 1)) ≡
+      record { output = []; ending = Error 7 }
+  unfolding everywhere
+  undefined_all_the_same = refl
 
 -- a case whose arms write a number each, 1 before the constants 1 and 2, and 2 before the constants 2 and -1, at the site 7
 abbrev writes : ℕ → Execution

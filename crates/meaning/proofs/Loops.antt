@@ -1,7 +1,7 @@
 -- A loop's bound: each round behind which another follows uses a turn, so a loop is the same under every bound that is no
 -- less than the turns that are left, and its rounds follow one another as if there were none.
 use Rattle.std.proofs.Common.{◌≡◌, ℕ, ℤ, zero, suc, ◌≤◌, ◌<◌, Bool, true, false, Option, Some, None, arith, refl, if◌then◌else◌}
-use Rattle.typed_tree.specs.declared.tree.Direction.{Direction}
+use Rattle.typed_tree.specs.declared.tree.ForHead.{ForHead}
 use Rattle.meaning.specs.declared.outcome.Ending.TheVariants.{More}
 use Rattle.meaning.specs.declared.store.Value.{Value}
 use Rattle.meaning.specs.declared.store.Value.TheVariants.{Number}
@@ -120,6 +120,5 @@ counted_uses control body env behind done =
     }
 
 -- each turn of a for is used
-pub for_uses : (control : ℕ) (direction : Direction) (last : ℤ) (body : Execution) (env : Surroundings) → Extended (body env) →
-    UsesTurns (for_round control direction last body env)
-for_uses control direction last body env done = counted_uses control body env (value_behind direction last) done
+pub for_uses : (head : ForHead) (last : ℤ) (body : Execution) (env : Surroundings) → Extended (body env) → UsesTurns (for_round head last body env)
+for_uses head last body env done = counted_uses head.control body env (value_behind head.direction last) done

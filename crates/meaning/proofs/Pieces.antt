@@ -26,8 +26,8 @@ pieces_use_turns tree depth visible =
       widths = λ width default. (of_width Exact exact_closed visible calls calls exact width default).1;
       written = λ parameter. (of_written Exact exact_closed visible calls calls exact parameter.value parameter.width).1;
       statements = λ statement. (of_effect Exact exact_closed visible calls calls exact statement).1;
-      counted = λ control first_fits direction last_fits body first last.
-          (of_for_rounds Exact exact_closed visible calls calls exact control first_fits direction last_fits (effect_of body)
+      counted = λ head body first last.
+          (of_for_rounds Exact exact_closed visible calls calls exact head (effect_of body)
           (of_effect Exact exact_closed visible calls calls exact body) first last).1;
     }
 
@@ -41,6 +41,6 @@ loops_go_round tree depth visible =
           (of_value Exact exact_closed visible calls calls exact condition).0 (of_effect Exact exact_closed visible calls calls exact body).0);
       repeats = λ statements condition. looped-rounds _ (repeat_uses (all_of (map effect_of statements)) (value_of condition) env
           (of_statements Exact exact_closed visible calls calls exact statements).0 (of_value Exact exact_closed visible calls calls exact condition).0);
-      fors = λ control direction last body. looped-rounds _ (for_uses control direction last (effect_of body) env
+      fors = λ head last body. looped-rounds _ (for_uses head last (effect_of body) env
           (of_effect Exact exact_closed visible calls calls exact body).0);
     }

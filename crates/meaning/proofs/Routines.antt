@@ -114,14 +114,21 @@ module _ (heap : Vec ℕ Global) (some_call : Call) where
   compound number statements small = roll-Stmt (Compound number (vec statements small))
 
   abbrev writes : ℕ → (values : List WriteParameter) → length values < 2 ^ 63 → Stmt
-  writes number values small = roll-Stmt (Write number some_call.name (vec values small) false)
+  writes number values small = roll-Stmt (Write (record { number = number; name = some_call.name; parameters = vec values small; ends_line = false }))
 
   abbrev assign : ℕ → ℕ → ℕ → ℕ → Expr → Stmt
   assign number access_number root site value =
-      roll-Stmt (Assign number some_call.name (access access_number root) (vec [] (omega arith)) (any_integer site) value)
+      roll-Stmt (Assign (record {
+        number = number;
+        becomes = some_call.name;
+        target = access access_number root;
+        indexes = vec [] (omega arith);
+        fits = any_integer site;
+        value = value;
+      }))
 
   abbrev calls : ℕ → ℕ → (actuals : List Passed) → length actuals < 2 ^ 63 → Stmt
-  calls number block actuals small = roll-Stmt (Calling (call number block) (vec actuals small))
+  calls number block actuals small = roll-Stmt (Calling (record { call = call number block; actuals = vec actuals small }))
 
   abbrev calling : ℕ → ℕ → (actuals : List Passed) → length actuals < 2 ^ 63 → Expr
   calling number block actuals small = roll-Expr (CallOf (call number block) (vec actuals small))
@@ -135,7 +142,15 @@ module _ (heap : Vec ℕ Global) (some_call : Call) where
   }
 
   abbrev to_element : ℕ → Expr → Expr → Stmt
-  to_element number index value = roll-Stmt (Assign number some_call.name element_access (vec (index ∷ []) (omega arith)) (any_integer 8) value)
+  to_element number index value =
+      roll-Stmt (Assign (record {
+        number = number;
+        becomes = some_call.name;
+        target = element_access;
+        indexes = vec (index ∷ []) (omega arith);
+        fits = any_integer 8;
+        value = value;
+      }))
 
   abbrev of_element : Expr → Expr
   of_element index = roll-Expr (Variable element_access (vec (index ∷ []) (omega arith)) 9)

@@ -14,7 +14,7 @@ use Rattle.typed_tree.specs.declared.tree.Call.{Call}
 use Rattle.typed_tree.specs.declared.tree.FunctionResult.{FunctionResult}
 use Rattle.typed_tree.specs.declared.tree.Variable.{Variable as DeclaredVariable}
 use Rattle.typed_tree.specs.declared.tree.Direction.{Direction}
-use Rattle.typed_tree.specs.declared.tree.RangeTest.{RangeTest}
+use Rattle.typed_tree.specs.declared.tree.ForHead.{ForHead}
 use Rattle.typed_tree.specs.declared.tree.Dyadic.{Dyadic}
 use Rattle.typed_tree.specs.declared.tree.Dyadic.TheVariants as dyadic
 use Rattle.typed_tree.specs.declared.tree.Monadic.TheVariants as monadic
@@ -410,23 +410,18 @@ module _ (R : (A : Type 0) → Action A → Action A → Type 0) (closed : Close
 
     -- ---- the rounds of a for
 
-    pub of_for_rounds : (control : ℕ) (first_fits : RangeTest) (direction : Direction) (last_fits : RangeTest) (body : Execution)
-        → R (Unit {0}) (body here) (body there) → (first last : ℤ)
-        → R (Unit {0}) (for_rounds control first_fits direction last_fits body here first last)
-        (for_rounds control first_fits direction last_fits body there first last)
-    of_for_rounds control first_fits direction last_fits body done first last =
-        closed.follows _ _ _ _ (of_require (is_in first_fits.range (Number first)) first_fits.site)
-        (λ _. closed.follows _ _ _ _ (of_require (is_in last_fits.range (Number last)) last_fits.site)
-        (λ _. closed.fors (visible.variables control) direction last (body here) (body there) done first))
+    pub of_for_rounds : (head : ForHead) (body : Execution) → R (Unit {0}) (body here) (body there) → (first last : ℤ)
+        → R (Unit {0}) (for_rounds head body here first last) (for_rounds head body there first last)
+    of_for_rounds head body done first last =
+        closed.follows _ _ _ _ (of_require (is_in head.first.fits.range (Number first)) head.first.fits.site)
+        (λ _. closed.follows _ _ _ _ (of_require (is_in head.last.fits.range (Number last)) head.last.fits.site)
+        (λ _. closed.fors (visible.variables head.control) head.direction last (body here) (body there) done first))
 
-    pub of_for_between : (control : ℕ) (first_fits : RangeTest) (direction : Direction) (last_fits : RangeTest) (body : Execution)
-        → R (Unit {0}) (body here) (body there) → (first last : ℤ)
-        → R (Unit {0}) (for_between control first_fits direction last_fits body here first last)
-        (for_between control first_fits direction last_fits body there first last)
-    of_for_between control first_fits direction last_fits body done first last =
-        of_chosen (has_values direction first last) (for_rounds control first_fits direction last_fits body here first last)
-        (for_rounds control first_fits direction last_fits body there first last) (give tt) (give tt)
-        (of_for_rounds control first_fits direction last_fits body done first last) (closed.gives tt)
+    pub of_for_between : (head : ForHead) (body : Execution) → R (Unit {0}) (body here) (body there) → (first last : ℤ)
+        → R (Unit {0}) (for_between head body here first last) (for_between head body there first last)
+    of_for_between head body done first last =
+        of_chosen (has_values head.direction first last) (for_rounds head body here first last) (for_rounds head body there first last) (give tt) (give tt)
+        (of_for_rounds head body done first last) (closed.gives tt)
 
     -- ---- statements
 
@@ -460,20 +455,20 @@ module _ (R : (A : Type 0) → Action A → Action A → Type 0) (closed : Close
 
     pub of_stmt_layer : (y : Stmt-F RelatedStmt) → R (Unit {0}) (done (bare_stmt y) here) (done (bare_stmt y) there)
     of_stmt_layer (Empty number) = closed.enters number visible
-    of_stmt_layer (Assign number becomes target indexes fits value) =
-        closed.follows _ _ _ _ (closed.enters number visible)
-        (λ _. closed.follows _ _ _ _ (of_access target indexes.items)
-        (λ p. closed.follows _ _ _ _ (of_value value)
-        (λ v. closed.follows _ _ _ _ (of_require (is_in fits.range v) fits.site) (λ _. closed.stores p v))))
-    of_stmt_layer (Copy number becomes target indexes type_id value value_indexes) =
-        closed.follows _ _ _ _ (closed.enters number visible)
-        (λ _. closed.follows _ _ _ _ (of_access target indexes.items)
-        (λ p. closed.follows _ _ _ _ (of_whole_value value value_indexes.items)
-        (λ numbers. of_store_all p (components_of visible.types type_id) numbers)))
-    of_stmt_layer (Write number name parameters ends_line) =
-        closed.follows _ _ _ _ (closed.enters number visible)
-        (λ _. closed.follows _ _ _ _ (of_parameters parameters.items) (λ _. of_line_ended ends_line))
-    of_stmt_layer (Calling call actuals) = closed.follows _ _ _ _ (of_called call actuals.items) (λ _. closed.gives tt)
+    of_stmt_layer (Assign assignment) =
+        closed.follows _ _ _ _ (closed.enters assignment.number visible)
+        (λ _. closed.follows _ _ _ _ (of_access assignment.target assignment.indexes.items)
+        (λ p. closed.follows _ _ _ _ (of_value assignment.value)
+        (λ v. closed.follows _ _ _ _ (of_require (is_in assignment.fits.range v) assignment.fits.site) (λ _. closed.stores p v))))
+    of_stmt_layer (Copy copying) =
+        closed.follows _ _ _ _ (closed.enters copying.number visible)
+        (λ _. closed.follows _ _ _ _ (of_access copying.target copying.indexes.items)
+        (λ p. closed.follows _ _ _ _ (of_whole_value copying.value copying.value_indexes.items)
+        (λ numbers. of_store_all p (components_of visible.types copying.type_id) numbers)))
+    of_stmt_layer (Write writing) =
+        closed.follows _ _ _ _ (closed.enters writing.number visible)
+        (λ _. closed.follows _ _ _ _ (of_parameters writing.parameters.items) (λ _. of_line_ended writing.ends_line))
+    of_stmt_layer (Calling calling) = closed.follows _ _ _ _ (of_called calling.call calling.actuals.items) (λ _. closed.gives tt)
     of_stmt_layer (Compound number statements) = closed.follows _ _ _ _ (closed.enters number visible) (λ _. of_all statements.items)
     of_stmt_layer (If number condition consequence None) =
         closed.follows _ _ _ _ (closed.enters number visible)
@@ -485,23 +480,24 @@ module _ (R : (A : Type 0) → Action A → Action A → Type 0) (closed : Close
         (λ _. closed.follows _ _ _ _ (of_value condition)
         (λ v. of_chosen (is_so v) (effect_of consequence.value.0 here) (effect_of consequence.value.0 there) (effect_of alternative.value.0 here)
         (effect_of alternative.value.0 there) consequence.value.1 alternative.value.1))
-    of_stmt_layer (While number loop_number place condition body) =
-        closed.follows _ _ _ _ (closed.enters number visible)
-        (λ _. closed.whiles (value_of condition here) (value_of condition there) (effect_of body.value.0 here) (effect_of body.value.0 there)
-        (of_value condition) body.value.1)
-    of_stmt_layer (Repeat number loop_number place statements condition) =
+    of_stmt_layer (While head body) =
+        closed.follows _ _ _ _ (closed.enters head.number visible)
+        (λ _. closed.whiles (value_of head.condition here) (value_of head.condition there) (effect_of body.value.0 here) (effect_of body.value.0 there)
+        (of_value head.condition) body.value.1)
+    of_stmt_layer (Repeat head statements) =
         let all : Execution = all_of (map effect_of (map (λ e. e.0) statements.items)) in
-        closed.follows _ _ _ _ (closed.enters number visible)
-        (λ _. closed.repeats (all here) (all there) (value_of condition here) (value_of condition there) (of_all statements.items) (of_value condition))
-    of_stmt_layer (For number loop_number place control first first_fits direction last last_fits body) =
-        closed.follows _ _ _ _ (closed.enters number visible)
-        (λ _. closed.follows _ _ _ _ (of_value first)
-        (λ a. closed.follows _ _ _ _ (of_value last)
-        (λ b. closed.follows _ _ _ _ (of_for_between control first_fits direction last_fits (effect_of body.value.0) body.value.1 (number_of a) (number_of b))
-        (λ _. closed.undefines (visible.variables control)))))
-    of_stmt_layer (Case number site index constants arms) =
-        closed.follows _ _ _ _ (closed.enters number visible)
-        (λ _. closed.follows _ _ _ _ (of_value index) (λ v. of_arm site constants.items arms.items (number_of v)))
+        closed.follows _ _ _ _ (closed.enters head.number visible)
+        (λ _. closed.repeats (all here) (all there) (value_of head.condition here) (value_of head.condition there) (of_all statements.items)
+        (of_value head.condition))
+    of_stmt_layer (For head body) =
+        closed.follows _ _ _ _ (closed.enters head.number visible)
+        (λ _. closed.follows _ _ _ _ (of_value head.first.value)
+        (λ a. closed.follows _ _ _ _ (of_value head.last.value)
+        (λ b. closed.follows _ _ _ _ (of_for_between head (effect_of body.value.0) body.value.1 (number_of a) (number_of b))
+        (λ _. closed.undefines (visible.variables head.control)))))
+    of_stmt_layer (Case head arms) =
+        closed.follows _ _ _ _ (closed.enters head.number visible)
+        (λ _. closed.follows _ _ _ _ (of_value head.index) (λ v. of_arm head.site head.constants.items arms.items (number_of v)))
 
     pub of_effect : (e : Stmt) → IsRelatedStmt e
     of_effect = ind-Stmt IsRelatedStmt

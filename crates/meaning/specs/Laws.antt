@@ -8,12 +8,11 @@ use Rattle.std.specs.declared.boxed.Box.{Box}
 use Rattle.std.specs.declared.vec.Vec.{Vec}
 use Rattle.typed_tree.specs.declared.tree.Tree.{Tree}
 use Rattle.typed_tree.specs.declared.tree.Call.{Call}
-use Rattle.typed_tree.specs.declared.tree.Direction.{Direction}
 use Rattle.typed_tree.specs.declared.tree.Dyadic.{Dyadic}
 use Rattle.typed_tree.specs.declared.tree.Expr.{Expr}
+use Rattle.typed_tree.specs.declared.tree.ForHead.{ForHead}
 use Rattle.typed_tree.specs.declared.tree.Link.{Link}
 use Rattle.typed_tree.specs.declared.tree.Passed.{Passed}
-use Rattle.typed_tree.specs.declared.tree.RangeTest.{RangeTest}
 use Rattle.typed_tree.specs.declared.tree.Stmt.{Stmt}
 use Rattle.typed_tree.specs.declared.tree.Whole.{Whole}
 use Rattle.typed_tree.specs.declared.tree.Width.{Width}
@@ -125,9 +124,8 @@ pub record AllUseTurnsExactly (env : Surroundings) : Type 0 where
   pub widths : (width : Option Width) (default : ℤ) → UsesTurnsExactly (width_of width default env)
   pub written : (parameter : WriteParameter) → UsesTurnsExactly (parameter_of parameter env)
   pub statements : (statement : Stmt) → UsesTurnsExactly (effect_of statement env)
-  pub counted : (control : ℕ) (first_fits : RangeTest) (direction : Direction) (last_fits : RangeTest) (body : Stmt)
-      (first last : ℤ)
-      → UsesTurnsExactly (for_rounds control first_fits direction last_fits (effect_of body) env first last)
+  pub counted : (head : ForHead) (body : Stmt) (first last : ℤ)
+      → UsesTurnsExactly (for_rounds head (effect_of body) env first last)
 
 -- each piece does so, wherever it stands
 abbrev pub PiecesUseTurnsExactly : Type 0
@@ -145,8 +143,7 @@ pub record AllGoRoundByRound (env : Surroundings) : Type 0 where
       → GoesRoundByRound (while_round (value_of condition) (effect_of body) env)
   pub repeats : (statements : List Stmt) (condition : Expr)
       → GoesRoundByRound (repeat_round (all_of (map effect_of statements)) (value_of condition) env)
-  pub fors : (control : ℕ) (direction : Direction) (last : ℤ) (body : Stmt)
-      → GoesRoundByRound (for_round control direction last (effect_of body) env)
+  pub fors : (head : ForHead) (last : ℤ) (body : Stmt) → GoesRoundByRound (for_round head last (effect_of body) env)
 
 -- each loop is, wherever it stands
 abbrev pub LoopsGoRoundByRound : Type 0

@@ -36,8 +36,7 @@ use Rattle.typed_tree.specs.declared.tree.Relation.{Relation}
 use Rattle.typed_tree.specs.declared.tree.Relation.TheVariants as relation
 use Rattle.typed_tree.specs.declared.tree.Representation.{Representation}
 use Rattle.typed_tree.specs.declared.tree.Representation.TheVariants as representation
-use Rattle.typed_tree.specs.declared.tree.Direction.{Direction}
-use Rattle.typed_tree.specs.declared.tree.RangeTest.{RangeTest}
+use Rattle.typed_tree.specs.declared.tree.ForHead.{ForHead}
 use Rattle.typed_tree.specs.declared.tree.Width.{Width}
 use Rattle.typed_tree.specs.declared.tree.WriteParameter.{WriteParameter}
 use Rattle.typed_tree.specs.declared.tree.Written.{Written}
@@ -371,26 +370,24 @@ repeat_round body condition env start = do
   give (if is_so v then None else Some tt)
 
 -- a round of a for: its control variable gets a value, and then comes a turn (6.8.3.9)
-abbrev pub for_round : ℕ → Direction → ℤ → Execution → Surroundings → Round ℤ
-for_round control direction last body env n = do
-  _ ← store (env.visible.variables control) (Number n)
+abbrev pub for_round : ForHead → ℤ → Execution → Surroundings → Round ℤ
+for_round head last body env n = do
+  _ ← store (env.visible.variables head.control) (Number n)
   _ ← use_turn
   _ ← body env
-  give (value_behind direction last n)
+  give (value_behind head.direction last n)
 
 -- the rounds of a for whose bounds leave values; both bounds are tested before, the first one first
-abbrev pub for_rounds : ℕ → RangeTest → Direction → RangeTest → Execution → Surroundings → ℤ → ℤ → Action (Unit {0})
-for_rounds control first_fits direction last_fits body env first last = do
-  _ ← require (is_in first_fits.range (Number first)) first_fits.site
-  _ ← require (is_in last_fits.range (Number last)) last_fits.site
-  looped (for_round control direction last body env) first
+abbrev pub for_rounds : ForHead → Execution → Surroundings → ℤ → ℤ → Action (Unit {0})
+for_rounds head body env first last = do
+  _ ← require (is_in head.first.fits.range (Number first)) head.first.fits.site
+  _ ← require (is_in head.last.fits.range (Number last)) head.last.fits.site
+  looped (for_round head last body env) first
 
 -- a for from the numbers of its bounds
-abbrev pub for_between : ℕ → RangeTest → Direction → RangeTest → Execution → Surroundings → ℤ → ℤ → Action (Unit {0})
-for_between control first_fits direction last_fits body env first last =
-    if has_values direction first last
-    then for_rounds control first_fits direction last_fits body env first last
-    else give tt
+abbrev pub for_between : ForHead → Execution → Surroundings → ℤ → ℤ → Action (Unit {0})
+for_between head body env first last =
+    if has_values head.direction first last then for_rounds head body env first last else give tt
 
 -- whether a row of case constants holds a value
 abbrev pub is_among : List ℤ → ℤ → Bool
@@ -407,23 +404,23 @@ arm_of site (row ∷ rows) (arm ∷ arms) n env =
 -- one layer of a statement
 abbrev pub effect_step : Stmt-F Execution → Execution
 effect_step (Empty number) env = enter number env.visible
-effect_step (Assign number becomes target indexes fits value) env = do
-  _ ← enter number env.visible
-  place ← accessed target (values_of indexes.items) env
-  v ← value_of value env
-  _ ← require (is_in fits.range v) fits.site
+effect_step (Assign assignment) env = do
+  _ ← enter assignment.number env.visible
+  place ← accessed assignment.target (values_of assignment.indexes.items) env
+  v ← value_of assignment.value env
+  _ ← require (is_in assignment.fits.range v) assignment.fits.site
   store place v
-effect_step (Copy number becomes target indexes type_id value value_indexes) env = do
-  _ ← enter number env.visible
-  place ← accessed target (values_of indexes.items) env
-  values ← whole_of value (values_of value_indexes.items) env
-  store_all place (components_of env.visible.types type_id) values
-effect_step (Write number name parameters ends_line) env = do
-  _ ← enter number env.visible
-  _ ← all_of (map parameter_of parameters.items) env
-  line_ended ends_line
-effect_step (Calling call actuals) env = do
-  _ ← call_of call (map passing_of actuals.items) env
+effect_step (Copy copying) env = do
+  _ ← enter copying.number env.visible
+  place ← accessed copying.target (values_of copying.indexes.items) env
+  values ← whole_of copying.value (values_of copying.value_indexes.items) env
+  store_all place (components_of env.visible.types copying.type_id) values
+effect_step (Write writing) env = do
+  _ ← enter writing.number env.visible
+  _ ← all_of (map parameter_of writing.parameters.items) env
+  line_ended writing.ends_line
+effect_step (Calling calling) env = do
+  _ ← call_of calling.call (map passing_of calling.actuals.items) env
   give tt
 effect_step (Compound number statements) env = do
   _ ← enter number env.visible
@@ -432,22 +429,22 @@ effect_step (If number condition consequence alternative) env = do
   _ ← enter number env.visible
   v ← value_of condition env
   if is_so v then consequence.value env else alternative_of alternative env
-effect_step (While number loop_number place condition body) env = do
-  _ ← enter number env.visible
-  looped (while_round (value_of condition) body.value env) tt
-effect_step (Repeat number loop_number place statements condition) env = do
-  _ ← enter number env.visible
-  looped (repeat_round (all_of statements.items) (value_of condition) env) tt
-effect_step (For number loop_number place control first first_fits direction last last_fits body) env = do
-  _ ← enter number env.visible
-  a ← value_of first env
-  b ← value_of last env
-  _ ← for_between control first_fits direction last_fits body.value env (number_of a) (number_of b)
-  undefine (env.visible.variables control)
-effect_step (Case number site index constants arms) env = do
-  _ ← enter number env.visible
-  v ← value_of index env
-  arm_of site constants.items arms.items (number_of v) env
+effect_step (While head body) env = do
+  _ ← enter head.number env.visible
+  looped (while_round (value_of head.condition) body.value env) tt
+effect_step (Repeat head statements) env = do
+  _ ← enter head.number env.visible
+  looped (repeat_round (all_of statements.items) (value_of head.condition) env) tt
+effect_step (For head body) env = do
+  _ ← enter head.number env.visible
+  a ← value_of head.first.value env
+  b ← value_of head.last.value env
+  _ ← for_between head body.value env (number_of a) (number_of b)
+  undefine (env.visible.variables head.control)
+effect_step (Case head arms) env = do
+  _ ← enter head.number env.visible
+  v ← value_of head.index env
+  arm_of head.site head.constants.items arms.items (number_of v) env
 
 -- what a statement does
 abbrev pub effect_of : Stmt → Execution

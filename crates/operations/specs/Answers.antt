@@ -7,6 +7,7 @@ use Rattle.std.specs.declared.alloc.Global.{Global}
 use Rattle.types.specs.declared.form.OrdinalRange.{OrdinalRange}
 use Rattle.typed_tree.specs.declared.tree.Direction.{Direction}
 use Rattle.typed_tree.specs.declared.tree.Direction.TheVariants.{To, DownTo}
+use Rattle.typed_tree.specs.declared.tree.ForHead.{ForHead}
 use Rattle.typed_tree.specs.declared.tree.RangeTest.{RangeTest}
 use Rattle.typed_tree.specs.declared.tree.Stmt.{Stmt}
 use Rattle.meaning.specs.declared.outcome.Ending.TheVariants as ending
@@ -36,10 +37,10 @@ both_bounds (Ok first) (Err site) = Err site
 both_bounds (Ok first) (Ok last) = Ok (Some (first, last))
 
 -- the bounds of a for, if they leave any value between them
-abbrev pub bounds_tested : Direction → RangeTest → ℤ → RangeTest → ℤ → Result (Option (ℤ × ℤ)) ℕ
-bounds_tested direction first_fits first last_fits last =
-    if has_values direction first last
-    then both_bounds (number_tested first_fits first) (number_tested last_fits last)
+abbrev pub bounds_tested : ForHead → ℤ → ℤ → Result (Option (ℤ × ℤ)) ℕ
+bounds_tested head first last =
+    if has_values head.direction first last
+    then both_bounds (number_tested head.first.fits first) (number_tested head.last.fits last)
     else Ok None
 
 -- the arm at a value of the index of a case, if any constants hold it

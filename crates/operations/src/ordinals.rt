@@ -6,7 +6,7 @@ ghost use Rattle.operations.specs.Answers.{Answers, bounds_tested, checked, numb
 
 use meaning::store::{Ordinal, Value};
 use typed_tree::tree::{
-    Calculation, Direction, Dyadic, Monadic, RangeTest, Relation, Representation, Shift,
+    Calculation, Direction, Dyadic, ForHead, Monadic, RangeTest, Relation, Representation, Shift,
 };
 use types::OrdinalRange;
 
@@ -126,21 +126,19 @@ fn is_in(range: OrdinalRange, value: &Value) -> bool
 /// The bounds of a for, or nothing where they leave no value between them; or the site at which one of them is outside
 /// the type of the control variable, the first tested first (ISO 7185:1990, 6.8.3.9).
 pub fn tested_bounds(
-    direction: Direction,
-    first_fits: RangeTest,
+    head: &ForHead,
     first: Ordinal,
-    last_fits: RangeTest,
     last: Ordinal,
 ) -> Result<Option<(i32, i32)>, u32>
-    ensures { result ≡ bounds_tested direction first_fits first last_fits last }
+    ensures { result ≡ bounds_tested head.now first last }
 {
-    let any = match direction {
+    let any = match head.direction {
         Direction::To => first.is_at_most(last),
         Direction::DownTo => last.is_at_most(first),
     };
     if any {
-        let first = tested_number(first_fits, first)?;
-        let last = tested_number(last_fits, last)?;
+        let first = tested_number(head.first.fits, first)?;
+        let last = tested_number(head.last.fits, last)?;
         Ok(Some((first, last)))
     } else {
         Ok(None)

@@ -1,22 +1,26 @@
 -- How the forms of a typed tree look, as code builds them; and that the look of a tree tells its entries, and whether its
 -- blocks are well formed.
-use Rattle.std.proofs.Common.{◌≡◌, ℕ, ℤ, Bool, true, false, [], ◌∷◌, ◌++◌, length, map, Some, None, sym, ap, ◌∙◌}
+use Rattle.std.proofs.Common.{◌≡◌, ℕ, ℤ, true, false, [], ◌∷◌, ◌++◌, length, map, Some, None, sym, ap, ◌∙◌}
 use Rattle.std.proofs.Common.{Box, Vec}
 use Rattle.std.specs.Prelude.{flat_map}
 use Rattle.std.specs.declared.alloc.Global.{Global}
 use Rattle.std.proofs.lemmas.List.{length-map}
 use Rattle.std.proofs.lemmas.List.Folds.{flat_map-map}
-use Rattle.place.specs.declared.Place.{Place}
 use Rattle.types.specs.declared.form.TypeId.{TypeId}
 use Rattle.typed_tree.specs.declared.tree.Access.{Access}
 use Rattle.typed_tree.specs.declared.tree.Monadic.{Monadic as MonadicOperation}
 use Rattle.typed_tree.specs.declared.tree.RangeTest.{RangeTest}
-use Rattle.typed_tree.specs.declared.tree.Direction.{Direction}
 use Rattle.typed_tree.specs.declared.tree.Relation.{Relation}
 use Rattle.typed_tree.specs.declared.tree.Dyadic.TheVariants as dyadic
-use Rattle.typed_tree.specs.declared.tree.WriteParameter.{WriteParameter}
 use Rattle.typed_tree.specs.declared.tree.Whole.{Whole}
 use Rattle.typed_tree.specs.declared.tree.Call.{Call}
+use Rattle.typed_tree.specs.declared.tree.Assignment.{Assignment}
+use Rattle.typed_tree.specs.declared.tree.CaseHead.{CaseHead}
+use Rattle.typed_tree.specs.declared.tree.Copying.{Copying}
+use Rattle.typed_tree.specs.declared.tree.ForHead.{ForHead}
+use Rattle.typed_tree.specs.declared.tree.LoopHead.{LoopHead}
+use Rattle.typed_tree.specs.declared.tree.ProcedureCall.{ProcedureCall}
+use Rattle.typed_tree.specs.declared.tree.Writing.{Writing}
 use Rattle.typed_tree.specs.declared.tree.Expr.{Expr}
 use Rattle.typed_tree.specs.declared.tree.Passed.{Passed}
 use Rattle.typed_tree.specs.declared.tree.Passed.TheVariants as actual
@@ -118,34 +122,30 @@ look_link_out link = fold_out-Link Look Passing Look expression_look passed_look
 pub look_empty : (number : ℕ) → look_stmt (stmt.Empty number) ≡ Empty number ∷ []
 look_empty number = ap look_stmt (sym (stmt.rolls-Empty number)) ∙ fold-roll-Stmt Look statement_look (stmt_layer.Empty number)
 
-pub look_assign : (number : ℕ) (becomes : Place) (target : Access) (indexes : Vec Expr Global) (fits : RangeTest) (value : Expr)
-    → look_stmt (stmt.Assign number becomes target indexes fits value)
-    ≡ Assign number becomes
-    ∷ (look_access target indexes.items (Target target.root target.selectors.items (length indexes.items))
-    ++ (look_expr value ++ (Fits target.root target.selectors.items fits ∷ [])))
-look_assign number becomes target indexes fits value =
-    ap look_stmt (sym (stmt.rolls-Assign number becomes target indexes fits value))
-    ∙ fold-roll-Stmt Look statement_look (stmt_layer.Assign number becomes target indexes fits value)
+pub look_assign : (assignment : Assignment)
+    → look_stmt (stmt.Assign assignment)
+    ≡ Assign assignment.number assignment.becomes
+    ∷ (look_access assignment.target assignment.indexes.items
+    (Target assignment.target.root assignment.target.selectors.items (length assignment.indexes.items))
+    ++ (look_expr assignment.value ++ (Fits assignment.target.root assignment.target.selectors.items assignment.fits ∷ [])))
+look_assign assignment = ap look_stmt (sym (stmt.rolls-Assign assignment)) ∙ fold-roll-Stmt Look statement_look (stmt_layer.Assign assignment)
 
-pub look_copy : (number : ℕ) (becomes : Place) (target : Access) (indexes : Vec Expr Global) (type_id : TypeId) (value : Whole)
-    (value_indexes : Vec Expr Global)
-    → look_stmt (stmt.Copy number becomes target indexes type_id value value_indexes)
-    ≡ Assign number becomes
-    ∷ (look_access target indexes.items (WholeTarget target.root target.selectors.items (length indexes.items) type_id)
-    ++ (look_whole value value_indexes.items ++ (Copied type_id (source_of value) (length_of value) ∷ [])))
-look_copy number becomes target indexes type_id value value_indexes =
-    ap look_stmt (sym (stmt.rolls-Copy number becomes target indexes type_id value value_indexes))
-    ∙ fold-roll-Stmt Look statement_look (stmt_layer.Copy number becomes target indexes type_id value value_indexes)
+pub look_copy : (copying : Copying)
+    → look_stmt (stmt.Copy copying)
+    ≡ Assign copying.number copying.becomes
+    ∷ (look_access copying.target copying.indexes.items
+    (WholeTarget copying.target.root copying.target.selectors.items (length copying.indexes.items) copying.type_id)
+    ++ (look_whole copying.value copying.value_indexes.items
+    ++ (Copied copying.type_id (source_of copying.value) (length_of copying.value) ∷ [])))
+look_copy copying = ap look_stmt (sym (stmt.rolls-Copy copying)) ∙ fold-roll-Stmt Look statement_look (stmt_layer.Copy copying)
 
-pub look_write : (number : ℕ) (name : Place) (parameters : Vec WriteParameter Global) (ends_line : Bool)
-    → look_stmt (stmt.Write number name parameters ends_line) ≡ Write number name ends_line ∷ (flat_map look_parameter parameters.items ++ (Ends ∷ []))
-look_write number name parameters ends_line =
-    ap look_stmt (sym (stmt.rolls-Write number name parameters ends_line))
-    ∙ fold-roll-Stmt Look statement_look (stmt_layer.Write number name parameters ends_line)
+pub look_write : (writing : Writing)
+    → look_stmt (stmt.Write writing)
+    ≡ Write writing.number writing.name writing.ends_line ∷ (flat_map look_parameter writing.parameters.items ++ (Ends ∷ []))
+look_write writing = ap look_stmt (sym (stmt.rolls-Write writing)) ∙ fold-roll-Stmt Look statement_look (stmt_layer.Write writing)
 
-pub look_procedure_call : (call : Call) (actuals : Vec Passed Global) → look_stmt (stmt.Call call actuals) ≡ look_call false call actuals.items
-look_procedure_call call actuals =
-    ap look_stmt (sym (stmt.rolls-Call call actuals)) ∙ fold-roll-Stmt Look statement_look (stmt_layer.Call call actuals)
+pub look_procedure_call : (calling : ProcedureCall) → look_stmt (stmt.Call calling) ≡ look_call false calling.call calling.actuals.items
+look_procedure_call calling = ap look_stmt (sym (stmt.rolls-Call calling)) ∙ fold-roll-Stmt Look statement_look (stmt_layer.Call calling)
 
 pub look_compound : (number : ℕ) (statements : Vec Stmt Global)
     → look_stmt (stmt.Compound number statements) ≡ Compound number ∷ (flat_map look_stmt statements.items ++ (Ends ∷ []))
@@ -167,36 +167,32 @@ look_if_else number condition consequence alternative =
     ap look_stmt (sym (stmt.rolls-If number condition consequence (Some alternative)))
     ∙ fold-roll-Stmt Look statement_look (stmt_layer.If number condition consequence (Some alternative))
 
-pub look_while : (number loop_number : ℕ) (place : Place) (condition : Expr) (body : Box Stmt Global)
-    → look_stmt (stmt.While number loop_number place condition body)
-    ≡ While number loop_number place ∷ (look_expr condition ++ (Do ∷ (look_stmt body.value ++ (Ends ∷ []))))
-look_while number loop_number place condition body =
-    ap look_stmt (sym (stmt.rolls-While number loop_number place condition body))
-    ∙ fold-roll-Stmt Look statement_look (stmt_layer.While number loop_number place condition body)
+pub look_while : (head : LoopHead) (body : Box Stmt Global)
+    → look_stmt (stmt.While head body)
+    ≡ While head.number head.loop_number head.place ∷ (look_expr head.condition ++ (Do ∷ (look_stmt body.value ++ (Ends ∷ []))))
+look_while head body = ap look_stmt (sym (stmt.rolls-While head body)) ∙ fold-roll-Stmt Look statement_look (stmt_layer.While head body)
 
-pub look_repeat : (number loop_number : ℕ) (place : Place) (statements : Vec Stmt Global) (condition : Expr)
-    → look_stmt (stmt.Repeat number loop_number place statements condition)
-    ≡ Repeat number loop_number place ∷ (flat_map look_stmt statements.items ++ (Until ∷ (look_expr condition ++ (Ends ∷ []))))
-look_repeat number loop_number place statements condition =
-    ap look_stmt (sym (stmt.rolls-Repeat number loop_number place statements condition))
-    ∙ fold-roll-Stmt Look statement_look (stmt_layer.Repeat number loop_number place statements condition)
-    ∙ ap (λ rows. Repeat number loop_number place ∷ (rows ++ (Until ∷ (look_expr condition ++ (Ends ∷ [])))))
+pub look_repeat : (head : LoopHead) (statements : Vec Stmt Global)
+    → look_stmt (stmt.Repeat head statements)
+    ≡ Repeat head.number head.loop_number head.place
+    ∷ (flat_map look_stmt statements.items ++ (Until ∷ (look_expr head.condition ++ (Ends ∷ []))))
+look_repeat head statements =
+    ap look_stmt (sym (stmt.rolls-Repeat head statements))
+    ∙ fold-roll-Stmt Look statement_look (stmt_layer.Repeat head statements)
+    ∙ ap (λ rows. Repeat head.number head.loop_number head.place ∷ (rows ++ (Until ∷ (look_expr head.condition ++ (Ends ∷ [])))))
     (flat_map-map (λ (row : Look). row) look_stmt statements.items)
 
-pub look_for : (number loop_number : ℕ) (place : Place) (control : ℕ) (first : Expr) (first_fits : RangeTest) (direction : Direction) (last : Expr)
-    (last_fits : RangeTest) (body : Box Stmt Global)
-    → look_stmt (stmt.For number loop_number place control first first_fits direction last last_fits body)
-    ≡ For number loop_number place control direction
-    ∷ (look_expr first
-    ++ (Fits control [] first_fits
-    ∷ (look_expr last ++ (Fits control [] last_fits ∷ Controls control ∷ (look_stmt body.value ++ (ForEnds ∷ []))))))
-look_for number loop_number place control first first_fits direction last last_fits body =
-    ap look_stmt (sym (stmt.rolls-For number loop_number place control first first_fits direction last last_fits body))
-    ∙ fold-roll-Stmt Look statement_look (stmt_layer.For number loop_number place control first first_fits direction last last_fits body)
+pub look_for : (head : ForHead) (body : Box Stmt Global)
+    → look_stmt (stmt.For head body)
+    ≡ For head.number head.loop_number head.place head.control head.direction
+    ∷ (look_expr head.first.value
+    ++ (Fits head.control [] head.first.fits
+    ∷ (look_expr head.last.value
+    ++ (Fits head.control [] head.last.fits ∷ Controls head.control ∷ (look_stmt body.value ++ (ForEnds ∷ []))))))
+look_for head body = ap look_stmt (sym (stmt.rolls-For head body)) ∙ fold-roll-Stmt Look statement_look (stmt_layer.For head body)
 
-pub look_case : (number site : ℕ) (index : Expr) (constants : Vec (Vec ℤ Global) Global) (arms : Vec Stmt Global)
-    → look_stmt (stmt.Case number site index constants arms)
-    ≡ Case number site ∷ (look_expr index ++ (arms_look constants.items (map look_stmt arms.items) ++ (Ends ∷ [])))
-look_case number site index constants arms =
-    ap look_stmt (sym (stmt.rolls-Case number site index constants arms))
-    ∙ fold-roll-Stmt Look statement_look (stmt_layer.Case number site index constants arms)
+pub look_case : (head : CaseHead) (arms : Vec Stmt Global)
+    → look_stmt (stmt.Case head arms)
+    ≡ Case head.number head.site
+    ∷ (look_expr head.index ++ (arms_look head.constants.items (map look_stmt arms.items) ++ (Ends ∷ [])))
+look_case head arms = ap look_stmt (sym (stmt.rolls-Case head arms)) ∙ fold-roll-Stmt Look statement_look (stmt_layer.Case head arms)

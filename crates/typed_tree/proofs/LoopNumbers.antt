@@ -79,7 +79,8 @@ numbers_layer (Empty number) = refl
 numbers_layer (Assign assignment) =
     let does = Target assignment.target.root assignment.target.selectors.items (length assignment.indexes.items) in
     let end = FitsMark assignment.target.root assignment.target.selectors.items assignment.fits in
-    behind (look_access assignment.target assignment.indexes.items does) (look_expr assignment.value ++ (end ∷ [])) (quiet_accessed assignment.target assignment.indexes.items does (refl, refl)).0
+    behind (look_access assignment.target assignment.indexes.items does) (look_expr assignment.value ++ (end ∷ []))
+    (quiet_accessed assignment.target assignment.indexes.items does (refl, refl)).0
     ∙ ended (look_expr assignment.value) end refl ∙ (quiet_expr assignment.value).0
 numbers_layer (Copy copying) =
     let does = WholeTarget copying.target.root copying.target.selectors.items (length copying.indexes.items) copying.type_id in
@@ -88,8 +89,7 @@ numbers_layer (Copy copying) =
     (quiet_accessed copying.target copying.indexes.items does (refl, refl)).0
     ∙ ended (look_whole copying.value copying.value_indexes.items) end refl
     ∙ (quiet_value copying.value copying.value_indexes.items).0
-numbers_layer (Write writing) =
-    ended (flat_map look_parameter writing.parameters.items) Ends refl ∙ (quiet_parameters writing.parameters.items).0
+numbers_layer (Write writing) = ended (flat_map look_parameter writing.parameters.items) Ends refl ∙ (quiet_parameters writing.parameters.items).0
 numbers_layer (Calling calling) = (quiet_called false calling.call calling.actuals.items).0
 numbers_layer (Compound number statements) = ended (joined (map look_stmt (map (λ s. s.0) statements.items))) Ends refl ∙ numbers_joined statements.items
 numbers_layer (If number condition consequence None) =
@@ -130,8 +130,7 @@ numbers_stmt =
 numbers_block : (number : ℕ) (block : Option Block)
     → loops_of_look (of_block look_block number block) ≡ map (λ l. l.0) (of_block (λ number. loops_of_block) number block)
 numbers_block number None = refl
-numbers_block number (Some block) =
-    ended (look_stmt block.body) (heading_look number block.heading block.end) refl ∙ numbers_stmt block.body
+numbers_block number (Some block) = ended (look_stmt block.body) (heading_look number block.heading block.end) refl ∙ numbers_stmt block.body
 
 -- the look of a tree tells the numbers of its loops
 pub loop_numbers_are : (tree : Tree) → loops_of_look (tree_look tree) ≡ map (λ l. l.0) (loops_of tree)

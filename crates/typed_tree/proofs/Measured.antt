@@ -251,8 +251,7 @@ entries_layer (CallOf call actuals) =
     (entries_placed actuals.items call.block 0)
 
 entries_passed_layer : PassedLayers entries_of_look passed_view expression_entries passed_entries link_entries
-entries_passed_layer (PassedValue value fits) callee position =
-    entries_ended (look_expr value.0) (ForValue fits callee position) refl ∙ value.1
+entries_passed_layer (PassedValue value fits) callee position = entries_ended (look_expr value.0) (ForValue fits callee position) refl ∙ value.1
 entries_passed_layer (PassedWhole type_id value indexes) callee position =
     let inside = map (λ e. e.0) indexes.items in
     entries_ended (whole_look value (map look_expr inside)) (ForWhole type_id (source_of value) (length_of value) callee position) refl
@@ -331,7 +330,8 @@ entries_stmt_layer (Assign assignment) =
     ap (λ entries. assignment.number ∷ entries)
     (flat_map-append mark_entries (look_access assignment.target assignment.indexes.items does) (look_expr assignment.value ++ (end ∷ []))
     ∙ ap₂ (λ a b. a ++ b)
-    (entries_access assignment.target (map look_expr assignment.indexes.items) (map entries_of_expression assignment.indexes.items) does (entries_indexes assignment.indexes.items) refl)
+    (entries_access assignment.target (map look_expr assignment.indexes.items) (map entries_of_expression assignment.indexes.items) does
+    (entries_indexes assignment.indexes.items) refl)
     (entries_ended (look_expr assignment.value) end refl ∙ entries_expr assignment.value))
 entries_stmt_layer (Copy copying) =
     let does = WholeTarget copying.target.root copying.target.selectors.items (length copying.indexes.items) copying.type_id in
@@ -340,7 +340,8 @@ entries_stmt_layer (Copy copying) =
     ap (λ entries. copying.number ∷ entries)
     (flat_map-append mark_entries (look_access copying.target copying.indexes.items does) (copied ++ (end ∷ []))
     ∙ ap₂ (λ a b. a ++ b)
-    (entries_access copying.target (map look_expr copying.indexes.items) (map entries_of_expression copying.indexes.items) does (entries_indexes copying.indexes.items) refl)
+    (entries_access copying.target (map look_expr copying.indexes.items) (map entries_of_expression copying.indexes.items) does
+    (entries_indexes copying.indexes.items) refl)
     (entries_ended copied end refl
     ∙ entries_whole copying.value (map look_expr copying.value_indexes.items) (map entries_of_expression copying.value_indexes.items)
     (entries_indexes copying.value_indexes.items)))
@@ -349,7 +350,8 @@ entries_stmt_layer (Write writing) =
     (entries_ended (flat_map look_parameter writing.parameters.items) Ends refl
     ∙ entries_mapped look_parameter entries_of_parameter entries_parameter writing.parameters.items)
 entries_stmt_layer (Calling calling) =
-    entries_call false calling.call (map look_passed calling.actuals.items) (map entries_of_passed calling.actuals.items) (entries_actuals calling.actuals.items calling.call.block 0)
+    entries_call false calling.call (map look_passed calling.actuals.items) (map entries_of_passed calling.actuals.items)
+    (entries_actuals calling.actuals.items calling.call.block 0)
 entries_stmt_layer (Compound number statements) =
     let rows = joined (map look_stmt (map (λ s. s.0) statements.items)) in
     ap (λ entries. number ∷ entries) (entries_ended rows Ends refl ∙ entries_joined look_stmt entries_of_statement statements.items)
@@ -599,8 +601,7 @@ module _ (outline : Outline) (block_number : ℕ) where
       ∙ and_turned (is_well_formed_expr outline block_number width.value) (nat_lt width.site outline.sites)
 
   formed_written : (value : WrittenValue) → is_formed (look_written value) ≡ is_well_formed_written outline block_number value
-  formed_written (Ordinal value representation) =
-      formed_ended (look_expr value) (WrittenMark representation) refl ∙ formed_expr value
+  formed_written (Ordinal value representation) = formed_ended (look_expr value) (WrittenMark representation) refl ∙ formed_expr value
   formed_written (String value indexes) = formed_ended (look_whole value indexes.items) WrittenString refl ∙ formed_value value indexes.items
 
   formed_parameter : (parameter : WriteParameter) → is_formed (look_parameter parameter) ≡ is_well_formed_parameter outline block_number parameter
@@ -626,8 +627,7 @@ module _ (outline : Outline) (block_number : ℕ) where
       ≡ (list_all are_whole rows && all_hold (map (is_well_formed_stmt outline block_number) (map (λ s. s.0) ys)))
   formed_arms [] [] = refl
   formed_arms (row ∷ rows) [] = ap (λ b. are_whole row && b) (formed_arms rows []) ∙ and_shifted (are_whole row) true (list_all are_whole rows) true
-  formed_arms [] (y ∷ ys) =
-      formed_cut (look_stmt y.0) (arms_look [] (map look_stmt (map (λ s. s.0) ys))) ∙ ap₂ (λ a b. a && b) y.1 (formed_arms [] ys)
+  formed_arms [] (y ∷ ys) = formed_cut (look_stmt y.0) (arms_look [] (map look_stmt (map (λ s. s.0) ys))) ∙ ap₂ (λ a b. a && b) y.1 (formed_arms [] ys)
   formed_arms (row ∷ rows) (y ∷ ys) =
       ap (λ b. are_whole row && b)
       (formed_cut (look_stmt y.0) (arms_look rows (map look_stmt (map (λ s. s.0) ys))) ∙ ap₂ (λ a b. a && b) y.1 (formed_arms rows ys))
@@ -656,14 +656,16 @@ module _ (outline : Outline) (block_number : ℕ) where
       formed_cut (look_access copying.target copying.indexes.items does) (copied ++ (end ∷ []))
       ∙ ap₂ (λ a b. a && b) (formed_access copying.target (map look_expr copying.indexes.items) tests does (formed_indexes copying.indexes.items))
       (formed_cut copied (end ∷ []) ∙ ap (λ b. b && (fits && true)) (formed_value copying.value copying.value_indexes.items))
-      ∙ and_assigned (all_hold tests) (is_formed_mark outline block_number does) (is_well_formed_value outline block_number copying.value copying.value_indexes.items) fits
+      ∙ and_assigned (all_hold tests) (is_formed_mark outline block_number does)
+      (is_well_formed_value outline block_number copying.value copying.value_indexes.items) fits
   formed_stmt_layer (Write writing) =
       formed_ended (flat_map look_parameter writing.parameters.items) Ends refl
       ∙ formed_mapped look_parameter (is_well_formed_parameter outline block_number) formed_parameter writing.parameters.items
       ∙ sym (list_all-map (λ b. b) (is_well_formed_parameter outline block_number) writing.parameters.items)
   formed_stmt_layer (Calling calling) =
       let test = is_well_formed_passed outline block_number in
-      formed_call false calling.call (map look_passed calling.actuals.items) (map test calling.actuals.items) (formed_actuals calling.actuals.items calling.call.block 0)
+      formed_call false calling.call (map look_passed calling.actuals.items) (map test calling.actuals.items)
+      (formed_actuals calling.actuals.items calling.call.block 0)
       (length-map calling.actuals.items look_passed ∙ sym (length-map calling.actuals.items test))
   formed_stmt_layer (Compound number statements) =
       formed_ended (joined (map look_stmt (map (λ s. s.0) statements.items))) Ends refl

@@ -118,8 +118,7 @@ quiet_layer (Compare number relation left left_indexes right right_indexes) =
     (quiet_whole left (map look_expr (map (λ e. e.0) left_indexes.items)) (quiet_joined look_expr left_indexes.items))
     (quiet_then second (_ ∷ _ ∷ [])
     (quiet_whole right (map look_expr (map (λ e. e.0) right_indexes.items)) (quiet_joined look_expr right_indexes.items)) (refl, refl))
-quiet_layer (CallOf call actuals) =
-    quiet_call true call (map look_passed (map (λ p. p.0) actuals.items)) (quiet_placed actuals.items call.block 0)
+quiet_layer (CallOf call actuals) = quiet_call true call (map look_passed (map (λ p. p.0) actuals.items)) (quiet_placed actuals.items call.block 0)
 
 quiet_passed_layer : (y : Passed-F (QuietOne look_expr) QuietPassed (QuietOne look_link)) (callee position : ℕ)
     → Quiet (passed_layer (bare_passed y) callee position)
@@ -218,17 +217,16 @@ inner_arms (row ∷ rows) (y ∷ ys) = inner_then (look_stmt y.0) (arms_look row
 inner_layer : (y : Stmt-F InnerStmt) → Inner (statement_look (map-Stmt Stmt Look look_stmt (bare_stmt y)))
 inner_layer (Empty number) = refl
 inner_layer (Assign assignment) =
-    inner_then (look_access assignment.target assignment.indexes.items _) (look_expr assignment.value ++ (_ ∷ [])) (quiet_accessed assignment.target assignment.indexes.items _ (refl, refl)).1
+    inner_then (look_access assignment.target assignment.indexes.items _) (look_expr assignment.value ++ (_ ∷ []))
+    (quiet_accessed assignment.target assignment.indexes.items _ (refl, refl)).1
     (inner_then (look_expr assignment.value) (_ ∷ []) (quiet_expr assignment.value).1 refl)
 inner_layer (Copy copying) =
     inner_then (look_access copying.target copying.indexes.items _) (look_whole copying.value copying.value_indexes.items ++ (_ ∷ []))
     (quiet_accessed copying.target copying.indexes.items _ (refl, refl)).1
     (inner_then (look_whole copying.value copying.value_indexes.items) (_ ∷ []) (quiet_value copying.value copying.value_indexes.items).1 refl)
-inner_layer (Write writing) =
-    inner_then (flat_map look_parameter writing.parameters.items) (_ ∷ []) (quiet_parameters writing.parameters.items).1 refl
+inner_layer (Write writing) = inner_then (flat_map look_parameter writing.parameters.items) (_ ∷ []) (quiet_parameters writing.parameters.items).1 refl
 inner_layer (Calling calling) = (quiet_called false calling.call calling.actuals.items).1
-inner_layer (Compound number statements) =
-    inner_then (joined (map look_stmt (map (λ s. s.0) statements.items))) (_ ∷ []) (inner_joined statements.items) refl
+inner_layer (Compound number statements) = inner_then (joined (map look_stmt (map (λ s. s.0) statements.items))) (_ ∷ []) (inner_joined statements.items) refl
 inner_layer (If number condition consequence None) =
     inner_then (look_expr condition) (_ ∷ (look_stmt consequence.value.0 ++ (_ ∷ []))) (quiet_expr condition).1
     (inner_then (look_stmt consequence.value.0) (_ ∷ []) consequence.value.1 refl)
@@ -248,7 +246,8 @@ inner_layer (For head body) =
     (inner_then (look_stmt body.value.0) (_ ∷ []) body.value.1 refl))
 inner_layer (Case head arms) =
     let inside = arms_look head.constants.items (map look_stmt (map (λ s. s.0) arms.items)) in
-    inner_then (look_expr head.index) (inside ++ (_ ∷ [])) (quiet_expr head.index).1 (inner_then inside (_ ∷ []) (inner_arms head.constants.items arms.items) refl)
+    inner_then (look_expr head.index) (inside ++ (_ ∷ [])) (quiet_expr head.index).1
+    (inner_then inside (_ ∷ []) (inner_arms head.constants.items arms.items) refl)
 
 -- no block ends in a statement
 pub inner_stmt : (s : Stmt) → Inner (look_stmt s)

@@ -98,23 +98,23 @@ alternative_entries (Some entries) = entries.value
 abbrev pub statement_entries : Stmt-F (List ℕ) → List ℕ
 statement_entries (Empty number) = number ∷ []
 statement_entries (Assign assignment) =
-    assignment.number ∷ (access_entries assignment.target (index_entries assignment.indexes.items) ++ entries_of_expression assignment.value)
+    assignment.number ∷ (access_entries assignment.target (index_entries assignment.indexes.items)
+    ++ entries_of_expression assignment.value)
 statement_entries (Copy copying) =
     copying.number
-    ∷ (access_entries copying.target (index_entries copying.indexes.items) ++ whole_entries copying.value (index_entries copying.value_indexes.items))
+    ∷ (access_entries copying.target (index_entries copying.indexes.items)
+    ++ whole_entries copying.value (index_entries copying.value_indexes.items))
 statement_entries (Write writing) = writing.number ∷ flat_map entries_of_parameter writing.parameters.items
 statement_entries (Calling calling) = call_entries calling.call (map entries_of_passed calling.actuals.items)
 statement_entries (Compound number statements) = number ∷ joined statements.items
 statement_entries (If number condition consequence alternative) =
     number ∷ (entries_of_expression condition ++ (consequence.value ++ alternative_entries alternative))
-statement_entries (While head body) =
-    head.number ∷ (entries_of_expression head.condition ++ body.value)
+statement_entries (While head body) = head.number ∷ (entries_of_expression head.condition ++ body.value)
 statement_entries (Repeat head statements) =
     head.number ∷ (joined statements.items ++ entries_of_expression head.condition)
 statement_entries (For head body) =
     head.number ∷ (entries_of_expression head.first.value ++ (entries_of_expression head.last.value ++ body.value))
-statement_entries (Case head arms) =
-    head.number ∷ (entries_of_expression head.index ++ joined arms.items)
+statement_entries (Case head arms) = head.number ∷ (entries_of_expression head.index ++ joined arms.items)
 
 -- the numbers of a statement's entries
 abbrev pub entries_of_statement : Stmt → List ℕ
@@ -135,8 +135,7 @@ of_block part number (Some block) = part number block
 
 -- what the blocks have, in the order in which the text has their statements
 abbrev pub in_text : {A : Type 0} → (ℕ → Block → List A) → Tree → List A
-in_text part tree =
-    flat_map (λ number. of_block part number (slice_get tree.blocks.items number)) tree.bodies.items
+in_text part tree = flat_map (λ number. of_block part number (slice_get tree.blocks.items number)) tree.bodies.items
 
 -- the numbers of a program's entries, in the order of the text
 abbrev pub entries_in_text : Tree → List ℕ

@@ -227,15 +227,19 @@ abbrev pub statement_look : Stmt-F Look → Look
 statement_look (EmptyOf number) = Empty number ∷ []
 statement_look (AssignOf assignment) =
     Assign assignment.number assignment.becomes
-    ∷ (look_access assignment.target assignment.indexes.items (Target assignment.target.root assignment.target.selectors.items (length assignment.indexes.items))
-    ++ (look_expr assignment.value ++ (Fits assignment.target.root assignment.target.selectors.items assignment.fits ∷ [])))
+    ∷ (look_access assignment.target assignment.indexes.items
+    (Target assignment.target.root assignment.target.selectors.items (length assignment.indexes.items))
+    ++ (look_expr assignment.value
+    ++ (Fits assignment.target.root assignment.target.selectors.items assignment.fits ∷ [])))
 statement_look (CopyOf copying) =
     Assign copying.number copying.becomes
     ∷ (look_access copying.target copying.indexes.items
     (WholeTarget copying.target.root copying.target.selectors.items (length copying.indexes.items) copying.type_id)
-    ++ (look_whole copying.value copying.value_indexes.items ++ (Copied copying.type_id (source_of copying.value) (length_of copying.value) ∷ [])))
+    ++ (look_whole copying.value copying.value_indexes.items
+    ++ (Copied copying.type_id (source_of copying.value) (length_of copying.value) ∷ [])))
 statement_look (WriteOf writing) =
-    Write writing.number writing.name writing.ends_line ∷ (flat_map look_parameter writing.parameters.items ++ (Ends ∷ []))
+    Write writing.number writing.name writing.ends_line
+    ∷ (flat_map look_parameter writing.parameters.items ++ (Ends ∷ []))
 statement_look (Calling calling) = look_call false calling.call calling.actuals.items
 statement_look (CompoundOf number statements) = Compound number ∷ (joined statements.items ++ (Ends ∷ []))
 statement_look (IfOf number condition consequence alternative) =
@@ -244,7 +248,8 @@ statement_look (IfOf number condition consequence alternative) =
 statement_look (WhileOf head body) =
     While head.number head.loop_number head.place ∷ (look_expr head.condition ++ (Do ∷ (body.value ++ (Ends ∷ []))))
 statement_look (RepeatOf head statements) =
-    Repeat head.number head.loop_number head.place ∷ (joined statements.items ++ (Until ∷ (look_expr head.condition ++ (Ends ∷ []))))
+    Repeat head.number head.loop_number head.place
+    ∷ (joined statements.items ++ (Until ∷ (look_expr head.condition ++ (Ends ∷ []))))
 statement_look (ForOf head body) =
     For head.number head.loop_number head.place head.control head.direction
     ∷ (look_expr head.first.value
@@ -351,8 +356,7 @@ is_formed_mark outline block (Called is_function callee count) = may_call outlin
 is_formed_mark outline block Ends = true
 is_formed_mark outline block (Empty number) = true
 is_formed_mark outline block (Assign number becomes) = true
-is_formed_mark outline block (Target root selectors indexes) =
-    leads_to_ordinal outline block root selectors indexes
+is_formed_mark outline block (Target root selectors indexes) = leads_to_ordinal outline block root selectors indexes
 is_formed_mark outline block (WholeTarget root selectors indexes type_id) =
     leads_to_whole outline block type_id root selectors indexes
 is_formed_mark outline block (Copied type_id source cells) = may_copy outline block type_id source cells
@@ -371,8 +375,7 @@ is_formed_mark outline block (While number loop_number place) = true
 is_formed_mark outline block Do = true
 is_formed_mark outline block (Repeat number loop_number place) = true
 is_formed_mark outline block Until = true
-is_formed_mark outline block (For number loop_number place control direction) =
-    is_control outline block control
+is_formed_mark outline block (For number loop_number place control direction) = is_control outline block control
 is_formed_mark outline block (Controls control) = true
 is_formed_mark outline block ForEnds = true
 is_formed_mark outline block (Case number site) = nat_lt site outline.sites

@@ -54,10 +54,8 @@ statement_inside (Compound number statements) = all_inside statements.items
 statement_inside (If number condition consequence alternative) =
     both_inside consequence.value (alternative_inside alternative)
 statement_inside (While head body) = looped head.loop_number body.value
-statement_inside (Repeat head statements) =
-    looped head.loop_number (all_inside statements.items)
-statement_inside (For head body) =
-    controlled head.control (looped head.loop_number body.value)
+statement_inside (Repeat head statements) = looped head.loop_number (all_inside statements.items)
+statement_inside (For head body) = controlled head.control (looped head.loop_number body.value)
 statement_inside (Case head arms) = all_inside arms.items
 
 abbrev pub inside_of : Stmt → Inside

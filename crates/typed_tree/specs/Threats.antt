@@ -110,25 +110,24 @@ alternative_spares (Some statement) roots = statement.value roots
 abbrev pub statement_spares : Stmt-F Spares → Spares
 statement_spares (Empty number) roots = true
 statement_spares (Assign assignment) roots =
-    spares_in_indexes roots assignment.indexes.items && (is_none_of roots assignment.target.root && spares_in_expr roots assignment.value)
+    spares_in_indexes roots assignment.indexes.items
+    && (is_none_of roots assignment.target.root && spares_in_expr roots assignment.value)
 statement_spares (Copy copying) roots =
     spares_in_indexes roots copying.indexes.items
     && (is_none_of roots copying.target.root && spares_in_whole roots copying.value copying.value_indexes.items)
-statement_spares (Write writing) roots =
-    all_so (map (spares_in_parameter roots) writing.parameters.items)
+statement_spares (Write writing) roots = all_so (map (spares_in_parameter roots) writing.parameters.items)
 statement_spares (Calling calling) roots = all_so (map (spares_in_passed roots) calling.actuals.items)
 statement_spares (Compound number statements) roots = all_spare statements.items roots
 statement_spares (If number condition consequence alternative) roots =
     spares_in_expr roots condition && (consequence.value roots && alternative_spares alternative roots)
-statement_spares (While head body) roots =
-    spares_in_expr roots head.condition && body.value roots
+statement_spares (While head body) roots = spares_in_expr roots head.condition && body.value roots
 statement_spares (Repeat head statements) roots =
     all_spare statements.items roots && spares_in_expr roots head.condition
 statement_spares (For head body) roots =
     is_none_of roots head.control
-    && (spares_in_expr roots head.first.value && (spares_in_expr roots head.last.value && body.value (head.control ∷ roots)))
-statement_spares (Case head arms) roots =
-    spares_in_expr roots head.index && all_spare arms.items roots
+    && (spares_in_expr roots head.first.value
+    && (spares_in_expr roots head.last.value && body.value (head.control ∷ roots)))
+statement_spares (Case head arms) roots = spares_in_expr roots head.index && all_spare arms.items roots
 
 -- a statement spares these variables
 abbrev pub spares : Stmt → Spares

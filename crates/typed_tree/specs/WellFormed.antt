@@ -7,7 +7,7 @@
 -- ones. It does not say that a tree is that of a program.
 use Rattle.std.specs.Prelude.{◌≡◌, ℕ, zero, suc, ℤ, ◌<◌, ◌≤◌, pos, neg_ℤ, ◌+ℤ◌, ◌-ℤ◌, ◌&&◌, ◌||◌, ◌++◌, Bool}
 use Rattle.std.specs.Prelude.{true, false, List, []}
-use Rattle.std.specs.Prelude.{Option, Some, None, Vec, IsPermutation, int_le, nat_lt, nat_le, nat_eq, not, length, map}
+use Rattle.std.specs.Prelude.{Option, Some, None, Vec, IsPermutation, int_le, nat_lt, nat_le, nat_eq, length, map}
 use Rattle.std.specs.Prelude.{◌∷◌, filter, if◌then◌else◌, slice_get, sum_by}
 use Rattle.std.specs.Cmp.Lexicographic.{pointwise}
 use Rattle.std.specs.List.{list_all, list_any, range_with_len}
@@ -356,8 +356,7 @@ module _ (outline : Outline) (block : ℕ) where
 
   -- an expression is well formed
   abbrev pub is_well_formed_expr : Expr → Bool
-  is_well_formed_expr =
-      fold-Expr Bool (ℕ → ℕ → Bool) Bool expr_is_well_formed passed_is_well_formed link_is_well_formed
+  is_well_formed_expr = fold-Expr Bool (ℕ → ℕ → Bool) Bool expr_is_well_formed passed_is_well_formed link_is_well_formed
 
   -- the same of an actual parameter
   abbrev pub is_well_formed_passed : Passed → ℕ → ℕ → Bool
@@ -366,8 +365,7 @@ module _ (outline : Outline) (block : ℕ) where
 
   -- the same of an operator and its right operand
   abbrev pub is_well_formed_link : Link → Bool
-  is_well_formed_link =
-      fold-Link Bool (ℕ → ℕ → Bool) Bool expr_is_well_formed passed_is_well_formed link_is_well_formed
+  is_well_formed_link = fold-Link Bool (ℕ → ℕ → Bool) Bool expr_is_well_formed passed_is_well_formed link_is_well_formed
 
   -- the index expressions of an access
   abbrev pub are_well_formed : List Expr → Bool
@@ -405,22 +403,22 @@ module _ (outline : Outline) (block : ℕ) where
   stmt_is_well_formed (Assign assignment) =
       are_well_formed assignment.indexes.items
       && (leads_to_ordinal assignment.target.root assignment.target.selectors.items (length assignment.indexes.items)
-      && (is_well_formed_expr assignment.value && fits_target assignment.fits assignment.target.root assignment.target.selectors.items))
+      && (is_well_formed_expr assignment.value
+      && fits_target assignment.fits assignment.target.root assignment.target.selectors.items))
   stmt_is_well_formed (Copy copying) =
       are_well_formed copying.indexes.items
-      && (leads_to_whole copying.type_id copying.target.root copying.target.selectors.items (length copying.indexes.items)
+      && (leads_to_whole copying.type_id copying.target.root copying.target.selectors.items
+      (length copying.indexes.items)
       && (is_well_formed_value copying.value copying.value_indexes.items
       && may_copy copying.type_id (source_of copying.value) (length_of copying.value)))
-  stmt_is_well_formed (Write writing) =
-      all_hold (map is_well_formed_parameter writing.parameters.items)
+  stmt_is_well_formed (Write writing) = all_hold (map is_well_formed_parameter writing.parameters.items)
   stmt_is_well_formed (Calling calling) =
       is_well_formed_call false calling.call (map is_well_formed_passed calling.actuals.items)
   stmt_is_well_formed (Compound number statements) = all_hold statements.items
   stmt_is_well_formed (If number condition consequence alternative) =
       is_well_formed_expr condition && (consequence.value && alternative_is_well_formed alternative)
   stmt_is_well_formed (While head body) = is_well_formed_expr head.condition && body.value
-  stmt_is_well_formed (Repeat head statements) =
-      all_hold statements.items && is_well_formed_expr head.condition
+  stmt_is_well_formed (Repeat head statements) = all_hold statements.items && is_well_formed_expr head.condition
   stmt_is_well_formed (For head body) =
       is_control head.control
       && (is_well_formed_expr head.first.value
