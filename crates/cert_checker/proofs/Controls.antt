@@ -142,7 +142,8 @@ module _ (tree : Tree) (block : ℕ) where
       let is_test = λ (fits : RangeTest). fits_target (outline_of tree) block fits head.control [] in
       let one = and_parts (is_control (outline_of tree) block head.control)
       (well_expr head.first.value && (is_test head.first.fits && (well_expr head.last.value && (is_test head.last.fits && well_stmt body.value.0)))) well in
-      let two = and_parts (well_expr head.first.value) (is_test head.first.fits && (well_expr head.last.value && (is_test head.last.fits && well_stmt body.value.0))) one.1 in
+      let two = and_parts (well_expr head.first.value)
+      (is_test head.first.fits && (well_expr head.last.value && (is_test head.last.fits && well_stmt body.value.0))) one.1 in
       let three = and_parts (is_test head.first.fits) (well_expr head.last.value && (is_test head.last.fits && well_stmt body.value.0)) two.1 in
       let four = and_parts (well_expr head.last.value) (is_test head.last.fits && well_stmt body.value.0) three.1 in
       let five = and_parts (is_test head.last.fits) (well_stmt body.value.0) four.1 in

@@ -1,9 +1,10 @@
 -- The walk over a program links a state to each of its entries, once and in their order.
 use Rattle.std.proofs.Common.{◌≡◌, ◌∙◌, sym, ap, refl, ℕ, suc, ℤ, true, false, List, [], ◌∷◌, ◌++◌, Option, Some, None, length, map}
 use Rattle.std.specs.Prelude.{flat_map, drop, slice_get}
-use Rattle.typed_tree.specs.declared.tree.Access.{Access}
+use Rattle.typed_tree.specs.declared.tree.Assignment.{Assignment}
+use Rattle.typed_tree.specs.declared.tree.CaseHead.{CaseHead}
+use Rattle.typed_tree.specs.declared.tree.ForHead.{ForHead}
 use Rattle.typed_tree.specs.declared.tree.Selector.{Selector}
-use Rattle.typed_tree.specs.declared.tree.RangeTest.{RangeTest}
 use Rattle.domain.specs.Facts.{Bound}
 use Rattle.typed_tree.specs.declared.tree.Expr.{Expr}
 use Rattle.typed_tree.specs.declared.tree.Stmt.{Stmt}
@@ -40,22 +41,25 @@ use Rattle.cert_checker.specs.Walk.{begin_way, program_walk, reach_stored, resul
 use Rattle.expression_checker.proofs.Entered.{Enters, access-entered, and_no_more, and_then, call-entered, parameter-entered, value-entered}
 use Rattle.expression_checker.proofs.Entered.{whole-entered}
 
-abbrev stores : Place → Access → RangeTest → Expr → Reach → Known → Walking (Unit {0})
-stores becomes target fits value reach known =
-    fitting fits known
-    >>= assign_to becomes target.root target.selectors.items (reach_stored target.selectors.items (holds_call value) reach) (bound_form value)
+-- what comes behind the value of an assignment
+abbrev stores : Assignment → Reach → Known → Walking (Unit {0})
+stores assignment reach known =
+    let target = assignment.target in
+    fitting assignment.fits known
+    >>= assign_to assignment.becomes target.root target.selectors.items (reach_stored target.selectors.items (holds_call assignment.value) reach)
+    (bound_form assignment.value)
 
 assigned-silent : (becomes : Place) (root : ℕ) (selectors : List Selector) (reach : Reach) (form : Option Bound) (known : Known)
     → Enters (assign_to becomes root selectors reach form known) []
 assigned-silent becomes root [] reach form (Ordinal range) context state = refl
 assigned-silent becomes root (selector ∷ selectors) reach form (Ordinal range) context state = refl
 
-stores-silent : (becomes : Place) (target : Access) (fits : RangeTest) (value : Expr) (reach : Reach) (known : Known)
-    → Enters (stores becomes target fits value reach known) []
-stores-silent becomes target fits value reach (Ordinal range) context state =
-    let passed = fitting fits (Ordinal range) context state in
-    assigned-silent becomes target.root target.selectors.items (reach_stored target.selectors.items (holds_call value) reach) (bound_form value)
-    passed.value context passed.after
+stores-silent : (assignment : Assignment) (reach : Reach) (known : Known) → Enters (stores assignment reach known) []
+stores-silent assignment reach (Ordinal range) context state =
+    let target = assignment.target in
+    let passed = fitting assignment.fits (Ordinal range) context state in
+    assigned-silent assignment.becomes target.root target.selectors.items (reach_stored target.selectors.items (holds_call assignment.value) reach)
+    (bound_form assignment.value) passed.value context passed.after
 
 -- walks one after another enter what each enters
 all-entered : {X : Type 0} (walk : X → Walking (Unit {0})) (numbers : X → List ℕ) → ((x : X) → Enters (walk x) (numbers x)) → (xs : List X)
@@ -88,24 +92,24 @@ loop-entered number place control round numbers each context state =
     let start = head_of context.tree context.limits own claims.facts state in
     and_no_more (round within start).linked [] numbers (each within start) refl
 
-module _ (number : ℕ) (place : Place) (body : Walking (Unit {0})) (numbers : List ℕ) (each : Enters body numbers) where
+module _ (head : ForHead) (body : Walking (Unit {0})) (numbers : List ℕ) (each : Enters body numbers) where
   -- a for enters what its body does
   for_round-entered : (way : Way) → Enters (for_round way body) numbers
   for_round-entered way context state =
       let begun = over_variables (turn_begun way) state in
       and_no_more (body context begun).linked [] numbers (each context begun) refl
 
-  turns_of-entered : (way : Way) → Enters (for_turns number place body way) numbers
+  turns_of-entered : (way : Way) → Enters (for_turns head body way) numbers
   turns_of-entered way context state =
       let tested = tested_way way context state in
       let begun = begin_way tested.value context tested.after in
-      loop-entered number place (Some tested.value.control) (for_round (steady_in context number tested.value) body) numbers
-      (for_round-entered (steady_in context number tested.value)) context begun.after
+      let steady = steady_in context head.loop_number tested.value in
+      loop-entered head.loop_number head.place (Some tested.value.control) (for_round steady body) numbers (for_round-entered steady) context begun.after
 
-  for-entered : (way : Way) → Enters (for_walk number place body way) numbers
+  for-entered : (way : Way) → Enters (for_walk head body way) numbers
   for-entered way context state =
       let start = over_variables (where_counts true way) state in
-      let turns = for_turns number place body way context start in
+      let turns = for_turns head body way context start in
       and_no_more (turns.linked ++ []) [] numbers
       (and_no_more turns.linked [] numbers (turns_of-entered way context start) refl) refl
 
@@ -119,12 +123,13 @@ arms-entered base index rows (arm ∷ arms) context state =
     let rest = arms_walk base index (drop 1 rows) (map statement_walk (map (λ s. s.0) arms)) context (joined_states state first.after) in
     and_then first.linked rest.linked _ _ (arm.1 context start) (arms-entered base index (drop 1 rows) arms context (joined_states state first.after))
 
-case-entered : (site : ℕ) (index : Expr) (rows : List (Vec ℤ Global)) (arms : List EnteredStmt) (known : Known)
-    → Enters (case_walk site index rows (map statement_walk (map (λ s. s.0) arms)) known) (joined (map entries_of_statement (map (λ s. s.0) arms)))
-case-entered site index rows arms (Ordinal range) context state =
+case-entered : (head : CaseHead) (arms : List EnteredStmt) (known : Known)
+    → Enters (case_walk head (map statement_walk (map (λ s. s.0) arms)) known) (joined (map entries_of_statement (map (λ s. s.0) arms)))
+case-entered head arms (Ordinal range) context state =
+    let rows = head.constants.items in
     let inner = map statement_walk (map (λ (s : EnteredStmt). s.0) arms) in
-    let base = index_test site (constants_before (length inner) rows) range context state in
-    arms-entered base.value (root_of (condition_of index).form) rows arms context base.after
+    let base = index_test head.site (constants_before (length inner) rows) range context state in
+    arms-entered base.value (root_of (condition_of head.index).form) rows arms context base.after
 
 while-entered : (condition : Expr) (body : Walking (Unit {0})) (numbers : List ℕ) → Enters body numbers
     → Enters (while_round condition body) (entries_of_expression condition ++ numbers)
@@ -149,11 +154,11 @@ statement-parts (Empty number) context state = refl
 statement-parts (Assign assignment) context state =
     let reached = access_walk assignment.target (index_pieces assignment.indexes.items) context state in
     let first = value_walk assignment.value context reached.after in
-    let rest = stores assignment.becomes assignment.target assignment.fits assignment.value reached.value first.value context first.after in
+    let rest = stores assignment reached.value first.value context first.after in
     ap (λ numbers. assignment.number ∷ numbers)
     (and_then reached.linked (first.linked ++ rest.linked) _ _ (access-entered assignment.target assignment.indexes.items context state)
     (and_no_more first.linked rest.linked _ (value-entered assignment.value context reached.after)
-    (stores-silent assignment.becomes assignment.target assignment.fits assignment.value reached.value first.value context first.after)))
+    (stores-silent assignment reached.value first.value context first.after)))
 statement-parts (Copy copying) context state =
     let reached = access_walk copying.target (index_pieces copying.indexes.items) context state in
     let first = whole_walk copying.value (index_pieces copying.value_indexes.items) context reached.after in
@@ -185,24 +190,25 @@ statement-parts (While head body) context state =
 statement-parts (Repeat head statements) context state =
     let inner = map statement_walk (map (λ (s : EnteredStmt). s.0) statements.items) in
     let numbers = joined (map entries_of_statement (map (λ (s : EnteredStmt). s.0) statements.items)) in
-    ap (λ numbers. head.number ∷ numbers) (loop-entered head.loop_number head.place None (repeat_round (all_of inner) head.condition) (numbers ++ entries_of_expression head.condition)
+    ap (λ numbers. head.number ∷ numbers)
+    (loop-entered head.loop_number head.place None (repeat_round (all_of inner) head.condition) (numbers ++ entries_of_expression head.condition)
     (repeat-entered (all_of inner) head.condition numbers (statements-entered statements.items)) context state)
 statement-parts (For head body) context state =
     let from = value_walk head.first.value context state in
     let to = value_walk head.last.value context from.after in
-    let way = way_of head.control head.direction head.first.value head.first.fits head.last.value head.last.fits from.value to.value in
-    let rest = for_walk head.loop_number head.place (statement_walk body.value.0) way context to.after in
+    let way = way_of head from.value to.value in
+    let rest = for_walk head (statement_walk body.value.0) way context to.after in
     ap (λ numbers. head.number ∷ numbers)
     (and_then from.linked (to.linked ++ rest.linked) _ _ (value-entered head.first.value context state)
     (and_then to.linked rest.linked _ _ (value-entered head.last.value context from.after)
-    (for-entered head.loop_number head.place (statement_walk body.value.0) (entries_of_statement body.value.0) body.value.1 way context to.after)))
+    (for-entered head (statement_walk body.value.0) (entries_of_statement body.value.0) body.value.1 way context to.after)))
 statement-parts (Case head arms) context state =
     let inner = map statement_walk (map (λ (s : EnteredStmt). s.0) arms.items) in
     let first = value_walk head.index context state in
-    let rest = case_walk head.site head.index head.constants.items inner first.value context first.after in
+    let rest = case_walk head inner first.value context first.after in
     ap (λ numbers. head.number ∷ numbers)
     (and_then first.linked rest.linked _ _ (value-entered head.index context state)
-    (case-entered head.site head.index head.constants.items arms.items first.value context first.after))
+    (case-entered head arms.items first.value context first.after))
 
 -- the use of a result enters nothing
 result-silent : (result : Option FunctionResult) → Enters (result_use result) []

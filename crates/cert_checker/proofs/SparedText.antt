@@ -9,8 +9,7 @@ use Rattle.types.specs.declared.form.Step.TheVariants as step
 use Rattle.types.specs.declared.form.TypeId.{TypeId}
 use Rattle.typed_tree.specs.declared.tree.Access.{Access}
 use Rattle.typed_tree.specs.declared.tree.Call.{Call}
-use Rattle.typed_tree.specs.declared.tree.Direction.{Direction}
-use Rattle.typed_tree.specs.declared.tree.RangeTest.{RangeTest}
+use Rattle.typed_tree.specs.declared.tree.ForHead.{ForHead}
 use Rattle.typed_tree.specs.declared.tree.Selector.{Selector}
 use Rattle.typed_tree.specs.declared.tree.Selector.TheVariants.{Element, Field}
 use Rattle.typed_tree.specs.declared.tree.Whole.{Whole}
@@ -367,21 +366,22 @@ module _ (at : Standing) (calls : Calls) (called : CallsKeep at calls) where
   keeps-turn_if false body kept = keeps-give at None
   keeps-turn_if true body kept = keeps-then at _ _ (keeps-turn at) (λ _. keeps-then at _ _ kept (λ _. keeps-give at (Some tt)))
 
-  keeps-between : (control : ℕ) (first_fits : RangeTest) (direction : Direction) (last_fits : RangeTest) (execution : Execution)
-      → MayWriteTo at (at.visible.variables control) → Keeps at (execution here) → (first last : ℤ)
-      → Keeps at (meaning.for_between control first_fits direction last_fits execution here first last)
-  keeps-between control first_fits direction last_fits execution may kept first last =
-      let found = at.visible.variables control in
+  keeps-between : (head : ForHead) (execution : Execution) → MayWriteTo at (at.visible.variables head.control) → Keeps at (execution here)
+      → (first last : ℤ) → Keeps at (meaning.for_between head execution here first last)
+  keeps-between head execution may kept first last =
+      let found = at.visible.variables head.control in
+      let first_fits = head.first.fits in
+      let last_fits = head.last.fits in
+      let behind = value_behind head.direction last in
       let round = λ (n : ℤ). keeps-then at (effect.store found (Number n))
-      (λ _. effect.◌>>=◌ effect.use_turn (λ _. effect.◌>>=◌ (execution here) (λ _. give (value_behind direction last n))))
+      (λ _. effect.◌>>=◌ effect.use_turn (λ _. effect.◌>>=◌ (execution here) (λ _. give (behind n))))
       (keeps-store at found (Number n) may)
-      (λ _. keeps-then at _ _ (keeps-turn at) (λ _. keeps-then at _ _ kept (λ _. keeps-give at (value_behind direction last n)))) in
-      let rounds : Keeps at (meaning.for_rounds control first_fits direction last_fits execution here first last) =
+      (λ _. keeps-then at _ _ (keeps-turn at) (λ _. keeps-then at _ _ kept (λ _. keeps-give at (behind n)))) in
+      let rounds : Keeps at (meaning.for_rounds head execution here first last) =
       keeps-then at _ _ (keeps-require at (is_in first_fits.range (Number first)) first_fits.site)
       (λ _. keeps-then at _ _ (keeps-require at (is_in last_fits.range (Number last)) last_fits.site)
-      (λ _. keeps-looped at (meaning.for_round control direction last execution here) round first)) in
-      keeps-chosen (has_values direction first last) (meaning.for_rounds control first_fits direction last_fits execution here first last) (give tt)
-      rounds (keeps-give at tt)
+      (λ _. keeps-looped at (meaning.for_round head last execution here) round first)) in
+      keeps-chosen (has_values head.direction first last) (meaning.for_rounds head execution here first last) (give tt) rounds (keeps-give at tt)
 
   keeps-arm : (site : ℕ) (rows : List (Vec ℤ Global)) (arms : List KeptStmt) (n : ℤ) (roots : List ℕ) → MayChangeOthers at roots
       → all_spare (map spares (bodies arms)) roots ≡ true → Keeps at (meaning.arm_of site rows (map effect_of (bodies arms)) n here)
@@ -411,7 +411,8 @@ module _ (at : Standing) (calls : Calls) (called : CallsKeep at calls) where
   stmt-layer : (settled : at.settled ≡ 0) (y : Stmt-F KeptStmt) → IsKeptStmtLayer (bare_stmt y)
   stmt-layer settled (Empty number) roots others so = keeps-enter at number at.visible
   stmt-layer settled (Assign assignment) roots others so =
-      let one = and_parts (spares_in_indexes roots assignment.indexes.items) (is_none_of roots assignment.target.root && spares_in_expr roots assignment.value) so in
+      let one = and_parts (spares_in_indexes roots assignment.indexes.items)
+      (is_none_of roots assignment.target.root && spares_in_expr roots assignment.value) so in
       let two = and_parts (is_none_of roots assignment.target.root) (spares_in_expr roots assignment.value) one.1 in
       keeps-then at _ _ (keeps-enter at assignment.number at.visible)
       (λ _. keeps-when at _ _ (access-kept roots others assignment.target assignment.indexes.items one.0)
@@ -467,11 +468,11 @@ module _ (at : Standing) (calls : Calls) (called : CallsKeep at calls) where
       let two = and_parts (spares_in_expr roots head.first.value) (spares_in_expr roots head.last.value && inner) one.1 in
       let three = and_parts (spares_in_expr roots head.last.value) inner two.1 in
       let found = at.visible.variables head.control in
-      let own : IsOwn at found = λ head.place seen. (omega (arith, settled), others head.control one.0 head.place seen) in
+      let own : IsOwn at found = λ place seen. (omega (arith, settled), others head.control one.0 place seen) in
       keeps-then at _ _ (keeps-enter at head.number at.visible)
       (λ _. keeps-then at _ _ (keeps-value roots others head.first.value two.0)
       (λ a. keeps-then at _ _ (keeps-value roots others head.last.value three.0)
-      (λ b. keeps-then at _ _ (keeps-between head.control head.first.fits head.direction head.last.fits (effect_of body.value.0) (own-write at found own)
+      (λ b. keeps-then at _ _ (keeps-between head (effect_of body.value.0) (own-write at found own)
       (body.value.1 (head.control ∷ roots) (others-but head.control roots others) three.1) (number_of a) (number_of b))
       (λ _. keeps-undefine at found own))))
   stmt-layer settled (Case head arms) roots others so =

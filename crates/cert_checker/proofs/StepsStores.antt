@@ -9,6 +9,7 @@ use Rattle.std.proofs.lemmas.Option.{none-some, same_Some}
 use Rattle.place.specs.declared.Place.{Place as SourcePlace}
 use Rattle.typed_tree.specs.declared.tree.Assignment.{Assignment}
 use Rattle.typed_tree.specs.declared.tree.Copying.{Copying}
+use Rattle.typed_tree.specs.declared.tree.Expr.{Expr}
 use Rattle.typed_tree.specs.declared.tree.Selector.{Selector}
 use Rattle.domain.specs.Facts.{Bound}
 use Rattle.domain.specs.Interval.{Interval}
@@ -28,19 +29,19 @@ use Rattle.cert_checker.specs.declared.walk.Walk.{Walk}
 use Rattle.cert_checker.specs.View.{Goes, context_of}
 use Rattle.cert_checker.specs.Walk.{Stores, alike, assign, assign_component, assign_to, assignment_walk, change, copy_to, copying_walk, paired, reach_stored}
 use Rattle.cert_checker.specs.Walk.{store_to}
-use Rattle.cert_checker.proofs.Steps.{Does, Stops, goes-here, goes-stopped, goes-then}
+use Rattle.cert_checker.proofs.Steps.{Does, Stops, goes-as, goes-here, goes-stopped, goes-then}
 use Rattle.expression_checker.specs.View.{state_of}
 
 -- an assignment from the access of its target on
-module _ (assignment : Assignment) (old : Walk) (before : Visits) where
-  abbrev access : Walking Reach
-  access = access_walk assignment.target (index_pieces assignment.indexes.items)
+module _ (assignment : Assignment) (indexes : List Expr) (indexes_are : indexes ≡ assignment.indexes.items) (old : Walk) (before : Visits) where
+  abbrev access : List Expr → Walking Reach
+  access indexes = access_walk assignment.target (index_pieces indexes)
 
   abbrev held : Reach → Reach
   held = reach_stored assignment.target.selectors.items (holds_call assignment.value)
 
   -- the test of the value, and the store
-  abbrev pub tested_store : Reach → Known → Walking (Unit {0})
+  abbrev tested_store : Reach → Known → Walking (Unit {0})
   tested_store reach known =
       fitting assignment.fits known
       >>= assign_to assignment.becomes assignment.target.root assignment.target.selectors.items reach (bound_form assignment.value)
@@ -48,34 +49,43 @@ module _ (assignment : Assignment) (old : Walk) (before : Visits) where
   abbrev behind_access : Reach → Walking (Unit {0})
   behind_access reach = value_walk assignment.value >>= tested_store (held reach)
 
-  -- the checker gave up in the access
-  pub assignment-unreached : (new : Walk) (after : Visits) (fault : CheckFault) → Stops access old before after fault
-      → Goes (assignment_walk assignment) old before (Err fault) new after
-  assignment-unreached new after fault stopped = goes-stopped access behind_access old new before after fault stopped
+  from-access : (new : Walk) (after : Visits) (result : Result (Unit {0}) CheckFault) → Goes (access indexes >>= behind_access) old before result new after
+      → Goes (assignment_walk assignment) old before result new after
+  from-access new after result one =
+      goes-as (assignment_walk assignment) (access indexes >>= behind_access) old new before after result
+      (ap (λ own. access own >>= behind_access) (sym indexes_are)) one
 
-  module _ (reach : Reach) (reached : Walk) (entries : Visits) (one : Does access old before reached entries reach) where
+  -- the checker gave up in the access
+  pub assignment-unreached : (new : Walk) (after : Visits) (fault : CheckFault) → Stops (access indexes) old before after fault
+      → Goes (assignment_walk assignment) old before (Err fault) new after
+  assignment-unreached new after fault stopped =
+      from-access new after (Err fault) (goes-stopped (access indexes) behind_access old new before after fault stopped)
+
+  module _ (reach : Reach) (reached : Walk) (entries : Visits) (one : Does (access indexes) old before reached entries reach) where
     -- in the value
     pub assignment-unvalued : (new : Walk) (after : Visits) (fault : CheckFault) → Stops (value_walk assignment.value) reached entries after fault
         → Goes (assignment_walk assignment) old before (Err fault) new after
     assignment-unvalued new after fault stopped =
-        goes-then access behind_access old reached new before entries after reach (Err fault) one
-        (goes-stopped (value_walk assignment.value) (tested_store (held reach)) reached new entries after fault stopped)
+        from-access new after (Err fault)
+        (goes-then (access indexes) behind_access old reached new before entries after reach (Err fault) one
+        (goes-stopped (value_walk assignment.value) (tested_store (held reach)) reached new entries after fault stopped))
 
     pub assignment-done : (before_value : Reach) (valued new : Walk) (after : Visits) (known : Known) (result : Result (Unit {0}) CheckFault)
         → before_value ≡ held reach → Does (value_walk assignment.value) reached entries valued after known
         → Goes (tested_store before_value known) valued after result new after → Goes (assignment_walk assignment) old before result new after
     assignment-done before_value valued new after known result before_is two three =
-        goes-then access behind_access old reached new before entries after reach result one
+        from-access new after result
+        (goes-then (access indexes) behind_access old reached new before entries after reach result one
         (goes-then (value_walk assignment.value) (tested_store (held reach)) reached valued new entries after after known result two
-        (subst (λ (r : Reach). Goes (tested_store r known) valued after result new after) before_is three))
+        (subst (λ (r : Reach). Goes (tested_store r known) valued after result new after) before_is three)))
 
 -- an assignment of a whole value from the access of its target on
-module _ (copying : Copying) (old : Walk) (before : Visits) where
-  abbrev target_access : Walking Reach
-  target_access = access_walk copying.target (index_pieces copying.indexes.items)
+module _ (copying : Copying) (indexes : List Expr) (indexes_are : indexes ≡ copying.indexes.items) (old : Walk) (before : Visits) where
+  abbrev target_access : List Expr → Walking Reach
+  target_access indexes = access_walk copying.target (index_pieces indexes)
 
-  abbrev whole : Walking (List Interval)
-  whole = whole_walk copying.value (index_pieces copying.value_indexes.items)
+  abbrev whole : List Expr → Walking (List Interval)
+  whole indexes = whole_walk copying.value (index_pieces indexes)
 
   abbrev kept_reach : Reach → Reach
   kept_reach = reach_stored copying.target.selectors.items (whole_holds_call copying.value copying.value_indexes.items)
@@ -84,27 +94,42 @@ module _ (copying : Copying) (old : Walk) (before : Visits) where
   copied reach ranges = copy_to copying.becomes copying.target.root copying.target.selectors.items reach ranges
 
   abbrev behind_target : Reach → Walking (Unit {0})
-  behind_target reach = whole >>= copied (kept_reach reach)
+  behind_target reach = whole copying.value_indexes.items >>= copied (kept_reach reach)
+
+  from-target : (new : Walk) (after : Visits) (result : Result (Unit {0}) CheckFault)
+      → Goes (target_access indexes >>= behind_target) old before result new after → Goes (copying_walk copying) old before result new after
+  from-target new after result one =
+      goes-as (copying_walk copying) (target_access indexes >>= behind_target) old new before after result
+      (ap (λ own. target_access own >>= behind_target) (sym indexes_are)) one
 
   -- the checker gave up in the access
-  pub copying-unreached : (new : Walk) (after : Visits) (fault : CheckFault) → Stops target_access old before after fault
+  pub copying-unreached : (new : Walk) (after : Visits) (fault : CheckFault) → Stops (target_access indexes) old before after fault
       → Goes (copying_walk copying) old before (Err fault) new after
-  copying-unreached new after fault stopped = goes-stopped target_access behind_target old new before after fault stopped
+  copying-unreached new after fault stopped =
+      from-target new after (Err fault) (goes-stopped (target_access indexes) behind_target old new before after fault stopped)
 
-  module _ (reach : Reach) (reached : Walk) (entries : Visits) (one : Does target_access old before reached entries reach) where
+  module _ (reach : Reach) (reached : Walk) (entries : Visits) (one : Does (target_access indexes) old before reached entries reach)
+      (more : List Expr) (more_are : more ≡ copying.value_indexes.items) where
+    from-value : (new : Walk) (after : Visits) (result : Result (Unit {0}) CheckFault) → Goes (whole more >>= copied (kept_reach reach)) reached entries result new after
+        → Goes (copying_walk copying) old before result new after
+    from-value new after result two =
+        from-target new after result
+        (goes-then (target_access indexes) behind_target old reached new before entries after reach result one
+        (goes-as (behind_target reach) (whole more >>= copied (kept_reach reach)) reached new entries after result
+        (ap (λ own. whole own >>= copied (kept_reach reach)) (sym more_are)) two))
+
     -- in the value
-    pub copying-unvalued : (new : Walk) (after : Visits) (fault : CheckFault) → Stops whole reached entries after fault
+    pub copying-unvalued : (new : Walk) (after : Visits) (fault : CheckFault) → Stops (whole more) reached entries after fault
         → Goes (copying_walk copying) old before (Err fault) new after
     copying-unvalued new after fault stopped =
-        goes-then target_access behind_target old reached new before entries after reach (Err fault) one
-        (goes-stopped whole (copied (kept_reach reach)) reached new entries after fault stopped)
+        from-value new after (Err fault) (goes-stopped (whole more) (copied (kept_reach reach)) reached new entries after fault stopped)
 
     pub copying-done : (before_value : Reach) (valued new : Walk) (after : Visits) (ranges : List Interval) (result : Result (Unit {0}) CheckFault)
-        → before_value ≡ kept_reach reach → Does whole reached entries valued after ranges
+        → before_value ≡ kept_reach reach → Does (whole more) reached entries valued after ranges
         → Goes (copied before_value ranges) valued after result new after → Goes (copying_walk copying) old before result new after
     copying-done before_value valued new after ranges result before_is two three =
-        goes-then target_access behind_target old reached new before entries after reach result one
-        (goes-then whole (copied (kept_reach reach)) reached valued new entries after after ranges result two
+        from-value new after result
+        (goes-then (whole more) (copied (kept_reach reach)) reached valued new entries after after ranges result two
         (subst (λ (r : Reach). Goes (copied r ranges) valued after result new after) before_is three))
 
 -- an access without selectors is to an entire variable

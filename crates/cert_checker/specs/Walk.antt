@@ -50,7 +50,7 @@ use Rattle.call_states.specs.Aliases.{Stored, reach_unless_alias, unless_alias, 
 use Rattle.call_states.specs.Actuals.{unknown_reach}
 use Rattle.expression_checker.specs.declared.fault.Rule.{Rule}
 use Rattle.expression_checker.specs.declared.fault.Rule.TheVariants.{LoopEntry, LoopTurn, Exit, Changes}
-use Rattle.expression_checker.specs.Walk.{Context, Piece, Walked, Walking, ◌>>=◌, access_walk, asked, call_walk}
+use Rattle.expression_checker.specs.Walk.{Context, Walked, Walking, ◌>>=◌, access_walk, asked, call_walk}
 use Rattle.expression_checker.specs.Walk.{changed_by, enter, fitting, followed, give, index_pieces}
 use Rattle.expression_checker.specs.Walk.{left_open}
 use Rattle.expression_checker.specs.Walk.{may_change, parameter_walk, passed_piece_of, tested, value_walk, whole_walk}

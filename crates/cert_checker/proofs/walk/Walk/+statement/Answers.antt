@@ -3,7 +3,7 @@ use Rattle.component_states.specs.States.{State}
 use Rattle.cert_checker.specs.Walk.{arm_walk, branches}
 use Rattle.cert_checker.specs.Walk.{all_of, arms_walk, case_walk, for_round, for_turns, for_walk, repeat_round, rounds_of, statement_walk, where_so}
 use Rattle.cert_checker.specs.Walk.{while_round}
-use Rattle.structured_states.specs.View.{said_end, said_way}
+use Rattle.structured_states.specs.View.{said_way}
 use Rattle.cert_checker.specs.View.{Goes, else_walk, viewed_in}
 use Rattle.cert_checker.proofs.Steps.{all-stopped, branches-half, goes-entered, goes-nowhere, repeat_round-stopped, repeat_round-unparted}
 use Rattle.cert_checker.proofs.Steps.{repeat_round-untested, state-given_up, while_round-stopped, while_round-unparted, while_round-untested}
@@ -12,7 +12,7 @@ use Rattle.cert_checker.proofs.Steps.{all-step, all-end, given-up, if-begun, bra
 use Rattle.cert_checker.proofs.Steps.{if-stopped, loop-not_entered, repeat-begun, viewed-same, while_round-done, repeat_round-done}
 use Rattle.cert_checker.proofs.StepsFor.{for_round-ends, for_round-stopped}
 use Rattle.cert_checker.proofs.StepsFor.{for-begun, for-done, for-first_stopped, for-last_stopped, for-stopped, rounds-go, turns-done}
-use Rattle.cert_checker.proofs.StepsFor.{turns-not_begun, turns-not_tested, way-same}
+use Rattle.cert_checker.proofs.StepsFor.{turns-not_begun, turns-not_tested}
 use Rattle.cert_checker.proofs.StepsCase.{arm-done, arm-stopped, arms_from, arms-end, arms-step, arms-stopped, case-begun, case-not_tested, case-not_valued}
 use Rattle.cert_checker.proofs.StepsCase.{case-tested}
 use Rattle.abstract_state.specs.declared.known.Known.TheVariants.{Ordinal}
@@ -91,34 +91,36 @@ repeat_round-returns t c =
 pub statement-returns-in_err-enter_loop-in-While : goal.statement-returns-in_err-enter_loop-in-While
 statement-returns-in_err-enter_loop-in-While t c =
     let it = c.in-While in
-    let walking = while_round it.condition (statement_walk it.body.value) in
+    let head = it.head in
+    let walking = while_round head.condition (statement_walk it.body.value) in
     let entered = c.args.self.now in
     let new = c.enter_loop.new.self in
     let after = c.tick-in-While.new.self in
     let fault = c.in_err-enter_loop-in-While.field-0.0 in
     let left = c.from_residual-in_err-enter_loop-in-While in
     given-up (statement_walk c.args.statement.now) c.args.self.now new c.args.visits.now after fault left.result left.ensures
-    (while-begun c.args.statement.now it.number it.loop_number it.place it.condition it.body it.body.value c.args.self.now entered new c.args.visits.now
-    after after (Err fault) it.is refl (goes-entered _ c.args.self.now _ _ c.tick-in-While.ensures)
-    (loop-not_entered it.loop_number it.place None walking entered new after fault c.in_err-enter_loop-in-While.ensures))
+    (while-begun c.args.statement.now head it.body it.body.value c.args.self.now entered new c.args.visits.now after after (Err fault) it.is refl
+    (goes-entered _ c.args.self.now _ _ c.tick-in-While.ensures)
+    (loop-not_entered head.loop_number head.place None walking entered new after fault c.in_err-enter_loop-in-While.ensures))
 
 pub statement-returns-in_ok-behind-in-While : goal.statement-returns-in_ok-behind-in-While
 statement-returns-in_ok-behind-in-While t c =
     let it = c.in-While in
-    let walking = while_round it.condition (statement_walk c.deref-in-While.result.now) in
+    let head = it.head in
+    let walking = while_round head.condition (statement_walk c.deref-in-While.result.now) in
     let entered = c.args.self.now in
     let between = c.tick-in-While.new.self in
-    while-begun c.args.statement.now it.number it.loop_number it.place it.condition it.body c.deref-in-While.result.now c.args.self.now entered
-    c.leave_loop.new.self
-    c.args.visits.now between c.while_round.new.visits c.leave_loop.result it.is c.deref-in-While.ensures
+    while-begun c.args.statement.now head it.body c.deref-in-While.result.now c.args.self.now entered c.leave_loop.new.self c.args.visits.now between
+    c.while_round.new.visits c.leave_loop.result it.is c.deref-in-While.ensures
     (goes-entered _ c.args.self.now _ _ c.tick-in-While.ensures)
-    (loop-done it.loop_number it.place None walking entered c.enter_loop.new.self c.in_ok-enter_loop-in-While.ensures c.while_round.new.self between
+    (loop-done head.loop_number head.place None walking entered c.enter_loop.new.self c.in_ok-enter_loop-in-While.ensures c.while_round.new.self between
     c.while_round.new.visits c.in_ok-behind-in-While.behind c.in_ok-behind-in-While.ensures c.leave_loop.result c.leave_loop.new.self c.leave_loop.ensures)
 
 pub statement-returns-in_err-behind-in-While : goal.statement-returns-in_err-behind-in-While
 statement-returns-in_err-behind-in-While t c =
     let it = c.in-While in
-    let walking = while_round it.condition (statement_walk c.deref-in-While.result.now) in
+    let head = it.head in
+    let walking = while_round head.condition (statement_walk c.deref-in-While.result.now) in
     let entered = c.args.self.now in
     let between = c.tick-in-While.new.self in
     let new = c.while_round.new.self in
@@ -126,43 +128,46 @@ statement-returns-in_err-behind-in-While t c =
     let fault = c.in_err-behind-in-While.field-0.0 in
     let left = c.from_residual-in_err-behind-in-While in
     given-up (statement_walk c.args.statement.now) c.args.self.now new c.args.visits.now after fault left.result left.ensures
-    (while-begun c.args.statement.now it.number it.loop_number it.place it.condition it.body c.deref-in-While.result.now c.args.self.now entered new
-    c.args.visits.now between after (Err fault) it.is c.deref-in-While.ensures (goes-entered _ c.args.self.now _ _ c.tick-in-While.ensures)
-    (loop-stopped it.loop_number it.place None walking entered c.enter_loop.new.self c.in_ok-enter_loop-in-While.ensures new between after fault
+    (while-begun c.args.statement.now head it.body c.deref-in-While.result.now c.args.self.now entered new c.args.visits.now between after
+    (Err fault) it.is c.deref-in-While.ensures (goes-entered _ c.args.self.now _ _ c.tick-in-While.ensures)
+    (loop-stopped head.loop_number head.place None walking entered c.enter_loop.new.self c.in_ok-enter_loop-in-While.ensures new between after fault
     c.in_err-behind-in-While.ensures))
 
 pub statement-returns-in_err-enter_loop-in-Repeat : goal.statement-returns-in_err-enter_loop-in-Repeat
 statement-returns-in_err-enter_loop-in-Repeat t c =
     let it = c.in-Repeat in
-    let walking = repeat_round (all_of (map statement_walk it.statements.items)) it.condition in
+    let head = it.head in
+    let walking = repeat_round (all_of (map statement_walk it.statements.items)) head.condition in
     let entered = c.args.self.now in
     let new = c.enter_loop-in-Repeat.new.self in
     let after = c.tick-in-Repeat.new.self in
     let fault = c.in_err-enter_loop-in-Repeat.field-0.0 in
     let left = c.from_residual-in_err-enter_loop-in-Repeat in
     given-up (statement_walk c.args.statement.now) c.args.self.now new c.args.visits.now after fault left.result left.ensures
-    (repeat-begun c.args.statement.now it.number it.loop_number it.place it.statements it.condition it.statements.items c.args.self.now entered new
-    c.args.visits.now after after (Err fault) it.is refl (goes-entered _ c.args.self.now _ _ c.tick-in-Repeat.ensures)
-    (loop-not_entered it.loop_number it.place None walking entered new after fault c.in_err-enter_loop-in-Repeat.ensures))
+    (repeat-begun c.args.statement.now head it.statements it.statements.items c.args.self.now entered new c.args.visits.now after after (Err fault) it.is refl
+    (goes-entered _ c.args.self.now _ _ c.tick-in-Repeat.ensures)
+    (loop-not_entered head.loop_number head.place None walking entered new after fault c.in_err-enter_loop-in-Repeat.ensures))
 
 pub statement-returns-in_ok-behind-in-Repeat : goal.statement-returns-in_ok-behind-in-Repeat
 statement-returns-in_ok-behind-in-Repeat t c =
     let it = c.in-Repeat in
-    let walking = repeat_round (all_of (map statement_walk c.deref-in-Repeat.result.now)) it.condition in
+    let head = it.head in
+    let walking = repeat_round (all_of (map statement_walk c.deref-in-Repeat.result.now)) head.condition in
     let entered = c.args.self.now in
     let between = c.tick-in-Repeat.new.self in
-    repeat-begun c.args.statement.now it.number it.loop_number it.place it.statements it.condition c.deref-in-Repeat.result.now c.args.self.now entered
-    c.leave_loop-in-Repeat.new.self
+    repeat-begun c.args.statement.now head it.statements c.deref-in-Repeat.result.now c.args.self.now entered c.leave_loop-in-Repeat.new.self
     c.args.visits.now between c.repeat_round.new.visits c.leave_loop-in-Repeat.result it.is c.deref-in-Repeat.ensures.value
     (goes-entered _ c.args.self.now _ _ c.tick-in-Repeat.ensures)
-    (loop-done it.loop_number it.place None walking entered c.enter_loop-in-Repeat.new.self c.in_ok-enter_loop-in-Repeat.ensures c.repeat_round.new.self between
+    (loop-done head.loop_number head.place None walking entered c.enter_loop-in-Repeat.new.self c.in_ok-enter_loop-in-Repeat.ensures c.repeat_round.new.self
+    between
     c.repeat_round.new.visits c.in_ok-behind-in-Repeat.behind c.in_ok-behind-in-Repeat.ensures c.leave_loop-in-Repeat.result c.leave_loop-in-Repeat.new.self
     c.leave_loop-in-Repeat.ensures)
 
 pub statement-returns-in_err-behind-in-Repeat : goal.statement-returns-in_err-behind-in-Repeat
 statement-returns-in_err-behind-in-Repeat t c =
     let it = c.in-Repeat in
-    let walking = repeat_round (all_of (map statement_walk c.deref-in-Repeat.result.now)) it.condition in
+    let head = it.head in
+    let walking = repeat_round (all_of (map statement_walk c.deref-in-Repeat.result.now)) head.condition in
     let entered = c.args.self.now in
     let between = c.tick-in-Repeat.new.self in
     let new = c.repeat_round.new.self in
@@ -170,9 +175,9 @@ statement-returns-in_err-behind-in-Repeat t c =
     let fault = c.in_err-behind-in-Repeat.field-0.0 in
     let left = c.from_residual-in_err-behind-in-Repeat in
     given-up (statement_walk c.args.statement.now) c.args.self.now new c.args.visits.now after fault left.result left.ensures
-    (repeat-begun c.args.statement.now it.number it.loop_number it.place it.statements it.condition c.deref-in-Repeat.result.now c.args.self.now entered new
-    c.args.visits.now between after (Err fault) it.is c.deref-in-Repeat.ensures.value (goes-entered _ c.args.self.now _ _ c.tick-in-Repeat.ensures)
-    (loop-stopped it.loop_number it.place None walking entered c.enter_loop-in-Repeat.new.self c.in_ok-enter_loop-in-Repeat.ensures new between after fault
+    (repeat-begun c.args.statement.now head it.statements c.deref-in-Repeat.result.now c.args.self.now entered new c.args.visits.now between after
+    (Err fault) it.is c.deref-in-Repeat.ensures.value (goes-entered _ c.args.self.now _ _ c.tick-in-Repeat.ensures)
+    (loop-stopped head.loop_number head.place None walking entered c.enter_loop-in-Repeat.new.self c.in_ok-enter_loop-in-Repeat.ensures new between after fault
     c.in_err-behind-in-Repeat.ensures))
 
 pub for_statement-returns-in_err-for_turns : goal.for_statement-returns-in_err-for_turns
@@ -183,13 +188,13 @@ for_statement-returns-in_err-for_turns t c =
     let left = c.from_residual-in_err-for_turns in
     let new = c.for_turns.new.self in
     let after = c.for_turns.new.visits in
-    given-up (for_walk c.args.number c.args.place body way) c.args.self.now new c.args.visits.now after fault left.result left.ensures
-    (for-stopped c.args.number c.args.place body way c.in_ok-never.never c.args.self.now c.part_way.new.self new c.args.visits.now after fault
+    given-up (for_walk c.args.head.now body way) c.args.self.now new c.args.visits.now after fault left.result left.ensures
+    (for-stopped c.args.head.now body way c.in_ok-never.never c.args.self.now c.part_way.new.self new c.args.visits.now after fault
     c.in_ok-never.ensures c.in_err-for_turns.ensures)
 
 pub for_statement-returns : goal.for_statement-returns
 for_statement-returns t c =
-    for-done c.args.number c.args.place (statement_walk c.args.body.now) (said_way c.args.way) c.in_ok-never.never c.args.self.now c.part_way.new.self
+    for-done c.args.head.now (statement_walk c.args.body.now) (said_way c.args.way) c.in_ok-never.never c.args.self.now c.part_way.new.self
     c.for_turns.new.self c.leave_way.new.self c.args.visits.now c.for_turns.new.visits c.leave_way.result c.in_ok-never.ensures c.in_ok-for_turns.ensures
     c.leave_way.ensures
 
@@ -199,9 +204,9 @@ for_turns-returns-in_err-tested t c =
     let body = statement_walk c.args.body.now in
     let fault = c.in_err-tested.field-0.0 in
     let left = c.from_residual in
-    given-up (for_turns c.args.number c.args.place body way) c.args.self.now c.tested_way.new.self c.args.visits.now c.args.visits.now fault left.result
+    given-up (for_turns c.args.head.now body way) c.args.self.now c.tested_way.new.self c.args.visits.now c.args.visits.now fault left.result
     left.ensures
-    (turns-not_tested c.args.number c.args.place body way c.args.self.now c.tested_way.new.self c.args.visits.now c.args.visits.now fault
+    (turns-not_tested c.args.head.now body way c.args.self.now c.tested_way.new.self c.args.visits.now c.args.visits.now fault
     (c.in_err-tested.ensures c.args.visits.now))
 
 pub for_turns-returns-in_err-begin_way : goal.for_turns-returns-in_err-begin_way
@@ -211,14 +216,14 @@ for_turns-returns-in_err-begin_way t c =
     let visits = c.args.visits.now in
     let fault = c.in_err-begin_way.field-0.0 in
     let left = c.from_residual-in_err-begin_way in
-    given-up (for_turns c.args.number c.args.place body way) c.args.self.now c.begin_way.new.self visits visits fault left.result left.ensures
-    (turns-not_begun c.args.number c.args.place body way c.args.self.now c.tested_way.new.self visits (said_way c.in_ok-tested.tested)
+    given-up (for_turns c.args.head.now body way) c.args.self.now c.begin_way.new.self visits visits fault left.result left.ensures
+    (turns-not_begun c.args.head.now body way c.args.self.now c.tested_way.new.self visits (said_way c.in_ok-tested.tested)
     (c.in_ok-tested.ensures visits) c.begin_way.new.self visits fault (c.in_err-begin_way.ensures visits))
 
 pub for_turns-returns : goal.for_turns-returns
 for_turns-returns t c =
     let visits = c.args.visits.now in
-    turns-done c.args.number c.args.place (statement_walk c.args.body.now) (said_way c.args.way) c.args.self.now c.tested_way.new.self visits
+    turns-done c.args.head.now (statement_walk c.args.body.now) (said_way c.args.way) c.args.self.now c.tested_way.new.self visits
     (said_way c.in_ok-tested.tested) (c.in_ok-tested.ensures visits) c.begin_way.new.self c.rounds_of.new.self c.rounds_of.new.visits c.rounds_of.result
     (c.in_ok-begin_way.ensures visits) c.rounds_of.ensures
 
@@ -231,9 +236,9 @@ rounds_of-returns-in_err-behind t c =
     let left = c.from_residual-in_err-behind in
     let new = c.for_round.new.self in
     let after = c.for_round.new.visits in
-    given-up (rounds_of c.args.number c.args.place body way) c.args.self.now new c.args.visits.now after fault left.result left.ensures
-    (rounds-go c.args.number c.args.place body way steady c.args.self.now new c.args.visits.now after (Err fault) c.steady_in-steady.ensures
-    (loop-stopped c.args.number c.args.place (Some c.args.way.control) (for_round steady body) c.args.self.now c.enter_loop.new.self
+    given-up (rounds_of c.args.head.now body way) c.args.self.now new c.args.visits.now after fault left.result left.ensures
+    (rounds-go c.args.head.now body way steady c.args.self.now new c.args.visits.now after (Err fault) c.steady_in-steady.ensures
+    (loop-stopped c.args.head.now.loop_number c.args.head.now.place (Some c.args.way.control) (for_round steady body) c.args.self.now c.enter_loop.new.self
     c.in_ok-enter_loop.ensures new c.args.visits.now after fault c.in_err-behind.ensures))
 
 pub rounds_of-returns : goal.rounds_of-returns
@@ -241,9 +246,9 @@ rounds_of-returns t c =
     let way = said_way c.args.way in
     let steady = said_way c.steady_in-steady.result in
     let body = statement_walk c.args.body.now in
-    rounds-go c.args.number c.args.place body way steady c.args.self.now c.leave_loop.new.self c.args.visits.now c.for_round.new.visits c.leave_loop.result
+    rounds-go c.args.head.now body way steady c.args.self.now c.leave_loop.new.self c.args.visits.now c.for_round.new.visits c.leave_loop.result
     c.steady_in-steady.ensures
-    (loop-done c.args.number c.args.place (Some c.args.way.control) (for_round steady body) c.args.self.now c.enter_loop.new.self
+    (loop-done c.args.head.now.loop_number c.args.head.now.place (Some c.args.way.control) (for_round steady body) c.args.self.now c.enter_loop.new.self
     c.in_ok-enter_loop.ensures c.for_round.new.self c.args.visits.now c.for_round.new.visits c.in_ok-behind.behind c.in_ok-behind.ensures
     c.leave_loop.result c.leave_loop.new.self c.leave_loop.ensures)
 
@@ -255,33 +260,29 @@ statement-returns-in_err-from-in-For t c =
     let fault = c.in_err-from-in-For.field-0.0 in
     let left = c.from_residual-in_err-from-in-For in
     given-up (statement_walk c.args.statement.now) c.args.self.now new c.args.visits.now after fault left.result left.ensures
-    (for-first_stopped c.args.statement.now it.number it.loop_number it.place it.control it.first it.first_fits it.direction it.last it.last_fits it.body
-    c.args.self.now c.args.self.now new c.args.visits.now c.tick-in-For.new.self after fault it.is (goes-entered _ c.args.self.now _ _ c.tick-in-For.ensures)
-    c.in_err-from-in-For.ensures)
+    (for-first_stopped c.args.statement.now it.head it.body it.is c.args.self.now c.args.self.now c.args.visits.now c.tick-in-For.new.self
+    (goes-entered _ c.args.self.now _ _ c.tick-in-For.ensures) new after fault c.in_err-from-in-For.ensures)
 
 pub statement-returns-in_err-to-in-For : goal.statement-returns-in_err-to-in-For
 statement-returns-in_err-to-in-For t c =
     let it = c.in-For in
+    let new = c.expression-in-For-2.new.self in
+    let after = c.expression-in-For-2.new.visits in
     let fault = c.in_err-to-in-For.field-0.0 in
     let left = c.from_residual-in_err-to-in-For in
-    given-up (statement_walk c.args.statement.now) c.args.self.now c.expression-in-For-2.new.self c.args.visits.now c.expression-in-For-2.new.visits fault
-    left.result left.ensures
-    (for-last_stopped c.args.statement.now it.number it.loop_number it.place it.control it.first it.first_fits it.direction it.last it.last_fits it.body
-    c.in_ok-from-in-For.from c.args.self.now c.args.self.now c.expression-in-For.new.self c.expression-in-For-2.new.self c.args.visits.now
-    c.tick-in-For.new.self c.expression-in-For.new.visits c.expression-in-For-2.new.visits fault it.is
-    (goes-entered _ c.args.self.now _ _ c.tick-in-For.ensures)
-    c.in_ok-from-in-For.ensures c.in_err-to-in-For.ensures)
+    given-up (statement_walk c.args.statement.now) c.args.self.now new c.args.visits.now after fault left.result left.ensures
+    (for-last_stopped c.args.statement.now it.head it.body it.is c.args.self.now c.args.self.now c.args.visits.now c.tick-in-For.new.self
+    (goes-entered _ c.args.self.now _ _ c.tick-in-For.ensures) c.in_ok-from-in-For.from c.expression-in-For.new.self c.expression-in-For.new.visits
+    c.in_ok-from-in-For.ensures new after fault c.in_err-to-in-For.ensures)
 
 pub statement-returns-in_ok-to-in-For : goal.statement-returns-in_ok-to-in-For
 statement-returns-in_ok-to-in-For t c =
     let it = c.in-For in
-    for-begun c.args.statement.now it.number it.loop_number it.place it.control it.first it.first_fits it.direction it.last it.last_fits it.body
-    c.deref-in-For.result.now _ c.in_ok-from-in-For.from c.in_ok-to-in-For.to c.args.self.now c.args.self.now c.expression-in-For.new.self
-    c.expression-in-For-2.new.self c.for_statement.new.self c.args.visits.now c.tick-in-For.new.self c.expression-in-For.new.visits
-    c.expression-in-For-2.new.visits c.for_statement.new.visits c.for_statement.result it.is c.deref-in-For.ensures
-    (way-same it.control it.direction it.first it.last it.first_fits it.last_fits c.in_ok-from-in-For.from c.in_ok-to-in-For.to
-    (said_end c.before-in-For.result) (said_end c.new.result) c.before-in-For.ensures c.new.ensures)
-    (goes-entered _ c.args.self.now _ _ c.tick-in-For.ensures) c.in_ok-from-in-For.ensures c.in_ok-to-in-For.ensures c.for_statement.ensures
+    for-begun c.args.statement.now it.head it.body it.is c.args.self.now c.args.self.now c.args.visits.now c.tick-in-For.new.self
+    (goes-entered _ c.args.self.now _ _ c.tick-in-For.ensures) c.in_ok-from-in-For.from c.expression-in-For.new.self c.expression-in-For.new.visits
+    c.in_ok-from-in-For.ensures c.in_ok-to-in-For.to c.deref-in-For.result.now _ c.expression-in-For-2.new.self c.for_statement.new.self
+    c.expression-in-For-2.new.visits c.for_statement.new.visits c.for_statement.result c.deref-in-For.ensures c.of.ensures c.in_ok-to-in-For.ensures
+    c.for_statement.ensures
 
 pub arms-loop-i-preserved : goal.arms-loop-i-preserved
 arms-loop-i-preserved t c = λ result new after goes.
@@ -304,30 +305,28 @@ arms-returns t c =
 
 pub case_statement-returns-in_err-base : goal.case_statement-returns-in_err-base
 case_statement-returns-in_err-base t c =
+    let head = c.args.head.now in
     let visits = c.args.visits.now in
+    let new = c.index_test.new.self in
     let fault = c.in_err-base.field-0.0 in
     let left = c.from_residual in
-    let walk = case_walk c.args.site c.args.index.now c.args.constants.now (map statement_walk c.args.arms.now) (Ordinal c.args.range) in
-    given-up walk c.args.self.now c.index_test.new.self visits visits fault left.result left.ensures
-    (case-not_tested c.args.site c.args.index.now c.args.constants.now c.args.arms.now c.args.range (length c.args.arms.now) c.args.self.now
-    c.index_test.new.self visits visits fault refl (c.in_err-base.ensures visits))
+    given-up (case_walk head (map statement_walk c.args.arms.now) (Ordinal c.args.range)) c.args.self.now new visits visits fault left.result left.ensures
+    (case-not_tested head c.args.arms.now c.args.range (length c.args.arms.now) refl c.args.self.now visits new visits fault (c.in_err-base.ensures visits))
 
 pub case_statement-returns : goal.case_statement-returns
 case_statement-returns t c =
     let visits = c.args.visits.now in
-    case-tested c.args.site c.args.index.now c.args.constants.now c.args.arms.now c.args.range (length c.args.arms.now) c.entire.result c.in_ok-base.base
-    c.args.self.now c.index_test.new.self c.arms.new.self visits c.arms.new.visits c.arms.result refl c.entire.ensures (c.in_ok-base.ensures visits)
-    c.arms.ensures
+    case-tested c.args.head.now c.args.arms.now c.args.range (length c.args.arms.now) refl c.args.self.now visits c.entire.result c.deref.result.now
+    c.in_ok-base.base c.index_test.new.self c.arms.new.self c.arms.new.visits c.arms.result c.entire.ensures c.deref.ensures.value
+    (c.in_ok-base.ensures visits) c.arms.ensures
 
 pub statement-returns-in_ok-known-in-Case : goal.statement-returns-in_ok-known-in-Case
 statement-returns-in_ok-known-in-Case t c =
     let it = c.in-Case in
-    case-begun c.args.statement.now it.number it.site it.index it.constants it.arms c.deref-in-Case-2.result.now c.deref-in-Case.result.now
-    c.in_ok-known-in-Case.known c.range-range.result c.args.self.now c.args.self.now c.expression-in-Case.new.self c.case_statement.new.self
-    c.args.visits.now c.tick-in-Case.new.self c.expression-in-Case.new.visits c.case_statement.new.visits c.case_statement.result it.is
-    c.deref-in-Case-2.ensures.value c.deref-in-Case.ensures.value c.range-range.ensures
-    (goes-entered _ c.args.self.now _ _ c.tick-in-Case.ensures) c.in_ok-known-in-Case.ensures
-    c.case_statement.ensures
+    case-begun c.args.statement.now it.head it.arms c.deref-in-Case.result.now c.in_ok-known-in-Case.known c.range.result c.args.self.now c.args.self.now
+    c.expression-in-Case.new.self c.case_statement.new.self c.args.visits.now c.tick-in-Case.new.self c.expression-in-Case.new.visits
+    c.case_statement.new.visits c.case_statement.result it.is c.deref-in-Case.ensures.value c.range.ensures
+    (goes-entered _ c.args.self.now _ _ c.tick-in-Case.ensures) c.in_ok-known-in-Case.ensures c.case_statement.ensures
 
 pub arms-returns-in_err-arm : goal.arms-returns-in_err-arm
 arms-returns-in_err-arm t c =
@@ -449,8 +448,8 @@ statement-returns-in_err-known-in-Case t c =
     let fault = c.in_err-known-in-Case.field-0.0 in
     let left = c.from_residual-in_err-known-in-Case in
     given-up (statement_walk c.args.statement.now) c.args.self.now new c.args.visits.now after fault left.result left.ensures
-    (case-not_valued c.args.statement.now it.number it.site it.index it.constants it.arms c.args.self.now c.args.self.now new c.args.visits.now
-    c.tick-in-Case.new.self after fault it.is (goes-entered _ c.args.self.now _ _ c.tick-in-Case.ensures) c.in_err-known-in-Case.ensures)
+    (case-not_valued c.args.statement.now it.head it.arms c.args.self.now c.args.self.now new c.args.visits.now c.tick-in-Case.new.self after fault it.is
+    (goes-entered _ c.args.self.now _ _ c.tick-in-Case.ensures) c.in_err-known-in-Case.ensures)
 
 pub statements-returns-in_err-statement : goal.statements-returns-in_err-statement
 statements-returns-in_err-statement t c =
@@ -466,7 +465,7 @@ statements-returns-in_err-statement t c =
 
 pub for_statement-returns-in_err-never : goal.for_statement-returns-in_err-never
 for_statement-returns-in_err-never t c =
-    let walk = for_walk c.args.number c.args.place (statement_walk c.args.body.now) (said_way c.args.way) in
+    let walk = for_walk c.args.head.now (statement_walk c.args.body.now) (said_way c.args.way) in
     let visits = c.args.visits.now in
     let fault = c.in_err-never.field-0.0 in
     let left = c.from_residual in
@@ -482,9 +481,9 @@ rounds_of-returns-in_err-enter_loop t c =
     let left = c.from_residual in
     let new = c.enter_loop.new.self in
     let visits = c.args.visits.now in
-    given-up (rounds_of c.args.number c.args.place body way) c.args.self.now new visits visits fault left.result left.ensures
-    (rounds-go c.args.number c.args.place body way steady c.args.self.now new visits visits (Err fault) c.steady_in-steady.ensures
-    (loop-not_entered c.args.number c.args.place (Some c.args.way.control) (for_round steady body) c.args.self.now new visits fault
+    given-up (rounds_of c.args.head.now body way) c.args.self.now new visits visits fault left.result left.ensures
+    (rounds-go c.args.head.now body way steady c.args.self.now new visits visits (Err fault) c.steady_in-steady.ensures
+    (loop-not_entered c.args.head.now.loop_number c.args.head.now.place (Some c.args.way.control) (for_round steady body) c.args.self.now new visits fault
     c.in_err-enter_loop.ensures))
 
 pub for_round-returns-in_err-begin_turn : goal.for_round-returns-in_err-begin_turn

@@ -1,4 +1,5 @@
-use Rattle.std.proofs.Common.{List, ap₂, ◌∙◌, subst}
+use Rattle.std.proofs.Common.{List, ap, ap₂, ◌∙◌, subst}
+use Rattle.typed_tree.specs.Calls.{whole_holds_call}
 use Rattle.typed_tree.specs.declared.tree.Selector.{Selector}
 use Rattle.domain.specs.Interval.{Interval}
 use Rattle.component_states.specs.View.{said_reach}
@@ -16,7 +17,7 @@ returns-in_err-reach c =
     let new = c.access.new.self in
     let after = c.access.new.visits in
     given-up (copying_walk copying) c.args.self.now new c.args.visits.now after fault left.result left.ensures
-    (copying-unreached copying c.args.self.now c.args.visits.now new after fault c.in_err-reach.ensures)
+    (copying-unreached copying c.deref.result.now c.deref.ensures.value c.args.self.now c.args.visits.now new after fault c.in_err-reach.ensures)
 
 pub returns-in_err-ranges : goal.returns-in_err-ranges
 returns-in_err-ranges c =
@@ -27,8 +28,8 @@ returns-in_err-ranges c =
     let new = c.whole_value.new.self in
     let after = c.whole_value.new.visits in
     given-up (copying_walk copying) c.args.self.now new c.args.visits.now after fault left.result left.ensures
-    (copying-unvalued copying c.args.self.now c.args.visits.now reach c.access.new.self c.access.new.visits c.in_ok-reach.ensures new after fault
-    c.in_err-ranges.ensures)
+    (copying-unvalued copying c.deref.result.now c.deref.ensures.value c.args.self.now c.args.visits.now reach c.access.new.self c.access.new.visits
+    c.in_ok-reach.ensures c.deref-2.result.now c.deref-2.ensures.value new after fault c.in_err-ranges.ensures)
 
 pub returns : goal.returns
 returns c =
@@ -39,11 +40,12 @@ returns c =
     let valued = c.whole_value.new.self in
     let new = c.copy_to.new.self in
     let after = c.whole_value.new.visits in
-    copying-done copying c.args.self.now c.args.visits.now reach c.access.new.self c.access.new.visits c.in_ok-reach.ensures before valued new after
-    c.in_ok-ranges.ranges.items c.copy_to.result
+    copying-done copying c.deref.result.now c.deref.ensures.value c.args.self.now c.args.visits.now reach c.access.new.self c.access.new.visits
+    c.in_ok-reach.ensures c.deref-2.result.now c.deref-2.ensures.value before valued new after c.in_ok-ranges.ranges.items c.copy_to.result
     (c.reach_stored-reach.ensures
-    ∙ ap₂ (λ (own : List Selector) holds. reach_stored own holds reach) c.deref.ensures.value c.whole_holds_call-holds_call.ensures)
+    ∙ ap₂ (λ (own : List Selector) holds. reach_stored own holds reach) c.deref-4.ensures.value
+    (c.whole_holds_call-holds_call.ensures ∙ ap (whole_holds_call copying.value) c.deref-3.ensures.value))
     c.in_ok-ranges.ensures
     (subst (λ (ranges : List Interval).
     Goes (copy_to copying.becomes target.root target.selectors.items before ranges) valued after c.copy_to.result new after)
-    c.deref-2.ensures.value (c.copy_to.ensures after))
+    c.deref-5.ensures.value (c.copy_to.ensures after))
