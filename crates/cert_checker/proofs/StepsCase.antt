@@ -31,39 +31,6 @@ use Rattle.expression_checker.proofs.Steps.{left-same}
 use Rattle.cert_checker.proofs.Steps.{Does, Stops, goes-as, goes-stopped, goes-then, moved-loops, moved-same, viewed-moved, viewed-same, walks-give}
 use Rattle.expression_checker.specs.View.{state_of}
 
-pub statement-Case : (head : CaseHead) (arms : Vec Stmt Global)
-    → statement_walk (stmt.Case head arms)
-    ≡ (enter head.number >>= λ _. (value_walk head.index >>= case_walk head (map statement_walk arms.items)))
-statement-Case head arms = search (rules, stmt_lemmas)
-
--- a case from its entry on
-pub case-begun : (statement : Stmt) (head : CaseHead) (arms : Vec Stmt Global) (items : List Stmt) (known : Known) (range : Interval)
-    (old entered valued new : Walk) (before between after end : Visits) (result : Result (Unit {0}) CheckFault)
-    → statement ≡ stmt.Case head arms → items ≡ arms.items → known ≡ Ordinal range
-    → Does (enter head.number) old before entered between tt → Does (value_walk head.index) entered between valued after known
-    → Goes (case_walk head (map statement_walk items) (Ordinal range)) valued after result new end
-    → Goes (statement_walk statement) old before result new end
-case-begun statement head arms items known range old entered valued new before between after end result is items_are known_is one two three =
-    let rest = case_walk head (map statement_walk arms.items) in
-    goes-as (statement_walk statement) (enter head.number >>= λ _. (value_walk head.index >>= rest)) old new before end result
-    (ap statement_walk is ∙ statement-Case head arms)
-    (goes-then (enter head.number) (λ _. value_walk head.index >>= rest) old entered new before between end tt result one
-    (goes-then (value_walk head.index) rest entered valued new between after end known result two
-    (goes-as (rest known) (case_walk head (map statement_walk items) (Ordinal range)) valued new after end result
-    (ap rest known_is ∙ ap (λ l. case_walk head (map statement_walk l) (Ordinal range)) (sym items_are)) three)))
-
--- the checker gave up in the index
-pub case-not_valued : (statement : Stmt) (head : CaseHead) (arms : Vec Stmt Global) (old entered new : Walk) (before between after : Visits)
-    (fault : CheckFault)
-    → statement ≡ stmt.Case head arms → Does (enter head.number) old before entered between tt
-    → Stops (value_walk head.index) entered between after fault → Goes (statement_walk statement) old before (Err fault) new after
-case-not_valued statement head arms old entered new before between after fault is one stopped =
-    let rest = case_walk head (map statement_walk arms.items) in
-    goes-as (statement_walk statement) (enter head.number >>= λ _. (value_walk head.index >>= rest)) old new before after (Err fault)
-    (ap statement_walk is ∙ statement-Case head arms)
-    (goes-then (enter head.number) (λ _. value_walk head.index >>= rest) old entered new before between after tt (Err fault) one
-    (goes-stopped (value_walk head.index) rest entered new between after fault stopped))
-
 module _ (head : CaseHead) (arms : List Stmt) (range : Interval) (count : ℕ) (count_is : count ≡ length arms) (old : Walk) (before : Visits) where
   abbrev inner : List (Walking (Unit {0}))
   inner = map statement_walk arms

@@ -31,54 +31,6 @@ use Rattle.expression_checker.proofs.Begun.{begun-all}
 use Rattle.expression_checker.proofs.Steps.{left-same, left-stays}
 use Rattle.expression_checker.specs.View.{IsLeft, state_of}
 
-pub statement-For : (head : ForHead) (body : Box Stmt Global)
-    → statement_walk (stmt.For head body)
-    ≡ (enter head.number >>= λ _. (value_walk head.first.value >>= λ from. (value_walk head.last.value >>= λ to.
-    for_walk head (statement_walk body.value) (way_of head from to))))
-statement-For head body = search (rules, stmt_lemmas)
-
-module _ (statement : Stmt) (head : ForHead) (body : Box Stmt Global) (is : statement ≡ stmt.For head body) (old entered : Walk) (before between : Visits)
-    (one : Does (enter head.number) old before entered between tt) where
-  -- what comes behind the value of the first bound, and behind that of the last
-  abbrev behind_both : Known → Known → Walking (Unit {0})
-  behind_both from to = for_walk head (statement_walk body.value) (way_of head from to)
-
-  abbrev behind_first : Known → Walking (Unit {0})
-  behind_first from = value_walk head.last.value >>= behind_both from
-
-  from-entry : (new : Walk) (end : Visits) (result : Result (Unit {0}) CheckFault)
-      → Goes (value_walk head.first.value >>= behind_first) entered between result new end → Goes (statement_walk statement) old before result new end
-  from-entry new end result two =
-      goes-as (statement_walk statement) (enter head.number >>= λ _. (value_walk head.first.value >>= behind_first)) old new before end result
-      (ap statement_walk is ∙ statement-For head body)
-      (goes-then (enter head.number) (λ _. value_walk head.first.value >>= behind_first) old entered new before between end tt result one two)
-
-  -- the checker gave up in the first bound
-  pub for-first_stopped : (new : Walk) (after : Visits) (fault : CheckFault) → Stops (value_walk head.first.value) entered between after fault
-      → Goes (statement_walk statement) old before (Err fault) new after
-  for-first_stopped new after fault stopped =
-      from-entry new after (Err fault) (goes-stopped (value_walk head.first.value) behind_first entered new between after fault stopped)
-
-  module _ (from : Known) (begun : Walk) (middle : Visits) (two : Does (value_walk head.first.value) entered between begun middle from) where
-    -- in the last bound
-    pub for-last_stopped : (new : Walk) (after : Visits) (fault : CheckFault) → Stops (value_walk head.last.value) begun middle after fault
-        → Goes (statement_walk statement) old before (Err fault) new after
-    for-last_stopped new after fault stopped =
-        from-entry new after (Err fault)
-        (goes-then (value_walk head.first.value) behind_first entered begun new between middle after from (Err fault) two
-        (goes-stopped (value_walk head.last.value) (behind_both from) begun new middle after fault stopped))
-
-    -- a for from its entry on
-    pub for-begun : (to : Known) (inner : Stmt) (way : Way) (valued new : Walk) (after end : Visits) (result : Result (Unit {0}) CheckFault)
-        → inner ≡ body.value → way ≡ way_of head from to → Does (value_walk head.last.value) begun middle valued after to
-        → Goes (for_walk head (statement_walk inner) way) valued after result new end → Goes (statement_walk statement) old before result new end
-    for-begun to inner way valued new after end result inner_is way_is three four =
-        from-entry new end result
-        (goes-then (value_walk head.first.value) behind_first entered begun new between middle end from result two
-        (goes-then (value_walk head.last.value) (behind_both from) begun valued new middle after end to result three
-        (goes-as (behind_both from to) (for_walk head (statement_walk inner) way) valued new after end result
-        (ap (λ s. for_walk head (statement_walk s) (way_of head from to)) (sym inner_is) ∙ ap (for_walk head (statement_walk inner)) (sym way_is)) four)))
-
 -- what is known where there are values, and where there are none
 abbrev pub counting : Bool → Way → State → State
 counting counts way = over_variables (where_counts counts way)

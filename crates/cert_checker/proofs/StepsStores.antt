@@ -22,18 +22,19 @@ use Rattle.component_states.specs.States.{State, over_components}
 use Rattle.structured_states.proofs.Claims.{item-cut}
 use Rattle.structured_states.proofs.Rowed.{rows_to, rows-next}
 use Rattle.expression_checker.specs.declared.fault.CheckFault.{CheckFault}
-use Rattle.expression_checker.specs.Visits.{Visits}
+use Rattle.expression_checker.specs.Visits.{Visits, counted}
 use Rattle.typed_tree.specs.Calls.{holds_call, whole_holds_call}
 use Rattle.expression_checker.specs.Walk.{Walking, ◌>>=◌, access_walk, fitting, index_pieces, value_walk, whole_walk}
 use Rattle.cert_checker.specs.declared.walk.Walk.{Walk}
 use Rattle.cert_checker.specs.View.{Goes, context_of}
-use Rattle.cert_checker.specs.Walk.{Stores, alike, assign, assign_component, assign_to, assignment_walk, change, copy_to, copying_walk, paired, reach_stored}
-use Rattle.cert_checker.specs.Walk.{store_to}
-use Rattle.cert_checker.proofs.Steps.{Does, Stops, goes-as, goes-here, goes-stopped, goes-then}
+use Rattle.cert_checker.specs.Walk.{Stores, alike, assign, assign_component, assign_to, assignment_walk, change, copy_to, copying_walk, from_entry, paired}
+use Rattle.cert_checker.specs.Walk.{reach_stored, store_to}
+use Rattle.cert_checker.proofs.Steps.{Does, Stops, goes-as, goes-from_entry, goes-here, goes-stopped, goes-then}
 use Rattle.expression_checker.specs.View.{state_of}
 
 -- an assignment from the access of its target on
-module _ (assignment : Assignment) (indexes : List Expr) (indexes_are : indexes ≡ assignment.indexes.items) (old : Walk) (before : Visits) where
+module _ (assignment : Assignment) (indexes : List Expr) (indexes_are : indexes ≡ assignment.indexes.items) (old : Walk) (first before : Visits)
+    (ticked : before ≡ counted assignment.number first) where
   abbrev access : List Expr → Walking Reach
   access indexes = access_walk assignment.target (index_pieces indexes)
 
@@ -50,21 +51,22 @@ module _ (assignment : Assignment) (indexes : List Expr) (indexes_are : indexes 
   behind_access reach = value_walk assignment.value >>= tested_store (held reach)
 
   from-access : (new : Walk) (after : Visits) (result : Result (Unit {0}) CheckFault) → Goes (access indexes >>= behind_access) old before result new after
-      → Goes (assignment_walk assignment) old before result new after
+      → Goes (from_entry assignment.number (assignment_walk assignment)) old first result new after
   from-access new after result one =
-      goes-as (assignment_walk assignment) (access indexes >>= behind_access) old new before after result
-      (ap (λ own. access own >>= behind_access) (sym indexes_are)) one
+      goes-from_entry assignment.number (assignment_walk assignment) old new first before after result ticked
+      (goes-as (assignment_walk assignment) (access indexes >>= behind_access) old new before after result
+      (ap (λ own. access own >>= behind_access) (sym indexes_are)) one)
 
   -- the checker gave up in the access
   pub assignment-unreached : (new : Walk) (after : Visits) (fault : CheckFault) → Stops (access indexes) old before after fault
-      → Goes (assignment_walk assignment) old before (Err fault) new after
+      → Goes (from_entry assignment.number (assignment_walk assignment)) old first (Err fault) new after
   assignment-unreached new after fault stopped =
       from-access new after (Err fault) (goes-stopped (access indexes) behind_access old new before after fault stopped)
 
   module _ (reach : Reach) (reached : Walk) (entries : Visits) (one : Does (access indexes) old before reached entries reach) where
     -- in the value
     pub assignment-unvalued : (new : Walk) (after : Visits) (fault : CheckFault) → Stops (value_walk assignment.value) reached entries after fault
-        → Goes (assignment_walk assignment) old before (Err fault) new after
+        → Goes (from_entry assignment.number (assignment_walk assignment)) old first (Err fault) new after
     assignment-unvalued new after fault stopped =
         from-access new after (Err fault)
         (goes-then (access indexes) behind_access old reached new before entries after reach (Err fault) one
@@ -72,7 +74,8 @@ module _ (assignment : Assignment) (indexes : List Expr) (indexes_are : indexes 
 
     pub assignment-done : (before_value : Reach) (valued new : Walk) (after : Visits) (known : Known) (result : Result (Unit {0}) CheckFault)
         → before_value ≡ held reach → Does (value_walk assignment.value) reached entries valued after known
-        → Goes (tested_store before_value known) valued after result new after → Goes (assignment_walk assignment) old before result new after
+        → Goes (tested_store before_value known) valued after result new after
+        → Goes (from_entry assignment.number (assignment_walk assignment)) old first result new after
     assignment-done before_value valued new after known result before_is two three =
         from-access new after result
         (goes-then (access indexes) behind_access old reached new before entries after reach result one
@@ -80,7 +83,8 @@ module _ (assignment : Assignment) (indexes : List Expr) (indexes_are : indexes 
         (subst (λ (r : Reach). Goes (tested_store r known) valued after result new after) before_is three)))
 
 -- an assignment of a whole value from the access of its target on
-module _ (copying : Copying) (indexes : List Expr) (indexes_are : indexes ≡ copying.indexes.items) (old : Walk) (before : Visits) where
+module _ (copying : Copying) (indexes : List Expr) (indexes_are : indexes ≡ copying.indexes.items) (old : Walk) (first before : Visits)
+    (ticked : before ≡ counted copying.number first) where
   abbrev target_access : List Expr → Walking Reach
   target_access indexes = access_walk copying.target (index_pieces indexes)
 
@@ -97,21 +101,24 @@ module _ (copying : Copying) (indexes : List Expr) (indexes_are : indexes ≡ co
   behind_target reach = whole copying.value_indexes.items >>= copied (kept_reach reach)
 
   from-target : (new : Walk) (after : Visits) (result : Result (Unit {0}) CheckFault)
-      → Goes (target_access indexes >>= behind_target) old before result new after → Goes (copying_walk copying) old before result new after
+      → Goes (target_access indexes >>= behind_target) old before result new after
+      → Goes (from_entry copying.number (copying_walk copying)) old first result new after
   from-target new after result one =
-      goes-as (copying_walk copying) (target_access indexes >>= behind_target) old new before after result
-      (ap (λ own. target_access own >>= behind_target) (sym indexes_are)) one
+      goes-from_entry copying.number (copying_walk copying) old new first before after result ticked
+      (goes-as (copying_walk copying) (target_access indexes >>= behind_target) old new before after result
+      (ap (λ own. target_access own >>= behind_target) (sym indexes_are)) one)
 
   -- the checker gave up in the access
   pub copying-unreached : (new : Walk) (after : Visits) (fault : CheckFault) → Stops (target_access indexes) old before after fault
-      → Goes (copying_walk copying) old before (Err fault) new after
+      → Goes (from_entry copying.number (copying_walk copying)) old first (Err fault) new after
   copying-unreached new after fault stopped =
       from-target new after (Err fault) (goes-stopped (target_access indexes) behind_target old new before after fault stopped)
 
   module _ (reach : Reach) (reached : Walk) (entries : Visits) (one : Does (target_access indexes) old before reached entries reach)
       (more : List Expr) (more_are : more ≡ copying.value_indexes.items) where
-    from-value : (new : Walk) (after : Visits) (result : Result (Unit {0}) CheckFault) → Goes (whole more >>= copied (kept_reach reach)) reached entries result new after
-        → Goes (copying_walk copying) old before result new after
+    from-value : (new : Walk) (after : Visits) (result : Result (Unit {0}) CheckFault)
+        → Goes (whole more >>= copied (kept_reach reach)) reached entries result new after
+        → Goes (from_entry copying.number (copying_walk copying)) old first result new after
     from-value new after result two =
         from-target new after result
         (goes-then (target_access indexes) behind_target old reached new before entries after reach result one
@@ -120,13 +127,13 @@ module _ (copying : Copying) (indexes : List Expr) (indexes_are : indexes ≡ co
 
     -- in the value
     pub copying-unvalued : (new : Walk) (after : Visits) (fault : CheckFault) → Stops (whole more) reached entries after fault
-        → Goes (copying_walk copying) old before (Err fault) new after
+        → Goes (from_entry copying.number (copying_walk copying)) old first (Err fault) new after
     copying-unvalued new after fault stopped =
         from-value new after (Err fault) (goes-stopped (whole more) (copied (kept_reach reach)) reached new entries after fault stopped)
 
     pub copying-done : (before_value : Reach) (valued new : Walk) (after : Visits) (ranges : List Interval) (result : Result (Unit {0}) CheckFault)
         → before_value ≡ kept_reach reach → Does (whole more) reached entries valued after ranges
-        → Goes (copied before_value ranges) valued after result new after → Goes (copying_walk copying) old before result new after
+        → Goes (copied before_value ranges) valued after result new after → Goes (from_entry copying.number (copying_walk copying)) old first result new after
     copying-done before_value valued new after ranges result before_is two three =
         from-value new after result
         (goes-then (whole more) (copied (kept_reach reach)) reached valued new entries after after ranges result two

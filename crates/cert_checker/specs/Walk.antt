@@ -14,6 +14,7 @@ use Rattle.typed_tree.specs.declared.tree.Assignment.{Assignment}
 use Rattle.typed_tree.specs.declared.tree.CaseHead.{CaseHead}
 use Rattle.typed_tree.specs.declared.tree.Copying.{Copying}
 use Rattle.typed_tree.specs.declared.tree.ForHead.{ForHead}
+use Rattle.typed_tree.specs.declared.tree.LoopHead.{LoopHead}
 use Rattle.typed_tree.specs.declared.tree.Selector.{Selector}
 use Rattle.typed_tree.specs.declared.tree.Selector.TheVariants.{Element}
 use Rattle.typed_tree.specs.declared.tree.FunctionResult.{FunctionResult}
@@ -176,6 +177,12 @@ reach_of_store selectors reach = reach
 abbrev pub reach_stored : List Selector → Bool → Reach → Reach
 reach_stored selectors holds_call reach = reach_of_store selectors (reach_before holds_call reach)
 
+-- a piece from its entry on
+abbrev pub from_entry : ℕ → Walking (Unit {0}) → Walking (Unit {0})
+from_entry number walking = do
+  _ ← enter number
+  walking
+
 -- an assignment: the target is accessed, and then comes the value
 abbrev pub assignment_walk : Assignment → Walking (Unit {0})
 assignment_walk assignment =
@@ -212,6 +219,12 @@ parted one_state other_state one other context state =
 abbrev pub branches : Expr → (consequence alternative : Walking (Unit {0})) → Known → Walking (Unit {0})
 branches condition consequence alternative known =
     parted (where_so true condition known) (where_so false condition known) consequence alternative
+
+-- a conditional statement: the condition, and then one of its branches
+abbrev pub choice_walk : Expr → (consequence alternative : Walking (Unit {0})) → Walking (Unit {0})
+choice_walk condition consequence alternative = do
+  known ← value_walk condition
+  branches condition consequence alternative known
 
 -- the statement behind `else`, or nothing where there is none
 abbrev pub alternative_walk : Option (Box (Walking (Unit {0})) Global) → Walking (Unit {0})
@@ -271,6 +284,13 @@ loop_walk number place control walking context =
     let loop = round_of context.tree context.pairs context.claims number in
     loop_by place (with_own control loop) loop (claims_at context.claims number).facts walking context
 
+-- a while, and a repeat
+abbrev pub while_walk : LoopHead → Walking (Unit {0}) → Walking (Unit {0})
+while_walk head body = loop_walk head.loop_number head.place None (while_round head.condition body)
+
+abbrev pub repeat_walk : LoopHead → Walking (Unit {0}) → Walking (Unit {0})
+repeat_walk head body = loop_walk head.loop_number head.place None (repeat_round body head.condition)
+
 -- ---- for statements
 
 -- the test of a bound: where its value lies that passes
@@ -324,6 +344,13 @@ for_walk head body way = do
       (for_turns head body way) (give tt)
   changed_by (over_change way.control None (with_undefined way.control))
 
+-- a for: its bounds, and then the rest
+abbrev pub bounds_walk : ForHead → Walking (Unit {0}) → Walking (Unit {0})
+bounds_walk head body = do
+  from ← value_walk head.first.value
+  to ← value_walk head.last.value
+  for_walk head body (way_of head from to)
+
 -- ---- case statements
 
 -- no run goes on
@@ -357,41 +384,26 @@ case_walk head arms (Ordinal range) = do
   base ← index_test head.site (constants_before (length arms) head.constants.items) range
   arms_walk base (root_of (condition_of head.index).form) head.constants.items arms
 
+-- a case: its index, and then an arm
+abbrev pub index_walk : CaseHead → List (Walking (Unit {0})) → Walking (Unit {0})
+index_walk head arms = do
+  known ← value_walk head.index
+  case_walk head arms known
+
 -- one layer of a statement
 abbrev pub statement_step : Stmt-F (Walking (Unit {0})) → Walking (Unit {0})
 statement_step (Empty number) = enter number
-statement_step (Assign assignment) = do
-  _ ← enter assignment.number
-  assignment_walk assignment
-statement_step (Copy copying) = do
-  _ ← enter copying.number
-  copying_walk copying
-statement_step (Write writing) = do
-  _ ← enter writing.number
-  all_of (map parameter_walk writing.parameters.items)
+statement_step (Assign assignment) = from_entry assignment.number (assignment_walk assignment)
+statement_step (Copy copying) = from_entry copying.number (copying_walk copying)
+statement_step (Write writing) = from_entry writing.number (all_of (map parameter_walk writing.parameters.items))
 statement_step (Call calling) = call_walk calling.call (map passed_piece_of calling.actuals.items)
-statement_step (Compound number statements) = do
-  _ ← enter number
-  all_of statements.items
-statement_step (If number condition consequence alternative) = do
-  _ ← enter number
-  known ← value_walk condition
-  branches condition consequence.value (alternative_walk alternative) known
-statement_step (While head body) = do
-  _ ← enter head.number
-  loop_walk head.loop_number head.place None (while_round head.condition body.value)
-statement_step (Repeat head statements) = do
-  _ ← enter head.number
-  loop_walk head.loop_number head.place None (repeat_round (all_of statements.items) head.condition)
-statement_step (For head body) = do
-  _ ← enter head.number
-  from ← value_walk head.first.value
-  to ← value_walk head.last.value
-  for_walk head body.value (way_of head from to)
-statement_step (Case head arms) = do
-  _ ← enter head.number
-  known ← value_walk head.index
-  case_walk head arms.items known
+statement_step (Compound number statements) = from_entry number (all_of statements.items)
+statement_step (If number condition consequence alternative) =
+    from_entry number (choice_walk condition consequence.value (alternative_walk alternative))
+statement_step (While head body) = from_entry head.number (while_walk head body.value)
+statement_step (Repeat head statements) = from_entry head.number (repeat_walk head (all_of statements.items))
+statement_step (For head body) = from_entry head.number (bounds_walk head body.value)
+statement_step (Case head arms) = from_entry head.number (index_walk head arms.items)
 
 -- the walk over a statement
 abbrev pub statement_walk : Stmt → Walking (Unit {0})

@@ -10,7 +10,7 @@ ghost use Rattle.call_states.specs.View.{said_stored};
 ghost use Rattle.expression_checker.specs.Visits.{Visits};
 ghost use Rattle.cert_checker.specs.View.{Goes, row_stored};
 ghost use Rattle.cert_checker.specs.Walk.{alike, assign, assign_component, assign_to, assignment_walk, change};
-ghost use Rattle.cert_checker.specs.Walk.{copy_to, copying_walk, ends_at_index, paired, reach_before};
+ghost use Rattle.cert_checker.specs.Walk.{copy_to, copying_walk, ends_at_index, from_entry, paired, reach_before};
 ghost use Rattle.cert_checker.specs.Walk.{reach_of_store, reach_stored, store_to, stores_made};
 
 use crate::walk::Walk;
@@ -38,8 +38,10 @@ impl<'a> Walk<'a> {
         assignment: &Assignment,
         visits: &mut Visits,
     ) -> Result<(), CheckFault>
-        ensures { Goes (assignment_walk assignment.now) self.old visits.old result self.new visits.new }
+        ensures { Goes (from_entry assignment.now.number (assignment_walk assignment.now))
+            self.old visits.old result self.new visits.new }
     {
+        visits.tick(assignment.number);
         let target = &assignment.target;
         let reach = self.access(target, &assignment.indexes, visits)?;
         let known = self.expression(&assignment.value, visits)?;
@@ -94,8 +96,10 @@ impl<'a> Walk<'a> {
         copying: &Copying,
         visits: &mut Visits,
     ) -> Result<(), CheckFault>
-        ensures { Goes (copying_walk copying.now) self.old visits.old result self.new visits.new }
+        ensures { Goes (from_entry copying.now.number (copying_walk copying.now))
+            self.old visits.old result self.new visits.new }
     {
+        visits.tick(copying.number);
         let reach = self.access(&copying.target, &copying.indexes, visits)?;
         let ranges = self.whole_value(&copying.value, &copying.value_indexes, visits)?;
         let holds_call = whole_holds_call(&copying.value, &copying.value_indexes);

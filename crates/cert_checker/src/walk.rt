@@ -11,9 +11,10 @@ ghost use Rattle.expression_checker.specs.Walk.{IsBreachOf, access_walk, call_wa
 ghost use Rattle.expression_checker.specs.Walk.{parameter_walk, passed_piece_of, value_walk, whole_walk};
 ghost use Rattle.cert_checker.specs.View.{Goes, IsBegun, Meets, Parts};
 ghost use Rattle.cert_checker.specs.View.{else_walk, said_state, viewed_in};
-ghost use Rattle.cert_checker.specs.Walk.{all_of, arm_walk, arms_walk, case_walk, for_round, for_turns, for_walk};
-ghost use Rattle.cert_checker.specs.Walk.{index_test, program_walk, repeat_round, rounds_of, statement_walk, where_so};
-ghost use Rattle.cert_checker.specs.Walk.{while_round};
+ghost use Rattle.cert_checker.specs.Walk.{all_of, arm_walk, arms_walk, bounds_walk, case_walk, choice_walk, for_round};
+ghost use Rattle.cert_checker.specs.Walk.{for_turns, for_walk, from_entry, index_test, index_walk, program_walk};
+ghost use Rattle.cert_checker.specs.Walk.{repeat_round, repeat_walk, rounds_of, statement_walk, where_so, while_round};
+ghost use Rattle.cert_checker.specs.Walk.{while_walk};
 
 use abstract_state::{Known, entire};
 use call_states::sections::{all_block_claims, all_pairs};
@@ -34,7 +35,7 @@ use structured_states::pairs::Pairs;
 use structured_states::rounds::{all_claims, all_loop_aliases};
 use structured_states::ways::Way;
 use typed_tree::tree::{
-    Access, CaseHead, Expr, ForHead, ProcedureCall, Stmt, Whole, WriteParameter,
+    Access, CaseHead, Expr, ForHead, LoopHead, ProcedureCall, Stmt, Whole, WriteParameter,
 };
 
 /// A walk over the statements of a program, in the order in which they stand. The counter of entries is lent to it.
@@ -116,14 +117,8 @@ impl<'a> Walk<'a> {
                 visits.tick(*number);
                 Ok(())
             }
-            Stmt::Assign(assignment) => {
-                visits.tick(assignment.number);
-                self.assignment(assignment, visits)
-            }
-            Stmt::Copy(copying) => {
-                visits.tick(copying.number);
-                self.copying(copying, visits)
-            }
+            Stmt::Assign(assignment) => self.assignment(assignment, visits),
+            Stmt::Copy(copying) => self.copying(copying, visits),
             Stmt::Write(writing) => {
                 visits.tick(writing.number);
                 self.parameters(&writing.parameters, visits)
@@ -140,36 +135,12 @@ impl<'a> Walk<'a> {
                 alternative,
             } => {
                 visits.tick(*number);
-                let known = self.expression(condition, visits)?;
-                let otherwise = self.part(condition, known)?;
-                self.statement(consequence, visits)?;
-                let behind = mem::replace(&mut self.flow.state, otherwise);
-                self.alternative(alternative, visits)?;
-                self.meet(behind)
+                self.choice(condition, consequence, alternative, visits)
             }
-            Stmt::While { head, body } => {
-                visits.tick(head.number);
-                self.enter_loop(head.loop_number, head.place, None)?;
-                let behind = self.while_round(body, &head.condition, visits)?;
-                self.leave_loop(head.loop_number, head.place, behind)
-            }
-            Stmt::Repeat { head, statements } => {
-                visits.tick(head.number);
-                self.enter_loop(head.loop_number, head.place, None)?;
-                let behind = self.repeat_round(statements, &head.condition, visits)?;
-                self.leave_loop(head.loop_number, head.place, behind)
-            }
-            Stmt::For { head, body } => {
-                visits.tick(head.number);
-                let from = self.expression(&head.first.value, visits)?;
-                let to = self.expression(&head.last.value, visits)?;
-                self.for_statement(head, body, Way::of(head, from, to), visits)
-            }
-            Stmt::Case { head, arms } => {
-                visits.tick(head.number);
-                let known = self.expression(&head.index, visits)?;
-                self.case_statement(head, arms, known.range(), visits)
-            }
+            Stmt::While { head, body } => self.while_loop(head, body, visits),
+            Stmt::Repeat { head, statements } => self.repeat_loop(head, statements, visits),
+            Stmt::For { head, body } => self.for_loop(head, body, visits),
+            Stmt::Case { head, arms } => self.case(head, arms, visits),
         }
     }
 
@@ -182,6 +153,58 @@ impl<'a> Walk<'a> {
             self.statement(statement, visits)?;
         }
         Ok(())
+    }
+
+    /// A conditional statement, from its condition.
+    #[cycle(statement)]
+    fn choice(
+        &mut self,
+        condition: &Expr,
+        consequence: &Stmt,
+        alternative: &Option<Box<Stmt>>,
+        visits: &mut Visits,
+    ) -> Result<(), CheckFault>
+        ensures { Goes (choice_walk condition.now (statement_walk consequence.now) (else_walk alternative.now))
+            self.old visits.old result self.new visits.new }
+    {
+        let known = self.expression(condition, visits)?;
+        let otherwise = self.part(condition, known)?;
+        self.statement(consequence, visits)?;
+        let behind = mem::replace(&mut self.flow.state, otherwise);
+        self.alternative(alternative, visits)?;
+        self.meet(behind)
+    }
+
+    /// The statement behind `else`, if there is one.
+    #[cycle(statement)]
+    fn alternative(
+        &mut self,
+        alternative: &Option<Box<Stmt>>,
+        visits: &mut Visits,
+    ) -> Result<(), CheckFault>
+        ensures { Goes (else_walk alternative.now) self.old visits.old result self.new visits.new }
+    {
+        match alternative {
+            None => Ok(()),
+            Some(statement) => self.statement(statement, visits),
+        }
+    }
+
+    /// A while.
+    #[cycle(statement)]
+    fn while_loop(
+        &mut self,
+        head: &LoopHead,
+        body: &Stmt,
+        visits: &mut Visits,
+    ) -> Result<(), CheckFault>
+        ensures { Goes (from_entry head.now.number (while_walk head.now (statement_walk body.now)))
+            self.old visits.old result self.new visits.new }
+    {
+        visits.tick(head.number);
+        self.enter_loop(head.loop_number, head.place, None)?;
+        let behind = self.while_round(body, &head.condition, visits)?;
+        self.leave_loop(head.loop_number, head.place, behind)
     }
 
     /// A round of a while, from the loop's head; the state behind the loop.
@@ -201,6 +224,23 @@ impl<'a> Walk<'a> {
         Ok(behind)
     }
 
+    /// A repeat.
+    #[cycle(statement)]
+    fn repeat_loop(
+        &mut self,
+        head: &LoopHead,
+        statements: &[Stmt],
+        visits: &mut Visits,
+    ) -> Result<(), CheckFault>
+        ensures { Goes (from_entry head.now.number (repeat_walk head.now (all_of (map statement_walk statements.now))))
+            self.old visits.old result self.new visits.new }
+    {
+        visits.tick(head.number);
+        self.enter_loop(head.loop_number, head.place, None)?;
+        let behind = self.repeat_round(statements, &head.condition, visits)?;
+        self.leave_loop(head.loop_number, head.place, behind)
+    }
+
     /// A round of a repeat, from the loop's head; the state behind the loop.
     #[cycle(statement)]
     fn repeat_round(
@@ -216,6 +256,23 @@ impl<'a> Walk<'a> {
         let known = self.expression(condition, visits)?;
         let again = self.part(condition, known)?;
         Ok(mem::replace(&mut self.flow.state, again))
+    }
+
+    /// A for.
+    #[cycle(statement)]
+    fn for_loop(
+        &mut self,
+        head: &ForHead,
+        body: &Stmt,
+        visits: &mut Visits,
+    ) -> Result<(), CheckFault>
+        ensures { Goes (from_entry head.now.number (bounds_walk head.now (statement_walk body.now)))
+            self.old visits.old result self.new visits.new }
+    {
+        visits.tick(head.number);
+        let from = self.expression(&head.first.value, visits)?;
+        let to = self.expression(&head.last.value, visits)?;
+        self.for_statement(head, body, Way::of(head, from, to), visits)
     }
 
     /// A for, from the values of its bounds.
@@ -282,6 +339,22 @@ impl<'a> Walk<'a> {
         self.end_turn(&way)
     }
 
+    /// A case.
+    #[cycle(statement)]
+    fn case(
+        &mut self,
+        head: &CaseHead,
+        arms: &[Stmt],
+        visits: &mut Visits,
+    ) -> Result<(), CheckFault>
+        ensures { Goes (from_entry head.now.number (index_walk head.now (map statement_walk arms.now)))
+            self.old visits.old result self.new visits.new }
+    {
+        visits.tick(head.number);
+        let known = self.expression(&head.index, visits)?;
+        self.case_statement(head, arms, known.range(), visits)
+    }
+
     /// A case, from the range of its index.
     #[cycle(statement)]
     fn case_statement(
@@ -335,21 +408,6 @@ impl<'a> Walk<'a> {
         let behind = mem::replace(&mut self.flow.state, start);
         self.statement(arm, visits)?;
         self.meet(behind)
-    }
-
-    /// The statement behind `else`, if there is one.
-    #[cycle(statement)]
-    fn alternative(
-        &mut self,
-        alternative: &Option<Box<Stmt>>,
-        visits: &mut Visits,
-    ) -> Result<(), CheckFault>
-        ensures { Goes (else_walk alternative.now) self.old visits.old result self.new visits.new }
-    {
-        match alternative {
-            None => Ok(()),
-            Some(statement) => self.statement(statement, visits),
-        }
     }
 
     /// A call of a procedure.

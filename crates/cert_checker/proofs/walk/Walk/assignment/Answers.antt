@@ -4,7 +4,7 @@ use Rattle.abstract_state.specs.Conditions.{bound_form}
 use Rattle.component_states.specs.View.{said_reach}
 use Rattle.expression_checker.specs.Walk.{fitting}
 use Rattle.typed_tree.specs.Calls.{holds_call}
-use Rattle.cert_checker.specs.Walk.{assign_to, assignment_walk, reach_stored}
+use Rattle.cert_checker.specs.Walk.{assign_to, assignment_walk, from_entry, reach_stored}
 use Rattle.cert_checker.specs.View.{context_of}
 use Rattle.cert_checker.proofs.Steps.{given-up, goes-then, goes-stopped, lifted}
 use Rattle.cert_checker.proofs.StepsStores.{assignment-done, assignment-unreached, assignment-unvalued}
@@ -17,8 +17,9 @@ returns-in_err-reach c =
     let left = c.from_residual in
     let new = c.access.new.self in
     let after = c.access.new.visits in
-    given-up (assignment_walk assignment) c.args.self.now new c.args.visits.now after fault left.result left.ensures
-    (assignment-unreached assignment c.deref.result.now c.deref.ensures.value c.args.self.now c.args.visits.now new after fault c.in_err-reach.ensures)
+    given-up (from_entry assignment.number (assignment_walk assignment)) c.args.self.now new c.args.visits.now after fault left.result left.ensures
+    (assignment-unreached assignment c.deref.result.now c.deref.ensures.value c.args.self.now c.args.visits.now c.tick.new.self c.tick.ensures new after fault
+    c.in_err-reach.ensures)
 
 pub returns-in_err-known : goal.returns-in_err-known
 returns-in_err-known c =
@@ -28,9 +29,9 @@ returns-in_err-known c =
     let left = c.from_residual-in_err-known in
     let new = c.expression.new.self in
     let after = c.expression.new.visits in
-    given-up (assignment_walk assignment) c.args.self.now new c.args.visits.now after fault left.result left.ensures
-    (assignment-unvalued assignment c.deref.result.now c.deref.ensures.value c.args.self.now c.args.visits.now reach c.access.new.self
-    c.access.new.visits c.in_ok-reach.ensures new after fault c.in_err-known.ensures)
+    given-up (from_entry assignment.number (assignment_walk assignment)) c.args.self.now new c.args.visits.now after fault left.result left.ensures
+    (assignment-unvalued assignment c.deref.result.now c.deref.ensures.value c.args.self.now c.args.visits.now c.tick.new.self
+    c.tick.ensures reach c.access.new.self c.access.new.visits c.in_ok-reach.ensures new after fault c.in_err-known.ensures)
 
 pub returns-in_err-passed : goal.returns-in_err-passed
 returns-in_err-passed c =
@@ -45,9 +46,9 @@ returns-in_err-passed c =
     let known = c.in_ok-known.known in
     let fault = c.in_err-passed.field-0.0 in
     let left = c.from_residual-in_err-passed in
-    given-up (assignment_walk assignment) c.args.self.now new c.args.visits.now after fault left.result left.ensures
-    (assignment-done assignment c.deref.result.now c.deref.ensures.value c.args.self.now c.args.visits.now reach c.access.new.self
-    c.access.new.visits c.in_ok-reach.ensures before valued new after known (Err fault) refl c.in_ok-known.ensures
+    given-up (from_entry assignment.number (assignment_walk assignment)) c.args.self.now new c.args.visits.now after fault left.result left.ensures
+    (assignment-done assignment c.deref.result.now c.deref.ensures.value c.args.self.now c.args.visits.now c.tick.new.self
+    c.tick.ensures reach c.access.new.self c.access.new.visits c.in_ok-reach.ensures before valued new after known (Err fault) refl c.in_ok-known.ensures
     (goes-stopped (fitting assignment.fits known) stored valued new after after fault
     (λ ready. c.in_err-passed.ensures after (context_of valued).claims)))
 
@@ -64,8 +65,8 @@ returns c =
     let after = c.expression.new.visits in
     let known = c.in_ok-known.known in
     let passed = c.in_ok-passed.passed in
-    assignment-done assignment c.deref.result.now c.deref.ensures.value c.args.self.now c.args.visits.now reach c.access.new.self
-    c.access.new.visits c.in_ok-reach.ensures before valued new after known c.assign_to.result
+    assignment-done assignment c.deref.result.now c.deref.ensures.value c.args.self.now c.args.visits.now c.tick.new.self
+    c.tick.ensures reach c.access.new.self c.access.new.visits c.in_ok-reach.ensures before valued new after known c.assign_to.result
     (c.reach_stored-reach.ensures ∙ ap₂ (λ (own : List Selector) holds. reach_stored own holds reach) c.deref-2.ensures.value c.holds_call.ensures)
     c.in_ok-known.ensures
     (goes-then (fitting assignment.fits known) stored valued tested new after after after passed c.assign_to.result

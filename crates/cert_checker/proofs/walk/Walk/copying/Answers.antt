@@ -4,7 +4,7 @@ use Rattle.typed_tree.specs.declared.tree.Selector.{Selector}
 use Rattle.domain.specs.Interval.{Interval}
 use Rattle.component_states.specs.View.{said_reach}
 use Rattle.cert_checker.specs.View.{Goes}
-use Rattle.cert_checker.specs.Walk.{copy_to, copying_walk, reach_stored}
+use Rattle.cert_checker.specs.Walk.{copy_to, copying_walk, from_entry, reach_stored}
 use Rattle.cert_checker.proofs.Steps.{given-up}
 use Rattle.cert_checker.proofs.StepsStores.{copying-done, copying-unreached, copying-unvalued}
 use Rattle.cert_checker.proofs.walk.Walk.copying.Goals as goal
@@ -16,8 +16,9 @@ returns-in_err-reach c =
     let left = c.from_residual in
     let new = c.access.new.self in
     let after = c.access.new.visits in
-    given-up (copying_walk copying) c.args.self.now new c.args.visits.now after fault left.result left.ensures
-    (copying-unreached copying c.deref.result.now c.deref.ensures.value c.args.self.now c.args.visits.now new after fault c.in_err-reach.ensures)
+    given-up (from_entry copying.number (copying_walk copying)) c.args.self.now new c.args.visits.now after fault left.result left.ensures
+    (copying-unreached copying c.deref.result.now c.deref.ensures.value c.args.self.now c.args.visits.now c.tick.new.self c.tick.ensures new after fault
+    c.in_err-reach.ensures)
 
 pub returns-in_err-ranges : goal.returns-in_err-ranges
 returns-in_err-ranges c =
@@ -27,9 +28,9 @@ returns-in_err-ranges c =
     let left = c.from_residual-in_err-ranges in
     let new = c.whole_value.new.self in
     let after = c.whole_value.new.visits in
-    given-up (copying_walk copying) c.args.self.now new c.args.visits.now after fault left.result left.ensures
-    (copying-unvalued copying c.deref.result.now c.deref.ensures.value c.args.self.now c.args.visits.now reach c.access.new.self c.access.new.visits
-    c.in_ok-reach.ensures c.deref-2.result.now c.deref-2.ensures.value new after fault c.in_err-ranges.ensures)
+    given-up (from_entry copying.number (copying_walk copying)) c.args.self.now new c.args.visits.now after fault left.result left.ensures
+    (copying-unvalued copying c.deref.result.now c.deref.ensures.value c.args.self.now c.args.visits.now c.tick.new.self c.tick.ensures reach
+    c.access.new.self c.access.new.visits c.in_ok-reach.ensures c.deref-2.result.now c.deref-2.ensures.value new after fault c.in_err-ranges.ensures)
 
 pub returns : goal.returns
 returns c =
@@ -40,8 +41,8 @@ returns c =
     let valued = c.whole_value.new.self in
     let new = c.copy_to.new.self in
     let after = c.whole_value.new.visits in
-    copying-done copying c.deref.result.now c.deref.ensures.value c.args.self.now c.args.visits.now reach c.access.new.self c.access.new.visits
-    c.in_ok-reach.ensures c.deref-2.result.now c.deref-2.ensures.value before valued new after c.in_ok-ranges.ranges.items c.copy_to.result
+    copying-done copying c.deref.result.now c.deref.ensures.value c.args.self.now c.args.visits.now c.tick.new.self c.tick.ensures reach
+    c.access.new.self c.access.new.visits c.in_ok-reach.ensures c.deref-2.result.now c.deref-2.ensures.value before valued new after c.in_ok-ranges.ranges.items c.copy_to.result
     (c.reach_stored-reach.ensures
     ∙ ap₂ (λ (own : List Selector) holds. reach_stored own holds reach) c.deref-4.ensures.value
     (c.whole_holds_call-holds_call.ensures ∙ ap (whole_holds_call copying.value) c.deref-3.ensures.value))
