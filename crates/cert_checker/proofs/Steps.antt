@@ -592,7 +592,6 @@ loop-found number control walk round tree claims tree_is claims_is own found loo
           ∙ ap₂ (λ (t : Tree) (kept : List Claims). round_of t pairs kept number) tree_is same;
     }
 
--- a loop from its entry on
 -- ---- rounds
 
 -- a round of a while: the condition, and then the body where it is true

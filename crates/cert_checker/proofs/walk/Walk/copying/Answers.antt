@@ -42,7 +42,8 @@ returns c =
     let new = c.copy_to.new.self in
     let after = c.whole_value.new.visits in
     copying-done copying c.deref.result.now c.deref.ensures.value c.args.self.now c.args.visits.now c.tick.new.self c.tick.ensures reach
-    c.access.new.self c.access.new.visits c.in_ok-reach.ensures c.deref-2.result.now c.deref-2.ensures.value before valued new after c.in_ok-ranges.ranges.items c.copy_to.result
+    c.access.new.self c.access.new.visits c.in_ok-reach.ensures c.deref-2.result.now c.deref-2.ensures.value before valued new after
+    c.in_ok-ranges.ranges.items c.copy_to.result
     (c.reach_stored-reach.ensures
     ∙ ap₂ (λ (own : List Selector) holds. reach_stored own holds reach) c.deref-4.ensures.value
     (c.whole_holds_call-holds_call.ensures ∙ ap (whole_holds_call copying.value) c.deref-3.ensures.value))
