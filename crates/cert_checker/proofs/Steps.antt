@@ -23,7 +23,7 @@ use Rattle.component_states.specs.States.{State, dead, joined_states}
 use Rattle.expression_checker.specs.Walk.{Context, Walked, Walking, ◌>>=◌, give}
 use Rattle.expression_checker.specs.Walk.{asked, breach_unless, enter, value_walk, followed, numbers_of, with_state}
 use Rattle.expression_checker.specs.Walk.{IsBreachOf}
-use Rattle.cert_checker.specs.Walk.{all_of, choice_walk, enter_head, facts_given, from_entry, statement_walk}
+use Rattle.cert_checker.specs.Walk.{all_of, branches, choice_walk, enter_head, facts_given, from_entry, statement_walk}
 use Rattle.cert_checker.specs.Walk.{blocks_walk, first_context}
 use Rattle.cert_checker.specs.Walk.{program_walk, here, inside, loop_walk, parted, repeat_round, while_round, where_so}
 use Rattle.cert_checker.specs.View.{at_state, claims_in, context_of, else_walk, AtHead, EntersLoop, IsBehind, IsMoved, LeavesLoop, loop_in, Meets}
@@ -425,12 +425,39 @@ branches-half one_state other_state one_walk other_walk old taken mid start new 
     (left-same (other_walk (context_of start) (state_of start.flow)) second between after fault (ap (λ w. w.broken) second_same)
     (ap (λ w. w.linked) second_same) (is (moved-loops (other_state (state_of old.flow)) mid start to_no mid_ready)))
 
--- a conditional statement
-pub statement-If : (number : ℕ) (condition : Expr) (consequence : Box Stmt Global) (alternative : Option (Box Stmt Global))
+-- a conditional statement from its entry on
+statement-If : (number : ℕ) (condition : Expr) (consequence : Box Stmt Global) (alternative : Option (Box Stmt Global))
     → statement_walk (stmt.If number condition consequence alternative)
     ≡ from_entry number (choice_walk condition (statement_walk consequence.value) (else_walk alternative))
 statement-If number condition consequence None = search (rules, stmt_lemmas)
 statement-If number condition consequence (Some statement) = search (rules, stmt_lemmas)
+
+module _ (statement inner : Stmt) (number : ℕ) (condition : Expr) (consequence : Box Stmt Global) (alternative : Option (Box Stmt Global))
+    (is : statement ≡ stmt.If number condition consequence alternative) (inner_is : inner ≡ consequence.value) (old : Walk) (before between : Visits)
+    (ticked : between ≡ counted number before) where
+  abbrev chosen : Known → Walking (Unit {0})
+  chosen = branches condition (statement_walk inner) (else_walk alternative)
+
+  if-begun : (new : Walk) (after : Visits) (result : Result (Unit {0}) CheckFault)
+      → Goes (value_walk condition >>= chosen) old between result new after → Goes (statement_walk statement) old before result new after
+  if-begun new after result goes =
+      let choice = λ (s : Stmt). from_entry number (choice_walk condition (statement_walk s) (else_walk alternative)) in
+      goes-as (statement_walk statement) (choice inner) old new before after result
+      (ap statement_walk is ∙ statement-If number condition consequence alternative ∙ ap choice (sym inner_is))
+      (goes-from_entry number (value_walk condition >>= chosen) old new before between after result ticked goes)
+
+  -- the checker gave up in the condition
+  pub if-stopped : (new : Walk) (after : Visits) (fault : CheckFault) → Stops (value_walk condition) old between after fault
+      → Goes (statement_walk statement) old before (Err fault) new after
+  if-stopped new after fault stopped =
+      if-begun new after (Err fault) (goes-stopped (value_walk condition) chosen old new between after fault stopped)
+
+  -- the condition has a value
+  pub if-valued : (known : Known) (valued new : Walk) (middle after : Visits) (result : Result (Unit {0}) CheckFault)
+      → Does (value_walk condition) old between valued middle known → Goes (chosen known) valued middle result new after
+      → Goes (statement_walk statement) old before result new after
+  if-valued known valued new middle after result one two =
+      if-begun new after result (goes-then (value_walk condition) chosen old valued new between middle after known result one two)
 
 -- ---- loops
 

@@ -24,13 +24,18 @@ use Rattle.abstract_state.specs.Forms.{root_of}
 use Rattle.structured_states.specs.Cases.{arm_start, constants_before}
 use Rattle.structured_states.proofs.Claims.{item-cut, drop-past}
 use Rattle.expression_checker.specs.Walk.{IsBreachOf, Walked, Walking, ◌>>=◌, enter, give, numbers_of, tested, value_walk}
-use Rattle.cert_checker.specs.Walk.{arm_walk, arms_walk, case_walk, here, index_test, no_more, statement_walk}
+use Rattle.cert_checker.specs.Walk.{arm_walk, arms_walk, case_walk, from_entry, here, index_test, index_walk, no_more, statement_walk}
 use Rattle.cert_checker.specs.View.{Goes, IsMoved, Meets, at_state, context_of, said_state, viewed_in}
 use Rattle.expression_checker.proofs.Begun.{begun-all}
 use Rattle.expression_checker.proofs.Steps.{left-same}
 use Rattle.cert_checker.proofs.Steps.{Does, Stops, goes-as, goes-stopped, goes-then, moved-loops, moved-same, viewed-moved, viewed-same, walks-give}
 use Rattle.expression_checker.specs.View.{state_of}
 
+pub statement-Case : (head : CaseHead) (arms : Vec Stmt Global)
+    → statement_walk (stmt.Case head arms) ≡ from_entry head.number (index_walk head (map statement_walk arms.items))
+statement-Case head arms = search (rules, stmt_lemmas)
+
+-- the index has a value
 module _ (head : CaseHead) (arms : List Stmt) (range : Interval) (count : ℕ) (count_is : count ≡ length arms) (old : Walk) (before : Visits) where
   abbrev inner : List (Walking (Unit {0}))
   inner = map statement_walk arms

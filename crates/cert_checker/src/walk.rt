@@ -11,7 +11,7 @@ ghost use Rattle.expression_checker.specs.Walk.{IsBreachOf, access_walk, call_wa
 ghost use Rattle.expression_checker.specs.Walk.{parameter_walk, passed_piece_of, value_walk, whole_walk};
 ghost use Rattle.cert_checker.specs.View.{Goes, IsBegun, Meets, Parts};
 ghost use Rattle.cert_checker.specs.View.{else_walk, said_state, viewed_in};
-ghost use Rattle.cert_checker.specs.Walk.{all_of, arm_walk, arms_walk, bounds_walk, case_walk, choice_walk, for_round};
+ghost use Rattle.cert_checker.specs.Walk.{all_of, arm_walk, arms_walk, bounds_walk, case_walk, for_round};
 ghost use Rattle.cert_checker.specs.Walk.{for_turns, for_walk, from_entry, index_test, index_walk, program_walk};
 ghost use Rattle.cert_checker.specs.Walk.{repeat_round, repeat_walk, rounds_of, statement_walk, where_so, while_round};
 ghost use Rattle.cert_checker.specs.Walk.{while_walk};
@@ -35,7 +35,7 @@ use structured_states::pairs::Pairs;
 use structured_states::rounds::{all_claims, all_loop_aliases};
 use structured_states::ways::Way;
 use typed_tree::tree::{
-    Access, CaseHead, Expr, ForHead, LoopHead, ProcedureCall, Stmt, Whole, WriteParameter,
+    Access, CaseHead, Expr, ForHead, LoopHead, ProcedureCall, Stmt, Whole, Writing,
 };
 
 /// A walk over the statements of a program, in the order in which they stand. The counter of entries is lent to it.
@@ -119,10 +119,7 @@ impl<'a> Walk<'a> {
             }
             Stmt::Assign(assignment) => self.assignment(assignment, visits),
             Stmt::Copy(copying) => self.copying(copying, visits),
-            Stmt::Write(writing) => {
-                visits.tick(writing.number);
-                self.parameters(&writing.parameters, visits)
-            }
+            Stmt::Write(writing) => self.write(writing, visits),
             Stmt::Call(calling) => self.call(calling, visits),
             Stmt::Compound { number, statements } => {
                 visits.tick(*number);
@@ -135,7 +132,12 @@ impl<'a> Walk<'a> {
                 alternative,
             } => {
                 visits.tick(*number);
-                self.choice(condition, consequence, alternative, visits)
+                let known = self.expression(condition, visits)?;
+                let otherwise = self.part(condition, known)?;
+                self.statement(consequence, visits)?;
+                let behind = mem::replace(&mut self.flow.state, otherwise);
+                self.alternative(alternative, visits)?;
+                self.meet(behind)
             }
             Stmt::While { head, body } => self.while_loop(head, body, visits),
             Stmt::Repeat { head, statements } => self.repeat_loop(head, statements, visits),
@@ -153,26 +155,6 @@ impl<'a> Walk<'a> {
             self.statement(statement, visits)?;
         }
         Ok(())
-    }
-
-    /// A conditional statement, from its condition.
-    #[cycle(statement)]
-    fn choice(
-        &mut self,
-        condition: &Expr,
-        consequence: &Stmt,
-        alternative: &Option<Box<Stmt>>,
-        visits: &mut Visits,
-    ) -> Result<(), CheckFault>
-        ensures { Goes (choice_walk condition.now (statement_walk consequence.now) (else_walk alternative.now))
-            self.old visits.old result self.new visits.new }
-    {
-        let known = self.expression(condition, visits)?;
-        let otherwise = self.part(condition, known)?;
-        self.statement(consequence, visits)?;
-        let behind = mem::replace(&mut self.flow.state, otherwise);
-        self.alternative(alternative, visits)?;
-        self.meet(behind)
     }
 
     /// The statement behind `else`, if there is one.
@@ -418,14 +400,13 @@ impl<'a> Walk<'a> {
         self.flow.call(calling.call, &calling.actuals, visits)
     }
 
-    fn parameters(
-        &mut self,
-        parameters: &[WriteParameter],
-        visits: &mut Visits,
-    ) -> Result<(), CheckFault>
-        ensures { Goes (all_of (map parameter_walk parameters.now)) self.old visits.old result self.new visits.new }
+    /// A write.
+    fn write(&mut self, writing: &Writing, visits: &mut Visits) -> Result<(), CheckFault>
+        ensures { Goes (from_entry writing.now.number (all_of (map parameter_walk writing.now.parameters.items)))
+            self.old visits.old result self.new visits.new }
     {
-        for parameter in parameters {
+        visits.tick(writing.number);
+        for parameter in &writing.parameters {
             self.flow.parameter(parameter, visits)?;
         }
         Ok(())

@@ -1,4 +1,4 @@
-use Rattle.std.proofs.Common.{refl, length, map, subst, ap, sym, ◌∙◌, ◌+◌, true, false, Some, None, Ok, Err}
+use Rattle.std.proofs.Common.{refl, List, length, map, subst, ap, sym, ◌∙◌, ◌+◌, true, false, Some, None, Ok, Err}
 use Rattle.typed_tree.specs.declared.tree.Stmt.{Stmt}
 use Rattle.abstract_state.specs.declared.known.Known.{Known}
 use Rattle.abstract_state.specs.declared.known.Known.TheVariants.{Ordinal}
@@ -7,15 +7,15 @@ use Rattle.structured_states.specs.View.{said_way}
 use Rattle.structured_states.specs.Ways.{way_of}
 use Rattle.expression_checker.specs.declared.fault.CheckFault.TheVariants.{Memory}
 use Rattle.expression_checker.specs.Walk.{◌>>=◌, value_walk}
-use Rattle.cert_checker.specs.Walk.{all_of, arm_walk, arms_walk, bounds_walk, branches, case_walk, choice_walk, for_round, for_turns, for_walk, from_entry}
+use Rattle.cert_checker.specs.Walk.{all_of, arm_walk, arms_walk, bounds_walk, branches, case_walk, for_round, for_turns, for_walk, from_entry}
 use Rattle.cert_checker.specs.Walk.{index_walk, repeat_round, repeat_walk, rounds_of, statement_walk, where_so, while_round, while_walk}
 use Rattle.cert_checker.specs.View.{Goes, else_walk, viewed_in}
 use Rattle.cert_checker.proofs.Steps.{all-end, all-step, all-stopped, branches-done, branches-half, branches-stopped, given-up, goes-as, goes-from_entry}
-use Rattle.cert_checker.proofs.Steps.{goes-nowhere, goes-stopped, goes-then, loop-done, loop-not_entered, loop-stopped, repeat_round-done}
-use Rattle.cert_checker.proofs.Steps.{repeat_round-stopped, repeat_round-unparted, repeat_round-untested, state-given_up, statement-If, viewed-same}
+use Rattle.cert_checker.proofs.Steps.{goes-nowhere, goes-stopped, goes-then, if-stopped, if-valued, loop-done, loop-not_entered, loop-stopped, repeat_round-done}
+use Rattle.cert_checker.proofs.Steps.{repeat_round-stopped, repeat_round-unparted, repeat_round-untested, state-given_up, viewed-same}
 use Rattle.cert_checker.proofs.Steps.{while_round-done, while_round-stopped, while_round-unparted, while_round-untested}
 use Rattle.cert_checker.proofs.StepsFor.{for-done, for-stopped, for_round-ends, for_round-stopped, rounds-go, turns-done, turns-not_begun, turns-not_tested}
-use Rattle.cert_checker.proofs.StepsCase.{arm-done, arm-stopped, arms_from, arms-end, arms-step, arms-stopped, case-not_tested, case-tested}
+use Rattle.cert_checker.proofs.StepsCase.{arm-done, arm-stopped, arms_from, arms-end, arms-step, arms-stopped, case-not_tested, case-tested, statement-Case}
 use Rattle.cert_checker.proofs.walk.Walk.+statement.Goals as goal
 
 pub statements-loop-statement-preserved : goal.statements-loop-statement-preserved
@@ -32,93 +32,82 @@ statements-returns t c =
     here.invariant (Ok tt) here.self here.visits (all-end statement_walk c.args.statements.now here.statement-index here.self here.visits
     c.loop-statement-test.false)
 
-pub statement-returns-in-If : goal.statement-returns-in-If
-statement-returns-in-If t c =
+pub statement-returns-in_err-known-in-If : goal.statement-returns-in_err-known-in-If
+statement-returns-in_err-known-in-If t c =
     let it = c.in-If in
-    let choice = λ (consequence : Stmt). from_entry it.number (choice_walk it.condition (statement_walk consequence) (else_walk it.alternative)) in
-    let chosen = choice_walk it.condition (statement_walk c.deref-in-If.result.now) (else_walk it.alternative) in
-    goes-as (statement_walk c.args.statement.now) (from_entry it.number chosen) c.args.self.now c.choice.new.self c.args.visits.now c.choice.new.visits
-    c.choice.result
-    (ap statement_walk it.is ∙ statement-If it.number it.condition it.consequence it.alternative ∙ ap choice (sym c.deref-in-If.ensures))
-    (goes-from_entry it.number chosen c.args.self.now c.choice.new.self c.args.visits.now c.tick-in-If.new.self c.choice.new.visits c.choice.result
-    c.tick-in-If.ensures c.choice.ensures)
-
-pub choice-returns-in_err-known : goal.choice-returns-in_err-known
-choice-returns-in_err-known t c =
-    let chosen = branches c.args.condition.now (statement_walk c.args.consequence.now) (else_walk c.args.alternative.now) in
     let new = c.expression.new.self in
     let after = c.expression.new.visits in
-    let fault = c.in_err-known.field-0.0 in
+    let fault = c.in_err-known-in-If.field-0.0 in
     let left = c.from_residual in
-    given-up (value_walk c.args.condition.now >>= chosen) c.args.self.now new c.args.visits.now after fault left.result left.ensures
-    (goes-stopped (value_walk c.args.condition.now) chosen c.args.self.now new c.args.visits.now after fault c.in_err-known.ensures)
+    given-up (statement_walk c.args.statement.now) c.args.self.now new c.args.visits.now after fault left.result left.ensures
+    (if-stopped c.args.statement.now it.consequence.value it.number it.condition it.consequence it.alternative it.is refl c.args.self.now
+    c.args.visits.now c.tick-in-If.new.self c.tick-in-If.ensures new after fault c.in_err-known-in-If.ensures)
 
-pub choice-returns-in_err-otherwise : goal.choice-returns-in_err-otherwise
-choice-returns-in_err-otherwise t c =
-    let chosen = branches c.args.condition.now (statement_walk c.args.consequence.now) (else_walk c.args.alternative.now) in
+pub statement-returns-in_err-otherwise-in-If : goal.statement-returns-in_err-otherwise-in-If
+statement-returns-in_err-otherwise-in-If t c =
+    let it = c.in-If in
     let valued = c.expression.new.self in
     let new = c.part.new.self in
     let after = c.expression.new.visits in
-    let known = c.in_ok-known.known in
-    let fault = c.in_err-otherwise.field-0.0 in
-    let left = c.from_residual-in_err-otherwise in
-    given-up (value_walk c.args.condition.now >>= chosen) c.args.self.now new c.args.visits.now after fault left.result left.ensures
-    (goes-then (value_walk c.args.condition.now) chosen c.args.self.now valued new c.args.visits.now after after known (Err fault) c.in_ok-known.ensures
-    (goes-nowhere (chosen known) valued new after fault c.in_err-otherwise.ensures))
+    let known = c.in_ok-known-in-If.known in
+    let fault = c.in_err-otherwise-in-If.field-0.0 in
+    let left = c.from_residual-in_err-otherwise-in-If in
+    given-up (statement_walk c.args.statement.now) c.args.self.now new c.args.visits.now after fault left.result left.ensures
+    (if-valued c.args.statement.now it.consequence.value it.number it.condition it.consequence it.alternative it.is refl c.args.self.now
+    c.args.visits.now c.tick-in-If.new.self c.tick-in-If.ensures known valued new after after (Err fault) c.in_ok-known-in-If.ensures
+    (goes-nowhere (branches it.condition (statement_walk it.consequence.value) (else_walk it.alternative) known) valued new after fault
+    c.in_err-otherwise-in-If.ensures))
 
-pub choice-returns-in_err-statement : goal.choice-returns-in_err-statement
-choice-returns-in_err-statement t c =
-    let condition = c.args.condition.now in
-    let one = statement_walk c.args.consequence.now in
-    let other = else_walk c.args.alternative.now in
+pub statement-returns-in_err-statement-in-If : goal.statement-returns-in_err-statement-in-If
+statement-returns-in_err-statement-in-If t c =
+    let it = c.in-If in
+    let inner = c.deref-in-If.result.now in
     let valued = c.expression.new.self in
     let between = c.expression.new.visits in
     let new = c.statement.new.self in
     let after = c.statement.new.visits in
-    let known = c.in_ok-known.known in
-    let fault = c.in_err-statement.field-0.0 in
-    let left = c.from_residual-in_err-statement in
-    given-up (choice_walk condition one other) c.args.self.now new c.args.visits.now after fault left.result left.ensures
-    (goes-then (value_walk condition) (branches condition one other) c.args.self.now valued new c.args.visits.now between after known (Err fault)
-    c.in_ok-known.ensures
-    (branches-stopped (where_so true condition known) (where_so false condition known) one other valued c.part.new.self new between after
-    c.in_ok-otherwise.otherwise fault c.in_ok-otherwise.ensures c.in_err-statement.ensures))
+    let known = c.in_ok-known-in-If.known in
+    let fault = c.in_err-statement-in-If.field-0.0 in
+    let left = c.from_residual-in_err-statement-in-If in
+    given-up (statement_walk c.args.statement.now) c.args.self.now new c.args.visits.now after fault left.result left.ensures
+    (if-valued c.args.statement.now inner it.number it.condition it.consequence it.alternative it.is c.deref-in-If.ensures c.args.self.now
+    c.args.visits.now c.tick-in-If.new.self c.tick-in-If.ensures known valued new between after (Err fault) c.in_ok-known-in-If.ensures
+    (branches-stopped (where_so true it.condition known) (where_so false it.condition known) (statement_walk inner) (else_walk it.alternative) valued
+    c.part.new.self new between after c.in_ok-otherwise-in-If.otherwise fault c.in_ok-otherwise-in-If.ensures c.in_err-statement-in-If.ensures))
 
-pub choice-returns-in_err-alternative : goal.choice-returns-in_err-alternative
-choice-returns-in_err-alternative t c =
-    let condition = c.args.condition.now in
-    let one = statement_walk c.args.consequence.now in
-    let other = else_walk c.args.alternative.now in
+pub statement-returns-in_err-alternative-in-If : goal.statement-returns-in_err-alternative-in-If
+statement-returns-in_err-alternative-in-If t c =
+    let it = c.in-If in
+    let inner = c.deref-in-If.result.now in
     let valued = c.expression.new.self in
     let between = c.expression.new.visits in
     let new = c.alternative.new.self in
     let after = c.alternative.new.visits in
-    let known = c.in_ok-known.known in
-    let fault = c.in_err-alternative.field-0.0 in
-    let left = c.from_residual-in_err-alternative in
-    given-up (choice_walk condition one other) c.args.self.now new c.args.visits.now after fault left.result left.ensures
-    (goes-then (value_walk condition) (branches condition one other) c.args.self.now valued new c.args.visits.now between after known (Err fault)
-    c.in_ok-known.ensures
-    (branches-half (where_so true condition known) (where_so false condition known) one other valued c.part.new.self c.statement.new.self _ new between
-    c.statement.new.visits after c.in_ok-otherwise.otherwise fault c.in_ok-otherwise.ensures c.in_ok-statement.ensures c.replace-behind.ensures.after refl
-    c.in_err-alternative.ensures))
+    let known = c.in_ok-known-in-If.known in
+    let fault = c.in_err-alternative-in-If.field-0.0 in
+    let left = c.from_residual-in_err-alternative-in-If in
+    given-up (statement_walk c.args.statement.now) c.args.self.now new c.args.visits.now after fault left.result left.ensures
+    (if-valued c.args.statement.now inner it.number it.condition it.consequence it.alternative it.is c.deref-in-If.ensures c.args.self.now
+    c.args.visits.now c.tick-in-If.new.self c.tick-in-If.ensures known valued new between after (Err fault) c.in_ok-known-in-If.ensures
+    (branches-half (where_so true it.condition known) (where_so false it.condition known) (statement_walk inner) (else_walk it.alternative) valued
+    c.part.new.self c.statement.new.self _ new between c.statement.new.visits after c.in_ok-otherwise-in-If.otherwise fault
+    c.in_ok-otherwise-in-If.ensures c.in_ok-statement-in-If.ensures c.replace-behind.ensures.after refl c.in_err-alternative-in-If.ensures))
 
-pub choice-returns : goal.choice-returns
-choice-returns t c =
-    let condition = c.args.condition.now in
-    let one = statement_walk c.args.consequence.now in
-    let other = else_walk c.args.alternative.now in
+pub statement-returns-in_ok-alternative-in-If : goal.statement-returns-in_ok-alternative-in-If
+statement-returns-in_ok-alternative-in-If t c =
+    let it = c.in-If in
+    let inner = c.deref-in-If.result.now in
     let valued = c.expression.new.self in
     let between = c.expression.new.visits in
     let new = c.meet.new.self in
     let after = c.alternative.new.visits in
-    let known = c.in_ok-known.known in
-    goes-then (value_walk condition) (branches condition one other) c.args.self.now valued new c.args.visits.now between after known c.meet.result
-    c.in_ok-known.ensures
-    (branches-done (where_so true condition known) (where_so false condition known) one other valued c.part.new.self c.statement.new.self _
-    c.alternative.new.self new between c.statement.new.visits after c.replace-behind.result c.in_ok-otherwise.otherwise c.meet.result
-    c.in_ok-otherwise.ensures c.in_ok-statement.ensures c.replace-behind.ensures.value c.replace-behind.ensures.after refl c.in_ok-alternative.ensures
-    c.meet.ensures)
+    let known = c.in_ok-known-in-If.known in
+    if-valued c.args.statement.now inner it.number it.condition it.consequence it.alternative it.is c.deref-in-If.ensures c.args.self.now
+    c.args.visits.now c.tick-in-If.new.self c.tick-in-If.ensures known valued new between after c.meet.result c.in_ok-known-in-If.ensures
+    (branches-done (where_so true it.condition known) (where_so false it.condition known) (statement_walk inner) (else_walk it.alternative) valued
+    c.part.new.self c.statement.new.self _ c.alternative.new.self new between c.statement.new.visits after c.replace-behind.result
+    c.in_ok-otherwise-in-If.otherwise c.meet.result c.in_ok-otherwise-in-If.ensures c.in_ok-statement-in-If.ensures c.replace-behind.ensures.value
+    c.replace-behind.ensures.after refl c.in_ok-alternative-in-If.ensures c.meet.ensures)
 
 pub while_loop-returns-in_err-enter_loop : goal.while_loop-returns-in_err-enter_loop
 while_loop-returns-in_err-enter_loop t c =
@@ -249,6 +238,13 @@ for_loop-returns t c =
     (goes-then (value_walk head.last.value) (walked from) valued both new between behind after to result c.in_ok-to.ensures
     (goes-as (walked from to) (for_walk head body (said_way c.of.result)) both new behind after result (ap (for_walk head body) (sym c.of.ensures))
     c.for_statement.ensures)))
+
+pub statement-returns-in-Case : goal.statement-returns-in-Case
+statement-returns-in-Case t c =
+    let it = c.in-Case in
+    let walked = λ (arms : List Stmt). from_entry it.head.number (index_walk it.head (map statement_walk arms)) in
+    goes-as (statement_walk c.args.statement.now) (walked c.deref-in-Case.result.now) c.args.self.now c.case.new.self c.args.visits.now c.case.new.visits
+    c.case.result (ap statement_walk it.is ∙ statement-Case it.head it.arms ∙ ap walked (sym c.deref-in-Case.ensures.value)) c.case.ensures
 
 pub case-returns-in_err-known : goal.case-returns-in_err-known
 case-returns-in_err-known t c =
