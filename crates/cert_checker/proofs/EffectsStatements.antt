@@ -28,7 +28,6 @@ use Rattle.typed_tree.specs.Calls.{holds_call, whole_holds_call}
 use Rattle.typed_tree.specs.WellFormed.{all_hold, are_whole, is_control, is_local_kind, is_result_kind, is_well_formed_expr, is_well_formed_stmt}
 use Rattle.typed_tree.specs.WellFormed.{fits_target, leads_to_ordinal, of_one, outline_of, stmt_is_well_formed}
 use Rattle.meaning.specs.declared.outcome.Ending.TheVariants as ending
-use Rattle.meaning.specs.declared.store.Value.{Value}
 use Rattle.meaning.specs.declared.store.Value.TheVariants.{Number}
 use Rattle.meaning.specs.Store.{Place}
 use Rattle.meaning.specs.Counting.{has_values, value_behind}

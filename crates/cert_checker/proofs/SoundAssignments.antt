@@ -1,5 +1,5 @@
 -- Assignments are sound: the target is accessed, the value is evaluated and tested, and then it is stored.
-use Rattle.std.proofs.Common.{arith, ◌≡◌, ◌∙◌, sym, ap, refl, subst, ℕ, zero, suc, ◌<◌, ℤ, Bool, true, false, cond, ◌&&◌, nat_lt, length, List, [], ◌∷◌}
+use Rattle.std.proofs.Common.{arith, ◌≡◌, ◌∙◌, sym, ap, refl, subst, ℕ, zero, suc, ◌<◌, Bool, true, false, cond, ◌&&◌, nat_lt, length, List, [], ◌∷◌}
 use Rattle.std.proofs.Common.{Option, Some, None}
 use Rattle.std.specs.List.{Contains, list_all}
 use Rattle.std.specs.Option.{option_and_then}
@@ -26,7 +26,7 @@ use Rattle.typed_tree.specs.declared.tree.Stmt.TheOpen.Stmt-F.{Assign}
 use Rattle.typed_tree.specs.declared.tree.Tree.{Tree}
 use Rattle.typed_tree.specs.declared.tree.Variable.{Variable}
 use Rattle.domain.specs.Facts.{Bound}
-use Rattle.domain.specs.Interval.{HasMember, Interval}
+use Rattle.domain.specs.Interval.{Interval}
 use Rattle.meaning.specs.declared.store.Value.{Value}
 use Rattle.meaning.specs.declared.store.Value.TheVariants.{Number}
 use Rattle.meaning.specs.Store.{Environment, Place as StorePlace, Store, part}

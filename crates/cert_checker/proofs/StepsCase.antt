@@ -15,7 +15,6 @@ use Rattle.domain.specs.Numbers.{hull, is_covered}
 use Rattle.expression_checker.specs.declared.fault.CheckFault.{CheckFault}
 use Rattle.expression_checker.specs.Visits.{Visits, all_counted}
 use Rattle.cert_checker.specs.declared.walk.Walk.{Walk}
-use Rattle.abstract_state.specs.declared.known.Known.{Known}
 use Rattle.abstract_state.specs.declared.known.Known.TheVariants.{Ordinal}
 use Rattle.component_states.specs.declared.state.State.{State as Kept}
 use Rattle.component_states.specs.States.{State, dead, joined_states, over_variables}
@@ -23,7 +22,7 @@ use Rattle.abstract_state.specs.Conditions.{condition_of}
 use Rattle.abstract_state.specs.Forms.{root_of}
 use Rattle.structured_states.specs.Cases.{arm_start, constants_before}
 use Rattle.structured_states.proofs.Claims.{item-cut, drop-past}
-use Rattle.expression_checker.specs.Walk.{IsBreachOf, Walked, Walking, ◌>>=◌, enter, give, numbers_of, tested, value_walk}
+use Rattle.expression_checker.specs.Walk.{IsBreachOf, Walked, Walking, ◌>>=◌, give, numbers_of, tested}
 use Rattle.cert_checker.specs.Walk.{arm_walk, arms_walk, case_walk, from_entry, here, index_test, index_walk, no_more, statement_walk}
 use Rattle.cert_checker.specs.View.{Goes, IsMoved, Meets, at_state, context_of, said_state, viewed_in}
 use Rattle.expression_checker.proofs.Begun.{begun-all}

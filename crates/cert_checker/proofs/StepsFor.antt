@@ -1,31 +1,25 @@
 -- What the checker did over a for statement, from what it did over the parts of it.
-use Rattle.std.proofs.Common.{rules, ◌≡◌, refl, sym, subst, ap, ◌∙◌, ℕ, Bool, true, false, [], ◌++◌, append-nil, None, Some, Result, Ok, Err}
-use Rattle.std.specs.declared.boxed.Box.{Box}
-use Rattle.std.specs.declared.alloc.Global.{Global}
+use Rattle.std.proofs.Common.{◌≡◌, refl, sym, subst, ap, ◌∙◌, Bool, true, false, [], ◌++◌, append-nil, None, Some, Result, Ok, Err}
 use Rattle.typed_tree.specs.declared.tree.ForHead.{ForHead}
-use Rattle.typed_tree.specs.declared.tree.Stmt.{Stmt}
-use Rattle.typed_tree.specs.declared.tree.Stmt.TheVariants as stmt
-use Rattle.typed_tree.specs.declared.tree.Stmt.TheFolds.{the_lemmas as stmt_lemmas}
 use Rattle.expression_checker.specs.declared.fault.CheckFault.{CheckFault}
 use Rattle.expression_checker.specs.declared.fault.CheckFault.TheVariants.{Memory}
 use Rattle.expression_checker.specs.Visits.{Visits, all_counted}
 use Rattle.cert_checker.specs.declared.walk.Walk.{Walk}
-use Rattle.abstract_state.specs.declared.known.Known.{Known}
 use Rattle.abstract_state.specs.State.{limits_of}
 use Rattle.component_states.specs.declared.state.State.{State as Kept}
 use Rattle.component_states.specs.States.{State, joined_states, over_bound, over_change, over_variables}
 use Rattle.abstract_state.specs.Loops.{with_undefined}
-use Rattle.expression_checker.specs.Walk.{IsBreachOf, Walked, Walking, ◌>>=◌, enter, give, numbers_of, value_walk, within}
+use Rattle.expression_checker.specs.Walk.{IsBreachOf, Walked, Walking, ◌>>=◌, give, numbers_of, within}
 use Rattle.std.specs.Result.{IsErr, IsErrAnd}
 use Rattle.domain.specs.Interval.{Interval}
 use Rattle.abstract_state.specs.declared.known.Known.TheVariants.{Ordinal}
 use Rattle.structured_states.specs.declared.ways.Way.{Way as KeptWay}
-use Rattle.structured_states.specs.Ways.{Way, entered, met, next, turn_begun, turn_ended, way_of, way_out, where_counts, with_values}
+use Rattle.structured_states.specs.Ways.{Way, entered, met, next, turn_begun, turn_ended, way_out, where_counts, with_values}
 use Rattle.expression_checker.specs.Walk.{changed_by}
-use Rattle.cert_checker.specs.Walk.{assign, begin_way, for_round, for_turns, for_walk, loop_walk, parted, rounds_of, statement_walk, steady_in}
+use Rattle.cert_checker.specs.Walk.{assign, begin_way, for_round, for_turns, for_walk, loop_walk, parted, rounds_of, steady_in}
 use Rattle.cert_checker.specs.Walk.{tested_end, tested_way}
 use Rattle.cert_checker.specs.View.{AreLoops, Goes, IsMoved, Moves, Parts, Walks, Went, context_of, said_state, said_tested, viewed_in}
-use Rattle.cert_checker.proofs.Steps.{Does, Stops, branches-stopped, goes-as, goes-here, goes-stopped, goes-then, moved-loops, moved-same, viewed-same}
+use Rattle.cert_checker.proofs.Steps.{Does, Stops, branches-stopped, goes-here, goes-stopped, goes-then, moved-loops, moved-same, viewed-same}
 use Rattle.cert_checker.proofs.Steps.{walks-give}
 use Rattle.expression_checker.proofs.Begun.{begun-all}
 use Rattle.expression_checker.proofs.Steps.{left-same, left-stays}
