@@ -1,9 +1,9 @@
 mod Actuals
 mod Calls
 mod Chains
-mod Named
+pub mod Fitting
 mod Only
 mod Operands
 mod PassedForms
 mod Results
-mod Selecting
+pub mod Selecting

@@ -3,25 +3,30 @@ ghost use Rattle.typed_tree.specs.Look.{Begins};
 ghost use Rattle.typing.specs.Passing.{behind_marks};
 ghost use Rattle.typing.specs.Expressions as spec;
 ghost use Rattle.typing.specs.Expressions.{result_variable};
+ghost use Rattle.typed_tree.specs.Accesses.{index_count};
 ghost use Rattle.expression_resolver.specs.Made.{IsHostOf, MakesActuals, MakesCall, MakesPassed};
+ghost use Rattle.expression_resolver.specs.Made.{MakesCopied, MakesFitted, copied, fitted};
 ghost use Rattle.expression_resolver.specs.Made.{typed_of, look_value};
 ghost use Rattle.expression_resolver.specs.Made.{MakesTyped, MakesLink, MakesLinks, IsOnly, is_alone};
 ghost use Rattle.expression_resolver.specs.Accesses.{MakesSelection, MakesIndex, SelectsElement, SelectsOne, IsCounted};
+ghost use Rattle.expression_resolver.specs.Accesses.{MakesReached, reached};
 
 use crate::accesses::{accessed_value, begin, constant, enter, select_field, text, variable};
 use crate::operators::{self, monadic};
-use crate::typed::{Begun, Selection, TypedCall, TypedExpr, TypedLinks, Value};
+use crate::typed::{Begun, Reached, Selection, TypedCall, TypedExpr, TypedLinks, Value};
 use place::Place;
 use scopes::Denotation;
 use syntax_tree as syntax;
 use typed_tree::fault::TypeFault;
 use typed_tree::site::SiteKind;
 use typed_tree::tree::{
-    Access, Calculation, Call, Expr, Link, Monadic, Passed, RangeTest, Selector, VariableKind,
+    Access, Calculation, Call, Expr, Fitted, Link, Monadic, Passed, RangeTest, Selector,
+    VariableKind, Whole,
 };
 use types::{ArrayElement, TypeId, TypeTable};
 use typing::rules::{
-    as_function, as_routine, operand_type, relation_of, sign_operation, takes_operands,
+    as_function, as_routine, fitting, may_compare, may_copy, may_index, operand_type, relation_of,
+    sign_operation, takes_operands,
 };
 use typing::{Typed, Typer, characters};
 
@@ -37,18 +42,7 @@ pub fn expression(
 {
     match written {
         syntax::Expr::Number { value, place } => number(typer, *value, *place, lead),
-        syntax::Expr::Name(name) => {
-            let denotation = typer.find(name)?;
-            match denotation {
-                Denotation::Variable { root, type_id } => {
-                    accessed(typer, root, type_id, &[], &[], name.place, lead)
-                }
-                Denotation::Routine { block, is_function } => {
-                    function_value(typer, block, is_function, name.place, &[], lead)
-                }
-                _ => denoted(typer, denotation, name.place, lead),
-            }
-        }
+        syntax::Expr::Name(name) => named(typer, name, lead),
         syntax::Expr::Component {
             name,
             selectors,
@@ -133,6 +127,28 @@ fn spelled(
     }
     let type_id = typer.string_type(place, characters.len())?;
     text(typer, site, type_id, characters)
+}
+
+// A name as an expression: a constant, a variable, or a function without parameters.
+#[cycle(expressions)]
+#[tactic(auto, unfolding(typing::specs::Expressions::named, typing::specs::Expressions::denoted))]
+fn named(
+    typer: &mut Typer,
+    name: &syntax::Name,
+    lead: Option<SiteKind>,
+) -> Result<TypedExpr, TypeFault>
+    ensures { MakesTyped (spec.named name.now lead typer.old) result typer.new }
+{
+    let denotation = typer.find(name)?;
+    match denotation {
+        Denotation::Variable { root, type_id } => {
+            accessed(typer, root, type_id, &[], &[], name.place, lead)
+        }
+        Denotation::Routine { block, is_function } => {
+            function_value(typer, block, is_function, name.place, &[], lead)
+        }
+        _ => denoted(typer, denotation, name.place, lead),
+    }
 }
 
 // What a name denotes that is neither a variable nor a routine of the program, as an expression: a constant.
@@ -277,7 +293,7 @@ fn index(
     let place = first_place(written);
     let site = typer.site(SiteKind::Index, place)?;
     let made = expression(typer, written, None)?;
-    if !typer.may_index(element, made.typed()) {
+    if !may_index(typer.types(), element, made.typed()) {
         return Err(TypeFault::Mismatch(place));
     }
     Ok((site, made.value.into_ordinal()))
@@ -343,7 +359,7 @@ fn links(typer: &mut Typer, left: Typed, rest: &[syntax::Link]) -> Result<TypedL
     let mut links = Vec::with_capacity(typer.alloc, rest.len())?;
     let mut typed = left;
     for written in rest {
-        links.push(link(typer, typed, written)?)?;
+        links.push_reserved(link(typer, typed, written)?);
         typed = Typed {
             type_id: operand_type(written.operator),
             length: None,
@@ -388,7 +404,7 @@ fn relation(
 {
     let number = typer.enter()?;
     let right = expression(typer, right, None)?;
-    if !typer.may_compare(left.typed(), right.typed()) {
+    if !may_compare(typer.types(), left.typed(), right.typed()) {
         return Err(TypeFault::Mismatch(place));
     }
     operators::relation(typer.alloc, number, relation_of(operator), left, right)
@@ -480,7 +496,7 @@ fn result_type(typer: &Typer, place: Place, root: Option<u32>) -> Result<TypeId,
     let Some(variable) = typer.variable_at(root) else {
         return Err(TypeFault::WrongParameters(place));
     };
-    Ok(typer.host(variable.type_id))
+    Ok(typer.types().host(variable.type_id))
 }
 
 /// The call of a block, a function's or a procedure's, at the place of its name: K3 where the number of actual
@@ -525,7 +541,7 @@ fn actuals_for(
 {
     let mut made = Vec::with_capacity(typer.alloc, actuals.len())?;
     for i in 0..actuals.len() {
-        made.push(actual(typer, roots[i], &actuals[i])?)?;
+        made.push_reserved(actual(typer, roots[i], &actuals[i])?);
     }
     Ok(made)
 }
@@ -593,24 +609,43 @@ fn passed_access(
         typer.old result typer.new }
 {
     let (root, type_id) = variable(typer, name)?;
-    typer.may_change(name.place, root)?;
-    let number = typer.enter()?;
-    let component = selected(typer, type_id, selectors, indexes)?;
-    typer.passable(
-        wanted,
-        type_id,
-        &component.selectors,
-        component.type_id,
-        name.place,
-    )?;
+    let reached = reach(typer, name.place, (root, type_id), selectors, indexes)?;
+    let selected = &reached.access.selectors;
+    typer.passable(wanted, type_id, selected, reached.type_id, name.place)?;
     Ok(Passed::Reference {
         type_id: wanted,
+        access: reached.access,
+        indexes: reached.indexes,
+    })
+}
+
+/// What is accessed of a variable that may be changed, by its root and its type, at the place of its name.
+#[cycle(expressions)]
+#[tactic(auto, unfolding(crate::specs::Accesses::reached))]
+pub fn reach(
+    typer: &mut Typer,
+    place: Place,
+    variable: (u32, TypeId),
+    selectors: &[syntax::Selector],
+    indexes: &[syntax::Expr],
+) -> Result<Reached, TypeFault>
+    ensures made { MakesReached (reached place variable selectors.now (map spec.expression indexes.now) typer.old) result
+        typer.new }
+    ensures root { IfOk result (λ made. made.access.root ≡ variable.0) }
+    ensures counted { IfOk result (λ made. index_count made.access.selectors.items ≡ length made.indexes.items) }
+{
+    let (root, type_id) = variable;
+    typer.may_change(place, root)?;
+    let number = typer.enter()?;
+    let component = selected(typer, type_id, selectors, indexes)?;
+    Ok(Reached {
         access: Access {
             number,
             root,
             selectors: component.selectors,
         },
         indexes: component.indexes,
+        type_id: component.type_id,
     })
 }
 
@@ -624,16 +659,15 @@ fn passed_value(
 ) -> Result<Passed, TypeFault>
     ensures { MakesPassed (spec.passed_value type_id (spec.expression written.now)) typer.old result typer.new }
 {
-    if typer.tests_ordinal(type_id) {
-        passed_ordinal(typer, type_id, written)
-    } else {
+    if typer.types().is_structured(type_id) {
         passed_whole(typer, type_id, written)
+    } else {
+        passed_ordinal(typer, type_id, written)
     }
 }
 
 // A value of an ordinal type.
 #[cycle(expressions)]
-#[tactic(auto, unfolding(typing::specs::Expressions::passed_ordinal))]
 fn passed_ordinal(
     typer: &mut Typer,
     type_id: TypeId,
@@ -641,14 +675,7 @@ fn passed_ordinal(
 ) -> Result<Passed, TypeFault>
     ensures { MakesPassed (spec.passed_ordinal type_id (spec.expression written.now)) typer.old result typer.new }
 {
-    let place = first_place(written);
-    let site = typer.site(SiteKind::Subrange, place)?;
-    let made = expression(typer, written, None)?;
-    let range = typer
-        .fitting(type_id, made.typed())
-        .ok_or(TypeFault::Mismatch(place))?;
-    let value = made.value.into_ordinal();
-    let fits = RangeTest { site, range };
+    let Fitted { value, fits } = fitted(typer, type_id, first_place(written), written)?;
     Ok(Passed::Value { value, fits })
 }
 
@@ -662,17 +689,48 @@ fn passed_whole(
 ) -> Result<Passed, TypeFault>
     ensures { MakesPassed (spec.passed_whole type_id (spec.expression written.now)) typer.old result typer.new }
 {
-    let place = first_place(written);
-    let made = expression(typer, written, None)?;
-    if !typer.may_copy(type_id, made.typed()) {
-        return Err(TypeFault::Mismatch(place));
-    }
-    let (value, indexes) = made.whole(place)?;
+    let (value, indexes) = copied(typer, type_id, first_place(written), written)?;
     Ok(Passed::Whole {
         type_id,
         value,
         indexes,
     })
+}
+
+/// A value that is assigned to an ordinal type, with its test, whose site stands at the place (6.4.6).
+#[cycle(expressions)]
+#[tactic(auto, unfolding(crate::specs::Made::fitted))]
+pub fn fitted(
+    typer: &mut Typer,
+    type_id: TypeId,
+    place: Place,
+    written: &syntax::Expr,
+) -> Result<Fitted, TypeFault>
+    ensures { MakesFitted (fitted type_id place (spec.expression written.now) typer.old) result typer.new }
+{
+    let site = typer.site(SiteKind::Subrange, place)?;
+    let made = expression(typer, written, None)?;
+    let range = fitting(typer.types(), type_id, made.typed()).ok_or(TypeFault::Mismatch(place))?;
+    let value = made.value.into_ordinal();
+    let fits = RangeTest { site, range };
+    Ok(Fitted { value, fits })
+}
+
+/// A value that is copied to a structured type, with its index expressions: K1 at the place where it may not be (6.4.6).
+#[cycle(expressions)]
+pub fn copied(
+    typer: &mut Typer,
+    type_id: TypeId,
+    place: Place,
+    written: &syntax::Expr,
+) -> Result<(Whole, Vec<Expr>), TypeFault>
+    ensures { MakesCopied (copied type_id place (spec.expression written.now) typer.old) result typer.new }
+{
+    let made = expression(typer, written, None)?;
+    if !may_copy(typer.types(), type_id, made.typed()) {
+        return Err(TypeFault::Mismatch(place));
+    }
+    made.whole(place)
 }
 
 // The one actual of a function, which has no width.
