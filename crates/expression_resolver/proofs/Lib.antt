@@ -2,6 +2,7 @@ mod Actuals
 mod Calls
 mod Chains
 pub mod Fitting
+mod Named
 mod Only
 mod Operands
 mod PassedForms

@@ -13,6 +13,7 @@ use Rattle.syntax_tree.specs.declared.Expr.{Expr as SyntaxExpr}
 use Rattle.syntax_tree.specs.declared.Selector.{Selector}
 use Rattle.syntax_tree.specs.declared.Selector.TheVariants as select
 use Rattle.types.specs.declared.form.TypeId.{TypeId}
+use Rattle.scopes.specs.declared.denotation.Denotation.{Denotation}
 use Rattle.types.specs.Types.{is_structured, host_of, cells_of}
 use Rattle.typed_tree.specs.declared.fault.TypeFault.{TypeFault}
 use Rattle.typed_tree.specs.declared.fault.TypeFault.TheVariants as fault
@@ -30,8 +31,9 @@ use Rattle.typed_tree.specs.Entries.{joined}
 use Rattle.typed_tree.specs.Look.{Look, Mark, Access, Value, WholeValue, look_expr, look_access}
 use Rattle.typed_tree.proofs.Looks.{look_variable}
 use Rattle.typing.specs.declared.typed.Typed.{Typed}
-use Rattle.typing.specs.Passing.{Passed, Passing, Checked, After, after, and_then, behind_marks, pure, ◌>>=◌, ◌>>◌}
-use Rattle.typing.specs.Steps.{may_change, site, enter_as, host_type}
+use Rattle.typing.specs.Passing.{Passed, Passing, Checked, After, after, and_then, behind_marks, given, pure, ◌>>=◌, ◌>>◌}
+use Rattle.typing.specs.Steps.{find, may_change, site, enter_as, host_type}
+use Rattle.typing.specs.Expressions.{as_variable, component}
 use Rattle.typing.specs.Expressions.{Written, behind, selected, accessed, tests_structured, ordinal_value, whole_value, typed, typed_variable, expression}
 use Rattle.typing.specs.Outcomes.{IsFault}
 use Rattle.typing.proofs.Rows.{behind_nothing, behind_both, then_assoc}
@@ -100,6 +102,20 @@ module _ (root : ℕ) (type_id : TypeId) (selectors : List Selector) (indexes : 
         behind_variable
         ∙ ap (λ r. behind_marks (Access number ∷ []) (and_then r (λ a. behind_marks a.look (value root sites a.answer a.passed)))) passes
         ∙ behind_both (Access number ∷ []) look (value root sites component now)
+
+-- a component of a variable, by what its name denotes
+module _ (name : Name) (selectors : List Selector) (indexes : List Written) (lead : Option SiteKind) (old first : Passed) (d : Denotation)
+    (variable : ℕ × TypeId) (finds : find name old ≡ Ok (after d [] first)) (is : as_variable name.place d ≡ Ok variable) where
+  abbrev behind_name : ℕ × TypeId → Passing Typed
+  behind_name v = accessed v.0 v.1 selectors indexes name.place lead
+
+  pub component_goes : component name selectors indexes lead old ≡ accessed variable.0 variable.1 selectors indexes name.place lead first
+  unfolding component
+  component_goes =
+      ap (λ r. and_then r (λ a. behind_marks a.look ((given (as_variable name.place a.answer) >>= behind_name) a.passed))) finds
+      ∙ ap (λ r. behind_marks [] (and_then (and_then r (λ a. Ok (after a [] first))) (λ a. behind_marks a.look (behind_name a.answer a.passed)))) is
+      ∙ behind_nothing (behind_marks [] (behind_name variable first))
+      ∙ behind_nothing (behind_name variable first)
 
 -- what stands behind a variable that is reached
 pub reached_then : {B : Type 0} (place : Place) (variable : ℕ × TypeId) (selectors : List Selector) (indexes : List Written)
@@ -185,6 +201,15 @@ module _ (entered : Entered) (made : Selection) (s : Passed) where
         ∙ ap (λ look. Ok (after (typed_variable made.type_id cells entered.site) look s))
         (sym (look_made made_access made.indexes
         (WholeValue entered.root made.selectors.items (length (map look_expr made.indexes.items)) made.type_id cells entered.defined)))
+
+-- nothing was selected
+pub nothing_valued : (entered : Entered) (made : Selection) (type_id : TypeId) (s : Passed) → IsNothing type_id made
+    → behind_marks (Access entered.number ∷ []) (value entered.root (entered.defined, entered.site) ([], type_id) s) ≡ valued entered made s
+nothing_valued entered made type_id s none =
+    ap (λ indexes. behind_marks (Access entered.number ∷ flat_map look_expr indexes)
+    (value entered.root (entered.defined, entered.site) ([], type_id) s)) (sym none.indexes)
+    ∙ ap₂ (λ selectors id. behind_marks (Access entered.number ∷ look_selection made)
+    (value entered.root (entered.defined, entered.site) (selectors, id) s)) (sym none.selectors) (sym none.is_of)
 
 -- ---- selectors
 

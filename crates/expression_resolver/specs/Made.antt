@@ -89,9 +89,8 @@ text_entered site type_id characters = do
   enter_as (λ n. Text n characters)
   pure (typed_text type_id (length characters) site)
 
--- what is neither a variable nor a routine of the program
+-- what is no routine of the program
 abbrev pub is_alone : Denotation → Bool
-is_alone (denotes.Variable root type_id) = false
 is_alone (denotes.Routine block is_function) = false
 is_alone d = true
 

@@ -42,7 +42,13 @@ pub fn expression(
 {
     match written {
         syntax::Expr::Number { value, place } => number(typer, *value, *place, lead),
-        syntax::Expr::Name(name) => named(typer, name, lead),
+        syntax::Expr::Name(name) => {
+            let denotation = typer.find(name)?;
+            if let Denotation::Routine { block, is_function } = denotation {
+                return function_value(typer, block, is_function, name.place, &[], lead);
+            }
+            denoted(typer, denotation, name.place, lead)
+        }
         syntax::Expr::Component {
             name,
             selectors,
@@ -51,13 +57,16 @@ pub fn expression(
         syntax::Expr::String { text, place } => string(typer, text, *place, lead),
         syntax::Expr::Call { name, actuals } => call(typer, name, actuals, lead),
         syntax::Expr::Parenthesized { open, inner } => parenthesized(typer, *open, inner, lead),
-        syntax::Expr::Not { place, operand } => {
-            let operation = Monadic::Plain(Calculation::Complement);
-            prefixed(typer, TypeTable::BOOLEAN, operation, *place, operand, lead)
-        }
+        syntax::Expr::Not { place, operand } => negation(typer, *place, operand, lead),
         syntax::Expr::Signed { sign, place, term } => {
-            let operation = sign_operation(*sign);
-            prefixed(typer, TypeTable::INTEGER, operation, *place, term, lead)
+            prefixed(
+                typer,
+                TypeTable::INTEGER,
+                sign_operation(*sign),
+                *place,
+                term,
+                lead,
+            )
         }
         syntax::Expr::Chain { first, rest } => {
             let left = expression(typer, first, lead)?;
@@ -129,29 +138,7 @@ fn spelled(
     text(typer, site, type_id, characters)
 }
 
-// A name as an expression: a constant, a variable, or a function without parameters.
-#[cycle(expressions)]
-#[tactic(auto, unfolding(typing::specs::Expressions::named, typing::specs::Expressions::denoted))]
-fn named(
-    typer: &mut Typer,
-    name: &syntax::Name,
-    lead: Option<SiteKind>,
-) -> Result<TypedExpr, TypeFault>
-    ensures { MakesTyped (spec.named name.now lead typer.old) result typer.new }
-{
-    let denotation = typer.find(name)?;
-    match denotation {
-        Denotation::Variable { root, type_id } => {
-            accessed(typer, root, type_id, &[], &[], name.place, lead)
-        }
-        Denotation::Routine { block, is_function } => {
-            function_value(typer, block, is_function, name.place, &[], lead)
-        }
-        _ => denoted(typer, denotation, name.place, lead),
-    }
-}
-
-// What a name denotes that is neither a variable nor a routine of the program, as an expression: a constant.
+// What a name denotes that is no routine of the program, as an expression: a constant or a variable.
 #[tactic(auto, unfolding(typing::specs::Expressions::denoted))]
 fn denoted(
     typer: &mut Typer,
@@ -172,11 +159,16 @@ fn denoted(
             let characters = typer.text_at(number)?;
             text(typer, site, type_id, characters)
         }
+        Denotation::Variable { root, type_id } => {
+            let entered = enter(typer, root, place, lead)?;
+            let nothing = Selection::nothing(typer.alloc, type_id);
+            Ok(accessed_value(typer, entered, nothing))
+        }
         Denotation::Procedure(_) | Denotation::Function(_) => {
             Err(TypeFault::WrongParameters(place))
         }
         Denotation::TypeName(_) | Denotation::Output => Err(TypeFault::Mismatch(place)),
-        Denotation::Variable { .. } | Denotation::Routine { .. } => unreachable!(),
+        Denotation::Routine { .. } => unreachable!(),
     }
 }
 
@@ -194,24 +186,7 @@ fn component(
         typer.new }
 {
     let (root, type_id) = variable(typer, name)?;
-    accessed(typer, root, type_id, selectors, indexes, name.place, lead)
-}
-
-// A component of a variable of a root and a type, at the place of its name.
-#[cycle(expressions)]
-fn accessed(
-    typer: &mut Typer,
-    root: u32,
-    type_id: TypeId,
-    selectors: &[syntax::Selector],
-    indexes: &[syntax::Expr],
-    place: Place,
-    lead: Option<SiteKind>,
-) -> Result<TypedExpr, TypeFault>
-    ensures { MakesTyped (spec.accessed root type_id selectors.now (map spec.expression indexes.now) place lead
-        typer.old) result typer.new }
-{
-    let entered = enter(typer, root, place, lead)?;
+    let entered = enter(typer, root, name.place, lead)?;
     let selection = selected(typer, type_id, selectors, indexes)?;
     Ok(accessed_value(typer, entered, selection))
 }
@@ -313,6 +288,20 @@ fn parenthesized(
     let site = typer.behind(lead, bracket)?;
     let inner = expression(typer, inner, None)?;
     Ok(TypedExpr { site, ..inner })
+}
+
+// `not` and its operand (6.7.2.3).
+#[cycle(expressions)]
+fn negation(
+    typer: &mut Typer,
+    place: Place,
+    operand: &syntax::Expr,
+    lead: Option<SiteKind>,
+) -> Result<TypedExpr, TypeFault>
+    ensures { MakesTyped (spec.negation place (spec.expression operand.now) lead typer.old) result typer.new }
+{
+    let operation = Monadic::Plain(Calculation::Complement);
+    prefixed(typer, TypeTable::BOOLEAN, operation, place, operand, lead)
 }
 
 // An operation before an operand of a type, which its result is of too.

@@ -172,8 +172,9 @@ fn written_value(typer: &Typer, made: TypedExpr, place: Place) -> Result<Written
     let TypedExpr { value, type_id, .. } = made;
     match value {
         Value::Ordinal(value) => {
-            let representation =
-                representation(typer.types(), type_id).ok_or(TypeFault::Mismatch(place))?;
+            let representation = representation(typer.types(), type_id).ok_or(TypeFault::Mismatch(
+                place,
+            ))?;
             Ok(Written::Ordinal {
                 value,
                 representation,

@@ -225,8 +225,7 @@ fn for_loop(typer: &mut Typer, head: ForHead, body: &syntax::Stmt) -> Result<Stm
 
 // A case (6.8.3.5).
 #[cycle(statements)]
-#[tactic(auto, using(typed_tree::proofs::Looks::look_case), unfolding(typing::specs::Statements::case_head,
-    typing::specs::Statements::case_body))]
+#[tactic(auto, using(typed_tree::proofs::Looks::look_case), unfolding(typing::specs::Statements::case_head, typing::specs::Statements::case_body))]
 fn case_statement(
     typer: &mut Typer,
     place: Place,

@@ -20,13 +20,41 @@ use Rattle.typed_tree.specs.Accesses.{index_count}
 use Rattle.typed_tree.specs.Look.{Access, ForVariable, look_expr, look_passed}
 use Rattle.typing.proofs.Selectors.{index_passes}
 use Rattle.expression_resolver.specs.Accesses.{value, look_reached, look_selection, SelectsOne}
-use Rattle.expression_resolver.proofs.Selecting.{variable_stops, selectors_stop, component_is, elements_take_one, field_selects, element_selects}
+use Rattle.expression_resolver.proofs.Selecting.{component_goes, component_is, elements_take_one, element_selects, field_selects, selectors_stop}
+use Rattle.expression_resolver.proofs.Selecting.{variable_stops}
 use Rattle.expression_resolver.proofs.Chains.{first_stops, first_goes_on, chain_begun, relation_begun}
+use Rattle.expression_resolver.proofs.Named.{name_is, name_stops, routine_denoted}
 use Rattle.expression_resolver.proofs.Actuals.{ArePassedFrom, one_passed}
 use Rattle.expression_resolver.proofs.Calls.{actual_stops, call_made, count_stops, value_is, value_stops}
 use Rattle.expression_resolver.proofs.PassedForms.{component_stops, ordinal_passes, ordinal_stops, other_kind, to_none, to_value, to_variable}
 use Rattle.expression_resolver.proofs.PassedForms.{value_by_kind, variable_made, variable_passes, variable_stops as access_stops}
 use Rattle.expression_resolver.proofs.expressions.+expressions.Goals as goal
+
+-- ---- a name
+
+pub expression-returns-in_err-denotation-in-Name : goal.expression-returns-in_err-denotation-in-Name
+expression-returns-in_err-denotation-in-Name t c =
+    let why = c.in_err-denotation-in-Name.field-0.0 in
+    let stops : IsFault ((expression c.args.written.now).typing c.args.lead c.args.typer.now) why =
+    name_stops c.args.written.now c.in-Name.name c.in-Name.is c.args.lead c.args.typer.now why c.in_err-denotation-in-Name.ensures in
+    search rules
+
+pub expression-returns-in-Routine : goal.expression-returns-in-Routine
+expression-returns-in-Routine t c =
+    let place = c.in-Name.name.place in
+    subst (λ o. MakesTyped o c.function_value.result c.function_value.new.typer)
+    (sym (name_is c.args.written.now c.in-Name.name c.in-Name.is c.args.lead c.args.typer.now c.in_ok-denotation-in-Name.denotation c.find.new.self
+    c.in_ok-denotation-in-Name.ensures
+    ∙ routine_denoted c.in_ok-denotation-in-Name.denotation place c.args.lead c.find.new.self c.in-Routine.block c.in-Routine.is_function
+    c.in-Routine.is))
+    c.function_value.ensures
+
+pub expression-returns-in_default : goal.expression-returns-in_default
+expression-returns-in_default t c =
+    subst (λ o. MakesTyped o c.denoted.result c.denoted.new.typer)
+    (sym (name_is c.args.written.now c.in-Name.name c.in-Name.is c.args.lead c.args.typer.now c.in_ok-denotation-in-Name.denotation
+    c.find.new.self c.in_ok-denotation-in-Name.ensures))
+    c.denoted.ensures
 
 -- ---- chains and relations
 
@@ -89,36 +117,58 @@ expression-returns-in_ok-left-in-Relation t c =
     (sym c.deref-in-Relation-2.ensures)))
     c.relation.ensures
 
--- ---- an access
+-- ---- a component
 
-pub accessed-returns-in_err-entered : goal.accessed-returns-in_err-entered
-accessed-returns-in_err-entered t c =
+pub component-returns-in_err-entered : goal.component-returns-in_err-entered
+component-returns-in_err-entered t c =
+    let name = c.args.name.now in
+    let selectors = c.args.selectors.now in
+    let indexes = map expression c.args.indexes.now in
+    let old = c.args.typer.now in
+    let first = c.variable.new.typer in
+    let root = c.in_ok-root.root in
+    let type_id = c.in_ok-root.type_id in
+    let found = c.in_ok-root.ensures in
     let why = c.in_err-entered.field-0.0 in
-    let stops : IsFault (spec.accessed c.args.root c.args.type_id c.args.selectors.now (map expression c.args.indexes.now) c.args.place c.args.lead
-    c.args.typer.now) why =
-    variable_stops c.args.root c.args.type_id c.args.selectors.now (map expression c.args.indexes.now) c.args.place c.args.lead c.args.typer.now why
-    c.in_err-entered.ensures in
+    let stops : IsFault (spec.component name selectors indexes c.args.lead old) why =
+    subst (λ o. IsFault o why) (sym (component_goes name selectors indexes c.args.lead old first found.0 (root, type_id) found.1 found.2))
+    (variable_stops root type_id selectors indexes name.place c.args.lead first why c.in_err-entered.ensures) in
     search rules
 
-pub accessed-returns-in_err-selection : goal.accessed-returns-in_err-selection
-accessed-returns-in_err-selection t c =
+pub component-returns-in_err-selection : goal.component-returns-in_err-selection
+component-returns-in_err-selection t c =
+    let name = c.args.name.now in
+    let selectors = c.args.selectors.now in
+    let indexes = map expression c.args.indexes.now in
+    let old = c.args.typer.now in
+    let first = c.variable.new.typer in
+    let root = c.in_ok-root.root in
+    let type_id = c.in_ok-root.type_id in
+    let found = c.in_ok-root.ensures in
     let e = c.in_ok-entered.entered in
     let why = c.in_err-selection.field-0.0 in
-    let stops : IsFault (spec.accessed c.args.root c.args.type_id c.args.selectors.now (map expression c.args.indexes.now) c.args.place c.args.lead
-    c.args.typer.now) why =
-    selectors_stop c.args.root c.args.type_id c.args.selectors.now (map expression c.args.indexes.now) c.args.place c.args.lead c.args.typer.now
-    (e.defined, e.site) e.number c.enter.new.typer c.in_ok-entered.ensures.0 why c.in_err-selection.ensures.made in
+    let stops : IsFault (spec.component name selectors indexes c.args.lead old) why =
+    subst (λ o. IsFault o why) (sym (component_goes name selectors indexes c.args.lead old first found.0 (root, type_id) found.1 found.2))
+    (selectors_stop root type_id selectors indexes name.place c.args.lead first (e.defined, e.site) e.number c.enter.new.typer c.in_ok-entered.ensures.0 why
+    c.in_err-selection.ensures.made) in
     search rules
 
-pub accessed-returns : goal.accessed-returns
-accessed-returns t c =
+pub component-returns : goal.component-returns
+component-returns t c =
+    let name = c.args.name.now in
+    let selectors = c.args.selectors.now in
+    let indexes = map expression c.args.indexes.now in
+    let first = c.variable.new.typer in
+    let root = c.in_ok-root.root in
+    let type_id = c.in_ok-root.type_id in
+    let found = c.in_ok-root.ensures in
     let e = c.in_ok-entered.entered in
     let made = c.in_ok-selection.selection in
     let now = c.selected.new.typer in
-    component_is c.args.root c.args.type_id c.args.selectors.now (map expression c.args.indexes.now) c.args.place c.args.lead c.args.typer.now
-    (e.defined, e.site) e.number c.enter.new.typer c.in_ok-entered.ensures.0 (made.selectors.items, made.type_id) (look_selection made) now
-    c.in_ok-selection.ensures.made
-    ∙ ap (λ root. behind_marks (Access e.number ∷ look_selection made) (value root (e.defined, e.site) (made.selectors.items, made.type_id) now))
+    component_goes name selectors indexes c.args.lead c.args.typer.now first found.0 (root, type_id) found.1 found.2
+    ∙ component_is root type_id selectors indexes name.place c.args.lead first (e.defined, e.site) e.number c.enter.new.typer
+    c.in_ok-entered.ensures.0 (made.selectors.items, made.type_id) (look_selection made) now c.in_ok-selection.ensures.made
+    ∙ ap (λ r. behind_marks (Access e.number ∷ look_selection made) (value r (e.defined, e.site) (made.selectors.items, made.type_id) now))
     (sym c.in_ok-entered.ensures.1)
     ∙ c.accessed_value.ensures
 
@@ -224,15 +274,15 @@ passed_value-returns-else-is_structured t c =
     (sym (value_by_kind c.args.type_id (expression c.args.written.now) callee position c.args.typer.now false is))
     (c.passed_ordinal.ensures callee position)
 
-pub passed_ordinal-returns-in_err-fitted : goal.passed_ordinal-returns-in_err-fitted
-passed_ordinal-returns-in_err-fitted t c = λ callee position.
+pub passed_ordinal-returns-in_err-value : goal.passed_ordinal-returns-in_err-value
+passed_ordinal-returns-in_err-value t c = λ callee position.
     let type_id = c.args.type_id in
     let w = expression c.args.written.now in
     let s = c.args.typer.now in
-    let why = c.in_err-fitted.field-0.0 in
+    let why = c.in_err-value.field-0.0 in
     let stops : IsFault (spec.passed_ordinal type_id w callee position s) why =
     ordinal_stops type_id w callee position s why
-    (subst (λ place. IsFault (fitted type_id place w s) why) c.first_place.ensures c.in_err-fitted.ensures) in
+    (subst (λ place. IsFault (fitted type_id place w s) why) c.first_place.ensures c.in_err-value.ensures) in
     search rules
 
 pub passed_ordinal-returns : goal.passed_ordinal-returns
@@ -240,10 +290,10 @@ passed_ordinal-returns t c = λ callee position.
     let type_id = c.args.type_id in
     let w = expression c.args.written.now in
     let s = c.args.typer.now in
-    let made = c.in_ok-fitted in
+    let made = c.in_ok-value.field-0 in
     let now = c.fitted.new.typer in
     ordinal_passes type_id w callee position s made.fits (look_expr made.value) now
-    (subst (λ place. fitted type_id place w s ≡ Ok (after made.fits (look_expr made.value) now)) c.first_place.ensures made.ensures)
+    (subst (λ place. fitted type_id place w s ≡ Ok (after made.fits (look_expr made.value) now)) c.first_place.ensures c.in_ok-value.ensures)
     ∙ ap (λ look. Ok (after tt look now)) (sym (look_passed_value made.value made.fits callee position))
 
 -- ---- variables for variable parameters
