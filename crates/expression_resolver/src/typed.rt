@@ -34,7 +34,7 @@ impl Value {
     }
 
     /// The ordinal that it is.
-    pub(crate) fn into_ordinal(self) -> Expr
+    pub fn into_ordinal(self) -> Expr
         requires ordinal { is_none (value_length self) ≡ true }
         ensures { look_value self ≡ look_expr result }
     {
