@@ -5,7 +5,6 @@ use Rattle.std.proofs.Common.{Some, None, refl, sym, ap, subst, ◌∙◌}
 use Rattle.std.specs.Prelude.{flat_map}
 use Rattle.std.specs.Option.{option_and_then}
 use Rattle.std.proofs.lemmas.Bool.{and_from}
-use Rattle.typed_tree.specs.declared.tree.RangeTest.{RangeTest}
 use Rattle.typed_tree.specs.declared.tree.Width.{Width as TotalWidth}
 use Rattle.typed_tree.specs.declared.tree.WriteParameter.{WriteParameter}
 use Rattle.typed_tree.specs.declared.tree.Written.{Written as WrittenValue}
@@ -27,7 +26,7 @@ use Rattle.typed_tree.specs.declared.tree.Stmt.TheFolds.{map-Stmt, fold-roll-Stm
 use Rattle.typed_tree.specs.declared.tree.Stmt.TheViews.{roll-Stmt}
 use Rattle.typed_tree.specs.Entries.{joined}
 use Rattle.typed_tree.specs.WellFormed.{placed}
-use Rattle.typed_tree.specs.Look.{Look, Mark, Ends, Then, Else, Do, Until, Fits, Controls, ForEnds, For as ForMark, Target, WholeTarget, Width, Written}
+use Rattle.typed_tree.specs.Look.{Look, Mark, Ends, Then, Else, Do, Until, Fits, Controls, ForEnds, Target, WholeTarget, Width, Written}
 use Rattle.typed_tree.specs.Look.{WrittenString, whole_look, passed_look, link_look, expression_look, look_expr, look_passed}
 use Rattle.typed_tree.specs.Look.{look_link, look_whole, look_width, look_written, look_parameter, arms_look, statement_look, look_stmt}
 use Rattle.typed_tree.specs.Threats.{Spares, all_so, all_spare, expr_spares, indexes_so, is_none_of, link_spares, passed_spares, spares, spares_in_expr}
