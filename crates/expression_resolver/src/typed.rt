@@ -7,7 +7,7 @@ ghost use Rattle.expression_resolver.specs.Made.{typed_of, look_value, value_len
 
 use place::Place;
 use typed_tree::fault::TypeFault;
-use typed_tree::tree::{Call, Expr, Link, Passed, Selector, Whole};
+use typed_tree::tree::{Access, Call, Expr, Link, Passed, Selector, Whole};
 use types::TypeId;
 use typing::Typed;
 
@@ -34,7 +34,7 @@ impl Value {
     }
 
     /// The ordinal that it is.
-    pub(crate) fn into_ordinal(self) -> Expr
+    pub fn into_ordinal(self) -> Expr
         requires ordinal { is_none (value_length self) ≡ true }
         ensures { look_value self ≡ look_expr result }
     {
@@ -142,6 +142,15 @@ pub(crate) struct TypedLinks {
 #[derive(Drop)]
 pub struct Selection {
     pub selectors: Vec<Selector>,
+    pub indexes: Vec<Expr>,
+    pub type_id: TypeId,
+}
+
+/// What is accessed of a variable that may be changed: its access with its index expressions, and the type of what is
+/// accessed.
+#[derive(Drop)]
+pub struct Reached {
+    pub access: Access,
     pub indexes: Vec<Expr>,
     pub type_id: TypeId,
 }
