@@ -78,7 +78,8 @@ first-behind_fields (Field position offset ∷ selectors) (step.Field place ∷ 
 
 -- ---- types
 
-ordinal-plain : (form : Option Form) → is_some (option_and_then Rattle.types.specs.Types.form_range form) ≡ true → is_structured_kind (option_map form_kind form) ≡ true → ⊥
+ordinal-plain : (form : Option Form) → is_some (option_and_then Rattle.types.specs.Types.form_range form) ≡ true
+    → is_structured_kind (option_map form_kind form) ≡ true → ⊥
 ordinal-plain (Some (Array packed index element)) ordinal structured = false≢true ordinal
 ordinal-plain (Some (Record packed fields)) ordinal structured = false≢true ordinal
 ordinal-plain form ordinal structured = false≢true structured

@@ -705,7 +705,8 @@ pub fn fitted(
     Ok(Fitted { value, fits })
 }
 
-/// A value that is copied to a structured type, with its index expressions: K1 at the place where it may not be (6.4.6).
+/// A value that is copied to a structured type, with its index expressions: K1 at the place where it may not be
+/// (6.4.6).
 #[cycle(expressions)]
 pub fn copied(
     typer: &mut Typer,

@@ -3,8 +3,9 @@
 use Rattle.std.specs.Prelude.{ℕ, Option, Some, None}
 use Rattle.place.specs.declared.Place.{Place}
 use Rattle.typed_tree.specs.declared.fault.TypeFault.{TypeFault}
-use Rattle.typed_tree.specs.declared.fault.TypeFault.TheVariants.{Memory, DeclaredTwice, UsedBeforeDeclared, NotDeclared}
-use Rattle.typed_tree.specs.declared.fault.TypeFault.TheVariants.{NestedTooDeep, Mismatch, NotVariable, WrongParameters}
+use Rattle.typed_tree.specs.declared.fault.TypeFault.TheVariants.{Memory, DeclaredTwice, UsedBeforeDeclared}
+use Rattle.typed_tree.specs.declared.fault.TypeFault.TheVariants.{NotDeclared, NestedTooDeep, Mismatch}
+use Rattle.typed_tree.specs.declared.fault.TypeFault.TheVariants.{NotVariable, WrongParameters}
 use Rattle.typed_tree.specs.declared.fault.TypeFault.TheVariants.{PackedComponent, Threatened, CaseConstant}
 use Rattle.typed_tree.specs.declared.fault.TypeFault.TheVariants.{NeverAssigned, NotProgramParameter, NotCompleted}
 use Rattle.typed_tree.specs.declared.fault.TypeFault.TheVariants.{TooMany, FirstAboveLast, TooManyCells}
