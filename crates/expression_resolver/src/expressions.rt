@@ -618,8 +618,8 @@ pub fn reach(
     selectors: &[syntax::Selector],
     indexes: &[syntax::Expr],
 ) -> Result<Reached, TypeFault>
-    ensures made { MakesReached (reached place variable selectors.now (map spec.expression indexes.now) typer.old) result
-        typer.new }
+    ensures made { MakesReached
+        (reached place variable selectors.now (map spec.expression indexes.now) typer.old) result typer.new }
     ensures root { IfOk result (λ made. made.access.root ≡ variable.0) }
     ensures counted { IfOk result (λ made. index_count made.access.selectors.items ≡ length made.indexes.items) }
 {
