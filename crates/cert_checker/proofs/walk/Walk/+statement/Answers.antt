@@ -12,8 +12,7 @@ use Rattle.cert_checker.specs.Walk.{index_walk, repeat_round, repeat_walk, round
 use Rattle.cert_checker.specs.View.{Goes, else_walk, viewed_in}
 use Rattle.cert_checker.proofs.Steps.{all-end, all-step, all-stopped, branches-done, branches-half, branches-stopped, given-up, goes-as, goes-from_entry}
 use Rattle.cert_checker.proofs.Steps.{goes-nowhere, goes-stopped, goes-then, if-stopped, if-valued, loop-done, loop-not_entered, loop-stopped}
-use Rattle.cert_checker.proofs.Steps.{repeat_round-done}
-use Rattle.cert_checker.proofs.Steps.{repeat_round-stopped, repeat_round-unparted, repeat_round-untested, state-given_up, viewed-same}
+use Rattle.cert_checker.proofs.Steps.{repeat_round-done, repeat_round-stopped, repeat_round-unparted, repeat_round-untested, state-given_up, viewed-same}
 use Rattle.cert_checker.proofs.Steps.{while_round-done, while_round-stopped, while_round-unparted, while_round-untested}
 use Rattle.cert_checker.proofs.StepsFor.{for-done, for-stopped, for_round-ends, for_round-stopped, rounds-go, turns-done, turns-not_begun, turns-not_tested}
 use Rattle.cert_checker.proofs.StepsCase.{arm-done, arm-stopped, arms_from, arms-end, arms-step, arms-stopped, case-not_tested, case-tested, statement-Case}
