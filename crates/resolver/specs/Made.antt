@@ -10,7 +10,7 @@ use Rattle.syntax_tree.specs.declared.Program.{Program}
 use Rattle.syntax_tree.specs.declared.Actual.{Actual}
 use Rattle.syntax_tree.specs.declared.Stmt.{Stmt as SyntaxStmt}
 use Rattle.syntax_tree.specs.declared.Stmt.TheOpen.{Stmt-F}
-use Rattle.syntax_tree.specs.declared.Stmt.TheOpen.Stmt-F.{While as WhileOf, Repeat as RepeatOf, For as ForOf}
+use Rattle.syntax_tree.specs.declared.Stmt.TheOpen.Stmt-F.{If as IfOf, Case as CaseOf, While as WhileOf, Repeat as RepeatOf, For as ForOf}
 use Rattle.syntax_tree.specs.declared.Stmt.TheViews.{out-Stmt}
 use Rattle.place.specs.declared.Place.{Place}
 use Rattle.typed_tree.specs.declared.fault.TypeFault.{TypeFault}
@@ -26,15 +26,15 @@ use Rattle.typed_tree.specs.declared.tree.Width.{Width}
 use Rattle.typed_tree.specs.declared.tree.Written.{Written as WrittenValue}
 use Rattle.types.specs.declared.form.TypeId.{TypeId}
 use Rattle.types.specs.Types.{is_ordinal, is_structured}
-use Rattle.typed_tree.specs.Look.{Look, Mark, Fits, If, Then, Else, Ends, For, Target, WholeTarget, blocks_of_look}
+use Rattle.typed_tree.specs.Look.{Look, Mark, Fits, If, Then, Else, For, Target, WholeTarget, blocks_of_look}
 use Rattle.typed_tree.specs.Look.{look_block, look_expr, look_stmt, arms_look, tree_look, look_access, look_written}
 use Rattle.typed_tree.specs.Look.{look_parameter, look_width}
-use Rattle.typing.specs.Passing.{Passed, Passing, Checked, After, after, mark, ◌>>◌, ◌>>?◌}
+use Rattle.typing.specs.Passing.{Passed, Passing, Checked, After, after, ◌>>◌, ◌>>?◌}
 use Rattle.typing.specs.Outcomes.{IsFault, Makes}
 use Rattle.typing.specs.Sound.{IsTyped}
 use Rattle.typing.specs.Typing.{typing}
 use Rattle.typing.specs.Expressions.{Written}
-use Rattle.typing.specs.Statements.{Accessed, alternative, compound, statement}
+use Rattle.typing.specs.Statements.{Accessed, compound, statement}
 use Rattle.typing.specs.Steps.{fits}
 use Rattle.typing.specs.Blocks.{block_ends}
 use Rattle.typing.specs.Routines.{all_came, result_at_end}
@@ -64,13 +64,6 @@ if_head_look head = If head.0 ∷ (look_expr head.1 ++ (Then ∷ []))
 -- an if as far as its `then`
 abbrev pub MakesIfHead : Checked (After (Unit {0})) → Result (ℕ × Expr) TypeFault → Passed → Type 0
 MakesIfHead = Makes (λ head. tt) if_head_look
-
--- an if behind its `then`
-abbrev pub choice_behind : Passing (Unit {0}) → Option (Passing (Unit {0})) → Passing (Unit {0})
-choice_behind consequence other = do
-  consequence
-  alternative other
-  mark Ends
 
 -- what tells of what is accessed left of `:=`, structured or not
 abbrev pub target_look : Bool → Reached → Mark
@@ -113,6 +106,15 @@ for_head_look head =
 -- a for as far as its `do`, by the root of its control variable
 abbrev pub MakesForHead : Checked (After ℕ) → Result ForHead TypeFault → Passed → Type 0
 MakesForHead = Makes (λ head. head.control) for_head_look
+
+-- a conditional statement (6.8.3.3)
+abbrev pub is_conditional_form : Stmt-F SyntaxStmt → Bool
+is_conditional_form (IfOf place condition consequence alternative) = true
+is_conditional_form (CaseOf place index constants arms semicolon) = true
+is_conditional_form other = false
+
+abbrev pub is_conditional : SyntaxStmt → Bool
+is_conditional s = is_conditional_form (out-Stmt s)
 
 -- a repetitive statement (6.8.3.6)
 abbrev pub is_repetitive_form : Stmt-F SyntaxStmt → Bool

@@ -15,6 +15,7 @@ use typing::Typer;
 use typing::rules::{as_routine, as_variable};
 
 /// An assignment: the target is accessed first, and then comes the value (6.8.2.2).
+#[tactic(auto, unfolding(typing::specs::Statements::assignment))]
 pub(crate) fn assignment(
     typer: &mut Typer,
     name: &syntax::Name,

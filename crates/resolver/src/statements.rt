@@ -1,10 +1,10 @@
-ghost use Rattle.std.specs.Prelude.{◌≡◌, true, map, option_map};
+ghost use Rattle.std.specs.Prelude.{◌≡◌, [], true, map, option_map};
 ghost use Rattle.syntax_tree.specs.Places.{arms_of};
 ghost use Rattle.typing.specs.Expressions.{expression};
 ghost use Rattle.typing.specs.Passing.{behind_marks, each};
 ghost use Rattle.typing.specs.Statements as spec;
 ghost use Rattle.resolver.specs.Made.{MakesStmt, MakesStmts, MakesBoxed, MakesAlternative, MakesArms};
-ghost use Rattle.resolver.specs.Made.{choice_behind, for_head_look, if_head_look, is_repetitive};
+ghost use Rattle.resolver.specs.Made.{for_head_look, is_conditional, is_repetitive};
 
 use crate::assignments::assignment;
 use crate::calls::procedure_call;
@@ -15,13 +15,13 @@ use place::Place;
 use syntax_tree as syntax;
 use typed_tree::fault::TypeFault;
 use typed_tree::site::SiteKind;
-use typed_tree::tree::{CaseHead, Expr, ForHead, LoopHead, Stmt};
+use typed_tree::tree::{CaseHead, ForHead, LoopHead, Stmt};
 use types::TypeId;
 use typing::Typer;
 
 /// A statement.
 #[cycle(statements)]
-#[tactic(auto, using(typing::proofs::Written::written_statements), unfolding(typing::specs::Statements::choice))]
+#[tactic(auto, using(typing::proofs::Written::written_statements))]
 pub(crate) fn statement(typer: &mut Typer, written: &syntax::Stmt) -> Result<Stmt, TypeFault>
     ensures { MakesStmt (spec.statement written.now typer.old) result typer.new }
 {
@@ -36,14 +36,36 @@ pub(crate) fn statement(typer: &mut Typer, written: &syntax::Stmt) -> Result<Stm
         } => assignment(typer, name, selectors, indexes, *becomes, value),
         syntax::Stmt::Call { name, actuals } => procedure_call(typer, name, actuals),
         syntax::Stmt::Compound { statements } => compound(typer, statements),
+        syntax::Stmt::If { .. } | syntax::Stmt::Case { .. } => conditional(typer, written),
+        syntax::Stmt::While { .. } | syntax::Stmt::Repeat { .. } | syntax::Stmt::For { .. } => {
+            repetitive(typer, written)
+        }
+    }
+}
+
+// A conditional statement (6.8.3.3).
+#[cycle(statements)]
+#[tactic(auto, using(typing::proofs::Written::written_statements, crate::proofs::Branches::look_choice), unfolding(typing::specs::Statements::choice))]
+fn conditional(typer: &mut Typer, written: &syntax::Stmt) -> Result<Stmt, TypeFault>
+    requires { is_conditional written.now ≡ true }
+    ensures { MakesStmt (spec.statement written.now typer.old) result typer.new }
+{
+    match written {
         syntax::Stmt::If {
             place,
             condition,
             consequence,
             alternative,
         } => {
-            let head = if_head(typer, *place, condition)?;
-            choice(typer, head, consequence, alternative)
+            let (number, condition) = if_head(typer, *place, condition)?;
+            let consequence = boxed(typer, consequence)?;
+            let alternative = other(typer, alternative)?;
+            Ok(Stmt::If {
+                number,
+                condition,
+                consequence,
+                alternative,
+            })
         }
         syntax::Stmt::Case {
             place,
@@ -51,10 +73,8 @@ pub(crate) fn statement(typer: &mut Typer, written: &syntax::Stmt) -> Result<Stm
             constants,
             arms,
             ..
-        } => case_statement(typer, *place, index, constants, arms),
-        syntax::Stmt::While { .. } | syntax::Stmt::Repeat { .. } | syntax::Stmt::For { .. } => {
-            repetitive(typer, written)
-        }
+        } => case_statement(typer, arms, *place, index, constants),
+        _ => unreachable!(),
     }
 }
 
@@ -70,7 +90,7 @@ fn repetitive(typer: &mut Typer, written: &syntax::Stmt) -> Result<Stmt, TypeFau
             place,
             condition,
             body,
-        } => while_loop(typer, *place, condition, body),
+        } => while_loop(typer, body, *place, condition),
         syntax::Stmt::Repeat {
             place,
             statements,
@@ -123,29 +143,6 @@ fn boxed(typer: &mut Typer, written: &syntax::Stmt) -> Result<Box<Stmt>, TypeFau
     Ok(Box::new(typer.alloc, made)?)
 }
 
-// An if (6.8.3.4), behind its `then`, by its number and its condition.
-#[cycle(statements)]
-#[tactic(auto, using(crate::proofs::Branches::look_choice))]
-fn choice(
-    typer: &mut Typer,
-    head: (u32, Expr),
-    consequence: &syntax::Stmt,
-    alternative: &Option<Box<syntax::Stmt>>,
-) -> Result<Stmt, TypeFault>
-    ensures { MakesStmt (behind_marks (if_head_look head) (choice_behind (spec.statement consequence.now)
-        (option_map (λ s. spec.statement s.value) alternative.now) typer.old)) result typer.new }
-{
-    let (number, condition) = head;
-    let consequence = boxed(typer, consequence)?;
-    let alternative = other(typer, alternative)?;
-    Ok(Stmt::If {
-        number,
-        condition,
-        consequence,
-        alternative,
-    })
-}
-
 // The statement behind `else`, if there is one.
 #[cycle(statements)]
 #[tactic(auto, unfolding(typing::specs::Statements::alternative))]
@@ -167,9 +164,9 @@ fn other(
 #[tactic(auto, using(typed_tree::proofs::Looks::look_while), unfolding(typing::specs::Statements::while_loop))]
 fn while_loop(
     typer: &mut Typer,
+    body: &syntax::Stmt,
     place: Place,
     tested: &syntax::Expr,
-    body: &syntax::Stmt,
 ) -> Result<Stmt, TypeFault>
     ensures { MakesStmt (spec.while_loop place (expression tested.now) (spec.statement body.now) typer.old)
         result typer.new }
@@ -228,10 +225,10 @@ fn for_loop(typer: &mut Typer, head: ForHead, body: &syntax::Stmt) -> Result<Stm
 #[tactic(auto, using(typed_tree::proofs::Looks::look_case), unfolding(typing::specs::Statements::case_head, typing::specs::Statements::case_body))]
 fn case_statement(
     typer: &mut Typer,
+    arms: &[syntax::Stmt],
     place: Place,
     index: &syntax::Expr,
     constants: &[Vec<syntax::Constant>],
-    arms: &[syntax::Stmt],
 ) -> Result<Stmt, TypeFault>
     ensures { MakesStmt (spec.case_statement place (expression index.now)
         (arms_of constants.now (map spec.statement arms.now)) typer.old) result typer.new }

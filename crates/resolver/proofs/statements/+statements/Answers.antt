@@ -101,12 +101,12 @@ case_arms-loop-index-preserved t c =
                 (stands_at constants i _ w.in-Some.row.now there w.in-Some.ensures.lookup.1) c.loop-index-test.true c.index-written-index.is
                 row.field-0 w.constant_row.new.typer (ap (λ l. constant_row type_id seen [] l now) (sym w.deref.ensures.value) ∙ row.ensures.0)
                 made.field-0 new.typer new.rows.items new.seen.keys new.arms.items (ap (λ v. v.items) w.rows-is ∙ w.push_reserved.ensures.items)
-                (ap (λ s. s.keys) w.seen-is ∙ row.ensures.1) (ap (λ v. v.items) w.arms-is ∙ w.push_reserved-2.ensures.items)
+                (ap (λ s. s.keys) w.seen-is ∙ row.ensures.1) (ap (λ v. v.items) w.arms-is ∙ w.push_reserved-in-Some.ensures.items)
                 (made.ensures ∙ ap (λ n. Ok (after tt (look_stmt made.field-0) n)) (sym w.typer-is));
             rows = omega (arith, ap vec_len w.rows-is, w.push_reserved.ensures.len);
             rows_room = omega (arith, ap vec_capacity w.rows-is, w.push_reserved.ensures.capacity);
-            arms = omega (arith, ap vec_len w.arms-is, w.push_reserved-2.ensures.len);
-            arms_room = omega (arith, ap vec_capacity w.arms-is, w.push_reserved-2.ensures.capacity);
+            arms = omega (arith, ap vec_len w.arms-is, w.push_reserved-in-Some.ensures.len);
+            arms_room = omega (arith, ap vec_capacity w.arms-is, w.push_reserved-in-Some.ensures.capacity);
           }
       | case_arms-in_default w ↦
           let none : length constants ≤ i = grind (arith, nat_tests, w.in_default.ensures.lookup.0) in
