@@ -618,8 +618,8 @@ pub fn reach(
     selectors: &[syntax::Selector],
     indexes: &[syntax::Expr],
 ) -> Result<Reached, TypeFault>
-    ensures made { MakesReached (reached place variable selectors.now (map spec.expression indexes.now) typer.old) result
-        typer.new }
+    ensures made { MakesReached (reached place variable selectors.now (map spec.expression indexes.now) typer.old)
+        result typer.new }
     ensures root { IfOk result (λ made. made.access.root ≡ variable.0) }
     ensures counted { IfOk result (λ made. index_count made.access.selectors.items ≡ length made.indexes.items) }
 {
@@ -705,7 +705,8 @@ pub fn fitted(
     Ok(Fitted { value, fits })
 }
 
-/// A value that is copied to a structured type, with its index expressions: K1 at the place where it may not be (6.4.6).
+/// A value that is copied to a structured type, with its index expressions: K1 at the place where it may not be
+/// (6.4.6).
 #[cycle(expressions)]
 pub fn copied(
     typer: &mut Typer,
