@@ -21,7 +21,7 @@ impl Selection {
     ghost use Rattle.expression_resolver.specs.Accesses.{IsNothing};
 
     /// No selectors: a value of a type itself.
-    pub fn nothing(alloc: Global, type_id: TypeId) -> Selection
+    pub(crate) fn nothing(alloc: Global, type_id: TypeId) -> Selection
         ensures { IsNothing type_id result }
     {
         Selection {

@@ -191,10 +191,10 @@ fn component(
     Ok(accessed_value(typer, entered, selection))
 }
 
-/// The selectors of an access, from a value of a type, with their index expressions (6.5.3): K1 where one is none of
-/// the type before it, S3 at a name that is no field.
+// The selectors of an access, from a value of a type, with their index expressions (6.5.3): K1 where one is none of
+// the type before it, S3 at a name that is no field.
 #[cycle(expressions)]
-pub fn selected(
+fn selected(
     typer: &mut Typer,
     type_id: TypeId,
     selectors: &[syntax::Selector],
@@ -618,8 +618,8 @@ pub fn reach(
     selectors: &[syntax::Selector],
     indexes: &[syntax::Expr],
 ) -> Result<Reached, TypeFault>
-    ensures made { MakesReached
-        (reached place variable selectors.now (map spec.expression indexes.now) typer.old) result typer.new }
+    ensures made { MakesReached (reached place variable selectors.now (map spec.expression indexes.now) typer.old)
+        result typer.new }
     ensures root { IfOk result (λ made. made.access.root ≡ variable.0) }
     ensures counted { IfOk result (λ made. index_count made.access.selectors.items ≡ length made.indexes.items) }
 {
@@ -720,7 +720,7 @@ pub fn copied(
     if !may_copy(typer.types(), type_id, made.typed()) {
         return Err(TypeFault::Mismatch(place));
     }
-    made.whole(place)
+    Ok(made.value.into_whole())
 }
 
 // The one actual of a function, which has no width.

@@ -44,6 +44,19 @@ impl Value {
         }
     }
 
+    /// The structured value that it is, with its index expressions.
+    pub(crate) fn into_whole(self) -> (Whole, Vec<Expr>)
+        requires structured { is_none (value_length self) ≡ false }
+        ensures length { value_length self ≡ Some (length_of result.0) }
+        ensures source { value_source self ≡ source_of result.0 }
+        ensures looks { look_value self ≡ look_whole result.0 (result.1).items }
+    {
+        match self {
+            Value::Ordinal(_) => unreachable!(),
+            Value::Whole { value, indexes } => (value, indexes),
+        }
+    }
+
     // How many components it has, where it is structured.
     fn length(&self) -> Option<usize>
         ensures { result ≡ value_length self.now }
@@ -84,7 +97,7 @@ impl TypedExpr {
     }
 
     /// The ordinal that it is: K1 at the place where it is structured.
-    pub fn ordinal(self, place: Place) -> Result<Expr, TypeFault>
+    pub(crate) fn ordinal(self, place: Place) -> Result<Expr, TypeFault>
         ensures { MatchResult result
             (λ made. (is_none (value_length self.value) ≡ true) × (look_value self.value ≡ look_expr made))
             (λ why. (is_none (value_length self.value) ≡ false) × (why ≡ Mismatch place)) }
@@ -92,20 +105,6 @@ impl TypedExpr {
         match self.value {
             Value::Ordinal(made) => Ok(made),
             Value::Whole { .. } => Err(TypeFault::Mismatch(place)),
-        }
-    }
-
-    /// The structured value that it is, with its index expressions: K1 at the place where it is an ordinal.
-    pub fn whole(self, place: Place) -> Result<(Whole, Vec<Expr>), TypeFault>
-        ensures { MatchResult result
-            (λ made. (value_length self.value ≡ Some (length_of made.0))
-            × (value_source self.value ≡ source_of made.0)
-            × (look_value self.value ≡ look_whole made.0 made.1.items))
-            (λ why. (is_none (value_length self.value) ≡ true) × (why ≡ Mismatch place)) }
-    {
-        match self.value {
-            Value::Ordinal(_) => Err(TypeFault::Mismatch(place)),
-            Value::Whole { value, indexes } => Ok((value, indexes)),
         }
     }
 
@@ -140,10 +139,10 @@ pub(crate) struct TypedLinks {
 /// The selectors of an access with their index expressions, and the type of the component to which they lead
 /// (6.5.3).
 #[derive(Drop)]
-pub struct Selection {
-    pub selectors: Vec<Selector>,
-    pub indexes: Vec<Expr>,
-    pub type_id: TypeId,
+pub(crate) struct Selection {
+    pub(crate) selectors: Vec<Selector>,
+    pub(crate) indexes: Vec<Expr>,
+    pub(crate) type_id: TypeId,
 }
 
 /// What is accessed of a variable that may be changed: its access with its index expressions, and the type of what is

@@ -7,6 +7,7 @@ use Rattle.typed_tree.specs.declared.tree.Stmt.{Stmt}
 use Rattle.typed_tree.specs.declared.tree.Stmt.TheVariants as stmt
 use Rattle.typed_tree.specs.Look.{Look, Fits, If, Then, Else, Controls, For, ForEnds, Ends, look_expr, look_stmt}
 use Rattle.typed_tree.proofs.Looks.{look_if, look_if_else, look_for}
+use Rattle.typing.proofs.Written.{written_statements}
 use Rattle.resolver.specs.Made.{for_head_look, look_bound, look_else}
 
 behind : (number : ℕ) (condition : Expr) (rest : Look)
@@ -21,6 +22,9 @@ look_choice number condition consequence None =
 look_choice number condition consequence (Some other) =
     look_if_else number condition consequence other
     ∙ behind number condition (look_stmt consequence.value ++ (Else ∷ (look_stmt other.value ++ (Ends ∷ []))))
+
+-- conditional statements, as they are read, and as an if is made
+pub ruleset conditional_forms = (written_statements, look_choice)
 
 -- a for, behind what it is as far as its `do`
 pub look_counted : (head : ForHead) (body : Box Stmt Global)

@@ -20,92 +20,21 @@ use Rattle.typing.proofs.Rows.{behind_nothing, behind_both}
 use Rattle.expression_resolver.specs.declared.typed.Reached.{Reached}
 use Rattle.expression_resolver.specs.Accesses.{look_reached, reached}
 use Rattle.expression_resolver.specs.Made.{copied as value_copied, fitted}
-use Rattle.expression_resolver.proofs.Fitting as Fitting
+use Rattle.expression_resolver.proofs.Fitting.{value_fits, value_stops}
 use Rattle.expression_resolver.proofs.Selecting.{look_made, reached_then}
 use Rattle.resolver.specs.Made.{MakesTarget, accessed_of, look_target, target_look}
 
--- ---- assignments
+-- ---- values of ordinal types
 
-module _ (name : Name) (selectors : List Selector) (indexes : List Written) (becomes : Place) (value : Written) (old there : Passed) (number : ℕ)
-    (enters : enter old ≡ Ok (after number [] there)) where
-  abbrev by_kind : Bool → Accessed → Passing (Unit {0})
-  by_kind structured to = if structured then copied to.type_id becomes value else assigned to becomes value
+module _ (to : Accessed) (becomes : Place) (value : Written) (old : Passed) where
+  pub assigned_stops : (why : TypeFault) → IsFault (fitted to.type_id becomes value old) why → IsFault (assigned to becomes value old) why
+  unfolding assigned
+  assigned_stops why stops = value_stops to.type_id becomes value (λ fits. Fits to.root to.selectors fits) old why stops
 
-  abbrev by_type : Accessed → Passing (Unit {0})
-  by_type to = tests_structured to.type_id >>= (λ structured. by_kind structured to)
-
-  behind_number : assignment name selectors indexes becomes value old
-      ≡ behind_marks (Assign number becomes ∷ []) ((target name selectors indexes >>= by_type) there)
-  unfolding assignment
-  behind_number =
-      ap (λ r. and_then (and_then r (λ a. behind_marks a.look (mark (Assign a.answer becomes) a.passed)))
-      (λ a. behind_marks a.look ((target name selectors indexes >>= by_type) a.passed))) enters
-
-  -- its target is refused
-  pub target_stops : (why : TypeFault) → IsFault (target name selectors indexes there) why
-      → IsFault (assignment name selectors indexes becomes value old) why
-  target_stops why (inl memory) = inl memory
-  target_stops why (inr stops) = inr (
-      behind_number
-      ∙ ap (λ r. behind_marks (Assign number becomes ∷ []) (and_then r (λ a. behind_marks a.look (by_type a.answer a.passed)))) stops)
-
-  module _ (to : Accessed) (look : Bool → Look) (now : Passed)
-      (passes : target name selectors indexes there ≡ Ok (after to (look (is_structured now.types to.type_id)) now)) where
-    behind_target : (structured : Bool) → is_structured now.types to.type_id ≡ structured
-        → assignment name selectors indexes becomes value old ≡ behind_marks (Assign number becomes ∷ look structured) (by_kind structured to now)
-    unfolding tests_structured
-    behind_target structured is =
-        behind_number
-        ∙ ap (λ r. behind_marks (Assign number becomes ∷ []) (and_then r (λ a. behind_marks a.look (by_type a.answer a.passed)))) passes
-        ∙ behind_both (Assign number becomes ∷ []) (look (is_structured now.types to.type_id)) (by_type to now)
-        ∙ ap (λ o. behind_marks (Assign number becomes ∷ look o) (behind_marks [] (by_kind o to now))) is
-        ∙ ap (behind_marks (Assign number becomes ∷ look structured)) (behind_nothing (by_kind structured to now))
-
-    -- a value that is copied
-    module _ (is : is_structured now.types to.type_id ≡ true) (behind : Passed) (passed : pass becomes now ≡ Ok (after tt [] behind)) where
-      abbrev behind_copy : Checked (After Copy) → Checked (After (Unit {0}))
-      behind_copy outcome =
-          behind_marks (Assign number becomes ∷ look true)
-          (and_then outcome (λ a. behind_marks a.look (mark (Copied to.type_id a.answer.source a.answer.cells) a.passed)))
-
-      copy_goes : assignment name selectors indexes becomes value old ≡ behind_copy (value_copied to.type_id becomes value behind)
-      unfolding copied
-      copy_goes =
-          behind_target true is
-          ∙ ap (λ r. behind_marks (Assign number becomes ∷ look true) (and_then r (λ a. behind_marks a.look
-          ((value_copied to.type_id becomes value >>= (λ copy. mark (Copied to.type_id copy.source copy.cells))) a.passed)))) passed
-          ∙ ap (behind_marks (Assign number becomes ∷ look true))
-          (behind_nothing ((value_copied to.type_id becomes value >>= (λ copy. mark (Copied to.type_id copy.source copy.cells))) behind))
-
-      pub copy_stops : (why : TypeFault) → IsFault (value_copied to.type_id becomes value behind) why
-          → IsFault (assignment name selectors indexes becomes value old) why
-      copy_stops why (inl memory) = inl memory
-      copy_stops why (inr stops) = inr (copy_goes ∙ ap behind_copy stops)
-
-      pub copy_passes : (copy : Copy) (own : Look) (last : Passed) → value_copied to.type_id becomes value behind ≡ Ok (after copy own last)
-          → assignment name selectors indexes becomes value old
-          ≡ Ok (after tt (Assign number becomes ∷ (look true ++ (own ++ (Copied to.type_id copy.source copy.cells ∷ [])))) last)
-      copy_passes copy own last made = copy_goes ∙ ap behind_copy made
-
-    -- a value of an ordinal type
-    module _ (is : is_structured now.types to.type_id ≡ false) where
-      pub value_stops : (why : TypeFault) → IsFault (fitted to.type_id becomes value now) why
-          → IsFault (assignment name selectors indexes becomes value old) why
-      unfolding assigned
-      value_stops why stops = by (Fitting.value_stops to.type_id becomes value (λ fits. Fits to.root to.selectors fits) now why stops)
-        where
-          by : IsFault (assigned to becomes value now) why → IsFault (assignment name selectors indexes becomes value old) why
-          by (inl memory) = inl memory
-          by (inr refused) = inr (behind_target false is ∙ ap (behind_marks (Assign number becomes ∷ look false)) refused)
-
-      pub value_passes : (fits : RangeTest) (own : Look) (last : Passed) → fitted to.type_id becomes value now ≡ Ok (after fits own last)
-          → assignment name selectors indexes becomes value old
-          ≡ Ok (after tt (Assign number becomes ∷ (look false ++ (own ++ (Fits to.root to.selectors fits ∷ [])))) last)
-      unfolding assigned
-      value_passes fits own last made =
-          behind_target false is
-          ∙ ap (behind_marks (Assign number becomes ∷ look false))
-          (Fitting.value_fits to.type_id becomes value (λ test. Fits to.root to.selectors test) now fits own last made)
+  pub assigned_fits : (fits : RangeTest) (look : Look) (now : Passed) → fitted to.type_id becomes value old ≡ Ok (after fits look now)
+      → assigned to becomes value old ≡ Ok (after tt (look ++ (Fits to.root to.selectors fits ∷ [])) now)
+  unfolding assigned
+  assigned_fits fits look now passes = value_fits to.type_id becomes value (λ test. Fits to.root to.selectors test) old fits look now passes
 
 -- ---- targets
 

@@ -1,7 +1,7 @@
 -- How the resolver's answers are what typing says of statements: what is made of a form looks so. It says nothing of
 -- what typing answers.
 use Rattle.std.specs.Prelude.{◌≡◌, ℕ, ℤ, Bool, true, false, List, [], ◌∷◌, ◌++◌, flat_map, length, Result, Ok, Err}
-use Rattle.std.specs.Prelude.{Option, Some, None, Vec, IsPermutation, map, is_none, ◌&&◌}
+use Rattle.std.specs.Prelude.{Option, Some, None, Vec, IsPermutation, map}
 use Rattle.std.specs.List.Sorted.{IsNonDecreasingBy}
 use Rattle.std.specs.Borrow.{Bor}
 use Rattle.std.specs.declared.alloc.Global.{Global}
@@ -10,7 +10,8 @@ use Rattle.syntax_tree.specs.declared.Program.{Program}
 use Rattle.syntax_tree.specs.declared.Actual.{Actual}
 use Rattle.syntax_tree.specs.declared.Stmt.{Stmt as SyntaxStmt}
 use Rattle.syntax_tree.specs.declared.Stmt.TheOpen.{Stmt-F}
-use Rattle.syntax_tree.specs.declared.Stmt.TheOpen.Stmt-F.{If as IfOf, Case as CaseOf, While as WhileOf, Repeat as RepeatOf, For as ForOf}
+use Rattle.syntax_tree.specs.declared.Stmt.TheOpen.Stmt-F.{If as IfOf, Case as CaseOf, While as WhileOf}
+use Rattle.syntax_tree.specs.declared.Stmt.TheOpen.Stmt-F.{Repeat as RepeatOf, For as ForOf}
 use Rattle.syntax_tree.specs.declared.Stmt.TheViews.{out-Stmt}
 use Rattle.place.specs.declared.Place.{Place}
 use Rattle.typed_tree.specs.declared.fault.TypeFault.{TypeFault}
@@ -19,23 +20,22 @@ use Rattle.typed_tree.specs.declared.tree.Block.{Block}
 use Rattle.typed_tree.specs.declared.tree.FunctionResult.{FunctionResult}
 use Rattle.typed_tree.specs.declared.tree.Fitted.{Fitted}
 use Rattle.typed_tree.specs.declared.tree.ForHead.{ForHead}
+use Rattle.typed_tree.specs.declared.tree.CaseHead.{CaseHead}
 use Rattle.typed_tree.specs.declared.tree.Expr.{Expr}
 use Rattle.typed_tree.specs.declared.tree.Stmt.{Stmt}
 use Rattle.typed_tree.specs.declared.tree.WriteParameter.{WriteParameter}
 use Rattle.typed_tree.specs.declared.tree.Width.{Width}
 use Rattle.typed_tree.specs.declared.tree.Written.{Written as WrittenValue}
 use Rattle.types.specs.declared.form.TypeId.{TypeId}
-use Rattle.types.specs.Types.{is_ordinal, is_structured}
-use Rattle.typed_tree.specs.Look.{Look, Mark, Fits, If, Then, Else, For, Target, WholeTarget, blocks_of_look}
+use Rattle.types.specs.Types.{is_structured}
+use Rattle.typed_tree.specs.Look.{Look, Mark, Fits, If, Then, Else, For, Case, Target, WholeTarget, blocks_of_look}
 use Rattle.typed_tree.specs.Look.{look_block, look_expr, look_stmt, arms_look, tree_look, look_access, look_written}
 use Rattle.typed_tree.specs.Look.{look_parameter, look_width}
-use Rattle.typing.specs.Passing.{Passed, Passing, Checked, After, after, ◌>>◌, ◌>>?◌}
+use Rattle.typing.specs.Passing.{Passed, Passing, Checked, After, after, ◌>>◌}
 use Rattle.typing.specs.Outcomes.{IsFault, Makes}
 use Rattle.typing.specs.Sound.{IsTyped}
 use Rattle.typing.specs.Typing.{typing}
-use Rattle.typing.specs.Expressions.{Written}
 use Rattle.typing.specs.Statements.{Accessed, compound, statement}
-use Rattle.typing.specs.Steps.{fits}
 use Rattle.typing.specs.Blocks.{block_ends}
 use Rattle.typing.specs.Routines.{all_came, result_at_end}
 use Rattle.typing.specs.View.{enclosing_of}
@@ -126,12 +126,9 @@ is_repetitive_form other = false
 abbrev pub is_repetitive : SyntaxStmt → Bool
 is_repetitive s = is_repetitive_form (out-Stmt s)
 
--- the index of a case, which is ordinal, by its type
-abbrev pub case_index : Written → Passing TypeId
-case_index w = w.typing None >>? (λ types t. fits (is_none t.length && is_ordinal types t.type_id) w.first t.type_id)
-
-abbrev pub MakesCaseIndex : Checked (After TypeId) → Result (Expr × TypeId) TypeFault → Passed → Type 0
-MakesCaseIndex = Makes (λ made. made.1) (λ made. look_expr made.0)
+-- a case as far as its `of`, by the type of its index
+abbrev pub MakesCaseHead : Checked (After TypeId) → Result (CaseHead × TypeId) TypeFault → Passed → Type 0
+MakesCaseHead = Makes (λ made. made.1) (λ made. Case made.0.number made.0.site ∷ look_expr made.0.index)
 
 -- the arms of a case, with the rows of constants before them
 abbrev pub MakesArms

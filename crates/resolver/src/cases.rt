@@ -1,32 +1,13 @@
 ghost use Rattle.std.specs.Prelude.{◌≡◌, ◌∷◌, [], ◌++◌, IfOk};
-ghost use Rattle.typing.specs.Expressions.{expression};
 ghost use Rattle.typing.specs.Outcomes.{Takes};
 ghost use Rattle.typing.specs.Statements as spec;
-ghost use Rattle.resolver.specs.Made.{MakesCaseIndex, MakesConstants, case_index};
+ghost use Rattle.resolver.specs.Made.{MakesConstants};
 
-use expression_resolver::{expression, first_place};
 use indexmap::IndexSet;
-use syntax_tree as syntax;
 use syntax_tree::Constant;
 use typed_tree::fault::TypeFault;
-use typed_tree::tree::Expr;
 use types::TypeId;
 use typing::{Typer, constant_place};
-
-/// The index of a case (6.8.3.5), which is ordinal, and its type: K1 at its first token where it isn't.
-pub(crate) fn case_index(
-    typer: &mut Typer,
-    written: &syntax::Expr,
-) -> Result<(Expr, TypeId), TypeFault>
-    ensures { MakesCaseIndex (case_index (expression written.now) typer.old) result typer.new }
-{
-    let made = expression(typer, written, None)?;
-    if !made.typed().is_ordinal(typer.types()) {
-        return Err(TypeFault::Mismatch(first_place(written)));
-    }
-    let type_id = made.type_id;
-    Ok((made.value.into_ordinal(), type_id))
-}
 
 /// The constants before an arm, one after another.
 pub(crate) fn constant_row(

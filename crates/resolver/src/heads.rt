@@ -3,13 +3,14 @@ ghost use Rattle.typed_tree.specs.Look.{Empty};
 ghost use Rattle.typing.specs.Expressions.{expression};
 ghost use Rattle.typing.specs.Statements as spec;
 ghost use Rattle.typing.specs.Steps.{enter_as};
-ghost use Rattle.resolver.specs.Made.{MakesBound, MakesStmt, MakesCondition, MakesIfHead, MakesForHead};
+ghost use Rattle.resolver.specs.Made.{MakesBound, MakesStmt, MakesCaseHead, MakesCondition, MakesIfHead, MakesForHead};
 
 use expression_resolver::{expression, first_place, fitted};
 use place::Place;
 use syntax_tree as syntax;
 use typed_tree::fault::TypeFault;
-use typed_tree::tree::{Expr, Fitted, ForHead, Stmt};
+use typed_tree::site::SiteKind;
+use typed_tree::tree::{CaseHead, Expr, Fitted, ForHead, Stmt};
 use types::{TypeId, TypeTable};
 use typing::Typer;
 use typing::rules::{as_variable, way};
@@ -87,4 +88,29 @@ fn bound(typer: &mut Typer, type_id: TypeId, written: &syntax::Expr) -> Result<F
         typer.new }
 {
     fitted(typer, type_id, first_place(written), written)
+}
+
+/// A case as far as its `of` (6.8.3.5), without constants, and the type of its index, which is ordinal: K1 at the first
+/// token of that where it isn't.
+#[tactic(auto, unfolding(typing::specs::Statements::case_head))]
+pub(crate) fn case_head(
+    typer: &mut Typer,
+    place: Place,
+    index: &syntax::Expr,
+) -> Result<(CaseHead, TypeId), TypeFault>
+    ensures { MakesCaseHead (spec.case_head place (expression index.now) typer.old) result typer.new }
+{
+    let site = typer.site(SiteKind::Case, place)?;
+    let number = typer.enter()?;
+    let made = expression(typer, index, None)?;
+    if !made.typed().is_ordinal(typer.types()) {
+        return Err(TypeFault::Mismatch(first_place(index)));
+    }
+    let head = CaseHead {
+        number,
+        site,
+        index: made.value.into_ordinal(),
+        constants: Vec::new(typer.alloc),
+    };
+    Ok((head, made.type_id))
 }

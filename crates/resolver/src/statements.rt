@@ -8,13 +8,12 @@ ghost use Rattle.resolver.specs.Made.{for_head_look, is_conditional, is_repetiti
 
 use crate::assignments::assignment;
 use crate::calls::procedure_call;
-use crate::cases::{case_index, constant_row};
-use crate::heads::{condition, empty, for_head, if_head};
+use crate::cases::constant_row;
+use crate::heads::{case_head, condition, empty, for_head, if_head};
 use indexmap::IndexSet;
 use place::Place;
 use syntax_tree as syntax;
 use typed_tree::fault::TypeFault;
-use typed_tree::site::SiteKind;
 use typed_tree::tree::{CaseHead, ForHead, LoopHead, Stmt};
 use types::TypeId;
 use typing::Typer;
@@ -45,7 +44,7 @@ pub(crate) fn statement(typer: &mut Typer, written: &syntax::Stmt) -> Result<Stm
 
 // A conditional statement (6.8.3.3).
 #[cycle(statements)]
-#[tactic(auto, using(typing::proofs::Written::written_statements, crate::proofs::Branches::look_choice), unfolding(typing::specs::Statements::choice))]
+#[tactic(auto, using(crate::proofs::Branches::conditional_forms), unfolding(typing::specs::Statements::choice))]
 fn conditional(typer: &mut Typer, written: &syntax::Stmt) -> Result<Stmt, TypeFault>
     requires { is_conditional written.now ≡ true }
     ensures { MakesStmt (spec.statement written.now typer.old) result typer.new }
@@ -222,7 +221,7 @@ fn for_loop(typer: &mut Typer, head: ForHead, body: &syntax::Stmt) -> Result<Stm
 
 // A case (6.8.3.5).
 #[cycle(statements)]
-#[tactic(auto, using(typed_tree::proofs::Looks::look_case), unfolding(typing::specs::Statements::case_head, typing::specs::Statements::case_body))]
+#[tactic(auto, using(typed_tree::proofs::Looks::look_case), unfolding(typing::specs::Statements::case_body))]
 fn case_statement(
     typer: &mut Typer,
     arms: &[syntax::Stmt],
@@ -233,16 +232,9 @@ fn case_statement(
     ensures { MakesStmt (spec.case_statement place (expression index.now)
         (arms_of constants.now (map spec.statement arms.now)) typer.old) result typer.new }
 {
-    let site = typer.site(SiteKind::Case, place)?;
-    let number = typer.enter()?;
-    let (index, type_id) = case_index(typer, index)?;
+    let (head, type_id) = case_head(typer, place, index)?;
     let (constants, arms) = case_arms(typer, type_id, constants, arms)?;
-    let head = CaseHead {
-        number,
-        site,
-        index,
-        constants,
-    };
+    let head = CaseHead { constants, ..head };
     Ok(Stmt::Case { head, arms })
 }
 

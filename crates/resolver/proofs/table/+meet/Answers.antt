@@ -30,13 +30,14 @@ meet-returns-in-Repeat t c =
 pub meet-returns-in-For : goal.meet-returns-in-For
 meet-returns-in-For t c =
     let w = c.in-For in
+    let head = w.head in
     let begun = c.open-row-in-For in
-    let inside = looped w.head.loop_number (inside_of w.body.value) in
+    let inside = looped head.loop_number (inside_of w.body.value) in
     subst (λ i. Meets (meets i) c.args.met.now c.close-in-For.new.met)
-    (sym (ap inside_of w.is ∙ inside_for w.head w.body))
-    (then_meets (controlled w.head.control) (meets inside) _ (meets_controlled w.head.control inside) c.args.met.now c.meet_control.new.met c.close-in-For.new.met
-    c.meet_control.ensures
-    (loop_met w.head.loop_number (inside_of w.body.value) c.meet_control.new.met begun.new.met c.meet-in-For.new.met c.close-in-For.new.met _ _
+    (sym (ap inside_of w.is ∙ inside_for head w.body))
+    (then_meets (controlled head.control) (meets inside) _ (meets_controlled head.control inside) c.args.met.now c.meet_control.new.met
+    c.close-in-For.new.met c.meet_control.ensures
+    (loop_met head.loop_number (inside_of w.body.value) c.meet_control.new.met begun.new.met c.meet-in-For.new.met c.close-in-For.new.met _ _
     begun.ensures.begun begun.ensures.row begun.ensures.start
     (subst (λ s. Meets (meets (inside_of s)) begun.new.met c.meet-in-For.new.met) c.deref-in-For.ensures c.meet-in-For.ensures)
     c.close-in-For.ensures))
