@@ -1,0 +1,3 @@
+pub mod Leaves
+pub mod Rows
+pub mod Limits

@@ -1,0 +1,2 @@
+//! What the checker knows at a point of a program, in one state, and what follows from it.
+#![tactic(auto)]
