@@ -1,7 +1,7 @@
 -- The rows of a program (ISO 7185:1990, 6.4.3, 6.5.3): one for each variable, by its root number, and behind them one
 -- for each leaf of each structured variable, one variable after another. A row is told by its number from 0. It says
 -- nothing of what the components of a row hold.
-use Rattle.std.specs.Prelude.{ℕ, suc, ℤ, Bool, ◌&&◌, List, [], ◌∷◌, ◌++◌, Option, Some, None}
+use Rattle.std.specs.Prelude.{ℕ, suc, ℤ, Bool, not, ◌&&◌, List, [], ◌∷◌, ◌++◌, Option, Some, None}
 use Rattle.std.specs.Prelude.{if◌then◌else◌, filter, map, flat_map, length, nat_eq, slice_get}
 use Rattle.std.specs.Option.{option_and_then}
 use Rattle.types.specs.Components.{components_of}
@@ -69,6 +69,15 @@ is_under root steps row = nat_eq row.root root && begins steps row.leaf.steps
 abbrev pub is_structured_variable : Tree → ℕ → Bool
 is_structured_variable tree root =
     of_one (λ variable. is_structured tree.types variable.type_id) (slice_get tree.variables.items root)
+
+-- the row of a variable that is there and no structured one is its own
+abbrev pub is_variable_row : Tree → ℕ → Bool
+is_variable_row tree row =
+    of_one (λ variable. not (is_structured tree.types variable.type_id)) (slice_get tree.variables.items row)
+
+-- the row of a structured variable as a whole, which says nothing
+abbrev pub is_whole_row : Tree → ℕ → Bool
+is_whole_row tree row = is_structured_variable tree row
 
 -- the row of a variable that is no structured one
 abbrev pub own_row : ℕ → List LeafStep → List ℕ

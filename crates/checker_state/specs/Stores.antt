@@ -25,6 +25,14 @@ pub record Reach : Type 0 where
 abbrev pub entire : Reach
 entire = record { indexes = []; is_all = true }
 
+-- it is all of each row
+abbrev pub is_entire_by : Bool → List Index → Bool
+is_entire_by is_all [] = is_all
+is_entire_by is_all (index ∷ indexes) = false
+
+abbrev pub is_entire : Reach → Bool
+is_entire reach = is_entire_by reach.is_all reach.indexes
+
 -- ---- what is defined
 
 -- the stretch of a single first index
