@@ -10,7 +10,7 @@ use Rattle.checker_state.specs.Bounds.{Bound, constant, plus, raised_bound}
 use Rattle.checker_state.specs.State.{Dead, Held, Live, Ordered, Span, State, Stretched, at_most, bound_range, has_value}
 use Rattle.checker_state.specs.State.{is_below, is_dead, moved, range_of}
 use Rattle.checker_state.specs.Stores.{Index, Reach, gives_reached}
-use Rattle.checker_loops.specs.Loops.{index_of}
+use Rattle.checker_loops.specs.Loops.{table_of}
 use Rattle.checker_rows.specs.Rows.{is_variable_row}
 use Rattle.checker_calls.specs.Actuals.{Actual, OfValue, OfRows, OfVariable, Bearer, Passed, Reached, Binding}
 use Rattle.checker_calls.specs.Actuals.{actual_of, bearers_named, bearers_of}
@@ -25,7 +25,7 @@ range_borne state (Reached row reach) = range_of state row
 -- it is known to be defined
 abbrev pub is_defined_borne : Tree → State → Bearer → Bool
 is_defined_borne tree state (Passed range) = true
-is_defined_borne tree state (Reached row reach) = gives_reached (index_of tree) state reach row
+is_defined_borne tree state (Reached row reach) = gives_reached (table_of tree) state reach row
 
 -- ---- bounds
 
@@ -37,11 +37,11 @@ pub record Limit : Type 0 where
   pub has_value : Bool
 
 -- one of a bound form
-abbrev pub limit_of : State → Bound → Limit
-limit_of state bound = record {
+abbrev pub limit_of : Tree → State → Bound → Limit
+limit_of tree state bound = record {
   form = Some bound;
   range = bound_range state bound;
-  has_value = has_value state bound;
+  has_value = has_value (table_of tree) state bound;
 }
 
 -- greater by a number
@@ -55,11 +55,11 @@ limit_moved n limit = record {
 -- a variable of the callee that stands in a bound: only an entire variable can, or a value
 abbrev pub limit_of_variable : Tree → State → List Bearer → Option Limit
 limit_of_variable tree state (Reached row reach ∷ []) =
-    if is_variable_row tree row then Some (limit_of state (plus row (pos 0))) else None
+    if is_variable_row tree row then Some (limit_of tree state (plus row (pos 0))) else None
 limit_of_variable tree state bearers = None
 
 abbrev pub limit_of_actual : Tree → State → ℕ → Option Actual → Option Limit
-limit_of_actual tree state root None = Some (limit_of state (plus root (pos 0)))
+limit_of_actual tree state root None = Some (limit_of tree state (plus root (pos 0)))
 limit_of_actual tree state root (Some (OfValue range form)) =
     Some (record { form = form; range = range; has_value = true })
 limit_of_actual tree state root (Some (OfRows ranges)) = None
@@ -73,7 +73,7 @@ limit_of_plus tree state bindings root n =
 
 -- a bound of the callee
 abbrev pub limit_of_bound : Tree → State → List Binding → fact.Bound → Option Limit
-limit_of_bound tree state bindings (fact.Number n) = Some (limit_of state (constant n))
+limit_of_bound tree state bindings (fact.Number n) = Some (limit_of tree state (constant n))
 limit_of_bound tree state bindings (fact.Plus root n) = limit_of_plus tree state bindings root n
 
 -- two forms are there, and the first is known to be at most the second
@@ -88,16 +88,16 @@ is_at_most state a b = forms_at_most state a.form b.form || is_below a.range b.r
 -- ---- what is given
 
 -- a span that is held has all between two limits
-abbrev pub has_between : State → Limit → Limit → List Span → Bool
-has_between state first last (span ∷ []) =
-    is_at_most state (limit_of state span.first) first && is_at_most state last (limit_of state span.last)
-has_between state first last spans = false
+abbrev pub has_between : Tree → State → Limit → Limit → List Span → Bool
+has_between tree state first last (span ∷ []) =
+    is_at_most state (limit_of tree state span.first) first && is_at_most state last (limit_of tree state span.last)
+has_between tree state first last spans = false
 
 -- what is held of a row has
-abbrev pub covers_between : State → ℕ → Limit → Limit → Held → Bool
-covers_between state row first last (Stretched stretch) =
-    nat_eq stretch.row row && has_between state first last stretch.spans
-covers_between state row first last (Ordered root other number) = false
+abbrev pub covers_between : Tree → State → ℕ → Limit → Limit → Held → Bool
+covers_between tree state row first last (Stretched stretch) =
+    nat_eq stretch.row row && has_between tree state first last stretch.spans
+covers_between tree state row first last (Ordered root other number) = false
 
 abbrev pub held_in : State → List Held
 held_in Dead = []
@@ -106,8 +106,8 @@ held_in (Live known) = known.held
 -- the components of a row between two limits are known to be defined, where all of it is passed; or where a part is
 abbrev pub are_reached : Tree → State → Limit → Limit → ℕ → Reach → List Index → Bool
 are_reached tree state first last row reach [] =
-    gives_reached (index_of tree) state reach row || list_any (covers_between state row first last) (held_in state)
-are_reached tree state first last row reach (index ∷ indexes) = gives_reached (index_of tree) state reach row
+    gives_reached (table_of tree) state reach row || list_any (covers_between tree state row first last) (held_in state)
+are_reached tree state first last row reach (index ∷ indexes) = gives_reached (table_of tree) state reach row
 
 -- the row of a variable that is no structured one is its own: it has no elements
 abbrev pub is_borne_between : Tree → State → Limit → Limit → Bearer → Bool

@@ -11,13 +11,13 @@ use Rattle.domain.specs.Interval.{Interval, common, joined}
 use Rattle.domain.specs.Facts as fact
 use Rattle.domain.specs.Facts.{Path}
 use Rattle.checker_rows.specs.Limits.{row_limits}
-use Rattle.checker_rows.specs.Rows.{is_variable_row, rows_of, rows_touched, rows_under, type_at}
+use Rattle.checker_rows.specs.Rows.{index_at, is_variable_row, rows_of, rows_touched, rows_under, type_at}
 use Rattle.checker_state.specs.Bounds.{Bound, constant, moved_bound, plus}
 use Rattle.checker_state.specs.State.{Holds, State, Stretched, range_of, with_range}
 use Rattle.checker_state.specs.Changes.{all_changed, bound_rests_on, ordered, with_some}
 use Rattle.checker_state.specs.Loops.{is_among, with_claim}
 use Rattle.checker_state.specs.Stores.{all_of_row, is_entire}
-use Rattle.checker_loops.specs.Loops.{index_of, rows_named}
+use Rattle.checker_loops.specs.Loops.{rows_named}
 use Rattle.checker_loops.specs.Pairs.{Listed, all_aliases_in}
 use Rattle.checker_calls.specs.Sections.{BlockClaims}
 use Rattle.checker_calls.specs.Aliases.{same_types}
@@ -174,7 +174,7 @@ exit_bound tree bindings touches (fact.Plus root n) = exit_plus tree bindings to
 abbrev pub bearer_defined : Tree → Bearer → State → State
 bearer_defined tree (Passed range) state = state
 bearer_defined tree (Reached row reach) state =
-    if is_entire reach then with_claim (all_of_row (index_of tree row) row) state else state
+    if is_entire reach then with_claim (all_of_row (index_at (rows_of tree) row) row) state else state
 
 abbrev pub bearers_defined : Tree → List Bearer → State → State
 bearers_defined tree [] state = state

@@ -3,7 +3,6 @@
 use Rattle.std.specs.Prelude.{ℕ, List, [], ◌∷◌, ◌++◌, Option, Some, None, Bool, if◌then◌else◌}
 use Rattle.std.specs.Prelude.{flat_map, map, nat_eq, length, slice_get, slice_index_or}
 use Rattle.std.specs.List.{list_all, range_with_len}
-use Rattle.types.specs.declared.form.OrdinalRange.{OrdinalRange}
 use Rattle.typed_tree.specs.declared.tree.Loop.{Loop}
 use Rattle.typed_tree.specs.declared.tree.Tree.{Tree}
 use Rattle.certificate.specs.declared.Certificate.{Certificate}
@@ -13,7 +12,7 @@ use Rattle.domain.specs.Facts.{Path}
 use Rattle.checker_rows.specs.Limits.{row_limits}
 use Rattle.checker_rows.specs.Rows.{Named, index_at, part_named, rows_of, rows_touched, rows_under}
 use Rattle.checker_state.specs.Bounds.{Bound, constant, plus}
-use Rattle.checker_state.specs.State.{Claim, Holds, Ordered, Range, State, Stretched}
+use Rattle.checker_state.specs.State.{Claim, Holds, Ordered, Range, State, Stretched, Table}
 use Rattle.checker_state.specs.Loops.{gives_all, head, is_among}
 use Rattle.checker_state.specs.Stores.{all_of_row}
 use Rattle.checker_loops.specs.Pairs.{Listed, all_aliases_in}
@@ -42,9 +41,9 @@ rows_in tree root (Some named) = rows_under tree root named.steps
 abbrev pub rows_named : Tree → Path → List ℕ
 rows_named tree path = rows_in tree path.root (part_named tree path)
 
--- where the first index on the way to the components of each row lies, if there is one
-abbrev pub index_of : Tree → ℕ → Option OrdinalRange
-index_of tree row = index_at (rows_of tree) row
+-- what is told of the rows of a program: how many variables there are, and where first indexes lie
+abbrev pub table_of : Tree → Table
+table_of tree = record { variables = length tree.variables.items; index = index_at (rows_of tree) }
 
 -- a stretch of first indexes of a row
 abbrev pub stretch_of : fact.Bound → fact.Bound → ℕ → Claim
@@ -56,7 +55,7 @@ stretch_of first last row = Holds (Stretched (record {
 -- what a claim says of rows, and of variables
 abbrev pub said : Tree → fact.Fact → List Claim
 said tree (fact.Range path range) = map (λ row. Range row range) (rows_named tree path)
-said tree (fact.Defined path) = map (λ row. all_of_row (index_of tree row) row) (rows_named tree path)
+said tree (fact.Defined path) = map (λ row. all_of_row (index_at (rows_of tree) row) row) (rows_named tree path)
 said tree (fact.Stretch path first last) = map (stretch_of first last) (rows_named tree path)
 said tree (fact.Order root other number) = Holds (Ordered root other number) ∷ []
 
@@ -65,7 +64,7 @@ all_said tree facts = flat_map (said tree) facts
 
 -- a state gives each of several claims
 abbrev pub gives_claims : Tree → State → List fact.Fact → Bool
-gives_claims tree state facts = gives_all (index_of tree) state (all_said tree facts)
+gives_claims tree state facts = gives_all (table_of tree) state (all_said tree facts)
 
 -- ---- the claims of a certificate
 
