@@ -7,3 +7,5 @@ pub mod Conditions
 pub mod Loops
 pub mod Stores
 pub mod Holds
+pub mod Knows
+pub mod Laws

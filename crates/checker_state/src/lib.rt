@@ -1,2 +1,4 @@
 //! What the checker knows at a point of a program, in one state, and what follows from it.
 #![tactic(auto)]
+
+pub mod laws;
