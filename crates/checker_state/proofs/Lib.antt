@@ -1,0 +1,5 @@
+pub mod Lists
+pub mod Ranged
+pub mod Rows
+pub mod Bounds
+pub mod Given
