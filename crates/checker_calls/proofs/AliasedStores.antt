@@ -6,17 +6,13 @@ use Rattle.std.proofs.lemmas.Bool.{both_ways, cases_Bool, cases_eq, eq-eqb, eqb-
 use Rattle.std.proofs.lemmas.List.Folds.{list_all_at, list_any-append}
 use Rattle.types.specs.declared.form.Step.{Step}
 use Rattle.meaning.specs.declared.store.Value.{Value}
-use Rattle.meaning.specs.Store.{Environment, Place, Store, overlap, place_eq, stored, undefined, written}
+use Rattle.meaning.specs.Store.{Environment, Place, Store, overlap, place_eq, stored, written}
 use Rattle.meaning.specs.Store as store
-use Rattle.checker_rows.proofs.Selected.{part}
 use Rattle.checker_state.specs.Holds.{HasValue, Separate, moment, part_of, value_at}
 use Rattle.checker_state.specs.Knows.{IsKept, OneChanges}
 use Rattle.checker_state.specs.Loops.{is_among}
 use Rattle.checker_loops.specs.Pairs.{aliases_of, partner}
--- MISSING abstract_state.proofs.Apart part-kept
--- MISSING abstract_state.proofs.Apart parts-same
--- MISSING abstract_state.proofs.Apart place-itself
--- MISSING abstract_state.proofs.Apart place-same
+use Rattle.checker_calls.proofs.Apart.{part, part-kept, parts-same, place-itself, place-same}
 
 -- ---- lists
 

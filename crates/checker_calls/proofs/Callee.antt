@@ -19,8 +19,7 @@ use Rattle.meaning.specs.Store.{Environment, Place}
 use Rattle.checker_state.specs.Holds.{Separate}
 use Rattle.checker_calls.specs.Environments.{Proper, place_type}
 use Rattle.checker_calls.proofs.Headings.{callable-round, heading-at, one-there, same-numbers, well-heading, well-placed}
--- MISSING call_states.proofs.Passed AllFit
--- MISSING call_states.proofs.Passed Fits
+use Rattle.checker_calls.proofs.Passed.{AllFit, Fits}
 
 -- ---- formal parameters
 

@@ -1,7 +1,8 @@
 -- What is passed to the formal parameters of a block, as the meaning has it, as it fits them, and as the checker knows it.
-use Rattle.std.proofs.Common.{arith, ◌≡◌, sym, refl, subst, ℕ, ◌<◌, ℤ, ◌≤ℤ◌, Bool, true, false, List, [], ◌∷◌, length, map, Option, Some, None}
+use Rattle.std.proofs.Common.{arith, ◌≡◌, ◌∙◌, sym, refl, subst, ℕ, ◌<◌, ℤ, ◌≤ℤ◌, Bool, true, false, List, [], ◌∷◌, length, map, Option, Some, None}
 use Rattle.std.specs.Prelude.{int_le, nat_lt, neg_ℤ, slice_get, ◌&&◌}
 use Rattle.std.specs.List.{list_all}
+use Rattle.std.proofs.lemmas.List.{length-map}
 use Rattle.std.proofs.lemmas.Bool.{and_parts}
 use Rattle.std.proofs.lemmas.Int.{ints}
 use Rattle.std.proofs.lemmas.Option.{none-some}
@@ -17,7 +18,6 @@ use Rattle.typed_tree.specs.declared.tree.Selector.{Selector}
 use Rattle.typed_tree.specs.declared.tree.Selector.TheVariants.{Element, Field}
 use Rattle.typed_tree.specs.declared.tree.Tree.{Tree}
 use Rattle.typed_tree.specs.declared.tree.Variable.{Variable}
-use Rattle.domain.specs.Facts.{Bound}
 use Rattle.domain.specs.Interval.{HasMember, Interval}
 use Rattle.meaning.specs.declared.store.Value.{Value}
 use Rattle.meaning.specs.Integers.{maxint}
@@ -26,31 +26,35 @@ use Rattle.meaning.specs.Meaning.{Argument}
 use Rattle.meaning.specs.Store.{Environment, Place, Store, part}
 use Rattle.checker_rows.specs.Leaves.{Leaf, is_named, leaves_of}
 use Rattle.checker_rows.specs.Limits.{integer}
-use Rattle.checker_rows.specs.Rows.{first_index}
 use Rattle.checker_rows.proofs.Selected.{Matches}
-use Rattle.checker_state.specs.Forms.{Entire}
-use Rattle.checker_state.specs.Holds.{IsBound, IsIn, moment}
-use Rattle.checker_state.specs.Knows.{IsOfForm}
+use Rattle.checker_state.specs.Holds.{IsIn, indexes_of, moment}
+use Rattle.checker_state.specs.Knows.{IsIndex, IsOfForm}
 use Rattle.checker_state.specs.Stores.{Index, Reach}
-use Rattle.checker_calls.specs.Actuals.{Actual, OfRows, OfValue, OfVariable, after_call, settled, unknown_reach}
+use Rattle.checker_calls.specs.Actuals.{Actual, OfRows, OfValue, OfVariable, after_call, settled, unknown_index, unknown_reach}
 use Rattle.checker_calls.specs.Environments.{LiesIn, place_type, type_led}
--- MISSING component_states.specs.Components At
--- MISSING component_states.specs.Components Inside
 
 -- ---- what an access reaches
 
--- the first index on a way is a number of the range, and what its form says
-pub record IsIndexOn (env : Environment) (store : Store) (index : Index) (way : List Step) : Type 0 where
-  pub number : ℤ
-  pub is_first : first_index way ≡ Some number
+-- an index of a way is a number of the range, and what its form says
+pub record IsIndexOn (env : Environment) (store : Store) (index : Index) (number : ℤ) : Type 0 where
   pub in_range : HasMember index.range number
-  pub of_form : (b : Bound) → index.form ≡ Some b → IsBound (moment env store) b number
+  pub of_form : IsIndex env store index number
 
--- what is reached on a way: by no index, by one, or by more
-abbrev pub IsReachedBy : Environment → Store → List Selector → List Step → Reach → Type 0
-IsReachedBy env store selectors way Entire = index_count selectors ≡ 0
-IsReachedBy env store selectors way (At index) = (index_count selectors ≡ 1) × IsIndexOn env store index way
-IsReachedBy env store selectors way (Inside index) = IsIndexOn env store index way
+-- each of some is, as they follow on the way
+abbrev pub AreIndexesOn : Environment → Store → List Index → List ℤ → Type 0
+AreIndexesOn env store [] numbers = Unit {0}
+AreIndexesOn env store (index ∷ indexes) [] = ⊥
+AreIndexesOn env store (index ∷ indexes) (number ∷ numbers) = IsIndexOn env store index number × AreIndexesOn env store indexes numbers
+
+-- what is reached on a way, by its first indexes: all of that, where these are all indexes of the selectors
+pub record IsReachedBy (env : Environment) (store : Store) (selectors : List Selector) (way : List Step) (reach : Reach) : Type 0 where
+  pub indexes : AreIndexesOn env store reach.indexes (indexes_of way)
+  pub all : reach.is_all ≡ true → length reach.indexes ≡ index_count selectors
+
+-- numbers are integers
+abbrev pub AreIntegers : List ℤ → Type 0
+AreIntegers [] = Unit {0}
+AreIntegers (number ∷ numbers) = HasMember integer number × AreIntegers numbers
 
 -- selectors lead to the place of a part of a variable, which is reached as the walk tells
 pub record Leads (env : Environment) (root : ℕ) (selectors : List Selector) (store : Store) (reach : Reach) (place : Option Place) : Type 0 where
@@ -101,7 +105,7 @@ IsArgument tree env store formal (OfRows ranges) (meaning.OfRow values) =
     × LieIn tree.types formal.type_id ranges values
 IsArgument tree env store formal (OfVariable root selectors reach) (meaning.OfPlace place) =
     Leads env root selectors store reach place × (accessed tree.variables.items tree.types root selectors ≡ Some formal.type_id)
-    × ((way : List Step) (n : ℤ) → Matches selectors way → first_index way ≡ Some n → HasMember integer n)
+    × ((way : List Step) → Matches selectors way → AreIntegers (indexes_of way))
 IsArgument tree env store formal actual argument = ⊥
 
 abbrev pub AreArguments : Tree → Environment → Store → List ℕ → List Actual → List Argument → Type 0
@@ -119,40 +123,42 @@ whole-between first last n one two low high =
     let below : last ≤ℤ maxint = grind (arith, ints, b.1) in
     (omega (arith, ints), omega (arith, ints))
 
-same-number : (index n : ℤ) → Some index ≡ Some n → index ≡ n
-same-number index n is = cc
-
--- each index on a way of well formed selectors is an integer
-pub indexes-integer : (outline : Outline) (block : ℕ) (selectors : List Selector) (way : List Step) (n : ℤ)
-    → list_all (is_well_formed_selector outline block) selectors ≡ true → Matches selectors way → first_index way ≡ Some n → HasMember integer n
-indexes-integer outline block [] [] n well matches is = absurd (cc)
-indexes-integer outline block [] (s ∷ way) n well matches is = absurd matches
-indexes-integer outline block (Element fits cells ∷ selectors) [] n well matches is = absurd matches
-indexes-integer outline block (Field position offset ∷ selectors) [] n well matches is = absurd matches
-indexes-integer outline block (Element fits cells ∷ selectors) (step.Field place ∷ way) n well matches is = absurd matches
-indexes-integer outline block (Field position offset ∷ selectors) (step.Element index ∷ way) n well matches is = absurd matches
-indexes-integer outline block (Field position offset ∷ selectors) (step.Field place ∷ way) n well matches is =
-    indexes-integer outline block selectors way n well matches.1 is
-indexes-integer outline block (Element fits cells ∷ selectors) (step.Element index ∷ way) n well matches is =
+-- so are the indexes on a way of well formed selectors
+pub indexes-integer : (outline : Outline) (block : ℕ) (selectors : List Selector) (way : List Step)
+    → list_all (is_well_formed_selector outline block) selectors ≡ true → Matches selectors way → AreIntegers (indexes_of way)
+indexes-integer outline block [] [] well matches = tt
+indexes-integer outline block [] (s ∷ way) well matches = absurd matches
+indexes-integer outline block (Element fits cells ∷ selectors) [] well matches = absurd matches
+indexes-integer outline block (Field position offset ∷ selectors) [] well matches = absurd matches
+indexes-integer outline block (Element fits cells ∷ selectors) (step.Field place ∷ way) well matches = absurd matches
+indexes-integer outline block (Field position offset ∷ selectors) (step.Element index ∷ way) well matches = absurd matches
+indexes-integer outline block (Field position offset ∷ selectors) (step.Field place ∷ way) well matches =
+    indexes-integer outline block selectors way well matches.1
+indexes-integer outline block (Element fits cells ∷ selectors) (step.Element index ∷ way) well matches =
     let one = and_parts (nat_lt fits.site outline.sites && (is_whole fits.range.first && is_whole fits.range.last))
     (list_all (is_well_formed_selector outline block) selectors) well in
     let two = and_parts (nat_lt fits.site outline.sites) (is_whole fits.range.first && is_whole fits.range.last) one.0 in
-    let three = and_parts (is_whole fits.range.first) (is_whole fits.range.last) two.1 in
-    whole-between fits.range.first fits.range.last n three.0 three.1
-    (subst (λ (m : ℤ). fits.range.first ≤ℤ m) (same-number index n is) matches.0)
-    (subst (λ (m : ℤ). m ≤ℤ fits.range.last) (same-number index n is) matches.1)
+    let three = and_parts (is_whole fits.range.first) (is_whole fits.range.last) two.1 in (
+      whole-between fits.range.first fits.range.last index three.0 three.1 matches.0 matches.1,
+      indexes-integer outline block selectors way one.1 matches.2,
+    )
 
 -- ---- an actual parameter that was evaluated before a call
 
 module _ (tree : Tree) (env : Environment) (before after : Store) where
-  pub reached-later : (selectors : List Selector) (way : List Step) (reach : Reach) → ((n : ℤ) → first_index way ≡ Some n → HasMember integer n)
-      → IsReachedBy env before selectors way reach → IsReachedBy env after selectors way (unknown_reach reach)
-  reached-later selectors way Entire integers reached = reached
-  reached-later selectors way (At index) integers reached =
-      let on = reached.1 in
-      (reached.0, record { number = on.number; is_first = on.is_first; in_range = integers on.number on.is_first; of_form = λ b is. absurd (none-some b is) })
-  reached-later selectors way (Inside index) integers on =
-      record { number = on.number; is_first = on.is_first; in_range = integers on.number on.is_first; of_form = λ b is. absurd (none-some b is) }
+  indexes-later : (indexes : List Index) (numbers : List ℤ) → AreIntegers numbers → AreIndexesOn env before indexes numbers
+      → AreIndexesOn env after (map (λ index. unknown_index) indexes) numbers
+  indexes-later [] numbers integers on = tt
+  indexes-later (index ∷ indexes) [] integers on = on
+  indexes-later (index ∷ indexes) (number ∷ numbers) (integer, integers) (one, more) =
+      (record { in_range = integer; of_form = λ b is. absurd (none-some b is) }, indexes-later indexes numbers integers more)
+
+  pub reached-later : (selectors : List Selector) (way : List Step) (reach : Reach) → AreIntegers (indexes_of way) → IsReachedBy env before selectors way reach
+      → IsReachedBy env after selectors way (unknown_reach reach)
+  reached-later selectors way reach integers reached = record {
+    indexes = indexes-later reach.indexes (indexes_of way) integers reached.indexes;
+    all = λ is. length-map reach.indexes (λ index. unknown_index) ∙ reached.all is;
+  }
 
   -- it is still what is known of it then
   pub after-call_argument : (formal : Variable) (actual : Actual) (argument : Argument) → IsArgument tree env before formal actual argument
@@ -170,7 +176,7 @@ module _ (tree : Tree) (env : Environment) (before after : Store) where
       way = leads.way;
       place_is = leads.place_is;
       matches = leads.matches;
-      reached = reached-later selectors leads.way reach (λ n first. integers leads.way n leads.matches first) leads.reached;
+      reached = reached-later selectors leads.way reach (integers leads.way leads.matches) leads.reached;
     },
     typed,
     integers,
