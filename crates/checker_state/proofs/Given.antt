@@ -79,7 +79,7 @@ module _ (rows : List Parts) (m : Moment) (known : Facts) (told : IsTold rows m 
       by (Stretched stretch) (around, around_are, each) is =
           let parts = and_parts (nat_eq wanted.row stretch.row) (have_spans known wanted.spans stretch.spans) is in
           subst (λ row. AreDefined rows row numbers m) (sym (eqb-true wanted.row stretch.row parts.0))
-          (λ steps of_row lie. each steps of_row (spans-have wanted.spans stretch.spans numbers around (indexes_of steps) parts.1 are around_are lie))
+          (λ steps index of_row first lie. each steps index of_row first (spans-have wanted.spans stretch.spans numbers around (indexes_of steps) parts.1 are around_are lie))
 
 -- ---- what is given
 
@@ -125,7 +125,7 @@ module _ (rows : List Parts) (table : Table) (are : AreRows rows table) (env : E
   spanned-whole row (Some range) index_is is = λ steps of_row.
       let (index, first, low, high) = are.indexes row range index_is steps of_row in
       let all = first-of steps index first in
-      covered rows m known told (all_of row range) (record { first = range.first; last = range.last } ∷ []) (refl, refl, tt) is steps of_row
+      covered rows m known told (all_of row range) (record { first = range.first; last = range.last } ∷ []) (refl, refl, tt) is steps index of_row first
       (subst (LieBetween (record { first = range.first; last = range.last } ∷ [])) (sym all.1) (low, high, tt))
 
   -- each component of a row
@@ -143,10 +143,10 @@ module _ (rows : List Parts) (table : Table) (are : AreRows rows table) (env : E
       let values = values-are stretch.spans parts.0 in (
         values.0,
         values.1,
-        λ steps of_row lie.
+        λ steps index of_row first lie.
             ⊎_elim (λ none. absurd (none-between rows m known told stretch.spans values.0 (indexes_of steps) none values.1 lie))
             (λ rest. ⊎_elim (λ all. whole-holds stretch.row all steps of_row)
-            (λ some. covered rows m known told stretch values.0 values.1 some steps of_row lie) (or_cases whole any rest))
+            (λ some. covered rows m known told stretch values.0 values.1 some steps index of_row first lie) (or_cases whole any rest))
             (or_cases empty (whole || any) parts.1),
       )
 

@@ -3,3 +3,5 @@ pub mod Ranged
 pub mod Rows
 pub mod Bounds
 pub mod Given
+pub mod Joins
+pub mod Changed

@@ -3,7 +3,7 @@
 use Rattle.std.proofs.Common.{arith, ◌≡◌, ⊎_elim, ◌∙◌, sym, ap, refl, subst, ℕ, ◌<◌, ◌≤◌, Bool, true, false, nat_eq, List, [], ◌∷◌, get_or, length, set}
 use Rattle.std.proofs.Common.{Option, Some, None}
 use Rattle.std.specs.List.{Contains}
-use Rattle.std.proofs.lemmas.Bool.{cases_eq, cases_lt, ne_eqb, or_from}
+use Rattle.std.proofs.lemmas.Bool.{cases_eq, cases_lt, ne_eqb, or_from, or_parts}
 use Rattle.std.proofs.lemmas.List.{get_or_past, get_or-set_other, get_or-set_same, length-set}
 use Rattle.std.proofs.lemmas.Option.{none-some}
 use Rattle.types.specs.declared.form.Step.{Step}
@@ -66,6 +66,13 @@ module _ (rows : List Parts) (m : Moment) where
     held = holds.held;
   }
 
+  still-lost : (Claimed : ℕ → List Step → Value → Type 0) (lost : List ℕ) (row other : ℕ) (state : RowState) → (other ≡ row → ⊥)
+      → RowWhere Claimed (row ∷ lost) other state → RowWhere Claimed lost other state
+  still-lost Claimed lost row other state differ was = record {
+    range = was.range;
+    defined = λ kept is. was.defined (or_from (nat_eq row other) (is_among other lost) (ne_eqb row other (λ same. differ (sym same))) kept) is;
+  }
+
   -- a row has another range, which has the values that are claimed of it from here on
   pub range-where : (Claimed Then : ℕ → List Step → Value → Type 0) (lost : List ℕ) (known : Facts) (row : ℕ) (range : Interval)
       → ((steps : List Step) (v : Value) → IsOfRow rows row steps → component_at rows m row steps ≡ Some v → Then row steps v → IsIn range v)
@@ -78,33 +85,42 @@ module _ (rows : List Parts) (m : Moment) where
         defined = was.defined;
       }) holds
 
-  -- each component of a row is defined
+  -- each component of a row is defined, if that was lost
   pub defined-where : (Claimed : ℕ → List Step → Value → Type 0) (lost : List ℕ) (known : Facts) (row : ℕ) → IsWhole rows row m
-      → HoldsWhere Claimed lost known → HoldsWhere Claimed lost (with_row row (record (row_at known row) { is_defined = true }) known)
+      → HoldsWhere Claimed (row ∷ lost) known → HoldsWhere Claimed lost (with_row row (record (row_at known row) { is_defined = true }) known)
   defined-where Claimed lost known row so holds =
-      row-where Claimed Claimed lost lost known row (record (row_at known row) { is_defined = true })
-      (record { range = (holds.each row).range; defined = λ kept is. so }) (λ other state differ was. was) holds
+      row-where Claimed Claimed (row ∷ lost) lost known row (record (row_at known row) { is_defined = true })
+      (record { range = (holds.each row).range; defined = λ kept is. so }) (still-lost Claimed lost row) holds
 
   -- that a row is defined is lost, and no more claimed
   pub forgotten-where : (Claimed : ℕ → List Step → Value → Type 0) (lost : List ℕ) (known : Facts) (row : ℕ)
       → HoldsWhere Claimed (row ∷ lost) known → HoldsWhere Claimed lost (with_row row (record (row_at known row) { is_defined = false }) known)
   forgotten-where Claimed lost known row holds =
       row-where Claimed Claimed (row ∷ lost) lost known row (record (row_at known row) { is_defined = false })
-      (record { range = (holds.each row).range; defined = λ kept is. absurd (cc) })
-      (λ other state differ was. record {
-        range = was.range;
-        defined = λ kept is. was.defined (or_from (nat_eq row other) (is_among other lost) (ne_eqb row other (λ same. differ (sym same))) kept) is;
-      }) holds
+      (record { range = (holds.each row).range; defined = λ kept is. absurd (cc) }) (still-lost Claimed lost row) holds
+
+  -- more is lost
+  pub lost-where : (Claimed : ℕ → List Step → Value → Type 0) (lost : List ℕ) (known : Facts) (row : ℕ) → HoldsWhere Claimed lost known
+      → HoldsWhere Claimed (row ∷ lost) known
+  lost-where Claimed lost known row holds = record {
+    count = holds.count;
+    each = λ other. record {
+      range = (holds.each other).range;
+      defined = λ kept is. (holds.each other).defined (or_parts (nat_eq row other) (is_among other lost) kept).1 is;
+    };
+    held = holds.held;
+  }
 
   -- ---- all is claimed, and nothing is lost
 
   abbrev pub Any_value : ℕ → List Step → Value → Type 0
   Any_value row steps v = Unit {0}
 
-  pub where-all : (known : Facts) → HoldsWhere Any_value [] known → FactsHold rows known m
-  where-all known holds = record {
+  pub where-all : (Claimed : ℕ → List Step → Value → Type 0) → ((row : ℕ) (steps : List Step) (v : Value) → Claimed row steps v) → (known : Facts)
+      → HoldsWhere Claimed [] known → FactsHold rows known m
+  where-all Claimed so known holds = record {
     count = holds.count;
-    ranges = λ row steps v of_row there. (holds.each row).range steps v of_row there tt;
+    ranges = λ row steps v of_row there. (holds.each row).range steps v of_row there (so row steps v);
     defined = λ row is. (holds.each row).defined refl is;
     held = holds.held;
   }
@@ -120,14 +136,15 @@ module _ (rows : List Parts) (m : Moment) where
       → StateHolds rows (with_range row range state) m
   range-holds Dead row range so holds = holds
   range-holds (Live known) row range so holds =
-      where-all (with_row row (record (row_at known row) { range = range }) known)
+      where-all Any_value (λ row steps v. tt) (with_row row (record (row_at known row) { range = range }) known)
       (range-where Any_value Any_value [] known row range (λ steps v of_row there any. so steps v of_row there) (λ other steps v differ any. tt)
       (all-where known holds))
 
   pub defined-holds : (state : State) (row : ℕ) → IsWhole rows row m → StateHolds rows state m → StateHolds rows (with_defined row state) m
   defined-holds Dead row so holds = holds
   defined-holds (Live known) row so holds =
-      where-all (with_row row (record (row_at known row) { is_defined = true }) known) (defined-where Any_value [] known row so (all-where known holds))
+      where-all Any_value (λ row steps v. tt) (with_row row (record (row_at known row) { is_defined = true }) known)
+      (defined-where Any_value [] known row so (lost-where Any_value [] known row (all-where known holds)))
 
   -- more is held
   pub held-holds : (state : State) (one : Held) → HeldHolds rows one m → StateHolds rows state m → StateHolds rows (with_some (Some one) state) m
