@@ -11,3 +11,8 @@ pub mod LedComponents
 pub mod Places
 pub mod AliasedStores
 pub mod Parameters
+pub mod FormalRows
+pub mod Aliased
+pub mod AliasedTypes
+pub mod SeenAliases
+pub mod Separated
