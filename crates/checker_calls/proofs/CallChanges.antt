@@ -15,8 +15,7 @@ use Rattle.meaning.specs.declared.store.Value.{Value}
 use Rattle.meaning.specs.Meaning as meaning
 use Rattle.meaning.specs.Meaning.{Argument, environment_of, home_of, own_place, place_for, place_passed}
 use Rattle.meaning.specs.Store.{Environment, Place, Store, is_beginning, overlap, step_eq, stored}
-use Rattle.checker_state.specs.Holds.{HasValue, part_of, value_at}
-use Rattle.checker_state.specs.Holds.{moment}
+use Rattle.checker_state.specs.Holds.{HasValue, moment, part_of, value_at}
 use Rattle.checker_state.specs.Loops.{is_among}
 use Rattle.checker_loops.specs.Pairs.{all_aliases_in}
 use Rattle.checker_calls.specs.Actuals.{Actual, Binding, OfRows, OfValue, OfVariable, actual_of, bound_to}

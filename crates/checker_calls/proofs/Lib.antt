@@ -16,3 +16,5 @@ pub mod Aliased
 pub mod AliasedTypes
 pub mod SeenAliases
 pub mod Separated
+pub mod Claimed
+pub mod CallChanges
