@@ -16,3 +16,9 @@ pub mod Aliased
 pub mod AliasedTypes
 pub mod SeenAliases
 pub mod Separated
+pub mod Claimed
+pub mod Reached
+pub mod Fitting
+pub mod Bearers
+pub mod Started
+pub mod Borne
