@@ -7,3 +7,4 @@ pub mod Joins
 pub mod Changed
 pub mod Assigned
 pub mod Looped
+pub mod Stored
