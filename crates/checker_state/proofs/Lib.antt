@@ -8,3 +8,5 @@ pub mod Changed
 pub mod Assigned
 pub mod Looped
 pub mod Stored
+pub mod Bounded
+pub mod Apart
