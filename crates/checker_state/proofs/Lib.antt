@@ -10,3 +10,4 @@ pub mod Looped
 pub mod Stored
 pub mod Bounded
 pub mod Apart
+pub mod Evaluated
