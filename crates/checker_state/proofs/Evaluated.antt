@@ -96,6 +96,7 @@ number-is (Number n) = refl
 pub truth-is : (b : Bool) → is_true (truth b) ≡ b
 truth-is true = refl
 truth-is false = refl
+
 pub fetch-gives : (found : Option Value) (site : ℕ) (s t : effect.State) (v : Value) → effect.fetched found site s ≡ Gives v t → (found ≡ Some v) × (s ≡ t)
 fetch-gives None site s t v is = absurd (cc)
 fetch-gives (Some w) site s t v is = let same = given-same w v s t is in (ap Some same.0, same.1)

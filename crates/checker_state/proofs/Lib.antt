@@ -11,3 +11,4 @@ pub mod Stored
 pub mod Bounded
 pub mod Apart
 pub mod Evaluated
+pub mod Refined
