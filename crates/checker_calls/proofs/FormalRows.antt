@@ -1,5 +1,5 @@
 -- A variable parameter and its actual one: the components of the one are those of the other, row by row.
-use Rattle.std.proofs.Common.{arith, ◌≡◌, ⊎_elim, ◌<◌, false, ◌∙◌, sym, ap, refl, subst, ℕ, ◌+◌, true, List, [], ◌∷◌, ◌++◌, append_assoc}
+use Rattle.std.proofs.Common.{arith, Bool, cond, ◌≡◌, ⊎_elim, ◌<◌, false, ◌∙◌, sym, ap, refl, subst, ℕ, ◌+◌, true, List, [], ◌∷◌, ◌++◌, append_assoc}
 use Rattle.std.proofs.Common.{length, Option, Some, None}
 use Rattle.std.specs.List.{Contains}
 use Rattle.std.specs.Option.{option_and_then}
@@ -18,13 +18,14 @@ use Rattle.typed_tree.specs.declared.tree.Selector.TheVariants.{Element, Field}
 use Rattle.typed_tree.specs.declared.tree.Tree.{Tree}
 use Rattle.typed_tree.specs.declared.tree.Variable.{Variable}
 use Rattle.meaning.specs.Store.{Environment, Place, Store, part, stored}
-use Rattle.checker_rows.specs.Rows.{all_parts, first_index, is_structured_variable, no_parts, rows_accessed, rows_under}
+use Rattle.checker_rows.specs.Leaves.{LeafStep}
+use Rattle.checker_rows.specs.Rows.{all_parts, first_index, is_structured_variable, is_under, leaf_rows, no_parts, numbers_where, own_row, rows_accessed, rows_under}
 use Rattle.checker_rows.proofs.Accessed.{IsOf, row-is, row-leaf, rows-are, rows-count}
-use Rattle.checker_rows.proofs.Numbered.{has-contains, number-under, root-of_row, row-at}
+use Rattle.checker_rows.proofs.Numbered.{contains-has, has-contains, in-numbers, number-under, root-of_row, row-at}
 use Rattle.checker_rows.proofs.Selected.{Matches}
 use Rattle.checker_state.specs.Holds.{moment, part_of, value_at}
 use Rattle.checker_state.proofs.Rows.{of_row-within}
-use Rattle.checker_calls.proofs.Lists.{some-there}
+use Rattle.checker_calls.proofs.Lists.{in-one, some-there}
 
 -- ---- ways
 
@@ -45,6 +46,11 @@ same-rest (Field position offset ∷ selectors) (step.Element i ∷ way) (t ∷ 
 same-rest (Field position offset ∷ selectors) (step.Field p ∷ way) (step.Element j ∷ other) a b one two is = absurd two
 same-rest (Field position offset ∷ selectors) (step.Field p ∷ way) (step.Field q ∷ other) a b one two is =
     same-rest selectors way other a b one.1 two.1 (cc)
+
+-- no selectors go no way
+pub no-way : (way : List Step) → Matches [] way → way ++ [] ≡ []
+no-way [] matches = refl
+no-way (s ∷ way) matches = absurd matches
 
 -- without an index there is one way
 pub one-way : (selectors : List Selector) (way other : List Step) → index_count selectors ≡ 0 → Matches selectors way → Matches selectors other → way ≡ other
@@ -108,12 +114,31 @@ under-whole tree row steps of_row plain =
     let at = row-at tree row (of_row-within (all_parts tree) row steps of_row) in
     subst (λ (root : ℕ). Contains (rows_under tree root []) row) (sym (root-of_row tree row at.0 at.1)) (number-under tree row at.0 at.1 plain)
 
+-- so is each that is under a part of one
+pub under-plain : (tree : Tree) (root : ℕ) (steps : List LeafStep) (row : ℕ) → Contains (rows_under tree root steps) row
+    → row < length tree.variables.items → is_structured_variable tree row ≡ false
+under-plain tree root steps row inside within = by (is_structured_variable tree root) refl inside
+  where
+    own : (steps : List LeafStep) → Contains (own_row root steps) row → root ≡ row
+    own [] inside = in-one root row inside
+    own (s ∷ steps) inside = absurd (omega (arith, inside.1))
+
+    by : (b : Bool) → is_structured_variable tree root ≡ b
+        → Contains (cond b (numbers_where (is_under root steps) (length tree.variables.items) (leaf_rows tree)) (own_row root steps)) row
+        → is_structured_variable tree row ≡ false
+    by true is inside =
+        let rows = numbers_where (is_under root steps) (length tree.variables.items) (leaf_rows tree) in
+        let found = in-numbers (is_under root steps) (length tree.variables.items) (leaf_rows tree) row (contains-has rows row inside) in
+        let behind = found.2 in
+        absurd (omega (arith, within, behind))
+    by false is inside = subst (λ (r : ℕ). is_structured_variable tree r ≡ false) (own steps inside) is
+
 -- the type of an entire variable
 pub own-type : (tree : Tree) (root : ℕ) (variable : Variable) → slice_get tree.variables.items root ≡ Some variable
     → accessed tree.variables.items tree.types root [] ≡ Some variable.type_id
 own-type tree root variable is = ap (option_and_then (λ (v : Variable). led tree.types [] v.type_id)) is
 
-empty-way : (way : List Step) → Matches [] way → way ≡ []
+pub empty-way : (way : List Step) → Matches [] way → way ≡ []
 empty-way [] matches = refl
 empty-way (s ∷ way) matches = absurd matches
 

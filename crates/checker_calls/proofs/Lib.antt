@@ -18,3 +18,10 @@ pub mod SeenAliases
 pub mod Separated
 pub mod Claimed
 pub mod CallChanges
+pub mod Reached
+pub mod Fitting
+pub mod Bearers
+pub mod Started
+pub mod Borne
+pub mod ExitBearers
+pub mod CallLeaves
