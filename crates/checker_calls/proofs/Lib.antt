@@ -25,3 +25,4 @@ pub mod Started
 pub mod Borne
 pub mod ExitBearers
 pub mod CallLeaves
+pub mod Behind
