@@ -48,7 +48,8 @@ module _ (rows : List Parts) (table : Table) (are : AreRows rows table) (env : E
   module _ (root : ℕ) (within : root < table.variables) where
     -- the value of a variable lies in its range
     pub value-in : (v : Value) → value_at (moment env store) root [] ≡ Some v → IsIn (range_of state root) v
-    value-in v is = lies-own rows table are (moment env store) root within (range_of state root) v (range-lies rows (moment env store) state root known.holds) is
+    value-in v is =
+        lies-own rows table are (moment env store) root within (range_of state root) v (range-lies rows (moment env store) state root known.holds) is
 
     whole-of : (state : State) → StateHolds rows state (moment env store) → is_defined state root ≡ true → IsWhole rows root (moment env store)
     whole-of Dead holds is = absurd holds

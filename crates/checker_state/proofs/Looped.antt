@@ -160,7 +160,7 @@ module _ (rows : List Parts) (table : Table) (are : AreRows rows table) (env : E
       (limits-where rows After controls limits touched changed_state (λ row listed steps v of_row there. inside row steps v listed of_row there)
       (changed-where rows After (Unlisted rows After touched) controls roots known holds.count
       (λ row. record {
-        range = λ steps v of_row there free. holds.ranges row steps v of_row (sym (untouched row steps of_row free) ∙ there);
+        range = λ steps v of_row there free. holds.ranges row steps v of_row (untouched row steps v free of_row there);
         defined = λ free is steps of_row.
             kept.defined (get_or rows row no_parts).root (free-root row steps of_row free) steps (holds.defined row is steps of_row);
       })
