@@ -13,3 +13,4 @@ pub mod Apart
 pub mod Evaluated
 pub mod Refined
 pub mod Knows
+pub mod OfTree
