@@ -1,6 +1,6 @@
 -- Replies that give a value, and what changes no variable: operations, and accesses and whole values whose indexes change
 -- none.
-use Rattle.std.proofs.Common.{◌≡◌, ◌∙◌, sym, ap, ap₂, refl, subst, ℕ, ℤ, pos, int_le, Bool, true, false, not, List, [], ◌∷◌, ◌++◌, map, Option, Some, None}
+use Rattle.std.proofs.Common.{◌≡◌, ◌∙◌, sym, ap, refl, ℕ, ℤ, pos, int_le, Bool, true, false, not, List, [], ◌∷◌, ◌++◌, map, Option, Some, None}
 use Rattle.std.specs.List.{All}
 use Rattle.std.specs.Ordering.{int_eq}
 use Rattle.std.proofs.lemmas.List.Elements.{All-head, All-tail}
@@ -21,7 +21,7 @@ use Rattle.types.specs.Components.{components_of}
 use Rattle.meaning.specs.declared.store.Value.{Value}
 use Rattle.meaning.specs.declared.store.Value.TheVariants.{Number}
 use Rattle.meaning.specs.Integers.{is_integer_number, is_true, truth}
-use Rattle.meaning.specs.Store.{Environment, Place, Store, held, part}
+use Rattle.meaning.specs.Store.{Environment, Place, held, part}
 use Rattle.meaning.specs.Effect as effect
 use Rattle.meaning.specs.Effect.{Reply, Gives, Stops, and_then, fetch, fetch_all, is_in, number_of}
 use Rattle.meaning.specs.Meaning as meaning
@@ -175,4 +175,3 @@ compare-kept number relation left right left_indexes right_indexes of_left of_ri
     let second = then-gives (whole_of right right_indexes env start) (λ b. effect.give (Number (meaning.compared relation first.0 b))) v t first.3 in
     given-kept (Number (meaning.compared relation first.0 second.0)) v second.1 t second.3
     ∙ whole_of-kept right right_indexes of_right env start second.1 second.0 second.2 ∙ whole_of-kept left left_indexes of_left env s first.1 first.0 first.2
-

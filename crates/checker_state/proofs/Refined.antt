@@ -40,12 +40,14 @@ use Rattle.meaning.specs.Meaning as meaning
 use Rattle.meaning.specs.Meaning.{Evaluation, Passing, Surroundings, accessed, is_so, link_of, passing_of, relates, selected, value_of, values_of, whole_of}
 use Rattle.checker_state.specs.Bounds.{Bound, constant, plus}
 use Rattle.checker_state.specs.State.{Dead, State}
-use Rattle.checker_state.specs.Forms.{Form, Literal, Signed, Entire, Moved, Other, access_form, bound_of, calculated_literal, chain_form, constant_of, moved_form}
+use Rattle.checker_state.specs.Forms.{Form, Literal, Signed, Entire, Moved, Other, access_form, bound_of, calculated_literal, chain_form, constant_of}
+use Rattle.checker_state.specs.Forms.{moved_form}
 use Rattle.checker_state.specs.Forms.{negative, offset_form, sign_form, signed, signed_literal}
-use Rattle.checker_state.specs.Conditions.{Condition, Conjunct, all_refined, bound_form, chain_refined, condition_of, condition_step, conjunct_of, link_condition}
+use Rattle.checker_state.specs.Conditions.{Condition, Conjunct, all_refined, bound_form, chain_refined, condition_of, condition_step, conjunct_of}
+use Rattle.checker_state.specs.Conditions.{link_condition}
 use Rattle.checker_state.specs.Conditions.{monadic_refined, operand_of, operation_refined, passed_condition, related_forms, single_refined, takes_both, told}
 use Rattle.checker_state.specs.Conditions.{unless_excluded}
-use Rattle.checker_state.specs.Holds.{Moment, HasNumber, IsIn, moment, part_of, value_at}
+use Rattle.checker_state.specs.Holds.{Moment, HasNumber, moment, part_of, value_at}
 use Rattle.checker_state.specs.Knows.{IsOfForm, Knows}
 use Rattle.checker_state.specs.Laws.{ConditionsTell, FormsTell}
 use Rattle.checker_state.proofs.Apart.{entire-stored}
