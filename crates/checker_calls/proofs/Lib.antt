@@ -1,6 +1,5 @@
 pub mod Lists
 pub mod Headings
-pub mod Apart
 pub mod Passed
 pub mod Callee
 pub mod Assigned
