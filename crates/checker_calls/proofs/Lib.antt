@@ -21,3 +21,4 @@ pub mod Fitting
 pub mod Bearers
 pub mod Started
 pub mod Borne
+pub mod Given
