@@ -25,3 +25,5 @@ pub mod Borne
 pub mod ExitBearers
 pub mod CallLeaves
 pub mod Behind
+pub mod Given
+pub mod BehindExits
