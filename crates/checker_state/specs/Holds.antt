@@ -94,10 +94,11 @@ module _ (rows : List Parts) where
   abbrev pub IsWhole : ℕ → Moment → Type 0
   IsWhole row moment = (steps : List Step) → IsOfRow row steps → HasComponent moment row steps
 
-  -- each component whose indexes lie between numbers is
+  -- each component with a first index, whose indexes lie between numbers, is
   abbrev pub AreDefined : ℕ → List Numbers → Moment → Type 0
   AreDefined row numbers moment =
-      (steps : List Step) → IsOfRow row steps → LieBetween numbers (indexes_of steps) → HasComponent moment row steps
+      (steps : List Step) (index : ℤ) → IsOfRow row steps → first_index steps ≡ Some index
+      → LieBetween numbers (indexes_of steps) → HasComponent moment row steps
 
   -- the bounds of a stretch are numbers, between which each component is defined
   abbrev pub StretchHolds : Stretch → Moment → Type 0

@@ -8,3 +8,4 @@ pub mod Loops
 pub mod Stores
 pub mod Holds
 pub mod Knows
+pub mod Laws

@@ -4,3 +4,4 @@
 mod known;
 
 pub use known::Known;
+pub mod laws;
