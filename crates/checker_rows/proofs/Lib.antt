@@ -3,3 +3,8 @@ pub mod Under
 pub mod Counted
 pub mod Variables
 pub mod Naming
+pub mod Components
+pub mod Selected
+pub mod Numbered
+pub mod Accessed
+pub mod Alike
