@@ -1,0 +1,13 @@
+pub mod Lists
+pub mod Headings
+pub mod Apart
+pub mod Passed
+pub mod Callee
+pub mod Assigned
+pub mod Entered
+pub mod PlaceTypes
+pub mod ComponentTypes
+pub mod LedComponents
+pub mod Places
+pub mod AliasedStores
+pub mod Parameters

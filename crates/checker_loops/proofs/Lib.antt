@@ -1,0 +1,5 @@
+pub mod Claims
+pub mod Constants
+pub mod Behind
+pub mod Partners
+pub mod Touched

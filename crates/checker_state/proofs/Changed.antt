@@ -29,20 +29,20 @@ pub when-some : {A : Type 0} (test : Bool) (found : Option A) (other : A) → co
 when-some true found other is = (refl, is)
 when-some false found other is = absurd (none-some other is)
 
-both-some : (found : Option Span) (more : Option (List Span)) (all : List Span) → both_there found more ≡ Some all
+pub both-some : (found : Option Span) (more : Option (List Span)) (all : List Span) → both_there found more ≡ Some all
     → (span : Span) × (spans : List Span) × (found ≡ Some span) × (more ≡ Some spans) × (span ∷ spans ≡ all)
 both-some None more all is = absurd (none-some all is)
 both-some (Some span) None all is = absurd (none-some all is)
 both-some (Some span) (Some spans) all is = (span, spans, refl, refl, same_Some (span ∷ spans) all is)
 
-between-some : (first last : Option Bound) (span : Span) → span_between first last ≡ Some span → (first ≡ Some span.first) × (last ≡ Some span.last)
+pub between-some : (first last : Option Bound) (span : Span) → span_between first last ≡ Some span → (first ≡ Some span.first) × (last ≡ Some span.last)
 between-some None last span is = absurd (none-some span is)
 between-some (Some first) None span is = absurd (none-some span is)
 between-some (Some first) (Some last) span is =
     let same = same_Some (record { first = first; last = last }) span is in
     (ap (λ (s : Span). Some s.first) same, ap (λ (s : Span). Some s.last) same)
 
-stretch-some : (row : ℕ) (found : Option (List Span)) (one : Held) → stretch_of row found ≡ Some one
+pub stretch-some : (row : ℕ) (found : Option (List Span)) (one : Held) → stretch_of row found ≡ Some one
     → (spans : List Span) × (found ≡ Some spans) × (Stretched (record { row = row; spans = spans }) ≡ one)
 stretch-some row None one is = absurd (none-some one is)
 stretch-some row (Some spans) one is = (spans, refl, same_Some (Stretched (record { row = row; spans = spans })) one is)

@@ -5,3 +5,5 @@ pub mod Bounds
 pub mod Given
 pub mod Joins
 pub mod Changed
+pub mod Assigned
+pub mod Looped
