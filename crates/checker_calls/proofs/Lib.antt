@@ -11,3 +11,14 @@ pub mod LedComponents
 pub mod Places
 pub mod AliasedStores
 pub mod Parameters
+pub mod FormalRows
+pub mod Aliased
+pub mod AliasedTypes
+pub mod SeenAliases
+pub mod Separated
+pub mod Claimed
+pub mod Reached
+pub mod Fitting
+pub mod Bearers
+pub mod Started
+pub mod Borne

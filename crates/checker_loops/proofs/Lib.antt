@@ -1,3 +1,4 @@
+pub mod Tabled
 pub mod Claims
 pub mod Constants
 pub mod Behind

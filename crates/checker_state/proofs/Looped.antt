@@ -43,7 +43,7 @@ spans-unchanged root (span ∷ spans) others is =
           ∙ ap (λ (s : List Span). new ∷ s) rest.1 ∙ same,
     )
 
-unchanged : (root : ℕ) (one other : Held) → changed root None one ≡ Some other → (rests_on root one ≡ false) × (one ≡ other)
+pub unchanged : (root : ℕ) (one other : Held) → changed root None one ≡ Some other → (rests_on root one ≡ false) × (one ≡ other)
 unchanged root (Stretched stretch) other is =
     let (spans, spans_are, same) = stretch-some stretch.row (all_with_bounds (changed_bound root None) stretch.spans) other is in
     let parts = spans-unchanged root stretch.spans spans spans_are in
