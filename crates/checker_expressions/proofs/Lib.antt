@@ -3,3 +3,11 @@ pub mod Sound
 pub mod SoundOperations
 pub mod Forms
 pub mod EffectsKept
+pub mod SoundRows
+pub mod Fitting
+pub mod SoundAccesses
+pub mod EffectsCalls
+pub mod Effects
+pub mod Entered
+pub mod SoundCalls
+pub mod SoundExpressions
