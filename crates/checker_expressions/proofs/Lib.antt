@@ -11,3 +11,4 @@ pub mod Effects
 pub mod Entered
 pub mod SoundCalls
 pub mod SoundExpressions
+pub mod Begun

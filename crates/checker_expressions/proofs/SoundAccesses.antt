@@ -1,6 +1,6 @@
 -- The walk over accesses and over whole values is sound, where that over their index expressions is.
 use Rattle.std.proofs.Common.{arith, ◌≡◌, ⊎_elim, ◌∙◌, sym, ap, refl, subst, ℕ, zero, suc, ◌+◌, ◌<◌, ◌≤◌, ℤ, pos, ◌≤ℤ◌, Bool, true, false, cond}
-use Rattle.std.proofs.Common.{◌&&◌, ◌||◌, nat_eq, nat_lt, List, [], ◌∷◌, ◌++◌, append-nil, append_assoc, length, map, Option, Some, None}
+use Rattle.std.proofs.Common.{◌&&◌, ◌||◌, nat_eq, nat_lt, List, [], ◌∷◌, ◌++◌, append-nil, append_assoc, length, Option, Some, None}
 use Rattle.std.specs.Prelude.{slice_get, slice_index_or}
 use Rattle.std.specs.List.{All, Contains, list_all}
 use Rattle.std.proofs.lemmas.Bool.{and_parts, eqb-true, ltb-true, or_cases, or_left, or_right}
@@ -26,7 +26,6 @@ use Rattle.typed_tree.specs.Accesses as accesses
 use Rattle.typed_tree.specs.Accesses.{index_count, is_type, led}
 use Rattle.typed_tree.specs.WellFormed.{Outline, is_value_of, is_visible, is_well_formed_selector, is_well_formed_whole, is_whole}
 use Rattle.typed_tree.specs.WellFormed.{leads_to, leads_to_whole, outline_of}
-use Rattle.domain.specs.Interval.{HasMember}
 use Rattle.meaning.specs.declared.store.Value.{Value}
 use Rattle.meaning.specs.declared.store.Value.TheVariants.{Number}
 use Rattle.meaning.specs.Store.{Environment, Place, Store, held, part}
@@ -63,7 +62,7 @@ use Rattle.checker_expressions.specs.Walk.{range_in, ranges_of, text_range, valu
 use Rattle.checker_expressions.proofs.Fitting.{contains-at, same-type, some-at}
 use Rattle.checker_expressions.proofs.Keeping.{Keeps, keeps-itself}
 use Rattle.checker_expressions.proofs.Sound.{World, Any_value, Good, Here, IsForetold, IsKnown, IsPartOf, IsValue, Leaves, Sound, SoundFrom, Stands, declared_in}
-use Rattle.checker_expressions.proofs.Sound.{errs-here, false-true, from-then, gives-state, good-give, good-then, good-weaker, is_seen, nothing-new}
+use Rattle.checker_expressions.proofs.Sound.{errs-here, false-true, from-then, gives-state, good-give, good-then, good-weaker, nothing-new}
 use Rattle.checker_expressions.proofs.Sound.{sound-anywhere, sound-enter, sound-give, sound-here, sound-named, sound-then, stands-as}
 use Rattle.checker_expressions.proofs.Sound.{sites_in, parts_in, open-here, nonempty-stands, types_in, variables_in}
 use Rattle.checker_expressions.proofs.SoundOperations.{IsKnownOf, fitting-sound, number-in}
