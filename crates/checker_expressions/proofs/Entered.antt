@@ -39,8 +39,8 @@ use Rattle.checker_expressions.specs.Walk.{unless_overflow, width_test}
 use Rattle.checker_expressions.specs.Walk.{PassedPiece, actuals_walk, call_walk, called_block, fitting, form_before, passed_piece_of, passed_step, result_of}
 use Rattle.checker_expressions.specs.Walk.{result_walk}
 use Rattle.checker_expressions.specs.Walk.{piece_step, link_step, piece_of, joint_of, value_walk}
-use Rattle.checker_expressions.specs.Walk.{access_walk, behind_next, deeper, index_test, index_pieces, indexes_walk, link_walk, next_test, value_use, whole_walk}
-use Rattle.checker_expressions.specs.Walk.{width_walk}
+use Rattle.checker_expressions.specs.Walk.{access_walk, behind_next, deeper, index_test, index_pieces, indexes_walk, link_walk, next_test, value_use}
+use Rattle.checker_expressions.specs.Walk.{whole_walk, width_walk}
 use Rattle.checker_expressions.specs.Walk.{written_walk, parameter_walk, in_turn}
 
 -- a walk links states to these, in whatever context and from whatever state

@@ -56,17 +56,20 @@ use Rattle.checker_expressions.specs.Walk as walk
 use Rattle.checker_calls.specs.Environments.{Fine, Proper, Typed}
 use Rattle.checker_calls.proofs.Fitting.{part-lies}
 use Rattle.checker_calls.proofs.Reached.{alive}
-use Rattle.checker_expressions.specs.Walk.{Context, Piece, Walking, access_walk, all_joined, deeper, deeper_by, form_before, hold_call, index_test, indexes_walk}
+use Rattle.checker_expressions.specs.Walk.{Context, Piece, Walking, access_walk, all_joined, deeper, deeper_by, form_before, hold_call, index_test}
+use Rattle.checker_expressions.specs.Walk.{indexes_walk}
 use Rattle.checker_expressions.specs.Walk.{is_covered}
 use Rattle.checker_expressions.specs.Walk.{range_in, ranges_of, text_range, value_use, whole_walk, with_used}
 use Rattle.checker_expressions.proofs.Fitting.{contains-at, same-type, some-at}
 use Rattle.checker_expressions.proofs.Keeping.{Keeps, keeps-itself}
-use Rattle.checker_expressions.proofs.Sound.{World, Any_value, Good, Here, IsForetold, IsKnown, IsPartOf, IsValue, Leaves, Sound, SoundFrom, Stands, declared_in}
+use Rattle.checker_expressions.proofs.Sound.{World, Any_value, Good, Here, IsForetold, IsKnown, IsPartOf, IsValue, Leaves, Sound, SoundFrom, Stands}
+use Rattle.checker_expressions.proofs.Sound.{declared_in}
 use Rattle.checker_expressions.proofs.Sound.{errs-here, false-true, from-then, gives-state, good-give, good-then, good-weaker, nothing-new}
 use Rattle.checker_expressions.proofs.Sound.{sound-anywhere, sound-enter, sound-give, sound-here, sound-named, sound-then, stands-as}
 use Rattle.checker_expressions.proofs.Sound.{sites_in, parts_in, open-here, nonempty-stands, types_in, variables_in}
 use Rattle.checker_expressions.proofs.SoundOperations.{IsKnownOf, fitting-sound, number-in}
-use Rattle.checker_expressions.proofs.SoundRows.{AreComponentsOf, AreIndexesOn, IsIndexOn, IsReachedBy, IsWhole, Leads, LieIn, Matches, RowsAre, characters_of, covered-row}
+use Rattle.checker_expressions.proofs.SoundRows.{AreComponentsOf, AreIndexesOn, IsIndexOn, IsReachedBy, IsWhole, Leads, LieIn, Matches, RowsAre}
+use Rattle.checker_expressions.proofs.SoundRows.{characters_of, covered-row}
 use Rattle.checker_expressions.proofs.SoundRows.{indexes-many, indexes-then, joined-in, matches-then, reached-has, rows-are, used-known}
 
 -- ---- parts of a place
@@ -367,49 +370,47 @@ module _ (world : World) (block : ℕ) (env : Surroundings) where
   abbrev pub LeadsTo : ℕ → List Selector → Reach → Option Place → Store → Type 0
   LeadsTo root selectors reach place store = Leads visible root selectors store reach place
 
+  -- the place of a step behind a way
+  behind : (root : ℕ) (way : List Step) (next : Step) (place : Option Place) → place ≡ part (visible.variables root) way
+      → part place (next ∷ []) ≡ part (visible.variables root) (way ++ next ∷ [])
+  behind root way next place place_is = ap (λ (p : Option Place). part p (next ∷ [])) place_is ∙ part-then (visible.variables root) way (next ∷ [])
+
   -- the selectors behind some
   selected-sound : (root : ℕ) (selectors : List Selector) (evaluations : List Evaluation) (pieces : List Piece) → AllSound world block env evaluations pieces
       → length evaluations ≡ index_count selectors → tests_are_well selectors ≡ true
-      → (store : Store) (before : List Selector) (way : List Step) (reach : Reach) (place : Option Place)
-      → place ≡ part (visible.variables root) way → Matches before way → IsBegun reach → IsReachedBy visible store before way reach
+      → (store : Store) (before : List Selector) (reach : Reach) (place : Option Place) → LeadsTo root before reach place store → IsBegun reach
       → (hold_call pieces ≡ true → IsFormless reach)
       → SoundFrom world block visible store (LeadsTo root (before ++ selectors)) (selected selectors evaluations env place)
       (indexes_walk selectors pieces reach)
-  selected-sound root [] [] [] all count tests store before way reach place place_is matches begun reached formless = λ context state s same unbroken walked here.
+  selected-sound root [] [] [] all count tests store before reach place leads begun formless = λ context state s same unbroken walked here.
       let R = LeadsTo root (before ++ []) in
-      let leads : R reach place s.store =
+      let leads_on : R reach place s.store =
       subst (λ (list : List Selector). LeadsTo root list reach place s.store) (sym (append-nil before))
-      (record {
-        way = way;
-        place_is = place_is;
-        matches = matches;
-        reached = subst (λ (x : Store). IsReachedBy visible x before way reach) (sym same) reached;
-      }) in
+      (subst (λ (x : Store). LeadsTo root before reach place x) (sym same) leads) in
       good-give world (IsForetold world visible R context (walk.give reach context state) s.store) place s here.fine
-      (record { tie = leads; stands = here.stands; kept = keeps-itself visible context.rounds s.store })
-  selected-sound root [] (evaluation ∷ evaluations) pieces all count tests store before way reach place place_is matches begun reached formless =
-      absurd (omega (arith, count))
-  selected-sound root [] [] (piece ∷ pieces) all count tests store before way reach place place_is matches begun reached formless = absurd all
-  selected-sound root (Field position offset ∷ selectors) evaluations pieces all count tests store before way reach place place_is matches begun reached formless =
-      let more = way ++ step.Field position ∷ [] in
-      let inner = part place (step.Field position ∷ []) in
-      let inner_is : inner ≡ part (visible.variables root) more =
-      ap (λ (p : Option Place). part p (step.Field position ∷ [])) place_is ∙ part-then (visible.variables root) way (step.Field position ∷ []) in
+      (record { tie = leads_on; stands = here.stands; kept = keeps-itself visible context.rounds s.store })
+  selected-sound root [] (evaluation ∷ evaluations) pieces all count tests store before reach place leads begun formless = absurd (omega (arith, count))
+  selected-sound root [] [] (piece ∷ pieces) all count tests store before reach place leads begun formless = absurd all
+  selected-sound root (Field position offset ∷ selectors) evaluations pieces all count tests store before reach place leads begun formless =
       let own : List Selector = Field position offset ∷ [] in
-      let gone = matches-then before own way (step.Field position ∷ []) matches (refl, tt) in
+      let inner = part place (step.Field position ∷ []) in
+      let leads_on : LeadsTo root (before ++ own) reach inner store = record {
+        way = leads.way ++ step.Field position ∷ [];
+        place_is = behind root leads.way (step.Field position) place leads.place_is;
+        matches = matches-then before own leads.way (step.Field position ∷ []) leads.matches (refl, tt);
+        reached = behind-field visible store before leads.way position offset reach leads.reached;
+      } in
       subst (λ (w : Walking Reach).
       SoundFrom world block visible store (LeadsTo root (before ++ Field position offset ∷ selectors)) (selected selectors evaluations env inner) w)
       (sym (field-same position offset selectors pieces reach))
       (subst (λ (list : List Selector). SoundFrom world block visible store (LeadsTo root list) (selected selectors evaluations env inner)
       (indexes_walk selectors pieces reach)) (append_assoc before own selectors)
-      (selected-sound root selectors evaluations pieces all count tests store (before ++ own) more reach inner inner_is gone begun
-      (behind-field visible store before way position offset reach reached) formless))
-  selected-sound root (Element fits cells ∷ selectors) [] pieces all count tests store before way reach place place_is matches begun reached formless =
+      (selected-sound root selectors evaluations pieces all count tests store (before ++ own) reach inner leads_on begun formless))
+  selected-sound root (Element fits cells ∷ selectors) [] pieces all count tests store before reach place leads begun formless =
       absurd (omega (arith, count))
-  selected-sound root (Element fits cells ∷ selectors) (evaluation ∷ evaluations) [] all count tests store before way reach place place_is matches begun
-      reached formless = absurd all
-  selected-sound root (Element fits cells ∷ selectors) (evaluation ∷ evaluations) (index ∷ pieces) all count tests store before way reach place place_is
-      matches begun reached formless =
+  selected-sound root (Element fits cells ∷ selectors) (evaluation ∷ evaluations) [] all count tests store before reach place leads begun formless = absurd all
+  selected-sound root (Element fits cells ∷ selectors) (evaluation ∷ evaluations) (index ∷ pieces) all count tests store before reach place leads begun
+      formless =
       let R = LeadsTo root (before ++ Element fits cells ∷ selectors) in
       let first = and_parts (is_well_formed_selector (outline_of world.tree) block (Element fits cells)) (tests_are_well selectors) tests in
       let site = and_parts (nat_lt fits.site (sites_in world)) (is_whole fits.range.first && is_whole fits.range.last) first.0 in
@@ -424,33 +425,31 @@ module _ (world : World) (block : ℕ) (env : Surroundings) where
       (sound-here world block visible store IsValue (evaluation env) index.walk all.0.sound)
       (λ known v s t is from inside.
       let form : IsOfForm (moment visible t.store) (bound_of index.form) v = all.0.form s t v is in
-      let reached_now : IsReachedBy visible t.store before way reach =
-      later-reached visible store t.store before way reach index.holds_call (λ without. all.0.leaves without s t v is ∙ from)
-      (λ holds. formless (or_left index.holds_call (hold_call pieces) holds)) reached in
-      let more = way ++ step.Element (number_of v) ∷ [] in
-      let inner_is : inner_of v ≡ part (visible.variables root) more =
-      ap (λ (p : Option Place). part p (step.Element (number_of v) ∷ [])) place_is
-      ∙ part-then (visible.variables root) way (step.Element (number_of v) ∷ []) in
+      let reached_now : IsReachedBy visible t.store before leads.way reach =
+      later-reached visible store t.store before leads.way reach index.holds_call (λ without. all.0.leaves without s t v is ∙ from)
+      (λ holds. formless (or_left index.holds_call (hold_call pieces) holds)) leads.reached in
       from-then world block visible t.store (LiesWithin v) R (test v) (λ tested. selected selectors evaluations env (inner_of v)) (index_test (Some fits) known)
       (λ range. indexes_walk selectors pieces (reached_by range))
       (sound-here world block visible t.store (LiesWithin v) (test v) (index_test (Some fits) known)
       (tested-sound fits known v (ltb-true fits.site (sites_in world) site.0) inside))
       (λ range tested s2 u passes same lies.
       let bounds = in-test fits.range v (required-true (is_in fits.range v) fits.site s2 u tested passes) in
-      let gone : Matches (before ++ own) more =
-      matches-then before own way (step.Element (number_of v) ∷ []) matches (bounds.0, bounds.1, tt) in
       let stays : u.store ≡ t.store = required-leaves (is_in fits.range v) fits.site s2 u tested passes ∙ same in
+      let leads_on : LeadsTo root (before ++ own) (reached_by range) (inner_of v) t.store = record {
+        way = leads.way ++ step.Element (number_of v) ∷ [];
+        place_is = behind root leads.way (step.Element (number_of v)) place leads.place_is;
+        matches = matches-then before own leads.way (step.Element (number_of v) ∷ []) leads.matches (bounds.0, bounds.1, tt);
+        reached = behind-element visible t.store before leads.way fits cells (number_of v) (index_of range)
+            (record {
+              in_range = number-in range v lies;
+              of_form = form-unless (moment visible t.store) (bound_of index.form) (hold_call pieces) (number_of v)
+                  (of-form (moment visible t.store) (bound_of index.form) v form);
+            }) leads.matches reach begun reached_now;
+      } in
       subst (λ (list : List Selector). SoundFrom world block visible u.store (LeadsTo root list) (selected selectors evaluations env (inner_of v))
       (indexes_walk selectors pieces (reached_by range))) (append_assoc before own selectors)
-      (selected-sound root selectors evaluations pieces all.1 (omega (arith, count)) first.1 u.store (before ++ own) more (reached_by range) (inner_of v)
-      inner_is gone (begun-deeper (index_of range) reach begun)
-      (subst (λ (x : Store). IsReachedBy visible x (before ++ own) more (reached_by range)) (sym stays)
-      (behind-element visible t.store before way fits cells (number_of v) (index_of range)
-      (record {
-        in_range = number-in range v lies;
-        of_form = form-unless (moment visible t.store) (bound_of index.form) (hold_call pieces) (number_of v)
-            (of-form (moment visible t.store) (bound_of index.form) v form);
-      }) matches reach begun reached_now))
+      (selected-sound root selectors evaluations pieces all.1 (omega (arith, count)) first.1 u.store (before ++ own) (reached_by range) (inner_of v)
+      (subst (λ (x : Store). LeadsTo root (before ++ own) (reached_by range) (inner_of v) x) (sym stays) leads_on) (begun-deeper (index_of range) reach begun)
       (formless-deeper (bound_of index.form) range (hold_call pieces) reach
       (λ holds. formless (or_right index.holds_call (hold_call pieces) holds))))))
 
@@ -469,8 +468,9 @@ module _ (world : World) (block : ℕ) (env : Surroundings) where
       (sound-here world block visible store Any_value (effect.enter access.number visible) (walk.enter access.number)
       (sound-enter world block visible access.number))
       (λ b a s t is from tie.
-      selected-sound access.root selectors evaluations pieces all count tests t.store [] [] entire (visible.variables access.root)
-      (sym (part-none (visible.variables access.root))) tt (λ is. absurd (false-true (sym is))) (record { indexes = tt; all = λ is. refl }) (λ holds. tt)))
+      selected-sound access.root selectors evaluations pieces all count tests t.store [] entire (visible.variables access.root)
+      (record { way = []; place_is = sym (part-none (visible.variables access.root)); matches = tt; reached = record { indexes = tt; all = λ is. refl } })
+      (λ is. absurd (false-true (sym is))) (λ holds. tt)))
 
   -- ---- uses
 
