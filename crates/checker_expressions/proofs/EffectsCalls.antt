@@ -2,9 +2,9 @@
 -- listed by the caller, or lies in an activation that isn't earlier.
 use Rattle.std.specs.Prelude.{slice_get, if◌then◌else◌}
 use Rattle.std.specs.List.{Contains, list_all}
-use Rattle.std.proofs.Common.{arith, ◌≡◌, ◌⊎◌, inl, inr, ⊎_elim, ℕ, zero, suc, ◌<◌, ◌≤◌, List, [], ◌∷◌, ◌++◌, Bool, true, false, ◌||◌, Option}
+use Rattle.std.proofs.Common.{arith, ◌≡◌, ◌⊎◌, inl, inr, ⊎_elim, ℕ, ◌<◌, ◌≤◌, List, [], ◌∷◌, Bool, true, false, ◌||◌, Option}
 use Rattle.std.proofs.Common.{Some, None, map, nat_eq, refl, sym, ap, ◌∙◌, subst}
-use Rattle.std.proofs.lemmas.Bool.{and_parts, cases_Bool, eqb-true, eq-eqb, false≢true, or_cases, or_parts}
+use Rattle.std.proofs.lemmas.Bool.{and_parts, cases_Bool, eq-eqb, false≢true, or_cases, or_parts}
 use Rattle.std.proofs.lemmas.List.Folds.{list_all-append}
 use Rattle.place.specs.declared.Place.{Place as SourcePlace}
 use Rattle.typed_tree.specs.declared.tree.Tree.{Tree}
@@ -31,8 +31,11 @@ use Rattle.checker_calls.specs.Environments.{LiesUnder}
 use Rattle.checker_calls.specs.Exit.{root_changed, roots_changed}
 use Rattle.checker_expressions.specs.declared.fault.Rule.{Rule}
 use Rattle.checker_expressions.specs.declared.fault.Rule.TheVariants.{Changes}
-use Rattle.checker_expressions.specs.Walk.{Breach, Context, Walking, ◌>>=◌, asked, block_lists, breach_unless, called, call_aliases, call_behind}
+use Rattle.checker_expressions.specs.Walk.{Context, Walking, ◌>>=◌, asked, block_lists, called, call_aliases, call_behind}
 use Rattle.checker_expressions.specs.Walk.{call_change, call_entry, call_with, called_block, may_change, parameters_of}
+use Rattle.checker_state.proofs.Lists.{head-or_tail}
+use Rattle.checker_calls.proofs.Lists.{among-contains}
+use Rattle.checker_expressions.proofs.Sound.{kept-rule, unbroken-left, unbroken-right}
 use Rattle.checker_expressions.proofs.EffectsKept.{Keeps, Leaving, MayChange, MayWrite, Standing, leaves-itself, lies-itself, listing, under-write}
 
 -- ---- walks that break no rule
@@ -43,27 +46,15 @@ pub record Yields {A : Type 0} (context : Context) (walking : Walking A) (a : A)
   pub unbroken : (walking context state).broken ≡ []
   pub value_is : (walking context state).value ≡ a
 
-unbroken-first : (first second : List Breach) → first ++ second ≡ [] → first ≡ []
-unbroken-first [] second is = refl
-unbroken-first (breach ∷ first) second is = absurd (cc)
-
-unbroken-second : (first second : List Breach) → first ++ second ≡ [] → second ≡ []
-unbroken-second [] second is = is
-unbroken-second (breach ∷ first) second is = absurd (cc)
-
 pub yields-then : {A B : Type 0} (context : Context) (first : Walking A) (next : A → Walking B) (b : B) → Yields context (first >>= next) b
     → (a : A) × Yields context first a × Yields context (next a) b
 yields-then context first next b both =
     let one = first context both.state in
     let two = next one.value context one.after in (
       one.value,
-      record { state = both.state; unbroken = unbroken-first one.broken two.broken both.unbroken; value_is = refl },
-      record { state = one.after; unbroken = unbroken-second one.broken two.broken both.unbroken; value_is = both.value_is },
+      record { state = both.state; unbroken = unbroken-left one.broken two.broken both.unbroken; value_is = refl },
+      record { state = one.after; unbroken = unbroken-right one.broken two.broken both.unbroken; value_is = both.value_is },
     )
-
-kept-rule : (kept : Bool) (rule : Rule) (place : SourcePlace) → breach_unless kept rule place ≡ [] → kept ≡ true
-kept-rule true rule place is = refl
-kept-rule false rule place is = absurd (cc)
 
 pub yields-asked : (context : Context) (kept : Bool) (rule : Rule) (place : SourcePlace) (done : Unit {0})
     → Yields context (asked kept rule place) done → kept ≡ true
@@ -85,16 +76,6 @@ pub record Grounds (tree : Tree) (blocks : List BlockClaims) (block : ℕ) (at :
   pub own : (root : ℕ) (variable : DeclaredVariable) (home : Place) → slice_get tree.variables.items root ≡ Some variable
       → is_own block variable ≡ true → at.visible.variables root ≡ Some home → (at.settled ≤ home.activation) × MayWrite at home
 
--- a place among those behind the first
-tail-contains : (other root : ℕ) (roots : List ℕ) → Contains roots root → Contains (other ∷ roots) root
-tail-contains other root roots (k, within, is) = (suc k, omega (arith, within), is)
-
-pub among-contains : (root : ℕ) (roots : List ℕ) → is_among root roots ≡ true → Contains roots root
-among-contains root [] is = absurd (cc)
-among-contains root (other ∷ roots) is =
-    ⊎_elim (λ first. (zero, omega arith, eqb-true other root first)) (λ more. tail-contains other root roots (among-contains root roots more))
-    (or_cases (nat_eq other root) (is_among root roots) is)
-
 owned : (block : ℕ) (found : Option DeclaredVariable) → of_one (is_own block) found ≡ true
     → (variable : DeclaredVariable) × (found ≡ Some variable) × (is_own block variable ≡ true)
 owned block None is = absurd (cc)
@@ -109,7 +90,7 @@ module _ (tree : Tree) (blocks : List BlockClaims) (block : ℕ) (at : Standing)
       ∙ ap (λ (number : ℕ). (block_claims_at blocks number).changes) stands.block_is in
       grounds.lists root home
       (subst (λ (changes : List ℕ). Contains changes root) changes_are
-      (among-contains root (block_claims_at context.blocks context.block).changes is)) seen
+      (among-contains (block_claims_at context.blocks context.block).changes root is)) seen
 
   own-here : (context : Context) → StandsIn tree blocks block context → (root : ℕ) (home : Place)
       → of_one (is_own context.block) (slice_get context.tree.variables.items root) ≡ true → at.visible.variables root ≡ Some home
@@ -220,10 +201,6 @@ pub not-among : (root : ℕ) (roots : List ℕ) → (is_among root roots ≡ tru
 not-among root roots other = ⊎_elim (λ is. absurd (other is)) (λ is. is) (cases_Bool (is_among root roots))
 
 -- what holds of all that a call may change holds of what each listed variable stands for
-head-or-tail : (x y : ℕ) (xs : List ℕ) → Contains (x ∷ xs) y → (x ≡ y) ⊎ Contains xs y
-head-or-tail x y xs (zero, within, is) = inl is
-head-or-tail x y xs (suc k, within, is) = inr (k, omega (arith, within), is)
-
 all-changed : (test : ℕ → Bool) (bindings : List Binding) (changes : List ℕ) (root : ℕ)
     → list_all test (roots_changed bindings changes) ≡ true → Contains changes root
     → list_all test (root_changed root (actual_of bindings root)) ≡ true
@@ -234,7 +211,7 @@ all-changed test bindings (first ∷ changes) root all among =
     let parts = and_parts (list_all test one) (list_all test rest) (sym (list_all-append test one rest) ∙ all) in
     ⊎_elim
     (λ (same : first ≡ root). subst (λ (r : ℕ). list_all test (root_changed r (actual_of bindings r)) ≡ true) same parts.0)
-    (λ (more : Contains changes root). all-changed test bindings changes root parts.1 more) (head-or-tail first root changes among)
+    (λ (more : Contains changes root). all-changed test bindings changes root parts.1 more) (head-or_tail first root changes among)
 
 -- ---- what is visible in the callee
 

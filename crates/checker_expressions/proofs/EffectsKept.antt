@@ -3,9 +3,8 @@ use Rattle.std.specs.Prelude.{int_le, not, if◌then◌else◌}
 use Rattle.std.specs.Ordering.{int_eq}
 use Rattle.std.proofs.Common.{arith, ◌≡◌, ◌⊎◌, inl, inr, ⊎_elim, ℕ, zero, suc, ℤ, pos, ◌<◌, ◌≤◌, List, [], ◌∷◌, ◌++◌, Bool}
 use Rattle.std.proofs.Common.{true, false, Option, Some, None, refl, sym, ap, ◌∙◌, subst}
-use Rattle.std.proofs.lemmas.Bool.{and_parts, and_from, eqb-true, eq-eqb}
+use Rattle.std.proofs.lemmas.Bool.{and_parts, and_from, eqb-true}
 use Rattle.std.proofs.lemmas.Int.{ints}
-use Rattle.std.specs.Cmp.{int_eq_equiv}
 use Rattle.types.specs.declared.form.Step.{Step}
 use Rattle.types.specs.declared.form.Step.TheVariants.{Element, Field}
 use Rattle.typed_tree.specs.declared.tree.Monadic.{Monadic}
@@ -24,6 +23,7 @@ use Rattle.meaning.specs.Meaning.{calculated, combined, divides, line_ended, of_
 use Rattle.meaning.specs.Laws.{state_after}
 use Rattle.checker_state.proofs.Apart.{place-same}
 use Rattle.checker_calls.specs.Environments.{IsListed, LiesUnder}
+use Rattle.checker_calls.proofs.Places.{step-itself}
 
 -- where a piece stands: what lies in activations of lower numbers is changed only where it may be, and what lies in those below another number stays
 -- defined; which places may be changed, a part with the whole; and what is visible
@@ -71,10 +71,6 @@ step-same (Element i) (Element j) is = let same : i ≡ j = grind (arith, ints) 
 step-same (Field a) (Field b) is = ap Field (eqb-true a b is)
 step-same (Element i) (Field b) is = absurd (cc)
 step-same (Field a) (Element j) is = absurd (cc)
-
-step-itself : (a : Step) → step_eq a a ≡ true
-step-itself (Element i) = int_eq_equiv.refl i
-step-itself (Field a) = eq-eqb a a refl
 
 begins-itself : (steps : List Step) → is_beginning steps steps ≡ true
 begins-itself [] = refl

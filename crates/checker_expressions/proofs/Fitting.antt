@@ -1,9 +1,9 @@
 -- A value that passes the test for a type is one of it. A whole value that may be copied to a type: its values lie in the ranges that are known, leaf by
 -- leaf of the type, and each is one of the type of its component.
-use Rattle.std.proofs.Common.{arith, ◌≡◌, ⊎_elim, ◌∙◌, sym, ap, refl, subst, ℕ, zero, suc, ◌<◌, ℤ, pos, true, ◌&&◌, ◌||◌, nat_eq, nat_le, nat_lt}
+use Rattle.std.proofs.Common.{arith, ◌≡◌, ⊎_elim, ◌∙◌, sym, ap, refl, subst, ℕ, zero, suc, ℤ, pos, true, ◌&&◌, ◌||◌, nat_eq, nat_le, nat_lt}
 use Rattle.std.proofs.Common.{ap₂, length, List, [], ◌∷◌, Option, Some, None}
 use Rattle.std.specs.Prelude.{option_map, slice_get}
-use Rattle.std.specs.List.{All, Contains, list_all}
+use Rattle.std.specs.List.{All, list_all}
 use Rattle.std.specs.Ordering.{int_eq}
 use Rattle.std.specs.declared.alloc.Global.{Global}
 use Rattle.std.specs.declared.vec.Vec.{Vec}
@@ -11,7 +11,7 @@ use Rattle.std.proofs.lemmas.Bool.{and_parts, eqb-true, false≢true, ltb-true, 
 use Rattle.std.proofs.lemmas.Int.{ints}
 use Rattle.std.proofs.lemmas.List.{length-map}
 use Rattle.std.proofs.lemmas.List.Elements.{All-contains}
-use Rattle.std.proofs.lemmas.Option.{get_or_from_slice_get, none-some, same_Some, slice_get_within}
+use Rattle.std.proofs.lemmas.Option.{none-some, same_Some, slice_get_within}
 use Rattle.types.specs.Components.{components_of}
 use Rattle.types.specs.Forms.{Array, Form}
 use Rattle.types.specs.Types.{BeginWithRequired, cells_of, form_at, form_kind, have_one_length, is_same, is_structured, is_structured_kind, most_cells, range_of}
@@ -35,11 +35,13 @@ use Rattle.checker_state.proofs.Ranged.{is_in-limits}
 use Rattle.checker_rows.specs.Leaves.{Leaf, leaves_of}
 use Rattle.checker_rows.proofs.Alike.{NamesAlike, one-length, string-leaf, strings-alike}
 use Rattle.checker_rows.proofs.Components.{Has, each-named, mapped-at, only}
+use Rattle.checker_rows.proofs.Numbered.{has-contains, some-at}
 use Rattle.checker_calls.specs.Environments.{LiesIn, type_led}
+use Rattle.checker_calls.proofs.AliasedStores.{all-pass}
 use Rattle.checker_calls.proofs.ComponentTypes.{component-typed}
 use Rattle.checker_calls.proofs.Passed.{AreComponentsOf}
 use Rattle.checker_expressions.specs.Walk.{text_range}
-use Rattle.checker_expressions.proofs.SoundRows.{IsWhole, LieIn, all-of, characters_of}
+use Rattle.checker_expressions.proofs.SoundRows.{IsWhole, LieIn, characters_of}
 
 -- a value that passes a test, which has the range of a type
 pub passed-lies : (types : List Form) (id : TypeId) (fits : RangeTest) (v : Value) (found : Option OrdinalRange) → range_of types id ≡ found
@@ -52,20 +54,11 @@ passed-lies types id fits v (Some range) is same passes =
     let own : fits.range ≡ range = ap₂ (λ (a b : ℤ). record { first = a; last = b }) first last in
     (range, is, subst (λ (r : OrdinalRange). IsIn (limits_of r) v) own (is_in-limits fits.range v passes))
 
--- an element at a place
-pub some-at : {A : Type 0} (xs : List A) (k : ℕ) → k < length xs → (x : A) × (slice_get xs k ≡ Some x)
-some-at [] k within = absurd (omega (arith, within))
-some-at (x ∷ xs) zero within = (x, refl)
-some-at (x ∷ xs) (suc k) within = some-at xs k (omega (arith, within))
-
-pub contains-at : {A : Type 0} (xs : List A) (k : ℕ) (x : A) → slice_get xs k ≡ Some x → Contains xs x
-contains-at xs k x is = (k, slice_get_within xs k x is, get_or_from_slice_get xs k x x is)
-
 -- in the range of all
 all-lie : (types : List Form) (target : TypeId) (range : Interval) (values : List Value) → All (IsIn range) values
     → LieIn types target (range ∷ []) values
 all-lie types target range values all k zero rest leaf v own of_type of_leaf named at ranged =
-    subst (λ (r : Interval). IsIn r v) (same_Some range own ranged) (All-contains (IsIn range) values v all (contains-at values k v at))
+    subst (λ (r : Interval). IsIn r v) (same_Some range own ranged) (All-contains (IsIn range) values v all (has-contains values v (k, at)))
 all-lie types target range values all k (suc j) rest leaf v own of_type of_leaf named at ranged = absurd (none-some own ranged)
 
 -- those of a type whose leaves name alike
@@ -114,7 +107,7 @@ AreChars values = (k : ℕ) (v : Value) → slice_get values k ≡ Some v → Is
 text-chars : (characters : List ℕ) → list_all is_character characters ≡ true → AreChars (characters_of characters)
 text-chars characters all k v at =
     let found = mapped-at (λ (c : ℕ). Number (pos c)) characters k v at in
-    let small = ltb-true found.0 128 (all-of is_character characters found.0 all (contains-at characters k found.0 found.1)) in
+    let small = ltb-true found.0 128 (all-pass is_character characters found.0 (has-contains characters found.0 (k, found.1)) all) in
     subst (IsIn (limits_of chars)) found.2 (omega (arith, ints), omega (arith, ints, small))
 
 module _ (types : List Form) (required : BeginWithRequired types) where

@@ -3,8 +3,10 @@ use Rattle.std.proofs.Common.{arith, ◌≡◌, ⊎_elim, ◌⊎◌, inl, inr, s
 use Rattle.std.proofs.Common.{Option, Some, None}
 use Rattle.std.specs.Prelude.{◌≤◌, slice_get}
 use Rattle.std.specs.List.{Contains}
+use Rattle.std.proofs.lemmas.Bool.{false≢true}
 use Rattle.std.proofs.lemmas.List.Elements.{Contains-append_left, Contains-append_right, Contains-push_cases}
 use Rattle.domain.specs.Interval.{Interval}
+use Rattle.place.specs.declared.Place.{Place as SourcePlace}
 use Rattle.types.specs.Forms.{Form}
 use Rattle.typed_tree.specs.declared.tree.Tree.{Tree}
 use Rattle.typed_tree.specs.declared.tree.Block.{Block}
@@ -33,6 +35,7 @@ use Rattle.checker_calls.specs.Sections.{BlockClaims, block_claims_at}
 use Rattle.checker_calls.proofs.Claimed.{AllHold}
 use Rattle.checker_calls.proofs.Passed.{AllFit}
 use Rattle.checker_calls.proofs.Reached.{alive}
+use Rattle.checker_expressions.specs.declared.fault.Rule.{Rule}
 use Rattle.checker_expressions.specs.Walk as walk
 use Rattle.checker_expressions.specs.Walk.{Breach, Context, Linked, Walked, Walking, followed, left_open}
 use Rattle.checker_expressions.specs.Visits.{moment_of, visits_of}
@@ -231,6 +234,10 @@ unbroken-left (breach ∷ first) second is = absurd (cc)
 pub unbroken-right : (first second : List Breach) → first ++ second ≡ [] → second ≡ []
 unbroken-right [] second is = is
 unbroken-right (breach ∷ first) second is = absurd (cc)
+
+pub kept-rule : (kept : Bool) (rule : Rule) (place : SourcePlace) → walk.breach_unless kept rule place ≡ [] → kept ≡ true
+kept-rule true rule place is = refl
+kept-rule false rule place is = absurd (cc)
 
 pub part-left : {A B : Type 0} (world : World) (first : Walked A) (second : Walked B) → IsPartOf world (followed first second) → IsPartOf world first
 part-left world first second part = record {
@@ -454,9 +461,6 @@ pub closed-passes : (rows : List Parts) (roots : ℕ) (env : Environment) (state
 closed-passes rows roots env state store closed test known holds is =
     holds (subst (λ (dead : Bool). (dead || closed) ≡ true) (alive rows roots env state store known) is)
 
-pub false-true : ◌≡◌ {A = Bool} false true → ⊥
-false-true is = cc
-
 -- a test at a site: it holds where the site is closed, and what passes lies in the range that passes
 pub sound-tested : (world : World) (block : ℕ) (env : Environment) (closed : Bool) (site : ℕ) (passed : Interval) (v : Value) (test : Bool)
     → site < sites_in world → (closed ≡ true → test ≡ true) → (test ≡ true → IsIn passed v)
@@ -470,7 +474,7 @@ sound-tested world block env closed site passed v true below holds lets context 
     })
 sound-tested world block env closed site passed v false below holds lets context state s unbroken part here =
     let unclosed : (is_dead state || closed) ≡ true
-    → ⊥ = λ is. false-true (closed-passes (parts_in world) (variables_in world) env state s.store closed false here.stands.known holds is) in
+    → ⊥ = λ is. false≢true (closed-passes (parts_in world) (variables_in world) env state s.store closed false here.stands.known holds is) in
     record {
       errs = errs-here world site (part.ids site (open-here site (is_dead state || closed) unclosed)) below;
       new = nothing-new world s.visited;

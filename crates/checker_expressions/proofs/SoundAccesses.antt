@@ -3,7 +3,7 @@ use Rattle.std.proofs.Common.{arith, ◌≡◌, ⊎_elim, ◌∙◌, sym, ap, re
 use Rattle.std.proofs.Common.{◌&&◌, ◌||◌, nat_eq, nat_lt, List, [], ◌∷◌, ◌++◌, append-nil, append_assoc, length, Option, Some, None}
 use Rattle.std.specs.Prelude.{slice_get, slice_index_or}
 use Rattle.std.specs.List.{All, Contains, list_all}
-use Rattle.std.proofs.lemmas.Bool.{and_parts, eqb-true, ltb-true, or_cases, or_left, or_right}
+use Rattle.std.proofs.lemmas.Bool.{and_parts, eqb-true, false≢true, ltb-true, or_cases, or_left, or_right}
 use Rattle.std.proofs.lemmas.List.{length-append, length-map}
 use Rattle.std.proofs.lemmas.List.Elements.{All-cons, All-nil}
 use Rattle.std.proofs.lemmas.Option.{none-some, same_Some, slice_get-get_or}
@@ -52,19 +52,21 @@ use Rattle.checker_rows.proofs.Accessed.{rows-count}
 use Rattle.checker_loops.proofs.Tabled.{are-rows}
 use Rattle.checker_loops.specs.Loops.{table_of}
 use Rattle.checker_rows.proofs.Components.{mapped-at}
+use Rattle.checker_rows.proofs.Numbered.{has-contains, some-at}
 use Rattle.checker_expressions.specs.Walk as walk
 use Rattle.checker_calls.specs.Environments.{Fine, Proper, Typed}
 use Rattle.checker_calls.proofs.Fitting.{part-lies}
+use Rattle.checker_calls.proofs.Lists.{in-one}
 use Rattle.checker_calls.proofs.Reached.{alive}
 use Rattle.checker_expressions.specs.Walk.{Context, Piece, Walking, access_walk, all_joined, deeper, deeper_by, form_before, hold_call, index_test}
 use Rattle.checker_expressions.specs.Walk.{indexes_walk}
 use Rattle.checker_expressions.specs.Walk.{is_covered}
 use Rattle.checker_expressions.specs.Walk.{range_in, ranges_of, text_range, value_use, whole_walk, with_used}
-use Rattle.checker_expressions.proofs.Fitting.{contains-at, same-type, some-at}
+use Rattle.checker_expressions.proofs.Fitting.{same-type}
 use Rattle.checker_expressions.proofs.Keeping.{Keeps, keeps-itself}
 use Rattle.checker_expressions.proofs.Sound.{World, Any_value, Good, Here, IsForetold, IsKnown, IsPartOf, IsValue, Leaves, Sound, SoundFrom, Stands}
 use Rattle.checker_expressions.proofs.Sound.{declared_in}
-use Rattle.checker_expressions.proofs.Sound.{errs-here, false-true, from-then, gives-state, good-give, good-then, good-weaker, nothing-new}
+use Rattle.checker_expressions.proofs.Sound.{errs-here, from-then, gives-state, good-give, good-then, good-weaker, nothing-new}
 use Rattle.checker_expressions.proofs.Sound.{sound-anywhere, sound-enter, sound-give, sound-here, sound-named, sound-then, stands-as}
 use Rattle.checker_expressions.proofs.Sound.{sites_in, parts_in, open-here, nonempty-stands, types_in, variables_in}
 use Rattle.checker_expressions.proofs.SoundOperations.{IsKnownOf, fitting-sound, number-in}
@@ -233,7 +235,7 @@ module _ (env : Environment) (store : Store) where
     further indexes are = record {
       indexes = subst (λ (numbers : List ℤ). AreIndexesOn env store indexes numbers) (sym (indexes-then way (step.Element number ∷ [])))
           (on-longer indexes (indexes_of way) (number ∷ []) are);
-      all = λ is. absurd (false-true is);
+      all = λ is. absurd (false≢true is);
     }
 
     next : (indexes : List Index) → AreIndexesOn env store indexes (indexes_of way) → length indexes ≡ index_count before
@@ -299,15 +301,15 @@ formless-deeper form range true reach formless is = by reach.indexes (formless r
     by [] are = (refl, tt)
     by (one ∷ []) are = (are.0, (refl, tt))
     by (one ∷ two ∷ more) are = formless refl
-formless-deeper form range false reach formless is = absurd (false-true is)
+formless-deeper form range false reach formless is = absurd (false≢true is)
 
 begun-deeper : (index : Index) (reach : Reach) → IsBegun reach → IsBegun (deeper index reach)
 begun-deeper index reach begun = by reach.is_all reach.indexes begun
   where
     by : (is_all : Bool) (indexes : List Index) → IsBegun (record { indexes = indexes; is_all = is_all })
         → IsBegun (deeper_by index indexes (record { indexes = indexes; is_all = is_all }))
-    by true [] begun is = absurd (false-true (sym is))
-    by true (one ∷ []) begun is = absurd (false-true (sym is))
+    by true [] begun is = absurd (false≢true (sym is))
+    by true (one ∷ []) begun is = absurd (false≢true (sym is))
     by true (one ∷ two ∷ more) begun is = omega arith
     by false [] begun is = absurd (let few = begun refl in omega (arith, few))
     by false (one ∷ []) begun is = absurd (let few = begun refl in omega (arith, few))
@@ -319,19 +321,11 @@ in-program : (world : World) (context : Context) (P : Context → Type 0) → co
 in-program world context P is so = subst (λ (tree : Tree). P (record context { tree = tree })) (sym is) so
 
 pub type-of : (wanted : TypeId → Bool) (found : Option TypeId) → is_type wanted found ≡ true → (id : TypeId) × (found ≡ Some id) × (wanted id ≡ true)
-type-of wanted None is = absurd (false-true is)
+type-of wanted None is = absurd (false≢true is)
 type-of wanted (Some id) is = (id, refl, is)
-
-alone : {A : Type 0} (x y : A) → Contains (x ∷ []) y → x ≡ y
-alone x y (zero, within, at) = at
-alone x y (suc k, within, at) = absurd (omega (arith, within))
 
 contains-get : {A : Type 0} (xs : List A) (x : A) → (inside : Contains xs x) → slice_get xs inside.0 ≡ Some x
 contains-get xs x inside = slice_get-get_or xs inside.0 x inside.1 ∙ ap Some inside.2
-
-pub no-way : (way : List Step) → Matches [] way → way ≡ []
-no-way [] matches = refl
-no-way (s ∷ way) matches = absurd matches
 
 -- what is so of each pair of steps and their value
 pairs-then : (P : List Step → Value → Type 0) (first : List Step) (components : List (List Step)) (w : Value) (values : List Value) → P first w
@@ -470,7 +464,7 @@ module _ (world : World) (block : ℕ) (env : Surroundings) where
       (λ b a s t is from tie.
       selected-sound access.root selectors evaluations pieces all count tests t.store [] entire (visible.variables access.root)
       (record { way = []; place_is = sym (part-none (visible.variables access.root)); matches = tt; reached = record { indexes = tt; all = λ is. refl } })
-      (λ is. absurd (false-true (sym is))) (λ holds. tt)))
+      (λ is. absurd (false≢true (sym is))) (λ holds. tt)))
 
   -- ---- uses
 
@@ -522,7 +516,7 @@ module _ (world : World) (block : ℕ) (env : Surroundings) where
       itself = subst (λ (components : List (List Step)). Contains components []) (sym scalar) (0, omega arith, refl)
 
       no-rest : (rest : List Step) → Contains (components_of (types_in world) id) rest → [] ≡ rest
-      no-rest rest of_type = alone [] rest (subst (λ (components : List (List Step)). Contains components rest) scalar of_type)
+      no-rest rest of_type = in-one [] rest (subst (λ (components : List (List Step)). Contains components rest) scalar of_type)
 
       rows-good : (context : Context) (state : State) (s : effect.State) → IsReachedBy visible s.store selectors way reach
           → IsPartOf world (used (inside context) state) → Here world block visible context state s → (found : Option Value)
@@ -609,8 +603,8 @@ module _ (world : World) (block : ℕ) (env : Surroundings) where
         → AreRead store (components_of (types_in world) id) values after → LieIn (types_in world) id (ranges_of state (rows root selectors)) values
     read-in state store after values known read k j rest leaf v range of_type of_leaf named at ranged =
         let row = mapped-at (range_of state) (rows root selectors) j range ranged in
-        let of_row = laws.placed way rest j row.0 leaf matches (contains-at (components_of (types_in world) id) k rest of_type) of_leaf named row.1 in
-        let lies = row-in state store known row.0 rest v (contains-at (rows root selectors) j row.0 row.1) of_row (read.2 k rest v of_type at) in
+        let of_row = laws.placed way rest j row.0 leaf matches (has-contains (components_of (types_in world) id) rest (k, of_type)) of_leaf named row.1 in
+        let lies = row-in state store known row.0 rest v (has-contains (rows root selectors) row.0 (j, row.1)) of_row (read.2 k rest v of_type at) in
         subst (λ (r : Interval). IsIn r v) row.2 lies
 
     read-has : (store after : Store) (values : List Value) → AreRead store (components_of (types_in world) id) values after
@@ -648,7 +642,7 @@ module _ (world : World) (block : ℕ) (env : Surroundings) where
         let structured = is_structured (types_in world) id in
         let covered = is_covered world.tree state reach (rows root selectors) in
         let unclosed : closed state ≡ true → ⊥ = λ is.
-        ⊎_elim (λ dead. false-true (sym (alive (parts_in world) (variables_in world) visible state store stands.known) ∙ dead))
+        ⊎_elim (λ dead. false≢true (sym (alive (parts_in world) (variables_in world) visible state store stands.known) ∙ dead))
         (λ both.
         let each = and_parts structured covered both in
         let has = given-has state store stands.known reached each.1 rest among in none-some has.0 (sym none ∙ has.1))

@@ -1,11 +1,10 @@
 -- The walk over calls is sound, where that over their actual parameters is, and where calls are.
-use Rattle.std.proofs.Common.{◌≡◌, ◌∙◌, sym, ap, refl, subst, ℕ, Bool, true, false, cond, ◌||◌, List, [], ◌∷◌, ◌++◌, map, Option}
+use Rattle.std.proofs.Common.{◌≡◌, ◌∙◌, sym, ap, refl, subst, ℕ, Bool, true, false, cond, List, [], ◌∷◌, ◌++◌, map, Option}
 use Rattle.std.proofs.Common.{Some, None}
 use Rattle.std.specs.Prelude.{nat_eq, slice_get}
 use Rattle.std.specs.List.{Contains, list_all}
-use Rattle.std.proofs.lemmas.Bool.{and_parts, eqb-true, or_left, or_parts, or_right}
-use Rattle.std.proofs.lemmas.List.Folds.{list_any-append, list_all_at}
-use Rattle.place.specs.declared.Place.{Place as SourcePlace}
+use Rattle.std.proofs.lemmas.Bool.{and_parts, or_left, or_parts, or_right}
+use Rattle.std.proofs.lemmas.List.Folds.{list_any-append}
 use Rattle.types.specs.Types.{BeginWithRequired}
 use Rattle.types.specs.declared.form.Step.{Step}
 use Rattle.typed_tree.specs.declared.tree.Block.{Block}
@@ -31,14 +30,16 @@ use Rattle.checker_calls.specs.Environments.{Fine, LiesIn, Proper}
 use Rattle.checker_calls.specs.Exit.{behind_call, result_range, roots_changed}
 use Rattle.checker_calls.specs.Overlaps.{are_separate}
 use Rattle.checker_calls.specs.Sections.{BlockClaims, block_claims_at}
+use Rattle.checker_calls.proofs.AliasedStores.{all-pass}
+use Rattle.checker_calls.proofs.Lists.{among-contains}
 use Rattle.checker_calls.proofs.Passed.{AreComponentsOf, IsArgument, after-call_argument}
-use Rattle.checker_expressions.specs.declared.fault.Rule.{Rule}
 use Rattle.checker_expressions.specs.declared.fault.Rule.TheVariants.{Aliases, CallEntry, Changes}
 use Rattle.checker_expressions.specs.Walk as walk
 use Rattle.checker_expressions.specs.Walk.{Context, PassedPiece, Walked, Walking, actuals_hold_call, actuals_walk, called_block, may_change}
 use Rattle.checker_expressions.proofs.Keeping.{Keeps, keeps-itself}
 use Rattle.checker_expressions.proofs.Sound.{World, Any_value, Called, Good, Goes, Here, IsClosed, IsForetold, IsPartOf, IsValue, Leaves, LiesInResult}
-use Rattle.checker_expressions.proofs.Sound.{Returned, Sound, SoundCalls, SoundFrom, from-then, gives-state, good-give, good-weaker, is_seen, listed_in}
+use Rattle.checker_expressions.proofs.Sound.{Returned, Sound, SoundCalls, SoundFrom, from-then, gives-state, good-give, good-weaker, is_seen, kept-rule}
+use Rattle.checker_expressions.proofs.Sound.{listed_in}
 use Rattle.checker_expressions.proofs.Sound.{part-left, parts_in, sound-anywhere, sound-enter, sound-give, sound-here, unbroken-left, unbroken-right}
 use Rattle.checker_expressions.proofs.Sound.{nonempty-stands, types_in, variables_in}
 
@@ -117,10 +118,6 @@ pub record CallLaws (world : World) : Type 0 where
 
 -- ---- rules that aren't broken
 
-kept-rule : (kept : Bool) (rule : Rule) (place : SourcePlace) → walk.breach_unless kept rule place ≡ [] → kept ≡ true
-kept-rule true rule place is = refl
-kept-rule false rule place is = absurd (cc)
-
 -- a context of the world's program
 abbrev pub in_world : World → Context → Context
 in_world world context = record context { tree = world.tree; pairs = listed_in world; blocks = world.blocks }
@@ -131,34 +128,12 @@ by-world world context P goes so =
     (subst (λ pairs. P (record context { tree = world.tree; pairs = pairs })) (sym goes.pairs_are)
     (subst (λ blocks. P (record context { tree = world.tree; pairs = listed_in world; blocks = blocks })) (sym goes.blocks_are) so))
 
-false-is : ◌≡◌ {A = Bool} false true → ⊥
-false-is is = cc
-
-one-of : (test : ℕ → Bool) (other root : ℕ) (same : Bool) (later : Bool) → nat_eq other root ≡ same → test other ≡ true → (later ≡ true → test root ≡ true)
-    → (same || later) ≡ true → test root ≡ true
-one-of test other root true later is own more among = subst (λ (r : ℕ). test r ≡ true) (eqb-true other root is) own
-one-of test other root false later is own more among = more among
-
 -- a test that all pass, one of them passes
 all-one : (test : ℕ → Bool) (roots : List ℕ) (root : ℕ) → list_all test roots ≡ true → is_among root roots ≡ true → test root ≡ true
-all-one test [] root all among = absurd (false-is among)
-all-one test (other ∷ roots) root all among =
-    let parts = and_parts (test other) (list_all test roots) all in
-    one-of test other root (nat_eq other root) (is_among root roots) refl parts.0 (λ later. all-one test roots root parts.1 later) among
+all-one test roots root all among = all-pass test roots root (among-contains roots root among) all
 
 round-lists : (root : ℕ) (rounds : List Round) (round : Round) → all_list root rounds ≡ true → Contains rounds round → is_among root round.changes ≡ true
-round-lists root rounds round all inside =
-    true-if (is_among root round.changes)
-    (λ isnt. not-both (all_list root rounds) all
-    (list_all_at (λ (one : Round). is_among root one.changes) rounds inside.0 round inside.1
-    (ap (λ (one : Round). is_among root one.changes) inside.2 ∙ isnt)))
-  where
-    true-if : (b : Bool) → (b ≡ false → ⊥) → b ≡ true
-    true-if true isnt = refl
-    true-if false isnt = absurd (isnt refl)
-
-    not-both : (b : Bool) → b ≡ true → b ≡ false → ⊥
-    not-both b is isnt = cc
+round-lists root rounds round all inside = all-pass (λ (one : Round). is_among root one.changes) rounds round inside all
 
 -- ---- a reply of two pieces
 

@@ -3,9 +3,7 @@ use Rattle.std.proofs.Common.{arith, ◌≡◌, ◌∙◌, sym, ap, refl, subst,
 use Rattle.std.proofs.lemmas.Bool.{false≢true}
 use Rattle.std.proofs.Common.{List, [], ◌∷◌, ◌++◌, length, map}
 use Rattle.std.specs.Prelude.{Contains}
-use Rattle.std.specs.List.{All, list_all}
-use Rattle.std.proofs.lemmas.List.Elements.{All-contains}
-use Rattle.std.proofs.lemmas.List.Sums.{AllPass-from_list_all}
+use Rattle.std.specs.List.{All}
 use Rattle.types.specs.Components.{components_of}
 use Rattle.types.specs.Forms.{Form}
 use Rattle.types.specs.declared.form.Step.{Step}
@@ -27,6 +25,7 @@ use Rattle.checker_rows.specs.Leaves.{leaves_of}
 use Rattle.checker_rows.specs.Rows.{Parts, all_parts, rows_accessed}
 pub use Rattle.checker_rows.proofs.Accessed.{RowsAre, rows-are}
 pub use Rattle.checker_rows.proofs.Selected.{Matches}
+use Rattle.checker_calls.proofs.AliasedStores.{all-pass}
 pub use Rattle.checker_calls.proofs.FormalRows.{one-way}
 pub use Rattle.checker_calls.proofs.Passed.{AreComponentsOf, AreIndexesOn, IsIndexOn, IsReachedBy, Leads, LieIn}
 pub use Rattle.checker_calls.proofs.Reached.{reached-has}
@@ -90,12 +89,9 @@ indexes-many (Field position offset ∷ selectors) (step.Field place ∷ way) ma
 
 -- ---- ranges
 
-pub all-of : (test : ℕ → Bool) (rows : List ℕ) (row : ℕ) → list_all test rows ≡ true → Contains rows row → test row ≡ true
-all-of test rows row all inside = All-contains (λ (r : ℕ). test r ≡ true) rows row (AllPass-from_list_all test rows all) inside
-
 pub covered-row : (tree : Tree) (state : State) (reach : Reach) (rows : List ℕ) (row : ℕ) → is_covered tree state reach rows ≡ true → Contains rows row
     → gives_reached (table_of tree) state reach row ≡ true
-covered-row tree state reach rows row covered inside = all-of (gives_reached (table_of tree) state reach) rows row covered inside
+covered-row tree state reach rows row covered inside = all-pass (gives_reached (table_of tree) state reach) rows row inside covered
 
 -- a value of one of several rows lies in what their ranges join to
 pub joined-in : (state : State) (rows : List ℕ) (row : ℕ) (v : Value) → Contains rows row → IsIn (range_of state row) v
