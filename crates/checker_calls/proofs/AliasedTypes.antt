@@ -36,7 +36,7 @@ use Rattle.checker_calls.specs.Environments.{Begun, LiesIn, Proper, Typed, place
 use Rattle.checker_calls.proofs.Aliased.{AreAliased}
 use Rattle.checker_calls.proofs.AliasedStores.{AreWritten, Pairs, all-pass, or-true, value-came}
 pub use Rattle.checker_calls.proofs.AliasedStores.{stored-of}
-use Rattle.checker_calls.proofs.Apart.{part}
+use Rattle.checker_state.proofs.Apart.{part}
 use Rattle.checker_calls.proofs.FormalRows.{not-both, own-row_steps, under-whole}
 use Rattle.checker_calls.proofs.PlaceTypes.{IsTypeOf, leaf-typed, part-typed}
 

@@ -256,7 +256,7 @@ module _ (tree : Tree) (pairs : List (ℕ × ℕ)) (number : ℕ) (block : Block
           selectors = [];
           way = [];
           of_row = of_row;
-          reached = record { indexes = tt; all = λ is. refl };
+          reached = record { indexes = tt; all = λ is. refl; none = λ is. refl };
           matches = tt;
           same = outer-value path.root variable here steps ∙ ap (λ (r : ℕ). value_at outer r steps) (sym (named-root tree path row named));
         };

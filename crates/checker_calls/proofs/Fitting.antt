@@ -14,7 +14,7 @@ use Rattle.checker_state.specs.Stores.{Reach}
 use Rattle.checker_calls.specs.Environments.{LiesIn, Proper, Typed, place_type, type_led}
 use Rattle.checker_calls.proofs.AliasedStores.{stored-of}
 use Rattle.checker_calls.proofs.AliasedTypes.{part-type}
-use Rattle.checker_calls.proofs.Apart.{part}
+use Rattle.checker_state.proofs.Apart.{part}
 use Rattle.checker_calls.proofs.FormalRows.{variable-accessed}
 use Rattle.checker_calls.proofs.Passed.{Leads}
 use Rattle.checker_calls.proofs.PlaceTypes.{led-then, way-typed}

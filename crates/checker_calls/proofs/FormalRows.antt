@@ -26,6 +26,8 @@ use Rattle.checker_rows.proofs.Selected.{Matches}
 use Rattle.checker_state.specs.Holds.{moment, part_of, value_at}
 use Rattle.checker_state.proofs.Rows.{of_row-within}
 use Rattle.checker_calls.proofs.Lists.{in-one, some-there}
+use Rattle.checker_rows.specs.Rows.{leaf_step}
+use Rattle.std.proofs.Common.{map}
 
 -- ---- ways
 
@@ -132,6 +134,27 @@ under-plain tree root steps row inside within = by (is_structured_variable tree 
         let behind = found.2 in
         absurd (omega (arith, within, behind))
     by false is inside = subst (λ (r : ℕ). is_structured_variable tree r ≡ false) (own steps inside) is
+
+-- an access has a variable's own row only where it is the entire variable
+pub variable-row : (tree : Tree) (root : ℕ) (selectors : List Selector) (row : ℕ) → Contains (rows_accessed tree root selectors) row
+    → row < length tree.variables.items → (root ≡ row) × (selectors ≡ [])
+variable-row tree root selectors row inside within = by (is_structured_variable tree root) inside
+  where
+    own : (selectors : List Selector) → Contains (own_row root (map leaf_step selectors)) row → (root ≡ row) × (selectors ≡ [])
+    own [] inside = (in-one root row inside, refl)
+    own (s ∷ selectors) inside = absurd (omega (arith, inside.1))
+
+    by : (b : Bool)
+        → Contains (cond b (numbers_where (is_under root (map leaf_step selectors)) (length tree.variables.items) (leaf_rows tree))
+        (own_row root (map leaf_step selectors))) row
+        → (root ≡ row) × (selectors ≡ [])
+    by true inside =
+        let test = is_under root (map leaf_step selectors) in
+        let rows = numbers_where test (length tree.variables.items) (leaf_rows tree) in
+        let found = in-numbers test (length tree.variables.items) (leaf_rows tree) row (contains-has rows row inside) in
+        let behind = found.2 in
+        absurd (omega (arith, within, behind))
+    by false inside = own selectors inside
 
 -- the type of an entire variable
 pub own-type : (tree : Tree) (root : ℕ) (variable : Variable) → slice_get tree.variables.items root ≡ Some variable

@@ -1,6 +1,5 @@
 pub mod Lists
 pub mod Headings
-pub mod Apart
 pub mod Passed
 pub mod Callee
 pub mod Assigned
@@ -22,3 +21,4 @@ pub mod Fitting
 pub mod Bearers
 pub mod Started
 pub mod Borne
+pub mod Given

@@ -46,10 +46,11 @@ AreIndexesOn env store [] numbers = Unit {0}
 AreIndexesOn env store (index ∷ indexes) [] = ⊥
 AreIndexesOn env store (index ∷ indexes) (number ∷ numbers) = IsIndexOn env store index number × AreIndexesOn env store indexes numbers
 
--- what is reached on a way, by its first indexes: all of that, where these are all indexes of the selectors
+-- what is reached on a way, by its first indexes: all of that, where these are all indexes of the selectors; none is told only where there is none
 pub record IsReachedBy (env : Environment) (store : Store) (selectors : List Selector) (way : List Step) (reach : Reach) : Type 0 where
   pub indexes : AreIndexesOn env store reach.indexes (indexes_of way)
   pub all : reach.is_all ≡ true → length reach.indexes ≡ index_count selectors
+  pub none : reach.indexes ≡ [] → index_count selectors ≡ 0
 
 -- numbers are integers
 abbrev pub AreIntegers : List ℤ → Type 0
@@ -153,11 +154,16 @@ module _ (tree : Tree) (env : Environment) (before after : Store) where
   indexes-later (index ∷ indexes) (number ∷ numbers) (integer, integers) (one, more) =
       (record { in_range = integer; of_form = λ b is. absurd (none-some b is) }, indexes-later indexes numbers integers more)
 
+  unmapped : (indexes : List Index) → map (λ index. unknown_index) indexes ≡ [] → indexes ≡ []
+  unmapped [] is = refl
+  unmapped (index ∷ indexes) is = absurd (cc)
+
   pub reached-later : (selectors : List Selector) (way : List Step) (reach : Reach) → AreIntegers (indexes_of way) → IsReachedBy env before selectors way reach
       → IsReachedBy env after selectors way (unknown_reach reach)
   reached-later selectors way reach integers reached = record {
     indexes = indexes-later reach.indexes (indexes_of way) integers reached.indexes;
     all = λ is. length-map reach.indexes (λ index. unknown_index) ∙ reached.all is;
+    none = λ is. reached.none (unmapped reach.indexes is);
   }
 
   -- it is still what is known of it then

@@ -4,3 +4,4 @@ pub mod Constants
 pub mod Behind
 pub mod Partners
 pub mod Touched
+pub mod OnWay
