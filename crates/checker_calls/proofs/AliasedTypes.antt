@@ -24,7 +24,7 @@ use Rattle.meaning.specs.Store as store
 use Rattle.checker_rows.specs.Limits.{integer, limits_or_integer, row_limits}
 use Rattle.checker_rows.specs.Rows.{Parts, Row, all_parts, is_structured_variable, no_parts, rows_of, rows_under, type_at, values_at}
 use Rattle.checker_rows.proofs.Accessed.{IsLeafRow, IsOwnRow, row-is}
-use Rattle.checker_rows.proofs.Numbered.{leaf-row, own-parts, own-row, own_of, some-at}
+use Rattle.checker_rows.proofs.Numbered.{leaf-row, own-parts, own-row, own-values, own_of, some-at}
 use Rattle.checker_state.specs.Holds.{IsIn, IsOfRow, component_at, moment, part_of, value_at}
 use Rattle.checker_state.specs.Knows.{IsKept, Shows}
 use Rattle.checker_state.specs.Loops.{is_among}
@@ -88,7 +88,7 @@ module _ (tree : Tree) (pairs : List (ℕ × ℕ)) (block activations : ℕ) (en
       part-typed tree home steps ∙ ap (option_and_then (type_led tree.types steps)) (proper.typed root home variable at is)
 
   -- that of an entire variable is the variable's
-  whole-type : (root : ℕ) (home : Place) (own : TypeId) (variable : Variable) → env.variables root ≡ Some home
+  pub whole-type : (root : ℕ) (home : Place) (own : TypeId) (variable : Variable) → env.variables root ≡ Some home
       → slice_get tree.variables.items root ≡ Some variable → place_type tree (part home []) ≡ Some own → variable.type_id ≡ own
   whole-type root home own variable at is typed = same_Some variable.type_id own (sym (part-type root home variable [] at is) ∙ typed)
 
@@ -175,6 +175,14 @@ lies-in : (types : List Form) (id : TypeId) (values : Option OrdinalRange) (v : 
     → IsIn (limits_or_integer values) v
 lies-in types id values v same (range, is, inside) =
     subst (λ (r : Option OrdinalRange). IsIn (limits_or_integer r) v) (sym (same ∙ is)) inside
+
+-- a variable's own row has the type of the variable, and its limits
+module _ (tree : Tree) (root : ℕ) (variable : Variable) (is : slice_get tree.variables.items root ≡ Some variable) where
+  pub own-row_type : type_at (rows_of tree) root ≡ Some variable.type_id
+  own-row_type = ap (option_and_then (λ (row : Row). row.leaf.type_id)) (own-row tree root variable is)
+
+  pub own-row_limits : row_limits (rows_of tree) root ≡ limits_or_integer (range_of tree.types variable.type_id)
+  own-row_limits = ap limits_or_integer (own-values tree root variable is)
 
 pub in-types : (tree : Tree) (pairs : List (ℕ × ℕ)) (block activations : ℕ) (env : Environment) (store : Store)
     → Proper tree pairs block activations env → Typed tree store → InTypes tree env store

@@ -35,7 +35,7 @@ use Rattle.checker_rows.proofs.Selected.{Matches}
 use Rattle.checker_calls.proofs.FormalRows.{first-behind_fields, no-way, same-value, variable-row}
 use Rattle.checker_state.proofs.Lists.{any-in}
 use Rattle.checker_calls.proofs.Reached.{alive, reached-has}
-use Rattle.checker_state.proofs.Looped.{range-lies}
+use Rattle.checker_state.proofs.Looped.{given-all, range-lies}
 use Rattle.checker_state.proofs.Ranged.{included-in}
 use Rattle.checker_state.specs.Stores.{Index, Reach, all_of_row, gives_reached}
 use Rattle.checker_calls.proofs.Borne.{IsBorne, IsBorneBy, IsReached, caller-kept, component-borne, lies-at, outer-value, value-received}
@@ -48,7 +48,7 @@ use Rattle.checker_rows.proofs.Accessed.{IsOf}
 use Rattle.checker_state.proofs.Given.{first-of, value-is}
 use Rattle.checker_state.proofs.Bounded.{bound-here}
 use Rattle.checker_loops.proofs.Tabled.{are-rows}
-use Rattle.checker_loops.specs.Loops.{all_said, rows_named, said, said_bound, stretch_of, table_of}
+use Rattle.checker_loops.specs.Loops.{all_said, gives_claims, rows_named, said, said_bound, stretch_of, table_of}
 use Rattle.checker_state.proofs.Bounds.{le-is, raised-is, told-of}
 use Rattle.checker_state.specs.Bounds.{Bound, constant, plus, raised_bound}
 use Rattle.checker_rows.specs.Rows.{all_parts, first_index, index_at, is_variable_row, rows_accessed, rows_of}
@@ -74,6 +74,12 @@ fact_roots (fact.Order root other number) = root ∷ other ∷ []
 -- the caller of a block may know each of them
 abbrev pub AreOutward : Tree → ℕ → Fact → Type 0
 AreOutward tree number one = (root : ℕ) → Contains (fact_roots one) root → IsOutward tree number root
+
+-- a state gives what holds where it does
+pub given-claims : (tree : Tree) (env : Environment) (state : State) (store : Store) (facts : List Fact)
+    → Knows (all_parts tree) (length tree.variables.items) env state store → gives_claims tree state facts ≡ true → AllHold tree facts env store
+given-claims tree env state store facts known given =
+    given-all (all_parts tree) (table_of tree) (are-rows tree) env state store (all_said tree facts) known given
 
 -- ---- limits
 
