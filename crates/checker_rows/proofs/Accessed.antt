@@ -22,8 +22,8 @@ use Rattle.checker_rows.specs.Leaves.{Leaf, LeafStep, begins, behind_elements, i
 use Rattle.checker_rows.specs.Rows.{Parts, Row, all_parts, components_in, first_index, index_at, leaf_rows, no_parts, parts_of, rows_accessed, rows_of}
 use Rattle.checker_rows.proofs.Components.{Has, components_of_scalar, each-alone, each-indexed, each-named, in-field_leaf, mapped-at, only}
 use Rattle.checker_rows.proofs.Leafed.{leafed_before, leaves_of_form, leaves_of_scalar}
-use Rattle.checker_rows.proofs.Numbered.{IsLeafOf, below-or, contains-has, has-contains, in-filter, leaf-of, leaf-parts, leaf-row, of-filter, own-index, own-parts}
-use Rattle.checker_rows.proofs.Numbered.{own_of, parts-many, row-of_leaf, some-at}
+use Rattle.checker_rows.proofs.Numbered.{IsLeafOf, below-or, contains-has, has-contains, in-filter, leaf-of, leaf-parts, leaf-row}
+use Rattle.checker_rows.proofs.Numbered.{of-filter, own-index, own-parts, parts-many, row-of_leaf, some-at}
 use Rattle.checker_rows.proofs.Selected.{Behind, Matches, Reaches, begins-behind, behind-named, named-behind, path_of, reaches}
 use Rattle.checker_rows.proofs.Under.{all_under, leaves_under}
 use Rattle.checker_rows.proofs.Variables.{part-there, part_under, row_of, rows-many, rows_before, under_of, variable_first}

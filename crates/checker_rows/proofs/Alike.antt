@@ -1,11 +1,11 @@
 -- A string has one leaf, which has the values of type char. So the leaf that names a component of one string names the component of another at the same
 -- place.
-use Rattle.std.proofs.Common.{arith, ◌≡◌, ◌∙◌, ap, refl, sym, ℕ, zero, suc, ◌<◌, Bool, true, List, [], ◌∷◌, length, map, Option, Some, None}
+use Rattle.std.proofs.Common.{arith, ◌≡◌, ◌∙◌, ap, refl, ℕ, zero, suc, ◌<◌, Bool, true, List, [], ◌∷◌, length, map, Option, Some, None}
 use Rattle.std.proofs.lemmas.Bool.{false≢true}
-use Rattle.std.proofs.lemmas.Option.{none-some, same_Some, slice_get_within}
+use Rattle.std.proofs.lemmas.Option.{none-some, slice_get_within}
 use Rattle.std.specs.Prelude.{slice_get}
 use Rattle.types.specs.Components.{Steps, components_of}
-use Rattle.types.specs.Forms.{Array, Boolean, Char, Form, Integer}
+use Rattle.types.specs.Forms.{Array, Char, Form}
 use Rattle.types.specs.Types.{BeginWithRequired, char, form_at, form_range, have_one_length, string_in, string_length}
 use Rattle.types.specs.declared.form.TypeId.{TypeId}
 use Rattle.types.proofs.Strings.{string_parts}
