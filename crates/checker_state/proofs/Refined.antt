@@ -52,7 +52,8 @@ use Rattle.checker_state.specs.Knows.{IsOfForm, Knows}
 use Rattle.checker_state.specs.Laws.{ConditionsTell, FormsTell}
 use Rattle.checker_state.proofs.Apart.{entire-stored}
 use Rattle.checker_state.proofs.Bounded.{Preserves, opposite-relates, related-preserves}
-use Rattle.checker_state.proofs.Evaluated.{Keeps, KeepsStore, accessed-keeps, combined-gives, compare-keeps, entered, fetch-gives, fetch-keeps, given-same, number-gives}
+use Rattle.checker_state.proofs.Evaluated.{Keeps, KeepsStore, accessed-keeps, combined-gives, compare-keeps, entered, fetch-gives, fetch-keeps, given-same}
+use Rattle.checker_state.proofs.Evaluated.{number-gives}
 use Rattle.checker_state.proofs.Evaluated.{number-is, operated-gives, result_of, then-gives, then-keeps, truth-is, whole-keeps}
 
 -- ---- forms and values
