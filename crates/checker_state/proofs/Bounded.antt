@@ -1,5 +1,5 @@
 -- What is known of two bounds that stand in a relation holds where they do.
-use Rattle.std.proofs.Common.{arith, ◌≡◌, ⊎_elim, ◌⊎◌, inl, inr, ◌∙◌, sym, ap, refl, subst, ℕ, ℤ, pos, ◌+ℤ◌, ◌-ℤ◌, ◌≤ℤ◌, ◌<ℤ◌, int_le, Bool, true, false, not}
+use Rattle.std.proofs.Common.{arith, ◌≡◌, ⊎_elim, ◌⊎◌, inl, inr, ◌∙◌, sym, ap, subst, ℕ, ℤ, pos, ◌+ℤ◌, ◌-ℤ◌, ◌≤ℤ◌, ◌<ℤ◌, int_le, Bool, true, false, not}
 use Rattle.std.proofs.Common.{cond, List, [], Option, Some, None}
 use Rattle.std.specs.Ordering.{int_eq}
 use Rattle.std.proofs.lemmas.Int.{ints, by_lt_z}
@@ -16,12 +16,12 @@ use Rattle.meaning.specs.Store.{Environment, Store}
 use Rattle.checker_rows.specs.Rows.{Parts}
 use Rattle.checker_state.specs.Bounds.{Bound}
 use Rattle.checker_state.specs.State.{Dead, Live, State, Table, bound_range, range_of, unless_empty, with_range}
-use Rattle.checker_state.specs.Conditions.{bound_at_least, bound_at_most, bound_isnt, narrowed, opposite, related, unlike, value_at_least, value_at_most}
+use Rattle.checker_state.specs.Conditions.{bound_at_most, bound_isnt, narrowed, opposite, related, unlike, value_at_least, value_at_most}
 use Rattle.checker_state.specs.Conditions.{value_isnt, with_different, with_le, with_order, with_order_of, without_first, without_last}
 use Rattle.checker_state.specs.Holds.{HasNumber, IsBound, IsBoundBy, IsIn, Moment, StateHolds, moment}
 use Rattle.checker_state.specs.Knows.{AreRows, Knows, Shows}
 use Rattle.checker_state.proofs.Assigned.{order-holds}
-use Rattle.checker_state.proofs.Bounds.{IsTold, bound-in, told-of}
+use Rattle.checker_state.proofs.Bounds.{bound-in, told-of}
 use Rattle.checker_state.proofs.Ranged.{in-present}
 use Rattle.checker_state.proofs.Rows.{own-lies, range-holds, shown}
 

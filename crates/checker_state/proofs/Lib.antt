@@ -12,3 +12,5 @@ pub mod Bounded
 pub mod Apart
 pub mod Evaluated
 pub mod Refined
+pub mod Knows
+pub mod OfTree

@@ -1,5 +1,5 @@
 -- What is known after values were stored to components of rows holds.
-use Rattle.std.proofs.Common.{arith, ◌≡◌, ◌⊎◌, ⊎_elim, inl, inr, ◌∙◌, sym, ap, refl, subst, ℕ, ℤ, pos, ◌+ℤ◌, ◌≤ℤ◌, ◌<◌, ◌≤◌, Bool, true, false, cond}
+use Rattle.std.proofs.Common.{arith, ◌≡◌, ◌⊎◌, ⊎_elim, inl, inr, ◌∙◌, sym, ap, refl, subst, ℕ, ℤ, pos, ◌+ℤ◌, ◌≤ℤ◌, ◌≤◌, Bool, true, false, cond}
 use Rattle.std.proofs.Common.{nat_eq, List, [], ◌∷◌, get_or, Option, Some, None}
 use Rattle.std.specs.List.{Contains, filter, filter_map, list_any}
 use Rattle.std.proofs.lemmas.Int.{ints, by_lt_z}
@@ -12,13 +12,14 @@ use Rattle.meaning.specs.declared.store.Value.TheVariants.{Number}
 use Rattle.meaning.specs.Store.{Environment, Store}
 use Rattle.checker_rows.specs.Rows.{Parts, first_index, no_parts}
 use Rattle.checker_state.specs.Bounds.{Bound}
-use Rattle.checker_state.specs.State.{Dead, Facts, Held, Live, Ordered, Span, State, Stretch, Stretched, Table, is_next, range_of, row_at, with_defined, with_range}
+use Rattle.checker_state.specs.State.{Dead, Facts, Held, Live, Ordered, Span, State, Stretch, Stretched, Table, is_next, range_of, row_at, with_defined}
+use Rattle.checker_state.specs.State.{with_range}
 use Rattle.checker_state.specs.State.{with_row}
 use Rattle.checker_state.specs.Loops.{is_among}
 use Rattle.checker_state.specs.Stores.{Index, Reach, all_stored, at_index, is_none, longer, longer_by, longer_of, longer_span, or_alone, stored, stored_at}
-use Rattle.checker_state.specs.Stores.{with_element, with_joined, with_some_element}
-use Rattle.checker_state.specs.Holds.{AreBounds, FactsHold, HasComponent, HasNumber, HeldHolds, IsBound, IsIn, IsOfRow, LieBetween, Moment, Numbers}
-use Rattle.checker_state.specs.Holds.{StateHolds, StretchHolds, component_at, indexes_of, moment, value_at}
+use Rattle.checker_state.specs.Stores.{with_joined, with_some_element}
+use Rattle.checker_state.specs.Holds.{FactsHold, HasComponent, HeldHolds, IsBound, IsIn, IsOfRow, LieBetween, Moment}
+use Rattle.checker_state.specs.Holds.{StateHolds, StretchHolds, component_at, moment, value_at}
 use Rattle.checker_state.specs.Knows.{AreIndexes, AreRows, AreStored, IsIndex, IsLoose, IsLooseIn, IsReach, IsReachApart, IsReached, Knows, Shows, bound_rests}
 use Rattle.checker_state.specs.Laws.{StoresHold}
 use Rattle.checker_state.proofs.Bounds.{IsTold, next-is}
@@ -37,7 +38,8 @@ least-cases x y less = by_lt_z x (y +ℤ pos 1) (λ below. inl (omega (arith, in
 
 or_alone-each : (P : Held → Type 0) (row : ℕ) (bound : Bound) (list : List Held) → P (Stretched (at_index row bound)) → Each P list
     → Each P (or_alone row bound list)
-or_alone-each P row bound [] so each one inside = ⊎_elim (λ same. subst P same so) (λ none. absurd (in-none one none)) (head-or_tail (Stretched (at_index row bound)) one [] inside)
+or_alone-each P row bound [] so each one inside =
+    ⊎_elim (λ same. subst P same so) (λ none. absurd (in-none one none)) (head-or_tail (Stretched (at_index row bound)) one [] inside)
 or_alone-each P row bound (first ∷ list) so each one inside = each one inside
 
 -- one of two tests passed
@@ -125,8 +127,8 @@ module _ (rows : List Parts) (table : Table) (are : AreRows rows table) (env : E
         ⊎_elim (λ first. absurd (differ (sym same ∙ ap (λ (o : ℕ × Interval). o.0) (sym first)))) (λ later. unpassed (next, later, same))
         (head-or_tail one next rest inside)) holds
 
-    range-in : (state : State) (steps : List Step) (v : Value) → StateWhere (one ∷ rest) state → IsOfRow rows row steps → component_at rows After row steps ≡ Some v
-        → component_at rows Before row steps ≡ Some v → IsIn (range_of state row) v
+    range-in : (state : State) (steps : List Step) (v : Value) → StateWhere (one ∷ rest) state → IsOfRow rows row steps
+        → component_at rows After row steps ≡ Some v → component_at rows Before row steps ≡ Some v → IsIn (range_of state row) v
     range-in Dead steps v holds of_row there was = absurd holds
     range-in (Live known) steps v holds of_row there was = (holds.each row).range steps v of_row there (λ pending. was)
 
@@ -272,8 +274,7 @@ module _ (rows : List Parts) (table : Table) (are : AreRows rows table) (env : E
             (apart all index (subst (λ (indexes : List Index). Contains indexes index) (sym single) (at-head index [])) bound form_is)
             (is_index bound form_is))
             (λ steps of_row first.
-            are_stored.reached one steps listed of_row
-            (
+            are_stored.reached one steps listed of_row (
               all,
               (
                 number ∷ [],
@@ -319,3 +320,26 @@ stores-hold rows table are env aliases state reach stores before after inner is_
   shows = known.shows;
   holds = stores-where rows table are env known.shows aliases reach stores before after inner stored is_reach apart state loose known.holds;
 }
+
+-- ---- an index without a form
+
+-- an index of which no form is known is stored to as one among those that are reached
+formless-same : (index : Index) → index.form ≡ None → (stores : List (ℕ × Interval)) (state : State)
+    → all_stored (record { indexes = index ∷ []; is_all = true }) stores state ≡ all_stored (record { indexes = index ∷ []; is_all = false }) stores state
+formless-same index none [] state = refl
+formless-same index none (one ∷ more) state =
+    let joined_one = with_joined one.0 one.1 state in
+    ap (λ (form : Option Bound). all_stored (record { indexes = index ∷ []; is_all = true }) more (with_some_element one.0 form joined_one)) none
+    ∙ formless-same index none more joined_one
+
+-- then no more has to be said of the stores than of those to some that are reached
+pub formless-hold : (rows : List Parts) (table : Table) → AreRows rows table
+    → (env : Environment) (aliases : List ℕ) (state : State) (index : Index) → index.form ≡ None
+    → (stores : List (ℕ × Interval)) (before after : Store) → ((one : ℕ × Interval) → Contains stores one → table.variables ≤ one.0)
+    → AreStored rows env aliases (record { indexes = index ∷ []; is_all = false }) stores before after → IsLooseIn rows env aliases state after
+    → Knows rows table.variables env state before
+    → Knows rows table.variables env (all_stored (record { indexes = index ∷ []; is_all = true }) stores state) after
+formless-hold rows table are env aliases state index none stores before after inner stored loose known =
+    subst (λ s. Knows rows table.variables env s after) (sym (formless-same index none stores state))
+    (stores-hold rows table are env aliases state (record { indexes = index ∷ []; is_all = false }) stores before after inner (λ all. absurd (cc))
+    (λ all. absurd (cc)) stored loose known)
