@@ -219,6 +219,10 @@ module _ (env : Environment) (store : Store) where
         let e = counted-then before (Field position offset ∷ []) in
         let count = reached.all is in
         omega (arith, e, count);
+    none = λ is.
+        let e = counted-then before (Field position offset ∷ []) in
+        let count = reached.none is in
+        omega (arith, e, count);
   }
 
   -- behind an element
@@ -230,12 +234,13 @@ module _ (env : Environment) (store : Store) where
     abbrev own : List Selector
     own = Element fits cells ∷ []
 
-    further : (indexes : List Index) → AreIndexesOn env store indexes (indexes_of way)
-        → IsReachedBy env store (before ++ own) longer (record { indexes = indexes; is_all = false })
-    further indexes are = record {
-      indexes = subst (λ (numbers : List ℤ). AreIndexesOn env store indexes numbers) (sym (indexes-then way (step.Element number ∷ [])))
-          (on-longer indexes (indexes_of way) (number ∷ []) are);
+    further : (one two : Index) (more : List Index) → AreIndexesOn env store (one ∷ two ∷ more) (indexes_of way)
+        → IsReachedBy env store (before ++ own) longer (record { indexes = one ∷ two ∷ more; is_all = false })
+    further one two more are = record {
+      indexes = subst (λ (numbers : List ℤ). AreIndexesOn env store (one ∷ two ∷ more) numbers) (sym (indexes-then way (step.Element number ∷ [])))
+          (on-longer (one ∷ two ∷ more) (indexes_of way) (number ∷ []) are);
       all = λ is. absurd (false≢true is);
+      none = λ is. absurd (cc);
     }
 
     next : (indexes : List Index) → AreIndexesOn env store indexes (indexes_of way) → length indexes ≡ index_count before
@@ -247,6 +252,10 @@ module _ (env : Environment) (store : Store) where
           let e = counted-then before own in
           let many = length-append indexes (index ∷ []) in
           omega (arith, e, many, count);
+      none = λ is.
+          let many = length-append indexes (index ∷ []) in
+          let empty : length (indexes ++ index ∷ []) ≡ 0 = ap length is in
+          absurd (omega (arith, many, empty));
     }
 
     deeper-reached : (is_all : Bool) (indexes : List Index) → (is_all ≡ false → 2 ≤ length indexes) → AreIndexesOn env store indexes (indexes_of way)
@@ -254,10 +263,10 @@ module _ (env : Environment) (store : Store) where
         → IsReachedBy env store (before ++ own) longer (deeper_by index indexes (record { indexes = indexes; is_all = is_all }))
     deeper-reached true [] begun are all = next [] are (all refl)
     deeper-reached true (one ∷ []) begun are all = next (one ∷ []) are (all refl)
-    deeper-reached true (one ∷ two ∷ more) begun are all = further (one ∷ two ∷ more) are
+    deeper-reached true (one ∷ two ∷ more) begun are all = further one two more are
     deeper-reached false [] begun are all = absurd (let few = begun refl in omega (arith, few))
     deeper-reached false (one ∷ []) begun are all = absurd (let few = begun refl in omega (arith, few))
-    deeper-reached false (one ∷ two ∷ more) begun are all = further (one ∷ two ∷ more) are
+    deeper-reached false (one ∷ two ∷ more) begun are all = further one two more are
 
     behind-element : (reach : Reach) → IsBegun reach → IsReachedBy env store before way reach
         → IsReachedBy env store (before ++ own) longer (deeper index reach)
@@ -269,6 +278,7 @@ any-store : (env : Environment) (before after : Store) (selectors : List Selecto
 any-store env before after selectors way reach formless reached = record {
   indexes = by reach.indexes (indexes_of way) formless reached.indexes;
   all = reached.all;
+  none = reached.none;
 }
   where
     by : (indexes : List Index) (numbers : List ℤ) → AreFormless indexes → AreIndexesOn env before indexes numbers → AreIndexesOn env after indexes numbers
@@ -463,7 +473,12 @@ module _ (world : World) (block : ℕ) (env : Surroundings) where
       (sound-enter world block visible access.number))
       (λ b a s t is from tie.
       selected-sound access.root selectors evaluations pieces all count tests t.store [] entire (visible.variables access.root)
-      (record { way = []; place_is = sym (part-none (visible.variables access.root)); matches = tt; reached = record { indexes = tt; all = λ is. refl } })
+      (record {
+        way = [];
+        place_is = sym (part-none (visible.variables access.root));
+        matches = tt;
+        reached = record { indexes = tt; all = λ is. refl; none = λ is. refl };
+      })
       (λ is. absurd (false≢true (sym is))) (λ holds. tt)))
 
   -- ---- uses
