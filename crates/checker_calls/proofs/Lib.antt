@@ -16,9 +16,14 @@ pub mod AliasedTypes
 pub mod SeenAliases
 pub mod Separated
 pub mod Claimed
+pub mod CallChanges
 pub mod Reached
 pub mod Fitting
 pub mod Bearers
 pub mod Started
 pub mod Borne
+pub mod ExitBearers
+pub mod CallLeaves
+pub mod Behind
 pub mod Given
+pub mod BehindExits

@@ -53,11 +53,11 @@ unchanged root (Ordered a b number) other is = unless-some (nat_eq root a || nat
 
 module _ (rows : List Parts) (m : Moment) where
   -- a state that some run comes to, of which so much is claimed
-  abbrev StateWhere : (Claimed : ℕ → List Step → Value → Type 0) → List ℕ → State → Type 0
+  abbrev pub StateWhere : (Claimed : ℕ → List Step → Value → Type 0) → List ℕ → State → Type 0
   StateWhere Claimed lost Dead = ⊥
   StateWhere Claimed lost (Live known) = HoldsWhere rows m Claimed lost known
 
-  changed-where : (Claimed : ℕ → List Step → Value → Type 0) (lost roots : List ℕ) (known : Facts) → length rows ≤ length known.rows
+  pub changed-where : (Claimed : ℕ → List Step → Value → Type 0) (lost roots : List ℕ) (known : Facts) → length rows ≤ length known.rows
       → ((row : ℕ) → RowWhere rows m Claimed lost row (row_at known row))
       → ((one : Held) → Contains known.held one → rests_on_any roots one ≡ false → HeldHolds rows one m)
       → StateWhere Claimed lost (all_changed roots (Live known))
