@@ -23,7 +23,6 @@ use Rattle.checker_rows.proofs.Accessed.{IsOf, row-leaf, rows-are, rows-count}
 use Rattle.checker_rows.proofs.Components.{map-at}
 use Rattle.checker_rows.proofs.Numbered.{contains-has, has-contains}
 use Rattle.checker_rows.proofs.Selected.{Matches}
-
 use Rattle.checker_state.specs.Holds.{IsIn, Moment, component_at, moment, part_of, value_at}
 use Rattle.checker_state.specs.Loops.{is_among}
 use Rattle.checker_state.specs.Stores.{Reach, entire}

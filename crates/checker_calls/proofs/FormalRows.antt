@@ -1,5 +1,5 @@
 -- A variable parameter and its actual one: the components of the one are those of the other, row by row.
-use Rattle.std.proofs.Common.{arith, Bool, cond, ◌≡◌, ⊎_elim, ◌<◌, false, ◌∙◌, sym, ap, refl, subst, ℕ, ◌+◌, true, List, [], ◌∷◌, ◌++◌, append_assoc}
+use Rattle.std.proofs.Common.{arith, Bool, cond, ◌≡◌, ⊎_elim, ◌<◌, false, ◌∙◌, sym, ap, refl, subst, ℕ, true, List, [], ◌∷◌, ◌++◌, append_assoc}
 use Rattle.std.proofs.Common.{length, Option, Some, None}
 use Rattle.std.specs.List.{Contains}
 use Rattle.std.specs.Option.{option_and_then}
@@ -8,7 +8,7 @@ use Rattle.std.proofs.lemmas.Bool.{false≢true}
 use Rattle.std.proofs.lemmas.Option.{none-some, slice_get_within}
 use Rattle.types.specs.Components.{components_of}
 use Rattle.types.specs.Forms.{Array, Form, Record}
-use Rattle.types.specs.Types.{form_at, form_kind, is_ordinal, is_structured, is_structured_kind}
+use Rattle.types.specs.Types.{form_at, form_kind, form_range, is_ordinal, is_structured, is_structured_kind}
 use Rattle.types.specs.declared.form.Step.{Step}
 use Rattle.types.specs.declared.form.Step.TheVariants as step
 use Rattle.types.specs.declared.form.TypeId.{TypeId}
@@ -19,7 +19,8 @@ use Rattle.typed_tree.specs.declared.tree.Tree.{Tree}
 use Rattle.typed_tree.specs.declared.tree.Variable.{Variable}
 use Rattle.meaning.specs.Store.{Environment, Place, Store, part, stored}
 use Rattle.checker_rows.specs.Leaves.{LeafStep}
-use Rattle.checker_rows.specs.Rows.{all_parts, first_index, is_structured_variable, is_under, leaf_rows, no_parts, numbers_where, own_row, rows_accessed, rows_under}
+use Rattle.checker_rows.specs.Rows.{all_parts, first_index, is_structured_variable, is_under, leaf_rows, no_parts, numbers_where, own_row, rows_accessed}
+use Rattle.checker_rows.specs.Rows.{rows_under}
 use Rattle.checker_rows.proofs.Accessed.{IsOf, row-is, row-leaf, rows-are, rows-count}
 use Rattle.checker_rows.proofs.Numbered.{contains-has, has-contains, in-numbers, number-under, root-of_row, row-at}
 use Rattle.checker_rows.proofs.Selected.{Matches}
@@ -80,7 +81,7 @@ first-behind_fields (Field position offset ∷ selectors) (step.Field place ∷ 
 
 -- ---- types
 
-ordinal-plain : (form : Option Form) → is_some (option_and_then Rattle.types.specs.Types.form_range form) ≡ true → is_structured_kind (option_map form_kind form) ≡ true → ⊥
+ordinal-plain : (form : Option Form) → is_some (option_and_then form_range form) ≡ true → is_structured_kind (option_map form_kind form) ≡ true → ⊥
 ordinal-plain (Some (Array packed index element)) ordinal structured = false≢true ordinal
 ordinal-plain (Some (Record packed fields)) ordinal structured = false≢true ordinal
 ordinal-plain form ordinal structured = false≢true structured

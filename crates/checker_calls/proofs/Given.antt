@@ -5,7 +5,8 @@ use Rattle.std.specs.List.{All, Contains, list_all, list_any}
 use Rattle.std.specs.Prelude.{is_some, option_map, slice_get}
 use Rattle.std.proofs.lemmas.Bool.{and_parts, eqb-true, false≢true, or_cases}
 use Rattle.std.proofs.lemmas.Int.{ints}
-use Rattle.std.proofs.lemmas.List.Elements.{All-append, All-cons, All-contains, All-contains_itself, All-map, All-nil, All-weaker, Contains-append_left, Contains-append_right}
+use Rattle.std.proofs.lemmas.List.Elements.{All-append, All-cons, All-contains, All-contains_itself, All-map, All-nil, All-weaker, Contains-append_left}
+use Rattle.std.proofs.lemmas.List.Elements.{Contains-append_right}
 use Rattle.std.proofs.lemmas.List.Sums.{AllPass-from_list_all}
 use Rattle.std.proofs.lemmas.Option.{cond_some, none-some, same_Some, slice_get_within}
 use Rattle.types.specs.Types.{is_ordinal, is_structured}
@@ -54,8 +55,11 @@ use Rattle.checker_state.specs.Bounds.{Bound, constant, plus, raised_bound}
 use Rattle.checker_rows.specs.Rows.{all_parts, first_index, index_at, is_variable_row, rows_accessed, rows_of}
 use Rattle.checker_state.specs.Knows.{IsOfForm, Knows}
 use Rattle.checker_state.specs.State.{Claim, Dead, Held, Live, Ordered, Range, Span, State, Stretched, at_most, has_value, is_below, is_dead, range_of}
-use Rattle.checker_calls.specs.Entry.{Limit, are_borne_between, are_given, are_ordered, are_reached, covers_between, forms_at_most, has_between, held_in, is_at_most, is_borne_between, is_defined_borne, is_given, limit_moved, limit_of, limit_of_actual, limit_of_bound, limit_of_plus, limit_of_variable, range_borne}
-use Rattle.checker_state.specs.Holds.{HasComponent, HasNumber, HasValue, HeldHolds, Holds, IsBound, IsIn, LieBetween, Moment, StateHolds, StretchHolds, moment, part_of, value_at}
+use Rattle.checker_calls.specs.Entry.{Limit, are_borne_between, are_given, are_ordered, are_reached, covers_between, forms_at_most, has_between, held_in}
+use Rattle.checker_calls.specs.Entry.{is_at_most, is_borne_between, is_defined_borne, is_given, limit_moved, limit_of, limit_of_actual, limit_of_bound}
+use Rattle.checker_calls.specs.Entry.{limit_of_plus, limit_of_variable, range_borne}
+use Rattle.checker_state.specs.Holds.{HasComponent, HasNumber, HasValue, HeldHolds, Holds, IsBound, IsIn, LieBetween, Moment, StateHolds, StretchHolds, moment}
+use Rattle.checker_state.specs.Holds.{part_of, value_at}
 use Rattle.checker_calls.proofs.Parameters.{IsOuter, IsOutward, IsParameter, outward-cases, parameter-block}
 use Rattle.checker_state.specs.State.{Holds as Holding}
 
@@ -495,8 +499,7 @@ module _ (tree : Tree) (pairs : List (ℕ × ℕ)) (number : ℕ) (block : Block
       in-root path row steps inside
       (between-given a b low.n high.n index low.is_limit high.is_limit above below borne.bearer path.root steps at borne.borne
       (all-bearers (is_borne_between tree state a b) bearers borne.bearer each borne.inside)))
-      (or_cases (is_at_most state (limit_moved (pos 1) b) a) (list_all (is_borne_between tree state a b) bearers) either) in
-      (
+      (or_cases (is_at_most state (limit_moved (pos 1) b) a) (list_all (is_borne_between tree state a b) bearers) either) in (
         record { first = low.n; last = high.n } ∷ [],
         (low.is_bound, high.is_bound, tt),
         λ steps index of_row at lie.

@@ -4,7 +4,6 @@ use Rattle.typed_tree.specs.declared.tree.Tree.{Tree}
 use Rattle.checker_rows.specs.Rows.{all_parts, index_at, rows_of}
 use Rattle.checker_rows.proofs.Accessed.{components-inner, indexes-are, rows-apart}
 use Rattle.checker_rows.proofs.Numbered.{own-parts}
-use Rattle.checker_state.specs.State.{Table}
 use Rattle.checker_state.specs.Knows.{AreRows}
 
 pub rows-told : (tree : Tree) → AreRows (all_parts tree) (record { variables = length tree.variables.items; index = index_at (rows_of tree) })

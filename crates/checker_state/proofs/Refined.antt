@@ -52,8 +52,9 @@ use Rattle.checker_state.specs.Knows.{IsOfForm, Knows}
 use Rattle.checker_state.specs.Laws.{ConditionsTell, FormsTell}
 use Rattle.checker_state.proofs.Apart.{entire-stored}
 use Rattle.checker_state.proofs.Bounded.{Preserves, opposite-relates, related-preserves}
-use Rattle.checker_state.proofs.Evaluated.{KeepsStore, accessed-kept, combined-gives, compare-kept, entered, fetch-gives, fetch-kept, given-same, number-gives}
-use Rattle.checker_state.proofs.Evaluated.{number-is, operated-gives, result_of, then-gives, truth-is, whole_of-kept}
+use Rattle.checker_state.proofs.Evaluated.{Keeps, KeepsStore, accessed-keeps, combined-gives, compare-keeps, entered, fetch-gives, fetch-keeps, given-same}
+use Rattle.checker_state.proofs.Evaluated.{number-gives}
+use Rattle.checker_state.proofs.Evaluated.{number-is, operated-gives, result_of, then-gives, then-keeps, truth-is, whole-keeps}
 
 -- ---- forms and values
 
@@ -456,8 +457,8 @@ value-layer (Variable access indexes defined) env s t v is =
       form_is = tells.0;
       still = tells.1;
       store_is = λ quiet.
-          fetch-kept reached.0 defined reached.1 t v reached.3
-          ∙ accessed-kept access evaluations (all-kept indexes.items quiet) env s reached.1 reached.0 reached.2;
+          then-keeps (accessed access evaluations env) (λ place. fetch place defined)
+          (accessed-keeps access evaluations (all-kept indexes.items quiet) env) (λ place. fetch-keeps place defined) s t v is;
       refines = λ quiet rows table are state known. known;
     }
 value-layer (MonadicOf number operation operand) env s t v is =
@@ -477,7 +478,7 @@ value-layer (Compare number relation left left_indexes right right_indexes) env 
   store_is = λ quiet.
       let none = or_parts (any_holds (whole_indexes left (map holds_call (map (λ (e : ProvedExpr). e.0) left_indexes.items))))
       (any_holds (whole_indexes right (map holds_call (map (λ (e : ProvedExpr). e.0) right_indexes.items)))) quiet in
-      compare-kept number relation left right (map value_of (map (λ (e : ProvedExpr). e.0) left_indexes.items))
+      compare-keeps number relation left right (map value_of (map (λ (e : ProvedExpr). e.0) left_indexes.items))
       (map value_of (map (λ (e : ProvedExpr). e.0) right_indexes.items)) (whole-parts-kept left left_indexes.items none.0)
       (whole-parts-kept right right_indexes.items none.1) env s t v is;
   refines = λ quiet rows table are state known. known;
@@ -553,17 +554,15 @@ whole-kept_of (Text number characters) indexes quiet = All-nil KeepsStore
 whole-kept_of (VariableOf access type_id cells defined) indexes quiet = all-kept_of indexes quiet
 
 -- an access that holds no call changes no variable, nor does such a whole value
-pub access-kept : (access : Access) (indexes : List Expr) → hold_call indexes ≡ false → (env : Surroundings) (s t : effect.State) (found : Option Place)
-    → accessed access (values_of indexes) env s ≡ Gives found t → t.store ≡ s.store
-access-kept access indexes quiet env s t found is = accessed-kept access (values_of indexes) (all-kept_of indexes quiet) env s t found is
+pub access-kept : (access : Access) (indexes : List Expr) → hold_call indexes ≡ false → (env : Surroundings) → Keeps (accessed access (values_of indexes) env)
+access-kept access indexes quiet env = accessed-keeps access (values_of indexes) (all-kept_of indexes quiet) env
 
-pub whole-kept : (value : Whole) (indexes : List Expr) → whole_holds_call value indexes ≡ false → (env : Surroundings) (s t : effect.State) (row : List Value)
-    → whole_of value (values_of indexes) env s ≡ Gives row t → t.store ≡ s.store
-whole-kept value indexes quiet env s t row is = whole_of-kept value (values_of indexes) (whole-kept_of value indexes quiet) env s t row is
+pub whole-kept : (value : Whole) (indexes : List Expr) → whole_holds_call value indexes ≡ false → (env : Surroundings)
+    → Keeps (whole_of value (values_of indexes) env)
+whole-kept value indexes quiet env = whole-keeps value (values_of indexes) (whole-kept_of value indexes quiet) env
 
 -- an expression that holds no call changes no variable
-pub expression-kept : (e : Expr) → holds_call e ≡ false → (env : Surroundings) (s t : effect.State) (v : Value) → value_of e env s ≡ Gives v t
-    → t.store ≡ s.store
+pub expression-kept : (e : Expr) → holds_call e ≡ false → KeepsStore (value_of e)
 expression-kept e quiet env s t v is = (evaluates e env s t v is).store_is quiet
 
 -- the value of an expression of a bound form is its bound
