@@ -1,0 +1,16 @@
+pub mod Lists
+pub mod Ranged
+pub mod Rows
+pub mod Bounds
+pub mod Given
+pub mod Joins
+pub mod Changed
+pub mod Assigned
+pub mod Looped
+pub mod Stored
+pub mod Bounded
+pub mod Apart
+pub mod Evaluated
+pub mod Refined
+pub mod Knows
+pub mod OfTree
