@@ -1,9 +1,9 @@
 -- What is known after a store through one variable of its aliases: it holds where the state did, before the store, and rests on no value that an alias may
 -- have got.
-use Rattle.std.proofs.Common.{arith, ◌≡◌, ⊎_elim, ◌⊎◌, inl, inr, ◌∙◌, sym, ap, refl, subst, ℕ, zero, suc, ◌<◌, Bool, true, false, cond, ◌||◌, nat_eq, List, []}
-use Rattle.std.proofs.Common.{◌∷◌, get_or, length, set, Option, Some, None}
+use Rattle.std.proofs.Common.{arith, ◌≡◌, ⊎_elim, ◌⊎◌, inl, inr, sym, ap, refl, subst, ℕ, zero, suc, ◌<◌, Bool, true, false, cond, nat_eq, List, []}
+use Rattle.std.proofs.Common.{◌∷◌, get_or, length, set, Some, None}
 use Rattle.std.specs.Prelude.{slice_index_or}
-use Rattle.std.specs.List.{Contains, filter_map}
+use Rattle.std.specs.List.{Contains}
 use Rattle.std.proofs.lemmas.Bool.{eqb-true, or_cases, or_from}
 use Rattle.std.proofs.lemmas.List.{get_or-set_same, length-set}
 use Rattle.types.specs.declared.form.Step.{Step}
@@ -34,14 +34,14 @@ EachHeld P (Live known) = Each P known.held
 left-one : (root : ℕ) (P : Held → Type 0) (state : State) → EachHeld P state
     → EachHeld (λ one. (rests_on root one ≡ false) × P one) (with_change root None state)
 left-one root P Dead each = tt
-left-one root P (Live known) each one listed =
+left-one root P (Live known) each = λ one listed.
     let (old, old_listed, became) = in-filter_map (changed root None) known.held one listed in
     let parts = unchanged root old one became in
     subst (λ h. (rests_on root h ≡ false) × P h) parts.1 (parts.0, each old old_listed)
 
 held-weaker : (P Q : Held → Type 0) → ((one : Held) → P one → Q one) → (state : State) → EachHeld P state → EachHeld Q state
 held-weaker P Q then Dead each = tt
-held-weaker P Q then (Live known) each one listed = then one (each one listed)
+held-weaker P Q then (Live known) each = λ one listed. then one (each one listed)
 
 -- what is left rests on none of the variables
 held-left : (roots : List ℕ) (P : Held → Type 0) (state : State) → EachHeld P state
@@ -56,7 +56,7 @@ held-left (root ∷ roots) P state each =
 
 any-held : (state : State) → EachHeld (λ one. Unit {0}) state
 any-held Dead = tt
-any-held (Live known) one listed = tt
+any-held (Live known) = λ one listed. tt
 
 -- and holds where the state did
 left-holds : (rows : List Parts) (m : Moment) (roots : List ℕ) (state : State) → StateHolds rows state m → StateHolds rows (all_changed roots state) m

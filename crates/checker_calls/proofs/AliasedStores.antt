@@ -12,7 +12,7 @@ use Rattle.checker_state.specs.Holds.{HasValue, Separate, moment, part_of, value
 use Rattle.checker_state.specs.Knows.{IsKept, OneChanges}
 use Rattle.checker_state.specs.Loops.{is_among}
 use Rattle.checker_loops.specs.Pairs.{aliases_of, partner}
-use Rattle.checker_calls.proofs.Apart.{part, part-kept, parts-same, place-itself, place-same}
+use Rattle.checker_state.proofs.Apart.{part, part-kept, parts-same, place-itself, place-same}
 
 -- ---- lists
 

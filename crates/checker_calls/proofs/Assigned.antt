@@ -27,7 +27,7 @@ use Rattle.meaning.specs.Store.{Environment, Place, Store, kept, part, place_eq,
 use Rattle.checker_calls.specs.Environments.{LiesIn, type_led}
 use Rattle.checker_calls.proofs.Callee.{not-both_kinds}
 use Rattle.checker_calls.proofs.Passed.{AllFit, Fits}
-use Rattle.checker_calls.proofs.Apart.{written-stored}
+use Rattle.checker_state.proofs.Apart.{written-stored}
 
 -- ---- places that are the same
 

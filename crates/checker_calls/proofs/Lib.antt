@@ -1,6 +1,5 @@
 pub mod Lists
 pub mod Headings
-pub mod Apart
 pub mod Passed
 pub mod Callee
 pub mod Assigned
@@ -11,3 +10,20 @@ pub mod LedComponents
 pub mod Places
 pub mod AliasedStores
 pub mod Parameters
+pub mod FormalRows
+pub mod Aliased
+pub mod AliasedTypes
+pub mod SeenAliases
+pub mod Separated
+pub mod Claimed
+pub mod CallChanges
+pub mod Reached
+pub mod Fitting
+pub mod Bearers
+pub mod Started
+pub mod Borne
+pub mod ExitBearers
+pub mod CallLeaves
+pub mod Behind
+pub mod Given
+pub mod BehindExits

@@ -16,6 +16,10 @@ some-there (item ∷ items) (suc k) within = some-there items k (omega (arith, w
 pub contains-more : {A : Type 0} (first : A) (items : List A) (item : A) → Contains items item → Contains (first ∷ items) item
 contains-more first items item (k, within, at) = (suc k, omega (arith, within), at)
 
+pub in-one : {A : Type 0} (one item : A) → Contains (one ∷ []) item → one ≡ item
+in-one one item (zero, within, at) = at
+in-one one item (suc k, within, at) = absurd (omega (arith, within))
+
 -- ---- numbers
 
 pub among-contains : (items : List ℕ) (item : ℕ) → is_among item items ≡ true → Contains items item

@@ -1,5 +1,5 @@
 -- What is passed to the formal parameters of a block, as the meaning has it, as it fits them, and as the checker knows it.
-use Rattle.std.proofs.Common.{arith, ◌≡◌, ◌∙◌, sym, refl, subst, ℕ, ◌<◌, ℤ, ◌≤ℤ◌, Bool, true, false, List, [], ◌∷◌, length, map, Option, Some, None}
+use Rattle.std.proofs.Common.{arith, ◌≡◌, ◌∙◌, refl, ℕ, ◌<◌, ℤ, ◌≤ℤ◌, true, List, [], ◌∷◌, length, map, Option, Some, None}
 use Rattle.std.specs.Prelude.{int_le, nat_lt, neg_ℤ, slice_get, ◌&&◌}
 use Rattle.std.specs.List.{list_all}
 use Rattle.std.proofs.lemmas.List.{length-map}
@@ -30,7 +30,7 @@ use Rattle.checker_rows.proofs.Selected.{Matches}
 use Rattle.checker_state.specs.Holds.{IsIn, indexes_of, moment}
 use Rattle.checker_state.specs.Knows.{IsIndex, IsOfForm}
 use Rattle.checker_state.specs.Stores.{Index, Reach}
-use Rattle.checker_calls.specs.Actuals.{Actual, OfRows, OfValue, OfVariable, after_call, settled, unknown_index, unknown_reach}
+use Rattle.checker_calls.specs.Actuals.{Actual, OfRows, OfValue, OfVariable, after_call, unknown_index, unknown_reach}
 use Rattle.checker_calls.specs.Environments.{LiesIn, place_type, type_led}
 
 -- ---- what an access reaches
@@ -46,10 +46,11 @@ AreIndexesOn env store [] numbers = Unit {0}
 AreIndexesOn env store (index ∷ indexes) [] = ⊥
 AreIndexesOn env store (index ∷ indexes) (number ∷ numbers) = IsIndexOn env store index number × AreIndexesOn env store indexes numbers
 
--- what is reached on a way, by its first indexes: all of that, where these are all indexes of the selectors
+-- what is reached on a way, by its first indexes: all of that, where these are all indexes of the selectors; none is told only where there is none
 pub record IsReachedBy (env : Environment) (store : Store) (selectors : List Selector) (way : List Step) (reach : Reach) : Type 0 where
   pub indexes : AreIndexesOn env store reach.indexes (indexes_of way)
   pub all : reach.is_all ≡ true → length reach.indexes ≡ index_count selectors
+  pub none : reach.indexes ≡ [] → index_count selectors ≡ 0
 
 -- numbers are integers
 abbrev pub AreIntegers : List ℤ → Type 0
@@ -153,11 +154,16 @@ module _ (tree : Tree) (env : Environment) (before after : Store) where
   indexes-later (index ∷ indexes) (number ∷ numbers) (integer, integers) (one, more) =
       (record { in_range = integer; of_form = λ b is. absurd (none-some b is) }, indexes-later indexes numbers integers more)
 
+  unmapped : (indexes : List Index) → map (λ index. unknown_index) indexes ≡ [] → indexes ≡ []
+  unmapped [] is = refl
+  unmapped (index ∷ indexes) is = absurd (cc)
+
   pub reached-later : (selectors : List Selector) (way : List Step) (reach : Reach) → AreIntegers (indexes_of way) → IsReachedBy env before selectors way reach
       → IsReachedBy env after selectors way (unknown_reach reach)
   reached-later selectors way reach integers reached = record {
     indexes = indexes-later reach.indexes (indexes_of way) integers reached.indexes;
     all = λ is. length-map reach.indexes (λ index. unknown_index) ∙ reached.all is;
+    none = λ is. reached.none (unmapped reach.indexes is);
   }
 
   -- it is still what is known of it then
@@ -181,21 +187,3 @@ module _ (tree : Tree) (env : Environment) (before after : Store) where
     typed,
     integers,
   )
-
-  pub after-call_arguments : (roots : List ℕ) (actuals : List Actual) (arguments : List Argument) → AreArguments tree env before roots actuals arguments
-      → AreArguments tree env after roots (map after_call actuals) arguments
-  after-call_arguments [] [] [] are = tt
-  after-call_arguments [] [] (argument ∷ arguments) are = absurd are
-  after-call_arguments [] (actual ∷ actuals) arguments are = absurd are
-  after-call_arguments (root ∷ roots) [] arguments are = absurd are
-  after-call_arguments (root ∷ roots) (actual ∷ actuals) [] are = absurd are
-  after-call_arguments (root ∷ roots) (actual ∷ actuals) (argument ∷ arguments) (formal, is, own, others) =
-      (formal, is, after-call_argument formal actual argument own, after-call_arguments roots actuals arguments others)
-
--- what is known of actual parameters where one of them may hold a call; where none does, nothing changed
-pub settled-arguments : (tree : Tree) (env : Environment) (before after : Store) (holds_call : Bool) (roots : List ℕ) (actuals : List Actual)
-    (arguments : List Argument) → (holds_call ≡ false → after ≡ before) → AreArguments tree env before roots actuals arguments
-    → AreArguments tree env after roots (settled holds_call actuals) arguments
-settled-arguments tree env before after true roots actuals arguments same are = after-call_arguments tree env before after roots actuals arguments are
-settled-arguments tree env before after false roots actuals arguments same are =
-    subst (λ (store : Store). AreArguments tree env store roots actuals arguments) (sym (same refl)) are

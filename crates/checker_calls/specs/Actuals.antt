@@ -19,8 +19,8 @@ pub data Actual : Type 0 where
   OfRows : List Interval → Actual
   OfVariable : ℕ → List Selector → Reach → Actual
 
--- what has the values of a leaf of a formal parameter for the caller: a value of its own, which lies in a range; or what
--- is reached in a row
+-- what has the values of a leaf of a formal parameter for the caller: a value of its own, which lies in a range; or
+-- what is reached in a row
 pub data Bearer : Type 0 where
   Passed : Interval → Bearer
   Reached : (row : ℕ) → Reach → Bearer

@@ -7,7 +7,8 @@ use Rattle.typed_tree.specs.declared.tree.Tree.{Tree}
 use Rattle.domain.specs.Interval.{Interval, is_included}
 use Rattle.domain.specs.Facts as fact
 use Rattle.checker_state.specs.Bounds.{Bound, constant, plus, raised_bound}
-use Rattle.checker_state.specs.State.{Dead, Held, Live, Ordered, Span, State, Stretched, at_most, bound_range, has_value}
+use Rattle.checker_state.specs.State.{Dead, Held, Live, Ordered, Span, State, Stretched, at_most, bound_range}
+use Rattle.checker_state.specs.State.{has_value}
 use Rattle.checker_state.specs.State.{is_below, is_dead, moved, range_of}
 use Rattle.checker_state.specs.Stores.{Index, Reach, gives_reached}
 use Rattle.checker_loops.specs.Loops.{table_of}

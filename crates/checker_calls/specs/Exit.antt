@@ -2,7 +2,7 @@
 -- claims of the callee: the variables that it changes, and the facts that hold where it ends, in which each formal
 -- parameter stands for its actual one. It does not say that the callee keeps to these claims.
 use Rattle.std.specs.Prelude.{ℕ, ℤ, pos, ◌-ℤ◌, Bool, true, false, not, ◌&&◌, ◌||◌, List, [], ◌∷◌, ◌++◌, Option}
-use Rattle.std.specs.Prelude.{Some, None, if◌then◌else◌, filter, flat_map, map, nat_eq, slice_get}
+use Rattle.std.specs.Prelude.{Some, None, if◌then◌else◌, filter, flat_map, nat_eq, slice_get}
 use Rattle.std.specs.List.{list_any}
 use Rattle.types.specs.declared.form.TypeId.{TypeId}
 use Rattle.typed_tree.specs.declared.tree.Tree.{Tree}

@@ -1,5 +1,5 @@
 -- The rows of a program are as the laws of states ask: the first are those of variables, and each component is of one row.
-use Rattle.std.proofs.Common.{◌≡◌, ℕ, ◌<◌, ◌≤◌, refl}
+use Rattle.std.proofs.Common.{[], refl}
 use Rattle.typed_tree.specs.declared.tree.Tree.{Tree}
 use Rattle.checker_rows.specs.Rows.{all_parts}
 use Rattle.checker_rows.proofs.Accessed.{components-inner, indexes-are, rows-apart}

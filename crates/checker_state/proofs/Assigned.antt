@@ -1,9 +1,9 @@
 -- What is known after a variable was assigned a value, or became undefined, holds.
 use Rattle.std.proofs.Common.{arith, ◌≡◌, ⊎_elim, ◌∙◌, sym, ap, refl, subst, ℕ, ℤ, ◌+ℤ◌, neg_ℤ, ◌≤ℤ◌, ◌<◌, Bool, true, false, cond, ◌||◌, nat_eq, List, []}
 use Rattle.std.proofs.Common.{◌∷◌, get_or, Option, Some, None}
-use Rattle.std.specs.List.{Contains, filter_map}
+use Rattle.std.specs.List.{filter_map}
 use Rattle.std.proofs.lemmas.Int.{ints}
-use Rattle.std.proofs.lemmas.Bool.{both_ways, cases_Bool, cond_both, eq-eqb, eqb-true, or_from}
+use Rattle.std.proofs.lemmas.Bool.{both_ways, cases_Bool, cond_both, eq-eqb, or_from}
 use Rattle.std.proofs.lemmas.Option.{none-some, same_Some}
 use Rattle.domain.specs.Interval.{Interval, vacant}
 use Rattle.types.specs.declared.form.Step.{Step}
@@ -13,16 +13,17 @@ use Rattle.meaning.specs.declared.store.Value.TheVariants.{Number}
 use Rattle.meaning.specs.Store.{Environment, Store}
 use Rattle.checker_rows.specs.Rows.{Parts, first_index, no_parts}
 use Rattle.checker_state.specs.Bounds.{Bound}
-use Rattle.checker_state.specs.State.{Dead, Facts, Held, Live, Ordered, State, Table, row_at, with_row, with_value}
-use Rattle.checker_state.specs.Changes.{assigned, changed, ordered, with_change, with_equal, with_equal_to, with_some}
+use Rattle.checker_state.specs.State.{Dead, Facts, Live, Ordered, State, Table, row_at, with_row, with_value}
+use Rattle.checker_state.specs.Changes.{changed, ordered, with_change, with_equal, with_equal_to, with_some}
 use Rattle.checker_state.specs.Loops.{is_among, with_undefined}
-use Rattle.checker_state.specs.Holds.{FactsHold, HasNumber, HeldHolds, IsBound, IsBoundBy, IsIn, IsOfRow, IsWhole, Moment, StateHolds, component_at, moment}
+use Rattle.checker_state.specs.Holds.{FactsHold, HasNumber, IsBoundBy, IsIn, IsOfRow, Moment, StateHolds, moment}
 use Rattle.checker_state.specs.Holds.{value_at}
-use Rattle.checker_state.specs.Knows.{AreRows, IsFormApart, IsLoose, IsLooseIn, IsOfForm, Knows, OneChanges, bound_rests, rests_on_any}
+use Rattle.checker_state.specs.Knows.{AreRows, IsFormApart, IsLoose, IsLooseIn, IsOfForm, Knows, OneChanges, bound_rests}
 use Rattle.checker_state.specs.Laws.{AssignmentsHold}
 use Rattle.checker_state.proofs.Changed.{IsNumberOf, KeepNumbers, changed-holds, changes-keep}
 use Rattle.checker_state.proofs.Lists.{in-filter_map}
-use Rattle.checker_state.proofs.Rows.{Any_value, HoldsWhere, defined-where, forgotten-where, held-holds, of_own, own-lies, own-whole, range-where, root-own, where-all}
+use Rattle.checker_state.proofs.Rows.{Any_value, HoldsWhere, defined-where, forgotten-where, held-holds, of_own, own-lies, own-whole, range-where, root-own}
+use Rattle.checker_state.proofs.Rows.{where-all}
 
 -- an order that holds is known, if its number is one that facts have
 pub order-holds : (rows : List Parts) (m : Moment) (state : State) (a b : ℕ) (x y k : ℤ) → HasNumber m a x → HasNumber m b y → x ≤ℤ (y +ℤ k)
@@ -92,6 +93,7 @@ module _ (rows : List Parts) (table : Table) (are : AreRows rows table) (env : E
     where
       root-among : (root : ℕ) → (nat_eq root root || false) ≡ true
       root-among root = ap (λ (b : Bool). b || false) (eq-eqb root root refl)
+
       no-first : (steps : List Step) (index : ℤ) → steps ≡ [] → first_index steps ≡ Some index → ⊥
       no-first steps index none first = none-some index (sym (ap first_index none) ∙ first)
 

@@ -1,6 +1,6 @@
 -- The numbers of bounds: that they lie in their ranges, and which of two that are known to stand in an order is greater.
-use Rattle.std.proofs.Common.{arith, ◌≡◌, ⊎_elim, ◌∙◌, sym, ap, refl, subst, ℕ, ℤ, pos, ◌+ℤ◌, ◌≤ℤ◌, int_le, Bool, true, false, not, ◌&&◌, ◌||◌, nat_eq}
-use Rattle.std.proofs.Common.{get_or, List, [], ◌∷◌, Option, Some, None}
+use Rattle.std.proofs.Common.{arith, ◌≡◌, ⊎_elim, ◌∙◌, sym, ap, refl, subst, ℕ, ℤ, pos, ◌+ℤ◌, ◌≤ℤ◌, int_le, true, not, ◌&&◌, ◌||◌}
+use Rattle.std.proofs.Common.{List, [], Option, Some, None}
 use Rattle.std.specs.List.{Contains, list_any}
 use Rattle.std.proofs.lemmas.Int.{ints}
 use Rattle.std.proofs.lemmas.Bool.{and_parts, eqb-true, or_cases}
@@ -11,10 +11,10 @@ use Rattle.meaning.specs.declared.store.Value.TheVariants.{Number}
 use Rattle.meaning.specs.Store.{Environment, Store}
 use Rattle.checker_rows.specs.Rows.{Parts}
 use Rattle.checker_state.specs.Bounds.{Bound, is_at_most, is_same_variable, is_variable, moved_bound, raised_bound}
-use Rattle.checker_state.specs.State.{Facts, Held, Live, Ordered, State, Stretched, Table, bound_range, bound_range_by, is_below, is_next, le, lies_below, range_of}
+use Rattle.checker_state.specs.State.{Facts, Held, Live, Ordered, Stretched, Table, bound_range, bound_range_by, is_below, is_next, le, lies_below}
 use Rattle.checker_state.specs.State.{row_at, says_at_most}
 use Rattle.checker_state.specs.Holds.{FactsHold, HasNumber, HeldHolds, IsBound, IsBoundBy, Moment, moment, value_at}
-use Rattle.checker_state.specs.Knows.{AreRows, Knows, Shows}
+use Rattle.checker_state.specs.Knows.{AreRows, Shows}
 use Rattle.checker_state.proofs.Lists.{any-in}
 use Rattle.checker_state.proofs.Rows.{lies-own, shown}
 

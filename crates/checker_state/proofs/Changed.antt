@@ -1,9 +1,9 @@
 -- What is left of what is held holds after variables changed, and with a bound in the place of a variable.
-use Rattle.std.proofs.Common.{arith, ◌≡◌, ⊎_elim, ◌∙◌, sym, ap, refl, subst, ℕ, ℤ, ◌+ℤ◌, neg_ℤ, ◌≤ℤ◌, Bool, true, false, cond, ◌||◌, nat_eq, List, [], ◌∷◌}
+use Rattle.std.proofs.Common.{arith, ◌≡◌, ◌∙◌, sym, ap, refl, subst, ℕ, ℤ, ◌+ℤ◌, neg_ℤ, Bool, true, false, cond, ◌||◌, nat_eq, List, [], ◌∷◌}
 use Rattle.std.proofs.Common.{Option, Some, None}
 use Rattle.std.specs.List.{list_any}
 use Rattle.std.proofs.lemmas.Int.{ints}
-use Rattle.std.proofs.lemmas.Bool.{both_ways, cases_Bool, eq-eqb, eqb-true, or_from, or_parts}
+use Rattle.std.proofs.lemmas.Bool.{both_ways, eq-eqb, eqb-true, or_from, or_parts}
 use Rattle.std.proofs.lemmas.Option.{cond_some, none-some, same_Some}
 use Rattle.types.specs.declared.form.Step.{Step}
 use Rattle.meaning.specs.Integers.{is_integer_number}
@@ -11,8 +11,9 @@ use Rattle.meaning.specs.Store.{Environment, Store}
 use Rattle.checker_rows.specs.Rows.{Parts, first_index}
 use Rattle.checker_state.specs.Bounds.{Bound, is_variable, moved_bound}
 use Rattle.checker_state.specs.State.{Held, Ordered, Span, Stretched}
-use Rattle.checker_state.specs.Changes.{all_with_bounds, both_there, bound_in_place, bound_rests_on, changed, changed_bound, changed_bound_by, changed_order}
-use Rattle.checker_state.specs.Changes.{in_place, instead, order_in_place, ordered, raised, raised_number, span_between, span_rests_on, stretch_of, unless_resting}
+use Rattle.checker_state.specs.Changes.{all_with_bounds, both_there, bound_in_place, bound_rests_on, changed, changed_bound, changed_bound_by}
+use Rattle.checker_state.specs.Changes.{in_place, instead, order_in_place, ordered, raised, raised_number, span_between, span_rests_on, stretch_of}
+use Rattle.checker_state.specs.Changes.{unless_resting}
 use Rattle.checker_state.specs.Changes.{with_bounds}
 use Rattle.checker_state.specs.Loops.{is_among}
 use Rattle.checker_state.specs.Holds.{AreBounds, HasComponent, HasNumber, HeldHolds, IsBound, IsBoundBy, IsOfRow, Moment, Numbers, StretchHolds, moment}
@@ -139,8 +140,12 @@ module _ (before after : Moment) (roots : List ℕ) (keep : KeepNumbers roots be
 
   pub held-stays : (rows : List Parts) → StaysDefined rows before after → (one : Held) → rests_on_any roots one ≡ false → HeldHolds rows one before
       → HeldHolds rows one after
-  held-stays rows stays (Stretched stretch) free (numbers, are, each) =
-      (numbers, spans-stay stretch.spans numbers free are, λ steps index of_row first lie. stays stretch.row steps index of_row first (each steps index of_row first lie))
+  held-stays rows stays (Stretched stretch) free (numbers, are, each) = (
+    numbers,
+    spans-stay stretch.spans numbers free are,
+    λ steps index of_row first lie. stays stretch.row steps index of_row first
+        (each steps index of_row first lie),
+  )
   held-stays rows stays (Ordered a b number) free (m, n, at_a, at_b, less) =
       let apart = apart-both (λ root. nat_eq root a) (λ root. nat_eq root b) roots free in
       (m, n, keep a m apart.0 at_a, keep b n apart.1 at_b, less)

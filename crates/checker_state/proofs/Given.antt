@@ -1,5 +1,5 @@
 -- Claims that a state gives hold where it holds.
-use Rattle.std.proofs.Common.{arith, ◌≡◌, ⊎_elim, ◌∙◌, sym, ap, refl, subst, ℕ, ℤ, pos, ◌+ℤ◌, ◌≤ℤ◌, Bool, true, false, ◌&&◌, ◌||◌, nat_eq, nat_lt}
+use Rattle.std.proofs.Common.{arith, ◌≡◌, ⊎_elim, ◌∙◌, sym, ap, refl, subst, ℕ, ℤ, pos, ◌+ℤ◌, ◌≤ℤ◌, true, ◌&&◌, ◌||◌, nat_eq, nat_lt}
 use Rattle.std.proofs.Common.{List, [], ◌∷◌, Option, Some, None}
 use Rattle.std.specs.List.{list_any}
 use Rattle.std.proofs.lemmas.Int.{ints}
@@ -7,7 +7,6 @@ use Rattle.std.proofs.lemmas.Bool.{and_parts, eqb-true, ltb-true, or_cases}
 use Rattle.types.specs.declared.form.OrdinalRange.{OrdinalRange}
 use Rattle.types.specs.declared.form.Step.{Step}
 use Rattle.types.specs.declared.form.Step.TheVariants as step
-use Rattle.meaning.specs.declared.store.Value.{Value}
 use Rattle.meaning.specs.declared.store.Value.TheVariants.{Number}
 use Rattle.meaning.specs.Store.{Environment, Store}
 use Rattle.checker_rows.specs.Rows.{Parts, first_index}
@@ -16,7 +15,7 @@ use Rattle.checker_state.specs.State.{Claim, Dead, Defined, Facts, Held, Holds a
 use Rattle.checker_state.specs.State.{covers, gives, gives_claim, gives_stretch, has_number, has_span, has_value, has_values, have_spans, have_values, is_empty}
 use Rattle.checker_state.specs.State.{is_spanned, is_whole, le, row_at, state_gives}
 use Rattle.checker_state.specs.Holds.{AreBounds, AreDefined, FactsHold, HasNumber, HasValue, HeldHolds, Holds, IsBound, IsBoundBy, IsWhole, LieBetween, Moment}
-use Rattle.checker_state.specs.Holds.{Numbers, StateHolds, StretchHolds, indexes_of, moment, value_at}
+use Rattle.checker_state.specs.Holds.{Numbers, StateHolds, StretchHolds, indexes_of, moment}
 use Rattle.checker_state.specs.Knows.{AreRows, Shows}
 use Rattle.checker_state.specs.Laws.{GivenHolds}
 use Rattle.checker_state.proofs.Bounds.{IsTold, le-is, lies_below-is, told-of}
@@ -79,7 +78,8 @@ module _ (rows : List Parts) (m : Moment) (known : Facts) (told : IsTold rows m 
       by (Stretched stretch) (around, around_are, each) is =
           let parts = and_parts (nat_eq wanted.row stretch.row) (have_spans known wanted.spans stretch.spans) is in
           subst (λ row. AreDefined rows row numbers m) (sym (eqb-true wanted.row stretch.row parts.0))
-          (λ steps index of_row first lie. each steps index of_row first (spans-have wanted.spans stretch.spans numbers around (indexes_of steps) parts.1 are around_are lie))
+          (λ steps index of_row first lie. each steps index of_row first
+          (spans-have wanted.spans stretch.spans numbers around (indexes_of steps) parts.1 are around_are lie))
 
 -- ---- what is given
 

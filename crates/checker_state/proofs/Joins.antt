@@ -1,7 +1,7 @@
 -- What is known where two ways meet holds, whichever was taken.
-use Rattle.std.proofs.Common.{arith, ◌≡◌, ⊎_elim, refl, sym, subst, ℕ, ◌<◌, ◌≤◌, max, ◌&&◌, ◌||◌, true, List, [], length, filter}
+use Rattle.std.proofs.Common.{arith, ⊎_elim, refl, sym, subst, ℕ, ◌<◌, ◌≤◌, max, ◌&&◌, List, [], length, filter}
 use Rattle.std.specs.List.{Contains}
-use Rattle.std.proofs.lemmas.Bool.{and_parts, cases_lt, or_cases}
+use Rattle.std.proofs.lemmas.Bool.{and_parts, or_cases}
 use Rattle.std.proofs.lemmas.List.FromFn.{get_or-map-range_with_len, length-map-range_with_len}
 use Rattle.meaning.specs.Store.{Environment, Store}
 use Rattle.checker_rows.specs.Rows.{Parts}

@@ -7,3 +7,10 @@ pub mod Joins
 pub mod Changed
 pub mod Assigned
 pub mod Looped
+pub mod Stored
+pub mod Bounded
+pub mod Apart
+pub mod Evaluated
+pub mod Refined
+pub mod Knows
+pub mod OfTree

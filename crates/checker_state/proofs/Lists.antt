@@ -6,7 +6,6 @@ use Rattle.std.specs.declared.cmp.Ordering.TheVariants.{Less, Equal, Greater}
 use Rattle.std.proofs.lemmas.Bool.{both_ways, eq-eqb, false_from_ne_true}
 use Rattle.std.proofs.lemmas.List.Elements.{All-contains, All-contains_itself, All-filter, filter_passes}
 use Rattle.std.proofs.lemmas.List.Folds.{Any-from_list_any, list_any-from_Any}
-use Rattle.std.proofs.lemmas.Option.{same_Some}
 use Rattle.checker_state.specs.State.{Held, held_order, put, with_more, with_one}
 use Rattle.checker_state.specs.Loops.{is_among}
 
@@ -49,7 +48,8 @@ none-in test list none one (k, within, is) =
 
 -- a number that isn't among some is none of them
 pub not-among : (number : ℕ) (numbers : List ℕ) → is_among number numbers ≡ false → Contains numbers number → ⊥
-not-among number numbers is inside = both_ways (nat_eq number number) (none-in (λ other. nat_eq other number) numbers is number inside) (eq-eqb number number refl)
+not-among number numbers is inside =
+    both_ways (nat_eq number number) (none-in (λ other. nat_eq other number) numbers is number inside) (eq-eqb number number refl)
 
 -- ---- what elements become
 

@@ -1,8 +1,8 @@
 -- What is known at the head of a loop, and behind it with a bound in its control variable's place, holds.
-use Rattle.std.proofs.Common.{arith, ◌≡◌, ⊎_elim, ◌∙◌, sym, ap, refl, subst, ℕ, ℤ, ◌<◌, ◌≤◌, Bool, true, false, nat_eq, ◌||◌, List, [], ◌∷◌, get_or, length}
+use Rattle.std.proofs.Common.{◌≡◌, ⊎_elim, ◌∙◌, sym, ap, refl, subst, ℕ, ℤ, ◌<◌, ◌≤◌, true, false, nat_eq, ◌||◌, List, [], ◌∷◌, get_or, length}
 use Rattle.std.proofs.Common.{Option, Some, None}
 use Rattle.std.specs.List.{All, Contains, filter_map, list_any}
-use Rattle.std.proofs.lemmas.Bool.{cases_lt, and_parts, or_from, or_parts}
+use Rattle.std.proofs.lemmas.Bool.{cases_lt, and_parts, or_from}
 use Rattle.std.proofs.lemmas.List.Elements.{All-cons, All-head, All-nil, All-tail}
 use Rattle.std.proofs.lemmas.Option.{none-some, same_Some}
 use Rattle.domain.specs.Interval.{Interval, common}
@@ -11,19 +11,20 @@ use Rattle.meaning.specs.declared.store.Value.{Value}
 use Rattle.meaning.specs.Store.{Environment, Store}
 use Rattle.checker_rows.specs.Rows.{Parts, first_index, no_parts}
 use Rattle.checker_state.specs.Bounds.{Bound}
-use Rattle.checker_state.specs.State.{Claim, Dead, Defined, Facts, Held, Holds as Holding, Live, Ordered, Range, Span, State, Stretched, Table, range_of, row_at}
-use Rattle.checker_state.specs.State.{state_gives, with_more, with_range}
-use Rattle.checker_state.specs.Changes.{all_changed, all_with_bounds, bound_rests_on, changed, changed_bound, in_place, rests_on, span_rests_on, unless_resting}
+use Rattle.checker_state.specs.State.{Claim, Dead, Defined, Facts, Held, Holds as Holding, Live, Ordered, Range, Span, State, Stretched, Table, range_of}
+use Rattle.checker_state.specs.State.{row_at}
+use Rattle.checker_state.specs.State.{state_gives, with_range}
+use Rattle.checker_state.specs.Changes.{all_changed, all_with_bounds, bound_rests_on, changed, changed_bound, in_place, rests_on, span_rests_on}
 use Rattle.checker_state.specs.Changes.{with_bounds}
-use Rattle.checker_state.specs.Loops.{after_turns, all_forgotten, gives_all, head, is_among, replaced, with_claim, with_claims, with_forgotten, with_limits}
-use Rattle.checker_state.specs.Holds.{FactsHold, HasNumber, HeldHolds, Holds, IsBound, IsIn, IsOfRow, Moment, StateHolds, ValuesLie, component_at, moment}
+use Rattle.checker_state.specs.Loops.{after_turns, all_forgotten, gives_all, is_among, replaced, with_claim, with_claims, with_forgotten, with_limits}
+use Rattle.checker_state.specs.Holds.{HasNumber, HeldHolds, Holds, IsBound, IsOfRow, Moment, StateHolds, ValuesLie, moment}
 use Rattle.checker_state.specs.Knows.{AreEntire, AreRows, AreUntouched, InLimits, IsKept, Knows, rests_on_any}
 use Rattle.checker_state.specs.Laws.{HeadsHold}
 use Rattle.checker_state.proofs.Changed.{StaysDefined, between-some, both-some, held-stays, placed-holds, stretch-some, unless-some}
 use Rattle.checker_state.proofs.Given.{given-holds}
-use Rattle.checker_state.proofs.Lists.{head-or_tail, in-filter_map, in-none, in-tail, at-head, not-among, with_more-each}
+use Rattle.checker_state.proofs.Lists.{head-or_tail, in-filter_map, in-none, in-tail, at-head, with_more-each}
 use Rattle.checker_state.proofs.Ranged.{common-in}
-use Rattle.checker_state.proofs.Rows.{HoldsWhere, RowWhere, defined-holds, forgotten-where, held-holds, of_own, range-holds, range-where, root-own, where-all}
+use Rattle.checker_state.proofs.Rows.{HoldsWhere, RowWhere, defined-holds, forgotten-where, held-holds, range-holds, range-where, root-own, where-all}
 
 -- ---- what rests on no variable that changed
 
@@ -43,7 +44,7 @@ spans-unchanged root (span ∷ spans) others is =
           ∙ ap (λ (s : List Span). new ∷ s) rest.1 ∙ same,
     )
 
-unchanged : (root : ℕ) (one other : Held) → changed root None one ≡ Some other → (rests_on root one ≡ false) × (one ≡ other)
+pub unchanged : (root : ℕ) (one other : Held) → changed root None one ≡ Some other → (rests_on root one ≡ false) × (one ≡ other)
 unchanged root (Stretched stretch) other is =
     let (spans, spans_are, same) = stretch-some stretch.row (all_with_bounds (changed_bound root None) stretch.spans) other is in
     let parts = spans-unchanged root stretch.spans spans spans_are in
@@ -52,11 +53,11 @@ unchanged root (Ordered a b number) other is = unless-some (nat_eq root a || nat
 
 module _ (rows : List Parts) (m : Moment) where
   -- a state that some run comes to, of which so much is claimed
-  abbrev StateWhere : (Claimed : ℕ → List Step → Value → Type 0) → List ℕ → State → Type 0
+  abbrev pub StateWhere : (Claimed : ℕ → List Step → Value → Type 0) → List ℕ → State → Type 0
   StateWhere Claimed lost Dead = ⊥
   StateWhere Claimed lost (Live known) = HoldsWhere rows m Claimed lost known
 
-  changed-where : (Claimed : ℕ → List Step → Value → Type 0) (lost roots : List ℕ) (known : Facts) → length rows ≤ length known.rows
+  pub changed-where : (Claimed : ℕ → List Step → Value → Type 0) (lost roots : List ℕ) (known : Facts) → length rows ≤ length known.rows
       → ((row : ℕ) → RowWhere rows m Claimed lost row (row_at known row))
       → ((one : Held) → Contains known.held one → rests_on_any roots one ≡ false → HeldHolds rows one m)
       → StateWhere Claimed lost (all_changed roots (Live known))
@@ -159,7 +160,7 @@ module _ (rows : List Parts) (table : Table) (are : AreRows rows table) (env : E
       (limits-where rows After controls limits touched changed_state (λ row listed steps v of_row there. inside row steps v listed of_row there)
       (changed-where rows After (Unlisted rows After touched) controls roots known holds.count
       (λ row. record {
-        range = λ steps v of_row there free. holds.ranges row steps v of_row (sym (untouched row steps of_row free) ∙ there);
+        range = λ steps v of_row there free. holds.ranges row steps v of_row (untouched row steps v free of_row there);
         defined = λ free is steps of_row.
             kept.defined (get_or rows row no_parts).root (free-root row steps of_row free) steps (holds.defined row is steps of_row);
       })

@@ -1,7 +1,7 @@
 -- What is known of rows after one of them was set: there what was set, and elsewhere what was known. And the rows that
 -- are variables' own.
-use Rattle.std.proofs.Common.{arith, ◌≡◌, ⊎_elim, ◌∙◌, sym, ap, refl, subst, ℕ, ◌<◌, ◌≤◌, Bool, true, false, nat_eq, List, [], ◌∷◌, get_or, length, set}
-use Rattle.std.proofs.Common.{Option, Some, None}
+use Rattle.std.proofs.Common.{arith, ◌≡◌, ⊎_elim, ◌∙◌, sym, ap, refl, subst, ℕ, ◌<◌, ◌≤◌, true, false, nat_eq, List, [], ◌∷◌, get_or, length}
+use Rattle.std.proofs.Common.{Option, Some}
 use Rattle.std.specs.List.{Contains}
 use Rattle.std.proofs.lemmas.Bool.{cases_eq, cases_lt, ne_eqb, or_from, or_parts}
 use Rattle.std.proofs.lemmas.List.{get_or_past, get_or-set_other, get_or-set_same, length-set}
@@ -11,10 +11,11 @@ use Rattle.domain.specs.Interval.{Interval}
 use Rattle.meaning.specs.declared.store.Value.{Value}
 use Rattle.meaning.specs.Store.{Environment, Place, Store}
 use Rattle.checker_rows.specs.Rows.{Parts, no_parts}
-use Rattle.checker_state.specs.State.{Dead, Facts, Held, Live, RowState, State, Table, no_row, row_at, with_defined, with_one, with_range, with_row}
+use Rattle.checker_state.specs.State.{Dead, Facts, Held, Live, RowState, State, Table, no_row, row_at, with_defined, with_range, with_row}
 use Rattle.checker_state.specs.Changes.{with_some}
-use Rattle.checker_state.specs.Loops.{is_among, with_forgotten}
-use Rattle.checker_state.specs.Holds.{FactsHold, HasValue, HeldHolds, IsIn, IsOfRow, IsWhole, Moment, StateHolds, ValuesLie, component_at, moment, part_of, value_at}
+use Rattle.checker_state.specs.Loops.{is_among}
+use Rattle.checker_state.specs.Holds.{FactsHold, HasValue, HeldHolds, IsIn, IsOfRow, IsWhole, Moment, StateHolds, ValuesLie, component_at, moment, part_of}
+use Rattle.checker_state.specs.Holds.{value_at}
 use Rattle.checker_state.specs.Knows.{AreRows, Shows}
 use Rattle.checker_state.proofs.Lists.{at-head, head-or_tail, in-none, with_one-each}
 
@@ -32,7 +33,8 @@ set-where P known row other state there elsewhere within =
     ⊎_elim
     (λ same.
     subst P
-    (sym (ap (λ (r : ℕ). row_at (with_row row state known) r) same ∙ get_or-set_same known.rows row state no_row (subst (λ r. r < length known.rows) same within)))
+    (sym (ap (λ (r : ℕ). row_at (with_row row state known) r) same
+    ∙ get_or-set_same known.rows row state no_row (subst (λ r. r < length known.rows) same within)))
     (there same))
     (λ differ. subst P (sym (get_or-set_other known.rows row other state no_row differ)) (elsewhere differ)) (cases_eq other row)
 

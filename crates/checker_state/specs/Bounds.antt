@@ -1,6 +1,6 @@
--- Bounds of a certificate and of the checker: a number, or the value of a variable plus a number (ISO 7185:1990, 6.5.1);
--- what is known of one by another with the same variable, or with none; and how they stand in the order of facts. It
--- does not say which value a variable has.
+-- Bounds of a certificate and of the checker: a number, or the value of a variable plus a number (ISO 7185:1990,
+-- 6.5.1); what is known of one by another with the same variable, or with none; and how they stand in the order of
+-- facts. It does not say which value a variable has.
 use Rattle.std.specs.Prelude.{ℕ, ℤ, ◌+ℤ◌, int_le, Bool, true, false, ◌&&◌, Option, Some, None, if◌then◌else◌, nat_eq}
 use Rattle.std.specs.Ordering.{int_cmp, int_eq, nat_cmp, ordering_then}
 use Rattle.std.specs.declared.cmp.Ordering.{Ordering}

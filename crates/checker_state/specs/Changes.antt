@@ -1,12 +1,11 @@
 -- What is known after the value of a variable changed (ISO 7185:1990, 6.8.2.2). It says nothing of the value's range.
-use Rattle.std.specs.Prelude.{ℕ, ℤ, ◌+ℤ◌, ◌-ℤ◌, neg_ℤ, Bool, not, ◌||◌, List, [], ◌∷◌, Option, Some, None}
+use Rattle.std.specs.Prelude.{ℕ, ℤ, ◌+ℤ◌, ◌-ℤ◌, neg_ℤ, Bool, ◌||◌, List, [], ◌∷◌, Option, Some, None}
 use Rattle.std.specs.Prelude.{if◌then◌else◌, nat_eq}
 use Rattle.std.specs.List.{filter_map, list_any}
-use Rattle.std.specs.Option.{option_and_then}
 use Rattle.domain.specs.Interval.{Interval}
 use Rattle.meaning.specs.Integers.{is_integer_number}
 use Rattle.checker_state.specs.Bounds.{Bound, is_variable, moved_bound}
-use Rattle.checker_state.specs.State.{Dead, Held, Live, Ordered, Span, State, Stretch, Stretched, with_one, with_value}
+use Rattle.checker_state.specs.State.{Dead, Held, Live, Ordered, Span, State, Stretched, with_one, with_value}
 
 -- ---- what is held, and the values that it rests on
 

@@ -1,6 +1,7 @@
--- What states say of a moment of a run, and when variables share no place (ISO 7185:1990, 6.5.1). It does not say that a
--- run keeps them.
-use Rattle.std.specs.Prelude.{◌≡◌, ◌≢◌, ℕ, ℤ, ◌+ℤ◌, ◌≤◌, ◌≤ℤ◌, true, ◌⊎◌, List, [], ◌∷◌, ◌++◌, Option, Some, None, length}
+-- What states say of a moment of a run, and when variables share no place (ISO 7185:1990, 6.5.1). It does not say that
+-- a run keeps them.
+use Rattle.std.specs.Prelude.{◌≡◌, ◌≢◌, ℕ, ℤ, ◌+ℤ◌, ◌≤◌, ◌≤ℤ◌, true, ◌⊎◌, List, [], ◌∷◌, ◌++◌, Option, Some, None}
+use Rattle.std.specs.Prelude.{length}
 use Rattle.std.specs.Prelude.{Contains, slice_index_or}
 use Rattle.domain.specs.Interval.{Interval, HasMember}
 use Rattle.meaning.specs.declared.store.Value.{Value}

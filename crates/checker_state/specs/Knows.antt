@@ -130,11 +130,12 @@ module _ (rows : List Parts) where
       (row : ℕ) (steps : List Step) (v : Value) → Contains touched row → IsOfRow rows row steps
       → component_at rows (moment env store) row steps ≡ Some v → IsIn (limits row) v
 
-  -- the components of all others are as they were
+  -- the components of all others have no values but those that they had
   abbrev pub AreUntouched : Environment → List ℕ → (before after : Store) → Type 0
   AreUntouched env touched before after =
-      (row : ℕ) (steps : List Step) → IsOfRow rows row steps → (Contains touched row → ⊥)
-      → component_at rows (moment env after) row steps ≡ component_at rows (moment env before) row steps
+      (row : ℕ) (steps : List Step) (v : Value) → (Contains touched row → ⊥) → IsOfRow rows row steps
+      → component_at rows (moment env after) row steps ≡ Some v
+      → component_at rows (moment env before) row steps ≡ Some v
 
   -- control variables are no structured ones: no row behind those of so many variables is of one of them
   abbrev pub AreEntire : ℕ → List ℕ → Type 0

@@ -1,7 +1,7 @@
 -- What holds of states at the moments of a run: where a state holds, those hold that follow from it, over an
 -- assignment, a condition, stores of components, the turns of a loop, and where two ways meet (ISO 7185:1990, 6.5.1,
 -- 6.7.2.3, 6.7.2.5, 6.8). They do not say that a state which follows is the best that could be known.
-use Rattle.std.specs.Prelude.{◌≡◌, ℕ, ℤ, ◌<◌, ◌≤◌, true, List, [], ◌∷◌, Option, Some, Contains}
+use Rattle.std.specs.Prelude.{◌≡◌, ℕ, ℤ, ◌<◌, ◌≤◌, true, List, [], Option, Some, Contains}
 use Rattle.std.specs.List.{All}
 use Rattle.typed_tree.specs.declared.tree.Expr.{Expr}
 use Rattle.domain.specs.Interval.{Interval}

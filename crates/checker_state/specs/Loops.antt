@@ -31,7 +31,8 @@ all_forgotten (root ∷ roots) state = all_forgotten roots (with_forgotten root 
 -- what is known after turns that give some variables other values, which have these rows, and that leave control
 -- variables undefined
 abbrev pub after_turns : (limits : ℕ → Interval) → (roots rows controls : List ℕ) → State → State
-after_turns limits roots rows controls state = all_forgotten controls (with_limits limits rows (all_changed roots state))
+after_turns limits roots rows controls state =
+    all_forgotten controls (with_limits limits rows (all_changed roots state))
 
 -- ---- the claims of a certificate
 

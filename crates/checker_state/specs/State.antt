@@ -202,8 +202,8 @@ abbrev pub is_spanned : Facts → ℕ → Option OrdinalRange → Bool
 is_spanned known row None = false
 is_spanned known row (Some range) = list_any (covers known (all_of row range)) known.held
 
--- what is told of the rows of a program: how many variables have one of their own, which come first; and where the first
--- index on the way to the components of each row lies, if there is one
+-- what is told of the rows of a program: how many variables have one of their own, which come first; and where the
+-- first index on the way to the components of each row lies, if there is one
 pub record Table : Type 0 where
   pub variables : ℕ
   pub index : ℕ → Option OrdinalRange

@@ -7,7 +7,7 @@ use Rattle.types.specs.declared.form.OrdinalRange.{OrdinalRange}
 use Rattle.domain.specs.Interval.{Interval, joined}
 use Rattle.checker_state.specs.Bounds.{Bound, constant}
 use Rattle.checker_state.specs.State.{Claim, Dead, Defined, Facts, Held, Holds, Live, Ordered, Span, State, Stretch}
-use Rattle.checker_state.specs.State.{Stretched, Table, all_of, gives_stretch, is_dead, is_next, range_of, state_gives}
+use Rattle.checker_state.specs.State.{Stretched, Table, all_of, is_dead, is_next, range_of, state_gives}
 use Rattle.checker_state.specs.State.{with_defined, with_more, with_range}
 use Rattle.meaning.specs.Integers.{is_integer_number}
 
