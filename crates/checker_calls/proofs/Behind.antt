@@ -1,9 +1,9 @@
 -- What is known behind a call, but for the facts that are claimed of its end, holds there.
 use Rattle.std.proofs.Common.{arith, ◌≡◌, ⊎_elim, ◌⊎◌, inl, inr, ◌∙◌, sym, ap, refl, subst, ℕ, zero, suc, ◌<◌, Bool, true, false, cond}
-use Rattle.std.proofs.Common.{filter, nat_eq, List, [], ◌∷◌, ◌++◌, length, Option, Some, None}
+use Rattle.std.proofs.Common.{filter, nat_eq, List, [], ◌∷◌, ◌++◌, length, Option, Some}
 use Rattle.std.specs.List.{Contains}
 use Rattle.std.specs.Prelude.{is_some, slice_index_or}
-use Rattle.std.proofs.lemmas.Bool.{and_parts, both_ways, cases_Bool, eqb-true, false≢true}
+use Rattle.std.proofs.lemmas.Bool.{and_parts, cases_Bool, eqb-true, false≢true}
 use Rattle.types.specs.Types.{is_ordinal}
 use Rattle.types.specs.declared.form.Step.{Step}
 use Rattle.types.specs.declared.form.TypeId.{TypeId}
@@ -16,14 +16,14 @@ use Rattle.meaning.specs.Store.{Environment, Place, Store}
 use Rattle.checker_rows.specs.Rows.{Parts, all_parts, is_structured_variable, no_parts, rows_of, rows_touched, rows_under, type_at}
 use Rattle.checker_rows.proofs.Accessed.{IsOf}
 use Rattle.checker_rows.proofs.Numbered.{own-parts}
-use Rattle.checker_state.specs.Holds.{HeldHolds, IsIn, Moment, StateHolds, ValuesLie, component_at, moment, part_of, value_at}
+use Rattle.checker_state.specs.Holds.{IsIn, Moment, StateHolds, ValuesLie, component_at, moment, part_of, value_at}
 use Rattle.checker_state.specs.Knows.{AreUntouched, IsKept, Knows}
 use Rattle.checker_state.specs.Changes.{all_changed}
 use Rattle.checker_state.specs.Loops.{is_among}
-use Rattle.checker_state.specs.State.{Dead, Facts, Live, State, row_at}
+use Rattle.checker_state.specs.State.{Dead, Live, State, row_at}
 use Rattle.checker_state.specs.Stores.{is_entire}
 use Rattle.checker_state.proofs.Changed.{held-stays}
-use Rattle.checker_state.proofs.Lists.{at-head, head-or_tail, in-none}
+use Rattle.checker_state.proofs.Lists.{head-or_tail, in-none}
 use Rattle.checker_state.proofs.Looped.{StateWhere, changed-where}
 use Rattle.checker_state.proofs.Ranged.{common-in, in-left, in-right}
 use Rattle.checker_state.proofs.Rows.{range-where, where-all}

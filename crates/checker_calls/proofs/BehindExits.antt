@@ -1,9 +1,9 @@
 -- What is known behind a call holds there, with the facts that are claimed of the end of the callee's block.
-use Rattle.std.proofs.Common.{arith, ◌≡◌, ⊎_elim, ◌⊎◌, ◌∙◌, sym, ap, refl, subst, ℕ, zero, suc, Bool, true, false, cond, not, ◌&&◌}
+use Rattle.std.proofs.Common.{arith, ◌≡◌, ⊎_elim, ◌⊎◌, ◌∙◌, sym, ap, refl, subst, ℕ, Bool, true, false, cond, not, ◌&&◌}
 use Rattle.std.proofs.Common.{ℤ, pos, ◌+ℤ◌, ◌-ℤ◌, ◌≤ℤ◌, nat_eq, List, [], ◌∷◌, ◌++◌, length, map, Option, Some, None}
 use Rattle.std.specs.List.{Contains}
 use Rattle.std.specs.Prelude.{slice_get}
-use Rattle.std.proofs.lemmas.Bool.{and_from, and_parts, cases_Bool, cond_both, eq-eqb, false≢true}
+use Rattle.std.proofs.lemmas.Bool.{and_from, and_parts, cond_both, eq-eqb, false≢true}
 use Rattle.std.proofs.lemmas.Int.{ints}
 use Rattle.std.proofs.lemmas.List.Elements.{Contains-append_left, Contains-append_right}
 use Rattle.std.proofs.lemmas.Option.{cond_some, none-some, same_Some, slice_get_within}
@@ -22,16 +22,14 @@ use Rattle.domain.specs.Facts as fact
 use Rattle.domain.specs.Facts.{Fact, Path}
 use Rattle.meaning.specs.declared.store.Value.{Value}
 use Rattle.meaning.specs.declared.store.Value.TheVariants.{Number}
-use Rattle.meaning.specs.Integers.{is_integer_number}
 use Rattle.meaning.specs.Meaning as meaning
 use Rattle.meaning.specs.Meaning.{Argument, environment_of, own_place, place_for, place_passed}
 use Rattle.meaning.specs.Store.{Environment, Place, Store, stored}
-use Rattle.checker_rows.specs.Rows.{Parts, all_parts, first_index, index_at, is_variable_row, no_parts, rows_accessed, rows_of, rows_under}
+use Rattle.checker_rows.specs.Rows.{Parts, all_parts, first_index, index_at, is_variable_row, rows_accessed, rows_of, rows_under}
 use Rattle.checker_rows.proofs.Accessed.{IsOf, indexes-are, rows-are}
 use Rattle.checker_rows.proofs.Numbered.{own-parts}
 use Rattle.checker_rows.proofs.Selected.{Matches}
 use Rattle.checker_state.specs.Bounds.{Bound, constant, moved_bound, plus}
-use Rattle.checker_state.specs.Changes.{bound_rests_on}
 use Rattle.checker_state.specs.Holds as holding
 use Rattle.checker_state.specs.Holds.{HasComponent, HasNumber, Holds, IsBound, IsBoundBy, LieBetween, Moment, StretchHolds, component_at, moment, part_of, value_at}
 use Rattle.checker_state.specs.Knows.{IsOfForm, Knows, bound_rests}
@@ -58,7 +56,7 @@ use Rattle.checker_calls.proofs.Assigned.{Received}
 use Rattle.checker_calls.proofs.Bearers.{bearer-from, named-root}
 use Rattle.checker_calls.proofs.Behind.{call-kept, touched-behind_known}
 use Rattle.checker_calls.proofs.Borne.{value-received}
-use Rattle.checker_calls.proofs.CallChanges.{HasReturned, touched, untouched-kept}
+use Rattle.checker_calls.proofs.CallChanges.{HasReturned, touched}
 use Rattle.checker_calls.proofs.CallLeaves.{changes, exit-holds}
 use Rattle.checker_calls.proofs.Callee.{activation_of}
 use Rattle.checker_calls.proofs.Entered.{behind_assignments, parameter-own}
@@ -66,7 +64,7 @@ use Rattle.checker_calls.proofs.ExitBearers.{Bears, IsSame, Lies, outer-bears, o
 use Rattle.checker_calls.proofs.FormalRows.{same-value}
 use Rattle.checker_calls.proofs.Given.{AreOutward, bound_roots, fact_roots}
 use Rattle.checker_calls.proofs.Headings.{one-there}
-use Rattle.checker_calls.proofs.Lists.{among-contains, contains-more, in-map, of-map}
+use Rattle.checker_calls.proofs.Lists.{among-contains, contains-more, in-map, in-one, of-map}
 use Rattle.checker_calls.proofs.Parameters.{IsOuter, IsOutward, IsParameter, actual-of_parameter, outward-cases, parameter-block}
 use Rattle.checker_calls.proofs.Passed.{Fits, IsArgument}
 use Rattle.checker_calls.proofs.SeenAliases.{listed_pairs}
@@ -351,8 +349,8 @@ module _ (tree : Tree) (pairs : List (ℕ × ℕ)) (number : ℕ) (block : Block
       → KnowsHere (cond (is_entire reach) more known)
   unless-entire reach more known so knows = cond_both (is_entire reach) more known KnowsHere so (λ part. knows)
 
-  abbrev ExitHolds : (one : Fact) (claim : Claim) → Contains claims.exit one → Contains (said tree one) claim → Holds (all_parts tree) claim inner
-  ExitHolds one claim listed inside =
+  exit-here : (one : Fact) (claim : Claim) → Contains claims.exit one → Contains (said tree one) claim → Holds (all_parts tree) claim inner
+  exit-here one claim listed inside =
       exit-holds tree pairs number block arguments caller activations from store actuals claims after back one claim listed inside
 
   whole-claim : (row : ℕ) (index : Option OrdinalRange) → ((steps : List Step) → IsOf tree row steps → HasComponent (all_parts tree) outer row steps)
@@ -382,7 +380,7 @@ module _ (tree : Tree) (pairs : List (ℕ × ℕ)) (number : ℕ) (block : Block
       (λ steps of_row.
       let same = bears all steps of_row in
       let has = whole-has row (index_at (rows_of tree) row) refl
-      (ExitHolds (fact.Defined path) (all_of_row (index_at (rows_of tree) row) row) listed
+      (exit-here (fact.Defined path) (all_of_row (index_at (rows_of tree) row) row) listed
       (in-map (λ r. all_of_row (index_at (rows_of tree) r) r) (rows_named tree path) row named)) same.rest same.of_row in
       (has.0, same.value ∙ has.1))) knows) knows
 
@@ -411,7 +409,7 @@ module _ (tree : Tree) (pairs : List (ℕ × ℕ)) (number : ℕ) (block : Block
       cond_both (is_variable_row tree own) known (with_claim claim known) KnowsHere (λ variable. knows)
       (λ other.
       let (from_first, to_last, first_is, last_is, each) = span-parts (all_parts tree) inner row (said_bound first) (said_bound last)
-      (ExitHolds (fact.Stretch path first last) (stretch_of first last row) listed (in-map (stretch_of first last) (rows_named tree path) row named)) in
+      (exit-here (fact.Stretch path first last) (stretch_of first last row) listed (in-map (stretch_of first last) (rows_named tree path) row named)) in
       claim-known claim known
       (span-holds (all_parts tree) outer own low high from_first to_last (low_is from_first first_is low refl) (high_is to_last last_is high refl)
       (λ steps index of_row is above below.
@@ -486,7 +484,7 @@ module _ (tree : Tree) (pairs : List (ℕ × ℕ)) (number : ℕ) (block : Block
   plus-here root k m n one lasts inside has n_is b bound_is =
       plus-behind root k m n (lasts.outward root inside)
       (λ other variable own variable_is value.
-      lasts.lasting other variable (subst (Contains (fact_roots one)) (Rattle.checker_calls.proofs.Lists.in-one root other own) inside) variable_is value)
+      lasts.lasting other variable (subst (Contains (fact_roots one)) (in-one root other own) inside) variable_is value)
       has n_is b bound_is
 
   exit-known : (one : Fact) → Contains claims.exit one → MayEnd tree number claims.changes one → (known : State) → KnowsHere known
@@ -514,7 +512,7 @@ module _ (tree : Tree) (pairs : List (ℕ × ℕ)) (number : ℕ) (block : Block
   exit-known (fact.Order root other k) listed may known knows =
       ⊎_elim (λ never. absurd never)
       (λ (lasts : IsLasting tree number claims.changes (fact.Order root other k)).
-      let (m, n, m_is, n_is, less) = ExitHolds (fact.Order root other k) (state.Holds (Ordered root other k)) listed (0, omega arith, refl) in
+      let (m, n, m_is, n_is, less) = exit-here (fact.Order root other k) (state.Holds (Ordered root other k)) listed (0, omega arith, refl) in
       bounds-known (exit_plus tree bindings touches root (pos 0)) (exit_plus tree bindings touches other k) (m +ℤ pos 0) (n +ℤ k)
       (λ b is. plus-here root (pos 0) m (m +ℤ pos 0) (fact.Order root other k) lasts (0, omega arith, refl) m_is refl b is)
       (λ b is. plus-here other k n (n +ℤ k) (fact.Order root other k) lasts (1, omega arith, refl) n_is refl b is)

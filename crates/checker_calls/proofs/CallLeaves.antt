@@ -1,7 +1,7 @@
 -- The leaves that a call changes: each value that it changed for its caller lies in the range of a change of its type, and what is changed just as it is
 -- lies in that of its change.
 use Rattle.std.proofs.Common.{arith, ◌≡◌, ⊎_elim, ◌∙◌, sym, ap, refl, subst, ℕ, zero, suc, ◌<◌, Bool, true, false, cond}
-use Rattle.std.proofs.Common.{List, [], ◌∷◌, ◌++◌, length, Option, Some, None}
+use Rattle.std.proofs.Common.{List, [], ◌∷◌, length, Option, Some, None}
 use Rattle.std.specs.List.{Contains}
 use Rattle.std.specs.Prelude.{is_some, slice_get}
 use Rattle.std.proofs.lemmas.List.{length-map}
@@ -10,6 +10,7 @@ use Rattle.std.proofs.lemmas.Option.{none-some, same_Some, slice_get_within}
 use Rattle.types.specs.Types.{is_ordinal}
 use Rattle.types.specs.declared.form.Step.{Step}
 use Rattle.types.specs.declared.form.TypeId.{TypeId}
+use Rattle.typed_tree.specs.WellFormed.{is_value_kind}
 use Rattle.typed_tree.specs.declared.tree.Block.{Block}
 use Rattle.typed_tree.specs.declared.tree.Selector.{Selector}
 use Rattle.typed_tree.specs.declared.tree.Tree.{Tree}
@@ -195,7 +196,7 @@ module _ (tree : Tree) (pairs : List (ℕ × ℕ)) (number : ℕ) (block : Block
       found known fits
 
   not-older : (root : ℕ) (variable : DeclaredVariable) (home : Place) → slice_get tree.variables.items root ≡ Some variable → ParameterHere root variable
-      → callee.variables root ≡ Some home → home.activation < activations → Rattle.typed_tree.specs.WellFormed.is_value_kind variable.kind ≡ true → ⊥
+      → callee.variables root ≡ Some home → home.activation < activations → is_value_kind variable.kind ≡ true → ⊥
   not-older root variable home is p home_is older value =
       own-older tree pairs number block arguments caller activations from store actuals claims after back.left root variable home is
       (parameter-block tree pairs number block arguments caller activations from back.call store actuals back.are root variable is p) home_is older value

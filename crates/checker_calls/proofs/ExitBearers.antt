@@ -1,6 +1,7 @@
 -- What bears the leaves of a variable of a callee for its caller: where the callee ends, all of a row of the caller's is a row of the callee's, component
 -- by component.
 use Rattle.std.proofs.Common.{◌≡◌, ◌∙◌, sym, ap, refl, subst, ℕ, Bool, true, List, [], ◌∷◌, ◌++◌, length, map, Option, Some, None}
+use Rattle.std.specs.List.{Contains}
 use Rattle.std.specs.Prelude.{slice_get, slice_index_or}
 use Rattle.std.proofs.lemmas.Bool.{false≢true}
 use Rattle.std.proofs.lemmas.Option.{same_Some}
@@ -146,7 +147,7 @@ module _ (tree : Tree) (pairs : List (ℕ × ℕ)) (number : ℕ) (block : Block
 
   -- where all rows of a variable round the block are changed
   pub rows-bear : (root : ℕ) (variable : DeclaredVariable) → IsOuterHere root variable → (rows : List ℕ)
-      → ((row : ℕ) → Rattle.std.specs.List.Contains rows row → (slice_index_or (all_parts tree) row no_parts).root ≡ root) → (j row : ℕ) (bearer : Bearer)
+      → ((row : ℕ) → Contains rows row → (slice_index_or (all_parts tree) row no_parts).root ≡ root) → (j row : ℕ) (bearer : Bearer)
       → slice_get rows j ≡ Some row → slice_get (all_of_rows rows) j ≡ Some bearer → Bears bearer row
   rows-bear root variable here rows roots j row bearer row_at at =
       let own = mapped-at (λ r. Reached r entire) rows j bearer at in

@@ -14,8 +14,8 @@ use Rattle.std.proofs.lemmas.List.Elements.{All-contains}
 use Rattle.std.proofs.lemmas.Option.{none-some, same_Some, slice_get_within}
 use Rattle.types.specs.Components.{components_of}
 use Rattle.types.specs.Forms.{Array, Form}
-use Rattle.types.specs.Types.{BeginWithRequired, cells_of, form_at, form_kind, have_one_length, is_same, is_structured, is_structured_kind, most_cells, range_of}
-use Rattle.types.specs.Types.{string_in, string_length}
+use Rattle.types.specs.Types.{BeginWithRequired, cells_of, form_at, form_kind, have_one_length, is_same, is_structured, is_structured_kind, most_cells}
+use Rattle.types.specs.Types.{range_of, string_in, string_length}
 use Rattle.types.specs.declared.form.OrdinalRange.{OrdinalRange}
 use Rattle.types.specs.declared.form.Step.{Step}
 use Rattle.types.specs.declared.form.TypeId.{TypeId}

@@ -12,3 +12,4 @@ pub mod Entered
 pub mod SoundCalls
 pub mod SoundExpressions
 pub mod Begun
+pub mod CallLaws
