@@ -1,0 +1,16 @@
+pub mod EffectsParameters
+pub mod EffectsStatements
+pub mod EffectsRoutines
+pub mod PassedLeft
+pub mod SparedText
+pub mod SparedCalls
+pub mod HiddenControls
+pub mod Entered
+pub mod Keeping
+pub mod Rounds
+pub mod SoundCase
+pub mod Heads
+pub mod Controls
+pub mod Changes
+pub mod SoundStores
+pub mod Targets
