@@ -14,3 +14,9 @@ pub mod Controls
 pub mod Changes
 pub mod SoundStores
 pub mod Targets
+pub mod Written
+pub mod SoundAssignments
+pub mod SoundCopies
+pub mod SoundLoops
+pub mod SoundFor
+pub mod SoundForms

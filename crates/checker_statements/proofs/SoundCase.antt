@@ -24,10 +24,11 @@ use Rattle.checker_state.proofs.Bounded.{narrowed-holds, root-here}
 use Rattle.checker_state.proofs.Ranged.{common-in}
 use Rattle.checker_rows.specs.Rows.{Parts}
 use Rattle.checker_state.specs.Joins.{joined_states}
-use Rattle.checker_state.proofs.Joins.{join-holds}
 use Rattle.checker_loops.specs.Cases.{arm_start, at_constants, constants_before}
 use Rattle.checker_expressions.specs.Walk.{Context, Walking}
+use Rattle.checker_expressions.proofs.Sound.{Stands, World, stands-as}
 use Rattle.checker_statements.specs.Walk.{arms_walk}
+use Rattle.checker_statements.proofs.SoundLoops.{joined-one}
 
 -- an entire variable has the number of the expression that it is
 pub entire-number : (form : Form) (m : Moment) (n : ℤ) (root : ℕ) → IsOfForm m (bound_of form) (Number n) → root_of form ≡ Some root → HasNumber m root n
@@ -56,15 +57,15 @@ at-constants_known rows table are env store (Some root) row base n has among kno
     }
 
 -- what is known behind an arm is known behind those after it
-pub arms-behind : (parts : List Parts) (env : Environment) (store : Store) (base : State) (index : Option ℕ) (rows : List (Vec ℤ Global))
-    (arms : List (Walking (Unit {0}))) (context : Context) (behind : State) → AreRows parts (table_of context.tree)
-    → Knows parts (table_of context.tree).variables env behind store
-    → Knows parts (table_of context.tree).variables env (arms_walk base index rows arms context behind).after store
-arms-behind parts env store base index rows [] context behind are known = known
-arms-behind parts env store base index rows (arm ∷ arms) context behind are known =
+pub arms-behind : (world : World) (env : Environment) (store : Store) (base : State) (index : Option ℕ) (rows : List (Vec ℤ Global))
+    (arms : List (Walking (Unit {0}))) (context : Context) (behind : State) → Stands world env context behind store
+    → Stands world env context (arms_walk base index rows arms context behind).after store
+arms-behind world env store base index rows [] context behind stands = stands
+arms-behind world env store base index rows (arm ∷ arms) context behind stands =
     let first = arm context (arm_start index (slice_get rows 0) base) in
-    arms-behind parts env store base index (drop 1 rows) arms context (joined_states (table_of context.tree) behind first.after) are
-    (join-holds.from_one parts (table_of context.tree) are env behind first.after store known)
+    arms-behind world env store base index (drop 1 rows) arms context (joined_states (table_of context.tree) behind first.after)
+    (stands-as world env context behind (joined_states (table_of context.tree) behind first.after) store stands
+    (joined-one world env context behind first.after store stands))
 
 -- the constants before a first arm, and before the others
 pub first-constants : (row : Vec ℤ Global) (rows : List (Vec ℤ Global)) (arms : ℕ) (n : ℤ)
