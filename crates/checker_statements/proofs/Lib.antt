@@ -20,3 +20,6 @@ pub mod SoundCopies
 pub mod SoundLoops
 pub mod SoundFor
 pub mod SoundForms
+pub mod SoundBlocks
+pub mod ClaimsKnown
+pub mod SoundProgram
