@@ -1,0 +1,2 @@
+//! The walk of the checker over a program.
+#![tactic(auto)]
