@@ -7,3 +7,4 @@ pub mod Conditions
 pub mod Loops
 pub mod Stores
 pub mod Holds
+pub mod View
