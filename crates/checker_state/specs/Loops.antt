@@ -2,10 +2,9 @@
 -- entered and what its turns may change. It does not say which variables a loop changes, nor that its claims hold.
 use Rattle.std.specs.Prelude.{ℕ, Bool, false, List, [], ◌∷◌, Option, Some, None, nat_eq}
 use Rattle.std.specs.List.{filter_map, list_all, list_any}
-use Rattle.types.specs.declared.form.OrdinalRange.{OrdinalRange}
 use Rattle.domain.specs.Interval.{Interval, common, vacant}
 use Rattle.checker_state.specs.Bounds.{Bound}
-use Rattle.checker_state.specs.State.{Claim, Dead, Defined, Holds, Live, Range, RowState, State, range_of, row_at}
+use Rattle.checker_state.specs.State.{Claim, Dead, Defined, Holds, Live, Range, State, Table, range_of, row_at}
 use Rattle.checker_state.specs.State.{state_gives, with_defined, with_more, with_range, with_row}
 use Rattle.checker_state.specs.Changes.{all_changed, in_place, with_change, with_some}
 
@@ -51,8 +50,8 @@ abbrev pub head : (limits : ℕ → Interval) → (roots rows controls : List �
 head limits roots rows controls claims state = with_claims claims (after_turns limits roots rows controls state)
 
 -- a state gives each claim
-abbrev pub gives_all : (index : ℕ → Option OrdinalRange) → State → List Claim → Bool
-gives_all index state claims = list_all (state_gives index state) claims
+abbrev pub gives_all : Table → State → List Claim → Bool
+gives_all table state claims = list_all (state_gives table state) claims
 
 -- ---- behind a loop
 

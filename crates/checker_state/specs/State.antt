@@ -3,7 +3,7 @@
 -- variables, and stretches of rows that are defined; and which facts that gives. It does not say how such a state comes
 -- about, nor what it means for a run.
 use Rattle.std.specs.Prelude.{ℕ, ℤ, pos, ◌+ℤ◌, int_le, Bool, true, false, not, ◌&&◌, ◌||◌, List, [], ◌∷◌, Option}
-use Rattle.std.specs.Prelude.{Some, None, if◌then◌else◌, nat_eq, slice_index_or, slice_set}
+use Rattle.std.specs.Prelude.{Some, None, if◌then◌else◌, nat_eq, nat_lt, slice_index_or, slice_set}
 use Rattle.std.specs.List.{list_any}
 use Rattle.std.specs.Cmp.Lexicographic.{slice_cmp}
 use Rattle.std.specs.Ordering.{int_cmp, nat_cmp, ordering_then}
@@ -137,14 +137,6 @@ bound_range_by state (Some root) n = moved n (range_of state root)
 abbrev pub bound_range : State → Bound → Interval
 bound_range state bound = bound_range_by state bound.root bound.number
 
--- the variable of a bound, if it has one, is known to be defined
-abbrev pub has_value_by : State → Option ℕ → Bool
-has_value_by state None = true
-has_value_by state (Some root) = is_defined state root
-
-abbrev pub has_value : State → Bound → Bool
-has_value state bound = has_value_by state bound.root
-
 -- each number of a range is at most each of another, and neither is empty
 abbrev pub is_below : Interval → Interval → Bool
 is_below a b = not (is_vacant a || is_vacant b) && int_le a.last b.first
@@ -210,20 +202,38 @@ abbrev pub is_spanned : Facts → ℕ → Option OrdinalRange → Bool
 is_spanned known row None = false
 is_spanned known row (Some range) = list_any (covers known (all_of row range)) known.held
 
--- the bounds of a span have values
-abbrev pub has_values : State → Span → Bool
-has_values state span = has_value state span.first && has_value state span.last
+-- what is told of the rows of a program: how many variables have one of their own, which come first; and where the first
+-- index on the way to the components of each row lies, if there is one
+pub record Table : Type 0 where
+  pub variables : ℕ
+  pub index : ℕ → Option OrdinalRange
 
--- those of each
-abbrev pub have_values : State → List Span → Bool
-have_values state [] = true
-have_values state (span ∷ spans) = has_values state span && have_values state spans
+module _ (table : Table) where
+  -- a variable that is there is known to be defined
+  abbrev pub has_number : State → ℕ → Bool
+  has_number Dead root = true
+  has_number (Live known) root = nat_lt root table.variables && (row_at known root).is_defined
 
--- where the first index on the way to the components of each row lies, if there is one
-module _ (index : ℕ → Option OrdinalRange) where
+  -- the variable of a bound, if it has one, is
+  abbrev pub has_value_by : State → Option ℕ → Bool
+  has_value_by state None = true
+  has_value_by state (Some root) = has_number state root
+
+  abbrev pub has_value : State → Bound → Bool
+  has_value state bound = has_value_by state bound.root
+
+  -- the bounds of a span have values
+  abbrev pub has_values : State → Span → Bool
+  has_values state span = has_value state span.first && has_value state span.last
+
+  -- those of each
+  abbrev pub have_values : State → List Span → Bool
+  have_values state [] = true
+  have_values state (span ∷ spans) = has_values state span && have_values state spans
+
   -- each component of a row is known to be defined: by the row, or since all its first indexes are held
   abbrev pub is_whole : Facts → ℕ → Bool
-  is_whole known row = (row_at known row).is_defined || is_spanned known row (index row)
+  is_whole known row = (row_at known row).is_defined || is_spanned known row (table.index row)
 
   -- a stretch is known to be defined: its bounds have values, and no index lies in it, or all of its row is defined, or
   -- what is held has all of it
@@ -238,8 +248,8 @@ module _ (index : ℕ → Option OrdinalRange) where
   abbrev pub gives : Facts → Held → Bool
   gives known (Stretched stretch) = gives_stretch known stretch
   gives known (Ordered root other number) =
-      is_defined (Live known) root
-      && (is_defined (Live known) other && le known (plus root (pos 0)) (plus other number))
+      has_number (Live known) root
+      && (has_number (Live known) other && le known (plus root (pos 0)) (plus other number))
 
 -- what may be said of rows: their values lie in a range, each component is defined, or what may be held
 pub data Claim : Type 0 where
@@ -247,11 +257,11 @@ pub data Claim : Type 0 where
   Defined : (row : ℕ) → Claim
   Holds : Held → Claim
 
-module _ (index : ℕ → Option OrdinalRange) where
+module _ (table : Table) where
   abbrev pub gives_claim : Facts → Claim → Bool
   gives_claim known (Range row range) = is_included (row_at known row).range range
-  gives_claim known (Defined row) = is_whole index known row
-  gives_claim known (Holds held) = gives index known held
+  gives_claim known (Defined row) = is_whole table known row
+  gives_claim known (Holds held) = gives table known held
 
   -- a state gives it: a dead one gives each
   abbrev pub state_gives : State → Claim → Bool

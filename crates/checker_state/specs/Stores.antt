@@ -7,7 +7,7 @@ use Rattle.types.specs.declared.form.OrdinalRange.{OrdinalRange}
 use Rattle.domain.specs.Interval.{Interval, joined}
 use Rattle.checker_state.specs.Bounds.{Bound, constant}
 use Rattle.checker_state.specs.State.{Claim, Dead, Defined, Facts, Held, Holds, Live, Ordered, Span, State, Stretch}
-use Rattle.checker_state.specs.State.{Stretched, all_of, gives_stretch, is_dead, is_next, range_of, state_gives}
+use Rattle.checker_state.specs.State.{Stretched, Table, all_of, gives_stretch, is_dead, is_next, range_of, state_gives}
 use Rattle.checker_state.specs.State.{with_defined, with_more, with_range}
 use Rattle.meaning.specs.Integers.{is_integer_number}
 
@@ -49,21 +49,21 @@ stretch_between row first last = None
 abbrev pub range_stretch : ℕ → Interval → Option Stretch
 range_stretch row range = stretch_between row (bound_of_number range.first) (bound_of_number range.last)
 
-module _ (index : ℕ → Option OrdinalRange) where
+module _ (table : Table) where
   -- the components of a first index are defined, by its form or by where it lies
   abbrev pub gives_some : State → Option Stretch → Bool
   gives_some state None = is_dead state
-  gives_some state (Some stretch) = state_gives index state (Holds (Stretched stretch))
+  gives_some state (Some stretch) = state_gives table state (Holds (Stretched stretch))
 
   abbrev pub gives_form : State → ℕ → Option Bound → Bool
   gives_form state row None = false
-  gives_form state row (Some form) = state_gives index state (Holds (Stretched (at_index row form)))
+  gives_form state row (Some form) = state_gives table state (Holds (Stretched (at_index row form)))
 
   abbrev pub gives_index : State → ℕ → Index → Bool
   gives_index state row one = gives_form state row one.form || gives_some state (range_stretch row one.range)
 
   abbrev pub gives_indexes : State → ℕ → List Index → Bool
-  gives_indexes state row [] = state_gives index state (all_of_row (index row) row)
+  gives_indexes state row [] = state_gives table state (all_of_row (table.index row) row)
   gives_indexes state row (one ∷ more) = gives_index state row one
 
   -- what an access reaches in a row is defined
