@@ -1,1 +1,3 @@
 pub mod FormsOf
+pub mod Ways
+pub mod Steps

@@ -8,3 +8,4 @@ pub mod Loops
 pub mod Stores
 pub mod Holds
 pub mod View
+pub mod Trail

@@ -6,13 +6,14 @@ use Rattle.checker_state.specs.declared.bound.Rebinding.{Rebinding}
 use Rattle.checker_state.specs.declared.bound.Rebinding.TheVariants as rebinding
 use Rattle.checker_state.specs.declared.term.Ends.{Ends}
 use Rattle.checker_state.specs.declared.term.Term.{Term}
+use Rattle.checker_state.specs.declared.known.Row.{Row}
 use Rattle.checker_state.specs.declared.held.Span.{Span as KeptSpan}
 use Rattle.checker_state.specs.declared.held.Stretch.{Stretch as KeptStretch}
 use Rattle.checker_state.specs.declared.held.Order.{Order as KeptOrder}
 use Rattle.checker_state.specs.declared.held.Held.{Held as KeptHeld}
 use Rattle.checker_state.specs.declared.held.Held.TheVariants as kept
 use Rattle.checker_state.specs.Bounds.{Bound, raised_bound}
-use Rattle.checker_state.specs.State.{Held, Ordered, Span, Stretch, Stretched}
+use Rattle.checker_state.specs.State.{Held, Ordered, RowState, Span, Stretch, Stretched}
 use Rattle.checker_state.specs.Changes.{bound_in_place, changed, changed_bound, in_place}
 
 -- ---- bounds
@@ -47,6 +48,12 @@ pub record AreEnds (ends : Ends) (range : Interval) : Type 0 where
   pub last_is : ends.last ≡ range.last
   pub first_near : IsWithin (pos 4611686022722355199) ends.first
   pub last_near : IsWithin (pos 4611686022722355199) ends.last
+
+-- ---- rows
+
+-- what is known of a row
+abbrev pub said_row : Row → RowState
+said_row row = record { range = row.range; is_defined = row.is_defined }
 
 -- ---- what is held
 

@@ -4,9 +4,14 @@
 mod bound;
 mod forms;
 mod held;
+mod known;
+mod state;
 mod term;
+mod trail;
 
 pub use bound::Bound;
 pub use forms::{bound_form, entire};
 pub use held::{Held, Order, Span, Stretch};
+pub use state::State;
 pub use term::Term;
+pub use trail::{Branch, Mark};
