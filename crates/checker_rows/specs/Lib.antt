@@ -1,3 +1,4 @@
 pub mod Leaves
 pub mod Rows
 pub mod Limits
+pub mod View
