@@ -1,3 +1,5 @@
 pub mod FormsOf
 pub mod Ways
 pub mod Steps
+pub mod HeldLists
+pub mod Tests

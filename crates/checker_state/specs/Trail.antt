@@ -1,7 +1,8 @@
 -- How the state of the program changes: each change can be taken back, and stands on a trail until it is. It does not
 -- say which changes are made.
-use Rattle.std.specs.Prelude.{◌≡◌, true, false, Bool, List, [], ◌∷◌, ◌++◌, if◌then◌else◌, length, map, slice_set, ℕ, take, drop}
-use Rattle.std.specs.List.{insert, remove}
+use Rattle.std.specs.Prelude.{◌≡◌, true, false, Bool, List, [], ◌∷◌, ◌++◌, if◌then◌else◌, length, map, slice_set, ℕ, suc, ◌≤◌, take, drop}
+use Rattle.std.specs.Prelude.{Option, Some, None}
+use Rattle.std.specs.List.{filter_map, insert, remove}
 use Rattle.checker_state.specs.declared.held.Held.{Held as KeptHeld}
 use Rattle.checker_state.specs.declared.known.Known.{Known}
 use Rattle.checker_state.specs.declared.known.Row.{Row}
@@ -9,7 +10,7 @@ use Rattle.checker_state.specs.declared.state.State.{State as Kept}
 use Rattle.checker_state.specs.declared.trail.Branch.{Branch}
 use Rattle.checker_state.specs.declared.trail.Change.{Change}
 use Rattle.checker_state.specs.declared.trail.Change.TheVariants as change
-use Rattle.checker_state.specs.State.{Dead, Facts, Live, RowState, State, with_row}
+use Rattle.checker_state.specs.State.{Dead, Facts, Held, Live, RowState, State, with_one, with_row}
 use Rattle.checker_state.specs.View.{said_held, said_row}
 
 -- what changes: what is known of rows, what is held, and whether no run comes here
@@ -123,6 +124,26 @@ pub record Comes (end : Core) (old new : Kept) : Type 0 where
 abbrev pub with_state : ℕ → RowState → State → State
 with_state row known Dead = Dead
 with_state row known (Live facts) = Live (with_row row known facts)
+
+-- something else is held from here on, where a run comes
+abbrev pub over_held : (List Held → List Held) → State → State
+over_held change Dead = Dead
+over_held change (Live facts) = Live (record facts { held = change facts.held })
+
+-- the one at a place became another, or went
+abbrev pub changed_at : (Held → Option Held) → ℕ → List Held → List Held
+changed_at change place held = (take place held ++ filter_map change (take 1 (drop place held))) ++ drop (suc place) held
+
+-- those that stand where this says so, and those behind
+abbrev pub kept_by : List Bool → List Held → List Held
+kept_by [] held = held
+kept_by (kept ∷ more) [] = []
+kept_by (kept ∷ more) (one ∷ held) = if kept then one ∷ kept_by more held else kept_by more held
+
+-- where one comes among others: at a place, or nowhere, since they have it
+abbrev pub IsPlace : Held → List Held → Option ℕ → Type 0
+IsPlace one held None = with_one one held ≡ held
+IsPlace one held (Some place) = (place ≤ length held) × (with_one one held ≡ insert held place one)
 
 -- ---- steps of taking back
 

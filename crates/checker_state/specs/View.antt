@@ -1,6 +1,8 @@
 -- What the program has of a state, as the definitions see it. It does not say what a state means.
-use Rattle.std.specs.Prelude.{◌≡◌, ℕ, ℤ, pos, neg_ℤ, ◌≤ℤ◌, List, [], ◌∷◌, Option, Some, None}
+use Rattle.std.specs.Prelude.{◌≡◌, ℕ, ℤ, pos, neg_ℤ, ◌≤ℤ◌, List, [], ◌∷◌, Option, Some, None, length}
+use Rattle.typed_tree.specs.declared.tree.Tree.{Tree}
 use Rattle.domain.specs.Interval.{Interval}
+use Rattle.checker_rows.specs.Rows.{index_at, rows_of}
 use Rattle.checker_state.specs.declared.bound.Bound.{Bound as KeptBound}
 use Rattle.checker_state.specs.declared.bound.Rebinding.{Rebinding}
 use Rattle.checker_state.specs.declared.bound.Rebinding.TheVariants as rebinding
@@ -10,10 +12,12 @@ use Rattle.checker_state.specs.declared.known.Row.{Row}
 use Rattle.checker_state.specs.declared.held.Span.{Span as KeptSpan}
 use Rattle.checker_state.specs.declared.held.Stretch.{Stretch as KeptStretch}
 use Rattle.checker_state.specs.declared.held.Order.{Order as KeptOrder}
+use Rattle.checker_state.specs.declared.held.Claim.{Claim as KeptClaim}
+use Rattle.checker_state.specs.declared.held.Claim.TheVariants as kept_claim
 use Rattle.checker_state.specs.declared.held.Held.{Held as KeptHeld}
 use Rattle.checker_state.specs.declared.held.Held.TheVariants as kept
 use Rattle.checker_state.specs.Bounds.{Bound, raised_bound}
-use Rattle.checker_state.specs.State.{Held, Ordered, RowState, Span, Stretch, Stretched}
+use Rattle.checker_state.specs.State.{Claim, Defined, Held, Holds, Ordered, Range, RowState, Span, Stretch, Stretched, Table}
 use Rattle.checker_state.specs.Changes.{bound_in_place, changed, changed_bound, in_place}
 
 -- ---- bounds
@@ -97,6 +101,17 @@ said_held (kept.Ordered order) = said_order order
 abbrev pub said_more : Option KeptHeld → Option Held
 said_more None = None
 said_more (Some held) = Some (said_held held)
+
+-- ---- claims
+
+abbrev pub said_claim : KeptClaim → Claim
+said_claim (kept_claim.Range row range) = Range row range
+said_claim (kept_claim.Defined row) = Defined row
+said_claim (kept_claim.Holds held) = Holds (said_held held)
+
+-- what is told of the rows of a program
+abbrev pub table_of : Tree → Table
+table_of tree = record { variables = length tree.variables.items; index = index_at (rows_of tree) }
 
 -- ---- what becomes of it
 

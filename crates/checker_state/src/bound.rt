@@ -7,7 +7,7 @@ ghost use Rattle.checker_state.specs.View.{IsFar, bound_by, said_bound, said_for
 use std::cmp::Ordering;
 
 /// A number, or the value of a variable, by its root number, plus a number.
-#[derive(Clone, Copy)]
+#[derive(Clone, Copy, PartialEq)]
 pub struct Bound {
     pub root: Option<u32>,
     pub number: i32,

@@ -1,5 +1,6 @@
 ghost use Rattle.std.specs.Prelude.{◌≡◌, ◌+ℤ◌, neg_ℤ};
 ghost use Rattle.std.specs.Cmp.Lexicographic.{slice_cmp};
+ghost use Rattle.checker_state.specs.Bounds.{plus};
 ghost use Rattle.checker_state.specs.Changes.{all_with_bounds, changed_order, in_place, ordered, raised, raised_number};
 ghost use Rattle.checker_state.specs.Changes.{stretch_of, unless_resting, with_bounds};
 ghost use Rattle.checker_state.specs.State.{Ordered, Stretched, all_of, held_order, says_at_most, span_order};
@@ -10,18 +11,19 @@ ghost use Rattle.checker_state.specs.View.{said_stretch, said_stretch_form, said
 
 use crate::bound::{Bound, Rebinding};
 use crate::term::Term;
+use domain::interval::Interval;
 use std::cmp::Ordering;
 use types::OrdinalRange;
 
 /// The indexes between two bounds.
-#[derive(Clone, Copy)]
+#[derive(Clone, Copy, PartialEq)]
 pub struct Span {
     pub first: Bound,
     pub last: Bound,
 }
 
 /// Components of a row: those whose first index lies in a span, and whose second lies in the inner one, if there is one.
-#[derive(Clone, Copy)]
+#[derive(Clone, Copy, PartialEq)]
 pub struct Stretch {
     pub row: usize,
     pub span: Span,
@@ -29,7 +31,7 @@ pub struct Stretch {
 }
 
 /// The value of a variable is at most that of another plus a number.
-#[derive(Clone, Copy)]
+#[derive(Clone, Copy, PartialEq)]
 pub struct Order {
     pub root: u32,
     pub other: u32,
@@ -37,12 +39,23 @@ pub struct Order {
 }
 
 /// What is held beside rows.
-#[derive(Clone, Copy)]
+#[derive(Clone, Copy, PartialEq)]
 pub enum Held {
     /// The components of a stretch are defined.
     Stretched(Stretch),
     /// Two variables are, and they are in an order.
     Ordered(Order),
+}
+
+/// What may be said of rows at a point of a program.
+#[derive(Clone, Copy)]
+pub enum Claim {
+    /// The values of a row lie in a range.
+    Range { row: usize, range: Interval },
+    /// Each component of a row is defined.
+    Defined { row: usize },
+    /// What may be held.
+    Holds(Held),
 }
 
 impl Span {
@@ -207,6 +220,16 @@ impl Order {
             if right { by } else { self.other },
             number,
         )
+    }
+
+    /// The bound that the first variable is at most.
+    pub(crate) fn last(&self) -> Bound
+        ensures { said_bound result ≡ plus self.now.other self.now.number }
+    {
+        Bound {
+            root: Some(self.other),
+            number: self.number,
+        }
     }
 
     // Whether it says that a bound is at most another.

@@ -2,7 +2,9 @@
 #![tactic(auto)]
 
 mod bound;
+mod changes;
 mod forms;
+mod gives;
 mod held;
 mod known;
 mod state;
@@ -11,7 +13,7 @@ mod trail;
 
 pub use bound::Bound;
 pub use forms::{bound_form, entire};
-pub use held::{Held, Order, Span, Stretch};
+pub use held::{Claim, Held, Order, Span, Stretch};
 pub use state::State;
 pub use term::Term;
 pub use trail::{Branch, Mark};
