@@ -6,7 +6,7 @@ use Rattle.std.specs.declared.cmp.Ordering.{Ordering}
 use Rattle.std.specs.declared.cmp.Ordering.TheVariants.{Less, Equal, Greater}
 use Rattle.std.proofs.Math.ListN.{get_or-map}
 use Rattle.std.proofs.Math.Seq.{take-suc}
-use Rattle.std.proofs.lemmas.List.{take-append-drop, take-map, drop-map, drop_all, take_all, map-append, length-map}
+use Rattle.std.proofs.lemmas.List.{set_split, take-append-drop, take-map, drop-map, drop_all, take_all, map-append, length-map}
 use Rattle.std.proofs.lemmas.List.Elements.{filter_map-append}
 use Rattle.std.proofs.lemmas.List.Folds.{list_any_at}
 use Rattle.checker_state.specs.declared.bound.Bound.{Bound as KeptBound}
@@ -102,3 +102,89 @@ said-there held i one inside is = get_or-map said_held held i one ∙ ap said_he
 
 pub said-inside : (held : List KeptHeld) (i : ℕ) → i < length held → i < length (said_all held)
 said-inside held i inside = rw length-map inside
+
+-- ---- one becomes another, or goes
+
+cons-append : (some : Option Held) (rest : List Held) → cons_option some [] ++ rest ≡ cons_option some rest
+cons-append None rest = refl
+cons-append (Some one) rest = refl
+
+module _ (change : Held → Option Held) where
+  one-there : (held : List Held) (place : ℕ) (one : Held) → place < length held → get_or held place one ≡ one
+      → changed_at change place held ≡ (take place held ++ cons_option (change one) []) ++ drop (suc place) held
+  one-there held place one inside is =
+      ap (λ (rest : List Held). (take place held ++ filter_map change (take 1 rest)) ++ drop (suc place) held)
+      (drop-cons held place one inside ∙ ap (λ (h : Held). h ∷ drop (suc place) held) is)
+
+  pub one-gone : (held : List Held) (place : ℕ) (one : Held) → place < length held → get_or held place one ≡ one → change one ≡ None
+      → remove held place ≡ changed_at change place held
+  one-gone held place one inside is gone =
+      ap (λ (first : List Held). first ++ drop (suc place) held) (sym (append-nil (take place held)))
+      ∙ ap (λ (some : Option Held). (take place held ++ cons_option some []) ++ drop (suc place) held) (sym gone)
+      ∙ sym (one-there held place one inside is)
+
+  pub one-became : (held : List Held) (place : ℕ) (one now : Held) → place < length held → get_or held place one ≡ one → change one ≡ Some now
+      → set held place now ≡ changed_at change place held
+  one-became held place one now inside is became =
+      set_split held place now inside ∙ sym (append_assoc (take place held) (now ∷ []) (drop (suc place) held))
+      ∙ ap (λ (some : Option Held). (take place held ++ cons_option some []) ++ drop (suc place) held) (sym became)
+      ∙ sym (one-there held place one inside is)
+
+  pub none-there : (held : List Held) (place : ℕ) → length held ≤ place → changed_at change place held ≡ held
+  none-there held place past =
+      ap₂ (λ (first rest : List Held). (first ++ filter_map change (take 1 rest)) ++ drop (suc place) held) (take_all place held past) (drop_all place held past)
+      ∙ ap (λ (rest : List Held). (held ++ []) ++ rest) (drop_all (suc place) held (omega arith)) ∙ append-nil (held ++ []) ∙ append-nil held
+
+  -- those from a place on are changed
+  abbrev pub changed_from : ℕ → List Held → List Held
+  changed_from place held = take place held ++ filter_map change (drop place held)
+
+  pub changed-step : (place : ℕ) (held : List Held) → changed_at change place (changed_from (suc place) held) ≡ changed_from place held
+  changed-step zero [] = refl
+  changed-step zero (one ∷ held) = cons-append (change one) (filter_map change held)
+  changed-step (suc place) [] = refl
+  changed-step (suc place) (one ∷ held) = ap (λ (rest : List Held). one ∷ rest) (changed-step place held)
+
+  pub changed-end : (held : List Held) (place : ℕ) → length held ≤ place → changed_from place held ≡ held
+  changed-end held place past =
+      ap₂ (λ (first rest : List Held). first ++ filter_map change rest) (take_all place held past) (drop_all place held past) ∙ append-nil held
+
+-- ---- those that stand where this says so
+
+pub kept-none : (held : List Held) → kept_by [] held ≡ held
+kept-none [] = refl
+kept-none (one ∷ held) = refl
+
+-- those from a place on are kept or not
+abbrev pub kept_from : List Bool → ℕ → List Held → List Held
+kept_from kept place held = take place held ++ kept_by (drop place kept) (drop place held)
+
+pub kept-end : (kept : List Bool) (held : List Held) → kept_from kept (length kept) held ≡ held
+kept-end kept held =
+    ap (λ (some : List Bool). take (length kept) held ++ kept_by some (drop (length kept) held)) (drop_all (length kept) kept (omega arith))
+    ∙ ap (λ (rest : List Held). take (length kept) held ++ rest) (kept-none (drop (length kept) held)) ∙ take-append-drop (length kept) held
+
+pub kept-step : (kept : List Bool) (place : ℕ) (held : List Held) → place < length kept → get_or kept place false ≡ true
+    → kept_from kept (suc place) held ≡ kept_from kept place held
+kept-step [] place held inside is = absurd (omega (arith, inside))
+kept-step (b ∷ kept) zero [] inside is = refl
+kept-step (b ∷ kept) zero (one ∷ held) inside is =
+    sym (ap (λ (c : Bool). cond c (one ∷ kept_by kept held) (kept_by kept held)) is)
+kept-step (b ∷ kept) (suc place) [] inside is = refl
+kept-step (b ∷ kept) (suc place) (one ∷ held) inside is =
+    ap (λ (rest : List Held). one ∷ rest) (kept-step kept place held (omega (arith, inside)) is)
+
+pub dropped-step : (kept : List Bool) (place : ℕ) (held : List Held) → place < length kept → get_or kept place false ≡ false
+    → remove (kept_from kept (suc place) held) place ≡ kept_from kept place held
+dropped-step [] place held inside is = absurd (omega (arith, inside))
+dropped-step (b ∷ kept) zero [] inside is = refl
+dropped-step (b ∷ kept) zero (one ∷ held) inside is =
+    sym (ap (λ (c : Bool). cond c (one ∷ kept_by kept held) (kept_by kept held)) is)
+dropped-step (b ∷ kept) (suc place) [] inside is = refl
+dropped-step (b ∷ kept) (suc place) (one ∷ held) inside is =
+    ap (λ (rest : List Held). one ∷ rest) (dropped-step kept place held (omega (arith, inside)) is)
+
+pub kept-filter : (test : Held → Bool) (held : List Held) → kept_by (map test held) held ≡ filter test held
+kept-filter test [] = refl
+kept-filter test (one ∷ held) =
+    ap (λ (rest : List Held). cond (test one) (one ∷ rest) rest) (kept-filter test held)

@@ -89,6 +89,15 @@ moves-made {one = one} {old = old} {new = new} step makes returns is = record {
       };
 }
 
+-- a step for each of a list
+pub moves-more : {A : Type 0} {a b c : Kept} (steps : List A → State → State) (step : State → State) (list : List A) (i : ℕ) (d : A)
+    → i < length list → Moves (steps (take i list)) a b → Moves step b c
+    → ((state : State) → step (steps (take i list) state) ≡ steps (take i list ++ get_or list i d ∷ []) state)
+    → Moves (steps (take (i + 1) list)) a c
+moves-more {A = A} {a = a} steps step list i d inside first rest same =
+    moves-as (steps (take (i + 1) list)) (moves-then first rest)
+    (same (seen a) ∙ sym (ap (λ (some : List A). steps some (seen a)) (take_more list i d inside)))
+
 -- nothing is known where no run comes
 pub seen-dead : (state : Kept) → state.known.is_dead ≡ true → seen state ≡ Dead
 seen-dead state is = ap (λ (dead : Bool). cond dead Dead (Live (viewed (core state.known)))) is

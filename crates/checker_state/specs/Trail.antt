@@ -3,6 +3,7 @@
 use Rattle.std.specs.Prelude.{◌≡◌, true, false, Bool, List, [], ◌∷◌, ◌++◌, if◌then◌else◌, length, map, slice_set, ℕ, suc, ◌≤◌, take, drop}
 use Rattle.std.specs.Prelude.{Option, Some, None}
 use Rattle.std.specs.List.{filter_map, insert, remove}
+use Rattle.typed_tree.specs.declared.tree.Tree.{Tree}
 use Rattle.checker_state.specs.declared.held.Held.{Held as KeptHeld}
 use Rattle.checker_state.specs.declared.known.Known.{Known}
 use Rattle.checker_state.specs.declared.known.Row.{Row}
@@ -10,8 +11,10 @@ use Rattle.checker_state.specs.declared.state.State.{State as Kept}
 use Rattle.checker_state.specs.declared.trail.Branch.{Branch}
 use Rattle.checker_state.specs.declared.trail.Change.{Change}
 use Rattle.checker_state.specs.declared.trail.Change.TheVariants as change
-use Rattle.checker_state.specs.State.{Dead, Facts, Held, Live, RowState, State, with_one, with_row}
-use Rattle.checker_state.specs.View.{said_held, said_row}
+use Rattle.checker_state.specs.Bounds.{Bound}
+use Rattle.checker_state.specs.State.{Dead, Facts, Held, Live, RowState, State, of_types, with_one, with_row}
+use Rattle.checker_state.specs.Stores.{is_none, longer}
+use Rattle.checker_state.specs.View.{said_held, said_row, type_rows}
 
 -- what changes: what is known of rows, what is held, and whether no run comes here
 pub record Core : Type 0 where
@@ -92,6 +95,15 @@ pub record Made (change : Change) (old new : Kept) : Type 0 where
 pub record Makes (change : Change) (old new : Kept) : Type 0 where
   pub unless_short : new.is_short ≡ false → Made change old new
 
+-- a state that is not short knows what types tell, and nothing can be taken back
+pub record Started (tree : Tree) (state : Kept) : Type 0 where
+  pub table_is : state.table.now ≡ tree
+  pub seen_is : seen state ≡ of_types (type_rows tree)
+  pub no_trail : state.trail.items ≡ []
+
+pub record Starts (tree : Tree) (state : Kept) : Type 0 where
+  pub unless_short : state.is_short ≡ false → Started tree state
+
 -- ---- branches
 
 -- a way from one point ended at another
@@ -136,9 +148,14 @@ changed_at change place held = (take place held ++ filter_map change (take 1 (dr
 
 -- those that stand where this says so, and those behind
 abbrev pub kept_by : List Bool → List Held → List Held
-kept_by [] held = held
-kept_by (kept ∷ more) [] = []
-kept_by (kept ∷ more) (one ∷ held) = if kept then one ∷ kept_by more held else kept_by more held
+kept_by kept [] = []
+kept_by [] (one ∷ held) = one ∷ held
+kept_by (is_kept ∷ kept) (one ∷ held) = if is_kept then one ∷ kept_by kept held else kept_by kept held
+
+-- which of what is held stays as it is where a first index of a row becomes defined, and what becomes longer
+pub record IsBeside (known : Facts) (row : ℕ) (index : Bound) (kept : List Bool) (more : List KeptHeld) : Type 0 where
+  pub kept_are : kept ≡ map (λ held. is_none (longer known row index held)) known.held
+  pub more_are : map said_held more ≡ filter_map (longer known row index) known.held
 
 -- where one comes among others: at a place, or nowhere, since they have it
 abbrev pub IsPlace : Held → List Held → Option ℕ → Type 0

@@ -1,14 +1,15 @@
 -- What the program has of a state, as the definitions see it. It does not say what a state means.
-use Rattle.std.specs.Prelude.{◌≡◌, ℕ, ℤ, pos, neg_ℤ, ◌≤ℤ◌, List, [], ◌∷◌, Option, Some, None, length}
+use Rattle.std.specs.Prelude.{◌≡◌, ℕ, ℤ, pos, neg_ℤ, ◌≤ℤ◌, List, [], ◌∷◌, Option, Some, None, false, length, map}
 use Rattle.typed_tree.specs.declared.tree.Tree.{Tree}
 use Rattle.domain.specs.Interval.{Interval}
-use Rattle.checker_rows.specs.Rows.{index_at, rows_of}
+use Rattle.checker_rows.specs.Limits.{limits_or_integer}
+use Rattle.checker_rows.specs.Rows.{Row, index_at, rows_of}
 use Rattle.checker_state.specs.declared.bound.Bound.{Bound as KeptBound}
 use Rattle.checker_state.specs.declared.bound.Rebinding.{Rebinding}
 use Rattle.checker_state.specs.declared.bound.Rebinding.TheVariants as rebinding
 use Rattle.checker_state.specs.declared.term.Ends.{Ends}
 use Rattle.checker_state.specs.declared.term.Term.{Term}
-use Rattle.checker_state.specs.declared.known.Row.{Row}
+use Rattle.checker_state.specs.declared.known.Row.{Row as KeptRow}
 use Rattle.checker_state.specs.declared.held.Span.{Span as KeptSpan}
 use Rattle.checker_state.specs.declared.held.Stretch.{Stretch as KeptStretch}
 use Rattle.checker_state.specs.declared.held.Order.{Order as KeptOrder}
@@ -16,8 +17,11 @@ use Rattle.checker_state.specs.declared.held.Claim.{Claim as KeptClaim}
 use Rattle.checker_state.specs.declared.held.Claim.TheVariants as kept_claim
 use Rattle.checker_state.specs.declared.held.Held.{Held as KeptHeld}
 use Rattle.checker_state.specs.declared.held.Held.TheVariants as kept
+use Rattle.checker_state.specs.declared.stores.Index.{Index as KeptIndex}
+use Rattle.checker_state.specs.declared.stores.Reach.{Reach as KeptReach}
 use Rattle.checker_state.specs.Bounds.{Bound, raised_bound}
 use Rattle.checker_state.specs.State.{Claim, Defined, Held, Holds, Ordered, Range, RowState, Span, Stretch, Stretched, Table}
+use Rattle.checker_state.specs.Stores.{Index, Reach}
 use Rattle.checker_state.specs.Changes.{bound_in_place, changed, changed_bound, in_place}
 
 -- ---- bounds
@@ -56,7 +60,7 @@ pub record AreEnds (ends : Ends) (range : Interval) : Type 0 where
 -- ---- rows
 
 -- what is known of a row
-abbrev pub said_row : Row → RowState
+abbrev pub said_row : KeptRow → RowState
 said_row row = record { range = row.range; is_defined = row.is_defined }
 
 -- ---- what is held
@@ -112,6 +116,20 @@ said_claim (kept_claim.Holds held) = Holds (said_held held)
 -- what is told of the rows of a program
 abbrev pub table_of : Tree → Table
 table_of tree = record { variables = length tree.variables.items; index = index_at (rows_of tree) }
+
+-- what types tell of a row, and of each row of a program
+abbrev pub type_state : Row → RowState
+type_state row = record { range = limits_or_integer row.leaf.values; is_defined = false }
+
+abbrev pub type_rows : Tree → List RowState
+type_rows tree = map type_state (rows_of tree)
+
+-- an index, and what is reached
+abbrev pub said_index : KeptIndex → Index
+said_index index = record { form = said_form index.form; range = index.range }
+
+abbrev pub said_reach : KeptReach → Reach
+said_reach reach = record { indexes = map said_index reach.indexes.now; is_all = reach.is_all }
 
 -- ---- what becomes of it
 

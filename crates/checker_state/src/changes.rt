@@ -1,9 +1,9 @@
-ghost use Rattle.std.specs.Prelude.{◌≡◌, Some, map, slice_get, slice_set};
+ghost use Rattle.std.specs.Prelude.{◌≡◌, Some, map, slice_set};
 ghost use Rattle.std.specs.List.{filter_map, remove};
-ghost use Rattle.checker_state.specs.Changes.{all_changed, assigned, ordered, with_change, with_equal, with_some};
+ghost use Rattle.checker_state.specs.Changes.{all_changed, assigned, with_change, with_equal, with_equal_to, with_some};
 ghost use Rattle.checker_state.specs.State.{with_more};
 ghost use Rattle.checker_state.specs.Trail.{IsPlace, Moves, changed_at, kept_by, over_held};
-ghost use Rattle.checker_state.specs.View.{held_by, said_form, said_held};
+ghost use Rattle.checker_state.specs.View.{held_by, said_form, said_held, said_ordered};
 
 use crate::bound::{Bound, Rebinding};
 use crate::held::{Held, Order};
@@ -44,24 +44,30 @@ impl<'a> State<'a> {
     fn equate(&mut self, root: u32, form: Option<Bound>)
         ensures { Moves (with_equal root (said_form form)) self.old self.new }
     {
-        match form {
-            Some(Bound {
-                root: Some(other),
-                number,
-            }) if root != other => {
-                let number = i64::from(number);
-                self.order(root, other, number);
-                self.order(other, root, -number);
-            }
-            _ => {}
+        if let Some(form) = form {
+            self.equate_to(root, form);
         }
     }
 
-    /// Two variables are in an order, if its number is one that facts have.
-    pub(crate) fn order(&mut self, root: u32, other: u32, number: i64)
-        ensures { Moves (with_some (ordered root other number)) self.old self.new }
+    fn equate_to(&mut self, root: u32, form: Bound)
+        ensures { Moves (with_equal_to root form.root form.number) self.old self.new }
     {
-        if let Some(order) = Order::new(root, other, number) {
+        let Some(other) = form.root else {
+            return;
+        };
+        if root == other {
+            return;
+        }
+        let number = i64::from(form.number);
+        self.order(Order::new(root, other, number));
+        self.order(Order::new(other, root, -number));
+    }
+
+    /// Two variables are in an order, if there is one.
+    pub(crate) fn order(&mut self, order: Option<Order>)
+        ensures { Moves (with_some (said_ordered order)) self.old self.new }
+    {
+        if let Some(order) = order {
             self.hold(Held::Ordered(order));
         }
     }
@@ -100,31 +106,33 @@ impl<'a> State<'a> {
     fn rebind_at(&mut self, place: usize, how: Rebinding)
         ensures { Moves (over_held (changed_at (held_by how) place)) self.old self.new }
     {
-        if self.known.is_dead {
+        if place >= self.known.held.len() {
             return;
         }
-        let Some(held) = self.known.held.get(place) else {
-            return;
-        };
-        let held = *held;
-        match held.by(how) {
-            None => self.make(&Change::Removed { place, held }),
-            Some(now) => self.replace(place, held, now),
+        match self.known.held[place].by(how) {
+            None => self.remove(place),
+            Some(now) => self.replace(place, now),
         }
     }
 
     // Something else is held at a place, unless it is the same.
-    fn replace(&mut self, place: usize, was: Held, now: Held)
-        requires { slice_get self.old.known.held.items place ≡ Some was }
+    fn replace(&mut self, place: usize, now: Held)
         ensures { Moves (over_held (λ held. slice_set held place (said_held now))) self.old self.new }
     {
-        if self.known.is_dead || now == was {
+        if self.known.is_dead {
+            return;
+        }
+        if place >= self.known.held.len() {
+            return;
+        }
+        let was = self.known.held[place];
+        if now.is_same(&was) {
             return;
         }
         self.make(&Change::Replaced { place, was, now });
     }
 
-    /// Those of what is held that stand where this says so.
+    /// Those of what is held that stand where this says so, and those behind.
     pub(crate) fn retain(&mut self, kept: &[bool])
         ensures { Moves (over_held (kept_by kept.now)) self.old self.new }
     {
@@ -136,16 +144,17 @@ impl<'a> State<'a> {
     }
 
     // What stands at a place is held no longer.
-    fn remove(&mut self, place: usize)
+    pub(crate) fn remove(&mut self, place: usize)
         ensures { Moves (over_held (λ held. remove held place)) self.old self.new }
     {
         if self.known.is_dead {
             return;
         }
-        if let Some(held) = self.known.held.get(place) {
-            let held = *held;
-            self.make(&Change::Removed { place, held });
+        if place >= self.known.held.len() {
+            return;
         }
+        let held = self.known.held[place];
+        self.make(&Change::Removed { place, held });
     }
 }
 

@@ -1,4 +1,5 @@
 ghost use Rattle.std.specs.Prelude.{◌≡◌, ◌+ℤ◌, neg_ℤ};
+ghost use Rattle.std.specs.Bool.{OnTrue};
 ghost use Rattle.std.specs.Cmp.Lexicographic.{slice_cmp};
 ghost use Rattle.checker_state.specs.Bounds.{plus};
 ghost use Rattle.checker_state.specs.Changes.{all_with_bounds, changed_order, in_place, ordered, raised, raised_number};
@@ -16,14 +17,14 @@ use std::cmp::Ordering;
 use types::OrdinalRange;
 
 /// The indexes between two bounds.
-#[derive(Clone, Copy, PartialEq)]
+#[derive(Clone, Copy)]
 pub struct Span {
     pub first: Bound,
     pub last: Bound,
 }
 
 /// Components of a row: those whose first index lies in a span, and whose second lies in the inner one, if there is one.
-#[derive(Clone, Copy, PartialEq)]
+#[derive(Clone, Copy)]
 pub struct Stretch {
     pub row: usize,
     pub span: Span,
@@ -31,7 +32,7 @@ pub struct Stretch {
 }
 
 /// The value of a variable is at most that of another plus a number.
-#[derive(Clone, Copy, PartialEq)]
+#[derive(Clone, Copy)]
 pub struct Order {
     pub root: u32,
     pub other: u32,
@@ -39,7 +40,7 @@ pub struct Order {
 }
 
 /// What is held beside rows.
-#[derive(Clone, Copy, PartialEq)]
+#[derive(Clone, Copy)]
 pub enum Held {
     /// The components of a stretch are defined.
     Stretched(Stretch),
@@ -59,6 +60,12 @@ pub enum Claim {
 }
 
 impl Span {
+    fn is_same(self, other: Span) -> bool
+        ensures { OnTrue result (self ≡ other) }
+    {
+        self.first.is_same(other.first) && self.last.is_same(other.last)
+    }
+
     // What becomes of it.
     fn by(self, how: Rebinding) -> Option<Span>
         ensures { said_span_form result ≡ with_bounds (bound_by how) (said_span self) }
@@ -78,6 +85,14 @@ impl Span {
 }
 
 impl Stretch {
+    fn is_same(&self, other: &Stretch) -> bool
+        ensures { OnTrue result (self.now ≡ other.now) }
+    {
+        self.row == other.row
+            && self.span.is_same(other.span)
+            && is_same_inner(self.inner, other.inner)
+    }
+
     /// That of a single first index.
     pub fn at(row: usize, index: Bound) -> Stretch
         ensures { said_stretch result ≡ at_index row (said_bound index) }
@@ -152,6 +167,12 @@ impl Stretch {
 }
 
 impl Order {
+    fn is_same(&self, other: &Order) -> bool
+        ensures { OnTrue result (self.now ≡ other.now) }
+    {
+        self.root == other.root && self.other == other.other && self.number == other.number
+    }
+
     /// An order, if its number is one that facts have.
     pub(crate) fn new(root: u32, other: u32, number: i64) -> Option<Order>
         ensures { said_ordered result ≡ ordered root other number }
@@ -265,6 +286,17 @@ impl Order {
 }
 
 impl Held {
+    /// Whether it is the same as another.
+    pub(crate) fn is_same(&self, other: &Held) -> bool
+        ensures { OnTrue result (self.now ≡ other.now) }
+    {
+        match (self, other) {
+            (Held::Stretched(one), Held::Stretched(another)) => one.is_same(another),
+            (Held::Ordered(one), Held::Ordered(another)) => one.is_same(another),
+            _ => false,
+        }
+    }
+
     /// What becomes of it.
     pub(crate) fn by(self, how: Rebinding) -> Option<Held>
         ensures { said_more result ≡ held_by how (said_held self) }
@@ -301,6 +333,16 @@ impl Held {
             (Held::Ordered(_), Held::Stretched(_)) => Ordering::Greater,
             (Held::Ordered(one), Held::Ordered(another)) => one.compare(another),
         }
+    }
+}
+
+fn is_same_inner(one: Option<Span>, other: Option<Span>) -> bool
+    ensures { OnTrue result (one ≡ other) }
+{
+    match (one, other) {
+        (None, None) => true,
+        (Some(span), Some(another)) => span.is_same(another),
+        _ => false,
     }
 }
 

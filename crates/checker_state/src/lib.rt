@@ -3,11 +3,15 @@
 
 mod bound;
 mod changes;
+mod conditions;
 mod forms;
 mod gives;
 mod held;
 mod known;
+mod loops;
+mod start;
 mod state;
+mod stores;
 mod term;
 mod trail;
 
@@ -15,5 +19,6 @@ pub use bound::Bound;
 pub use forms::{bound_form, entire};
 pub use held::{Claim, Held, Order, Span, Stretch};
 pub use state::State;
+pub use stores::{Index, Reach, all_of_row};
 pub use term::Term;
 pub use trail::{Branch, Mark};

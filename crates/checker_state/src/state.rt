@@ -1,6 +1,6 @@
 ghost use Rattle.std.specs.Prelude.{◌≡◌, length};
 ghost use Rattle.checker_state.specs.declared.state.State.{State as Kept};
-ghost use Rattle.checker_state.specs.State.{Dead, is_dead, is_defined, range_of, unless_empty, with_defined, with_range};
+ghost use Rattle.checker_state.specs.State.{Dead, State as Seen, is_dead, is_defined, range_of, unless_empty, with_defined, with_range};
 ghost use Rattle.checker_state.specs.Trail.{Comes, Core, EndsAt, Goes, IsCut, Leaves, Makes, Moves, TakesBack, core, seen};
 ghost use Rattle.checker_state.specs.Trail.{with_state};
 ghost use Rattle.checker_state.specs.View.{said_row};
@@ -20,8 +20,8 @@ pub struct State<'a> {
     pub(crate) alloc: Global,
     pub(crate) known: Known,
     /// What was changed, the last change last.
-    trail: Vec<Change>,
-    is_short: bool,
+    pub(crate) trail: Vec<Change>,
+    pub(crate) is_short: bool,
 }
 
 impl<'a> State<'a> {
@@ -115,6 +115,13 @@ impl<'a> State<'a> {
 }
 
 impl<'a> State<'a> {
+    /// Memory ran out.
+    pub(crate) fn run_short(&mut self)
+        ensures { (step : Seen → Seen) → Moves step self.old self.new }
+    {
+        self.is_short = true;
+    }
+
     /// Makes a change, and puts it on the trail.
     pub(crate) fn make(&mut self, change: &Change)
         ensures { Makes change.now self.old self.new }
