@@ -188,3 +188,11 @@ pub kept-filter : (test : Held → Bool) (held : List Held) → kept_by (map tes
 kept-filter test [] = refl
 kept-filter test (one ∷ held) =
     ap (λ (rest : List Held). cond (test one) (one ∷ rest) rest) (kept-filter test held)
+
+-- ---- the last one goes
+
+pub taken-step : (place : ℕ) (held : List Held) → remove (take (suc place) held) place ≡ take place held
+taken-step zero [] = refl
+taken-step zero (one ∷ held) = refl
+taken-step (suc place) [] = refl
+taken-step (suc place) (one ∷ held) = ap (λ (rest : List Held). one ∷ rest) (taken-step place held)

@@ -3,3 +3,5 @@ pub mod Ways
 pub mod Steps
 pub mod HeldLists
 pub mod Tests
+pub mod ConditionsOf
+pub mod Turns

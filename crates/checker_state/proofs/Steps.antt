@@ -4,7 +4,7 @@ use Rattle.std.proofs.Common.{get_or, set, take, drop, drop-cons, length, map, O
 use Rattle.std.proofs.Math.ListN.{get_or-map}
 use Rattle.std.specs.List.{insert, remove}
 use Rattle.std.proofs.lemmas.Bool.{cond_both, ne_eqb}
-use Rattle.std.proofs.lemmas.List.{drop_at, length-map, length-take-le, length_push, map-append, map-set, set-set, set-get_or, take-append-drop, take_at, take_more}
+use Rattle.std.proofs.lemmas.List.{drop_at, length-map, length-take-le, length_push, map-append, map-set, set-set, set-get_or, take-append-drop, take_all, take_at, take_more}
 use Rattle.domain.specs.Interval.{vacant}
 use Rattle.checker_state.specs.declared.held.Held.{Held as KeptHeld}
 use Rattle.checker_state.specs.declared.known.Row.{Row}
@@ -15,7 +15,7 @@ use Rattle.checker_state.specs.State.{Dead, Facts, Held, Live, RowState, State, 
 use Rattle.checker_state.specs.Trail.{Core, IsPlace, Makes, Moves, changed_at, core, over_held, seen, seen_core, viewed, with_state}
 use Rattle.checker_state.specs.View.{said_held, said_row}
 use Rattle.checker_state.proofs.HeldLists.{changed-end, changed-step, changed_from, dropped-step, insert-said, kept-end, kept-step, kept_from, more-append}
-use Rattle.checker_state.proofs.HeldLists.{no_held, none-there, one-became, one-gone, remove-said, said-inside, said-there, said_all}
+use Rattle.checker_state.proofs.HeldLists.{no_held, none-there, one-became, one-gone, remove-said, said-inside, said-there, said_all, taken-step}
 use Rattle.checker_state.proofs.Ways.{Returns, moves-as, moves-dead, moves-live, moves-made, moves-stay, moves-then, seen-live}
 
 -- ---- rows
@@ -250,3 +250,15 @@ same-stays place was now state same is =
     held-stays (λ held. set held place (said_held now)) state
     (sym (map-set said_held held place now)
     ∙ ap said_all (ap (set held place) (same ∙ is) ∙ set-get_or held place was))
+
+-- ---- the last one goes
+
+pub taken-begin : (n : ℕ) (state : Kept) → n ≡ length state.known.held.items → Moves (over_held (take n)) state state
+taken-begin n state is =
+    held-stays (take n) state (take_all n (said_all state.known.held.items) (rw length-map (omega (arith, is))))
+
+pub taken-more : {a b c : Kept} (place left : ℕ) → left ≡ suc place → Moves (over_held (take left)) a b
+    → Moves (over_held (λ held. remove held place)) b c → Moves (over_held (take place)) a c
+taken-more place left is first rest =
+    held-then (take left) (λ held. remove held place) (take place) first rest
+    (λ held. ap (λ (n : ℕ). remove (take n held) place) is ∙ taken-step place held)

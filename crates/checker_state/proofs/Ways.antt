@@ -2,6 +2,7 @@
 use Rattle.std.proofs.Common.{◌≡◌, ◌∙◌, sym, ap, ap₂, refl, Bool, true, false, cond, List, [], ◌∷◌, ◌++◌, append_assoc, append-nil, take, drop, length}
 use Rattle.std.proofs.Common.{ℕ, ◌+◌, ◌<◌, get_or, subst}
 use Rattle.std.proofs.lemmas.List.{drop_at, take_at, take_more}
+use Rattle.typed_tree.specs.declared.tree.Tree.{Tree}
 use Rattle.checker_state.specs.declared.state.State.{State as Kept}
 use Rattle.checker_state.specs.declared.trail.Change.{Change}
 use Rattle.checker_state.specs.declared.trail.Branch.{Branch}
@@ -90,13 +91,28 @@ moves-made {one = one} {old = old} {new = new} step makes returns is = record {
 }
 
 -- a step for each of a list
-pub moves-more : {A : Type 0} {a b c : Kept} (steps : List A → State → State) (step : State → State) (list : List A) (i : ℕ) (d : A)
-    → i < length list → Moves (steps (take i list)) a b → Moves step b c
-    → ((state : State) → step (steps (take i list) state) ≡ steps (take i list ++ get_or list i d ∷ []) state)
+pub moves-more : {A : Type 0} {a b c : Kept} (steps : List A → State → State) (step : State → State) (list : List A) (i : ℕ) (one : A)
+    → i < length list → one ≡ get_or list i one → Moves (steps (take i list)) a b → Moves step b c
+    → ((state : State) → step (steps (take i list) state) ≡ steps (take i list ++ one ∷ []) state)
     → Moves (steps (take (i + 1) list)) a c
-moves-more {A = A} {a = a} steps step list i d inside first rest same =
+moves-more {A = A} {a = a} steps step list i one inside is first rest same =
     moves-as (steps (take (i + 1) list)) (moves-then first rest)
-    (same (seen a) ∙ sym (ap (λ (some : List A). steps some (seen a)) (take_more list i d inside)))
+    (same (seen a) ∙ ap (λ (last : A). steps (take i list ++ last ∷ []) (seen a)) is
+    ∙ sym (ap (λ (some : List A). steps some (seen a)) (take_more list i one inside)))
+
+-- a step that is told by the rows of the program
+pub moves-told : {f : State → State} {a b c : Kept} (g : Tree → State → State) → Moves f a b → Moves (g b.table.now) b c
+    → Moves (λ state. g a.table.now (f state)) a c
+moves-told {a = a} {b = b} g first rest = record {
+  unless_short = λ long.
+      let two = rest.unless_short long in
+      let one = first.unless_short two.was_long in
+      record {
+        was_long = one.was_long;
+        seen_is = two.seen_is ∙ ap (λ (tree : Tree). g tree (seen b)) one.goes.same_table ∙ ap (g a.table.now) one.seen_is;
+        goes = goes-then one.goes two.goes;
+      };
+}
 
 -- nothing is known where no run comes
 pub seen-dead : (state : Kept) → state.known.is_dead ≡ true → seen state ≡ Dead

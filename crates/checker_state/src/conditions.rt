@@ -3,7 +3,7 @@ ghost use Rattle.std.specs.List.{list_all};
 ghost use Rattle.domain.specs.Interval.{always_true, never_true};
 ghost use Rattle.checker_state.specs.Conditions.{bound_at_least, bound_at_most, bound_isnt, branched, condition_of};
 ghost use Rattle.checker_state.specs.Conditions.{conjunct_of, narrowed, operation_refined, opposite, related};
-ghost use Rattle.checker_state.specs.Conditions.{related_forms, single_refined, takes_both, told, unless_excluded};
+ghost use Rattle.checker_state.specs.Conditions.{related_forms, single_refined, takes_both, told};
 ghost use Rattle.checker_state.specs.Conditions.{unlike, with_different, with_le, with_order, without_first};
 ghost use Rattle.checker_state.specs.Conditions.{without_last};
 ghost use Rattle.checker_state.specs.State.{Dead, bound_range};
@@ -24,12 +24,11 @@ impl<'a> State<'a> {
     pub fn branch(&mut self, condition: &Expr, range: Interval, truth: bool)
         ensures { Moves (branched truth condition.now range) self.old self.new }
     {
-        if excludes(range, truth) {
-            self.die();
+        self.die_if(excludes(range, truth));
+        if holds_call(condition) {
+            return;
         }
-        if !holds_call(condition) {
-            self.refine(condition, truth);
-        }
+        self.refine(condition, truth);
     }
 
     /// What a condition tells that had a truth value, if no call in it changes that.
