@@ -5,3 +5,4 @@ pub mod HeldLists
 pub mod Tests
 pub mod ConditionsOf
 pub mod Turns
+pub mod Elements

@@ -1,7 +1,8 @@
-ghost use Rattle.std.specs.Prelude.{◌≡◌, IfOk};
+ghost use Rattle.std.specs.Prelude.{◌≡◌, ◌++◌, [], IfOk, map};
+ghost use Rattle.std.specs.List.{cons_option};
 ghost use Rattle.checker_state.specs.Stores.{all_of_row, all_stored, gives_form, gives_index, gives_reached, gives_some};
-ghost use Rattle.checker_state.specs.Stores.{longer, longer_span, range_stretch, stored, with_element, with_joined};
-ghost use Rattle.checker_state.specs.Stores.{with_some_element};
+ghost use Rattle.checker_state.specs.Stores.{is_none, longer, longer_span, range_stretch, stored, with_element};
+ghost use Rattle.checker_state.specs.Stores.{with_joined, with_some_element};
 ghost use Rattle.checker_state.specs.Trail.{IsBeside, Moves, core, seen, viewed};
 ghost use Rattle.checker_state.specs.View.{said_bound, said_claim, said_form, said_held, said_index, said_more, said_reach};
 ghost use Rattle.checker_state.specs.View.{said_span, said_span_form, said_stretch_form, table_of};
@@ -119,34 +120,39 @@ impl<'a> State<'a> {
         if self.known.is_dead {
             return;
         }
-        let Ok((kept, longer)) = self.known.beside(self.alloc, row, index) else {
+        let Ok(beside) = self.known.beside(self.alloc, row, index) else {
             return self.run_short();
         };
-        self.retain(&kept);
-        if longer.is_empty() {
+        self.retain(&beside.kept);
+        if beside.longer.is_empty() {
             self.hold(Held::Stretched(Stretch::at(row, index)));
         } else {
-            self.hold_all(&longer);
+            self.hold_all(&beside.longer);
         }
     }
 }
 
+// What becomes of what is held where a first index of a row becomes defined: whether it stays as it is, and that which
+// becomes longer.
+#[derive(Drop)]
+struct Beside {
+    kept: Vec<bool>,
+    longer: Vec<Held>,
+}
+
 impl Known {
-    // Whether what is held stays as it is where a first index of a row becomes defined, and that which becomes longer.
-    fn beside(&self, alloc: Global, row: usize, index: Bound) -> Result<(Vec<bool>, Vec<Held>), AllocError>
+    fn beside(&self, alloc: Global, row: usize, index: Bound) -> Result<Beside, AllocError>
         ensures { IfOk result (λ found. IsBeside (viewed (core self.now)) row (said_bound index)
-            found.0.items found.1.items) }
+            found.kept.items found.longer.items) }
     {
         let mut kept = Vec::new(alloc);
         let mut longer = Vec::new(alloc);
         for held in &self.held {
             let more = self.longer(row, index, held);
-            kept.push(more.is_none())?;
-            if let Some(more) = more {
-                longer.push(more)?;
-            }
+            kept.push(is_none(more))?;
+            push_some(&mut longer, more)?;
         }
-        Ok((kept, longer))
+        Ok(Beside { kept, longer })
     }
 
     // What is held of a row with a first index more, if that lies just behind it or before it.
@@ -187,6 +193,26 @@ impl Known {
         }
         None
     }
+}
+
+fn is_none(one: Option<Held>) -> bool
+    ensures { result ≡ is_none (said_more one) }
+{
+    match one {
+        None => true,
+        Some(_) => false,
+    }
+}
+
+// Puts one behind others, if there is one.
+fn push_some(list: &mut Vec<Held>, one: Option<Held>) -> Result<(), AllocError>
+    ensures { IfOk result (λ _. map said_held list.new.items
+        ≡ map said_held list.old.items ++ cons_option (said_more one) []) }
+{
+    if let Some(one) = one {
+        list.push(one)?;
+    }
+    Ok(())
 }
 
 /// That each component of a row is defined: of one with indexes, all first indexes are.
