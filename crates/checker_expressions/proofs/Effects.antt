@@ -34,7 +34,7 @@ use Rattle.meaning.specs.Meaning.{combined, default_width, in_turn, link_of, lin
 use Rattle.meaning.specs.Meaning.{value_of, value_step, values_of, whole_of, width_of, written_of, OfPlace, OfRow}
 use Rattle.meaning.specs.Meaning as meaning
 use Rattle.checker_state.specs.Forms.{bound_of}
-use Rattle.checker_state.specs.declared.known.Known.{Known}
+use Rattle.checker_state.specs.declared.value.Known.{Known}
 use Rattle.domain.specs.Interval.{Interval, truth_values}
 use Rattle.checker_state.specs.Stores.{Reach, entire}
 use Rattle.checker_calls.specs.Sections.{BlockClaims}

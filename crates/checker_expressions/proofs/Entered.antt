@@ -30,8 +30,8 @@ use Rattle.typed_tree.specs.Entries.{call_entries, entries_of_passed, passed_ent
 use Rattle.typed_tree.specs.Entries.{entries_of_written, index_entries}
 use Rattle.domain.specs.Interval.{Interval}
 use Rattle.meaning.specs.Meaning.{overflow_of, overflow_of_both}
-use Rattle.checker_state.specs.declared.known.Known.{Known}
-use Rattle.checker_state.specs.declared.known.Known.TheVariants.{Ordinal}
+use Rattle.checker_state.specs.declared.value.Known.{Known}
+use Rattle.checker_state.specs.declared.value.Known.TheVariants.{Ordinal}
 use Rattle.checker_state.specs.Stores.{Reach, entire}
 use Rattle.checker_state.specs.State.{State}
 use Rattle.checker_expressions.specs.Walk.{Context, Joint, Linked, Piece, Walking, Combination, numbers_of, calculated, combined, divides, of_both, operated}

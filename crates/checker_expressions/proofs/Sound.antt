@@ -20,8 +20,8 @@ use Rattle.meaning.specs.Effect as effect
 use Rattle.meaning.specs.Effect.{Action, Reply, Visit, and_then}
 use Rattle.meaning.specs.Meaning.{Activation, Argument, Calls, assign_all, environment_of}
 use Rattle.checker_rows.specs.Rows.{Parts, all_parts}
-use Rattle.checker_state.specs.declared.known.Known.{Known}
-use Rattle.checker_state.specs.declared.known.Known.TheVariants.{Ordinal}
+use Rattle.checker_state.specs.declared.value.Known.{Known}
+use Rattle.checker_state.specs.declared.value.Known.TheVariants.{Ordinal}
 use Rattle.checker_state.specs.State.{Dead, State, is_dead, unless_empty}
 use Rattle.checker_state.specs.Holds.{IsIn, Separate, StateHolds}
 use Rattle.checker_state.specs.Knows.{Knows}

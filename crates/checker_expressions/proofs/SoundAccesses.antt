@@ -32,8 +32,8 @@ use Rattle.meaning.specs.Store.{Environment, Place, Store, held, part}
 use Rattle.meaning.specs.Effect as effect
 use Rattle.meaning.specs.Effect.{fetch, fetch_all, is_in, number_of}
 use Rattle.meaning.specs.Meaning.{Evaluation, Surroundings, accessed, selected, whole_of}
-use Rattle.checker_state.specs.declared.known.Known.{Known}
-use Rattle.checker_state.specs.declared.known.Known.TheVariants.{Ordinal}
+use Rattle.checker_state.specs.declared.value.Known.{Known}
+use Rattle.checker_state.specs.declared.value.Known.TheVariants.{Ordinal}
 use Rattle.checker_state.specs.Bounds.{Bound}
 use Rattle.domain.specs.Interval.{Interval}
 use Rattle.types.specs.declared.form.OrdinalRange.{OrdinalRange}

@@ -46,8 +46,8 @@ use Rattle.meaning.specs.Meaning as meaning
 use Rattle.meaning.specs.Meaning.{Evaluation, Passing, Surroundings, accessed, link_of, parameter_of, passing_of, value_of, values_of, width_of, written_of}
 use Rattle.checker_state.specs.Bounds.{Bound}
 use Rattle.domain.specs.Interval.{Interval, truth_values}
-use Rattle.checker_state.specs.declared.known.Known.{Known}
-use Rattle.checker_state.specs.declared.known.Known.TheVariants.{Ordinal}
+use Rattle.checker_state.specs.declared.value.Known.{Known}
+use Rattle.checker_state.specs.declared.value.Known.TheVariants.{Ordinal}
 use Rattle.checker_state.specs.Forms.{bound_of}
 use Rattle.checker_state.specs.Knows.{IsOfForm}
 use Rattle.checker_state.specs.Holds.{moment}

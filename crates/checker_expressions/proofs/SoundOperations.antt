@@ -25,8 +25,8 @@ use Rattle.meaning.specs.Store.{Environment, Store}
 use Rattle.meaning.specs.Effect as effect
 use Rattle.meaning.specs.Effect.{is_in, is_positive, number_of}
 use Rattle.meaning.specs.Meaning as meaning
-use Rattle.checker_state.specs.declared.known.Known.{Known}
-use Rattle.checker_state.specs.declared.known.Known.TheVariants.{Ordinal}
+use Rattle.checker_state.specs.declared.value.Known.{Known}
+use Rattle.checker_state.specs.declared.value.Known.TheVariants.{Ordinal}
 use Rattle.checker_rows.specs.Limits.{integer, limits_of}
 use Rattle.checker_expressions.specs.Walk as walk
 use Rattle.checker_loops.specs.Ways.{single}

@@ -13,8 +13,8 @@ use Rattle.typed_tree.specs.declared.tree.Relation.{Relation}
 use Rattle.typed_tree.specs.declared.tree.Relation.TheVariants as relation
 use Rattle.domain.specs.Interval.{Interval, at_least, at_most, difference, sum}
 use Rattle.checker_state.specs.Bounds.{Bound, plus}
-use Rattle.checker_state.specs.declared.known.Known.{Known}
-use Rattle.checker_state.specs.declared.known.Known.TheVariants.{Ordinal}
+use Rattle.checker_state.specs.declared.value.Known.{Known}
+use Rattle.checker_state.specs.declared.value.Known.TheVariants.{Ordinal}
 use Rattle.checker_state.specs.State.{State, bound_range, range_of, unless_empty, with_defined}
 use Rattle.checker_state.specs.Changes.{assigned, bound_rests_on}
 use Rattle.checker_state.specs.Conditions.{bound_form, narrowed, related_forms, with_order}

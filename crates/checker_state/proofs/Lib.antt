@@ -14,3 +14,11 @@ pub mod Evaluated
 pub mod Refined
 pub mod Knows
 pub mod OfTree
+pub mod FormsOf
+pub mod Ways
+pub mod Steps
+pub mod HeldLists
+pub mod Tests
+pub mod ConditionsOf
+pub mod Turns
+pub mod Elements

@@ -39,8 +39,8 @@ use Rattle.meaning.specs.Meaning as meaning
 use Rattle.checker_state.specs.Conditions.{bound_form, condition_of}
 use Rattle.checker_state.specs.Forms.{root_of}
 use Rattle.checker_state.specs.Loops.{with_undefined}
-use Rattle.checker_state.specs.declared.known.Known.{Known}
-use Rattle.checker_state.specs.declared.known.Known.TheVariants.{Ordinal}
+use Rattle.checker_state.specs.declared.value.Known.{Known}
+use Rattle.checker_state.specs.declared.value.Known.TheVariants.{Ordinal}
 use Rattle.checker_state.specs.Bounds.{Bound}
 use Rattle.domain.specs.Interval.{Interval}
 use Rattle.checker_state.specs.Stores.{Reach}

@@ -18,8 +18,8 @@ use Rattle.typed_tree.specs.declared.tree.Tree.{Tree}
 use Rattle.typed_tree.specs.declared.tree.Block.{Block}
 use Rattle.typed_tree.specs.Entries.{joined, entries_of_expression, entries_of_parameter, statement_entries, entries_of_block, entries_of_statement, entries_of}
 use Rattle.certificate.specs.declared.Certificate.{Certificate}
-use Rattle.checker_state.specs.declared.known.Known.{Known}
-use Rattle.checker_state.specs.declared.known.Known.TheVariants.{Ordinal}
+use Rattle.checker_state.specs.declared.value.Known.{Known}
+use Rattle.checker_state.specs.declared.value.Known.TheVariants.{Ordinal}
 use Rattle.checker_statements.specs.Promise.{LinksEntries}
 use Rattle.checker_state.specs.Stores.{Reach}
 use Rattle.checker_state.specs.State.{Dead, State}

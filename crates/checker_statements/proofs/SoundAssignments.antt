@@ -33,8 +33,8 @@ use Rattle.meaning.specs.Store.{Environment, Place as StorePlace, Store, part}
 use Rattle.meaning.specs.Effect as effect
 use Rattle.meaning.specs.Effect.{is_in}
 use Rattle.meaning.specs.Meaning.{Surroundings, accessed, value_of, values_of}
-use Rattle.checker_state.specs.declared.known.Known.{Known}
-use Rattle.checker_state.specs.declared.known.Known.TheVariants.{Ordinal}
+use Rattle.checker_state.specs.declared.value.Known.{Known}
+use Rattle.checker_state.specs.declared.value.Known.TheVariants.{Ordinal}
 use Rattle.checker_state.specs.Conditions.{bound_form}
 use Rattle.checker_state.specs.Holds.{IsIn, moment}
 use Rattle.checker_state.specs.Knows.{IsOfForm}

@@ -23,7 +23,7 @@ use Rattle.meaning.specs.Meaning as meaning
 use Rattle.meaning.specs.Meaning.{Surroundings}
 use Rattle.meaning.specs.Laws.{state_after}
 use Rattle.meaning.specs.Store.{Environment, Place as StorePlace, Store, is_beginning, overlap, stored as stored_at, undefined, written}
-use Rattle.checker_state.specs.declared.known.Known.TheVariants.{Ordinal}
+use Rattle.checker_state.specs.declared.value.Known.TheVariants.{Ordinal}
 use Rattle.checker_rows.specs.Limits.{limits_of, row_limits}
 use Rattle.checker_rows.specs.Rows.{rows_of, values_at}
 use Rattle.checker_state.specs.Loops.{is_among, with_undefined}

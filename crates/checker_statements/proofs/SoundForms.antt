@@ -36,8 +36,8 @@ use Rattle.meaning.specs.Store.{Environment, Place as StorePlace, Store}
 use Rattle.meaning.specs.Effect as effect
 use Rattle.meaning.specs.Meaning as meaning
 use Rattle.meaning.specs.Meaning.{Execution, Surroundings, effect_of, is_so, parameter_of, value_of}
-use Rattle.checker_state.specs.declared.known.Known.{Known}
-use Rattle.checker_state.specs.declared.known.Known.TheVariants.{Ordinal}
+use Rattle.checker_state.specs.declared.value.Known.{Known}
+use Rattle.checker_state.specs.declared.value.Known.TheVariants.{Ordinal}
 use Rattle.checker_state.specs.Conditions.{bound_form, condition_of}
 use Rattle.checker_state.specs.Forms.{root_of}
 use Rattle.checker_state.specs.Holds.{HasNumber, moment}

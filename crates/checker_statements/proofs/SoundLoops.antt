@@ -17,8 +17,8 @@ use Rattle.meaning.specs.Effect as effect
 use Rattle.meaning.specs.Effect.{Action, and_then}
 use Rattle.meaning.specs.Meaning as meaning
 use Rattle.meaning.specs.Meaning.{Surroundings, is_so, value_of}
-use Rattle.checker_state.specs.declared.known.Known.{Known}
-use Rattle.checker_state.specs.declared.known.Known.TheVariants.{Ordinal}
+use Rattle.checker_state.specs.declared.value.Known.{Known}
+use Rattle.checker_state.specs.declared.value.Known.TheVariants.{Ordinal}
 use Rattle.checker_state.specs.Knows.{IsKept, Knows, AreEntire}
 use Rattle.checker_state.specs.Loops.{is_among}
 use Rattle.checker_expressions.proofs.Sound.{IsKnown, Any_value, Good, Goes, Here, IsForetold, IsPartOf, IsValue, Sound, Stands, World, good-give, good-then, good-weaker, here-behind, kept-rule, nothing-new, part-left, part-right, parts_in, proper-grown, stands-as, unbroken-left, unbroken-right, variables_in}

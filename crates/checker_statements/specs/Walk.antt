@@ -29,8 +29,8 @@ use Rattle.domain.specs.Interval.{Interval, common}
 use Rattle.domain.specs.Numbers.{hull, is_covered}
 use Rattle.domain.specs.Facts.{Fact}
 use Rattle.checker_state.specs.Bounds.{Bound}
-use Rattle.checker_state.specs.declared.known.Known.{Known}
-use Rattle.checker_state.specs.declared.known.Known.TheVariants.{Ordinal}
+use Rattle.checker_state.specs.declared.value.Known.{Known}
+use Rattle.checker_state.specs.declared.value.Known.TheVariants.{Ordinal}
 use Rattle.checker_rows.specs.Limits.{limits_of}
 use Rattle.checker_state.specs.State.{Dead, State, has_number, range_of, unless_empty}
 use Rattle.checker_state.specs.Joins.{joined_states}
