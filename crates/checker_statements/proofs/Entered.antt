@@ -35,7 +35,9 @@ use Rattle.checker_state.specs.Forms.{root_of}
 use Rattle.checker_loops.specs.Cases.{arm_start, constants_before}
 use Rattle.place.specs.declared.Place.{Place}
 use Rattle.checker_expressions.specs.Walk.{Context, Walking, ◌>>=◌, access_walk, index_pieces, numbers_of, fitting, value_walk, parameter_walk, whole_walk}
-use Rattle.checker_statements.specs.Walk.{first_context, assign_to, arms_walk, case_walk, for_round, for_turns, for_walk, index_test, loop_walk, steady_in, tested_way, while_round, repeat_round, statement_step, statement_walk, where_so, all_of, block_walk, blocks_walk, begin_way, program_walk, reach_stored, result_use}
+use Rattle.checker_statements.specs.Walk.{first_context, assign_to, arms_walk, case_walk, for_round, for_turns, for_walk, index_test, loop_walk, steady_in}
+use Rattle.checker_statements.specs.Walk.{tested_way, while_round, repeat_round, statement_step, statement_walk, where_so, all_of, block_walk, blocks_walk}
+use Rattle.checker_statements.specs.Walk.{begin_way, program_walk, reach_stored, result_use}
 use Rattle.checker_expressions.proofs.Entered.{Enters, access-entered, and_no_more, and_then, call-entered, parameter-entered, value-entered, whole-entered}
 
 -- what comes behind the value of an assignment

@@ -43,7 +43,10 @@ use Rattle.checker_state.specs.Forms.{root_of}
 use Rattle.checker_state.specs.Holds.{HasNumber, moment}
 use Rattle.checker_state.specs.Knows.{IsOfForm, AreEntire}
 use Rattle.checker_state.specs.State.{Dead, State, is_dead}
-use Rattle.checker_expressions.proofs.Sound.{IsKnown, Any_value, Good, Here, IsForetold, IsPartOf, IsValue, SoundCalls, World, closed-passes, errs-here, good-then, good-weaker, here-behind, is_seen, nonempty-stands, nothing-new, open-here, part-left, part-right, parts_in, sites_in, sound-enter, sound-give, sound-given, sound-then, sound-written, stands-as, types_in, unbroken-left, unbroken-right, variables_in}
+use Rattle.checker_expressions.proofs.Sound.{IsKnown, Any_value, Good, Here, IsForetold, IsPartOf, IsValue, SoundCalls, World, closed-passes, errs-here}
+use Rattle.checker_expressions.proofs.Sound.{good-then, good-weaker, here-behind, is_seen, nonempty-stands, nothing-new, open-here, part-left, part-right}
+use Rattle.checker_expressions.proofs.Sound.{parts_in, sites_in, sound-enter, sound-give, sound-given, sound-then, sound-written, stands-as, types_in}
+use Rattle.checker_expressions.proofs.Sound.{unbroken-left, unbroken-right, variables_in}
 use Rattle.checker_state.proofs.Ranged.{common-in}
 use Rattle.checker_state.proofs.Refined.{expression-kept, forms-tell}
 use Rattle.checker_state.specs.Joins.{joined_states}
@@ -62,7 +65,8 @@ use Rattle.checker_expressions.proofs.SoundCalls.{CallLaws}
 use Rattle.checker_expressions.proofs.SoundExpressions.{SoundAction, parameter-sound, procedure-sound, value-sound}
 use Rattle.checker_statements.specs.Walk as walk
 use Rattle.checker_statements.specs.Walk.{statement_walk}
-use Rattle.checker_statements.proofs.Controls.{AreOrdinal, all-ordinal, control-ordinal, control-seen, controls-ordinal, inside-ordinal, loops-parts, one-ordinal, control-declared, ordinal-entire}
+use Rattle.checker_statements.proofs.Controls.{AreOrdinal, all-ordinal, control-ordinal, control-seen, controls-ordinal, inside-ordinal, loops-parts}
+use Rattle.checker_statements.proofs.Controls.{one-ordinal, control-declared, ordinal-entire}
 use Rattle.checker_statements.proofs.SoundAssignments.{assigned, assignment-sound, entire-lies, has_type, ordinal-values, site-within}
 use Rattle.checker_statements.proofs.SoundCase.{arm-missing, arms-behind, at-constants_known, entire-number, first-constants}
 use Rattle.checker_statements.proofs.SoundCopies.{copied, copying-sound}

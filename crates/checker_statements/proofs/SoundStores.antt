@@ -15,7 +15,6 @@ use Rattle.meaning.specs.declared.store.Value.{Value}
 use Rattle.meaning.specs.Store.{Environment, Place, Store}
 use Rattle.meaning.specs.Store as store
 use Rattle.checker_state.specs.Holds.{IsIn, IsOfRow, component_at, indexes_of, moment, value_at}
-use Rattle.checker_state.specs.Loops.{is_among}
 use Rattle.checker_state.proofs.Apart.{part}
 use Rattle.checker_rows.specs.Rows.{Parts, all_parts, no_parts, rows_of, type_at}
 use Rattle.checker_state.specs.Stores.{Index, Reach, all_stored, with_joined}
