@@ -224,8 +224,3 @@ module _ (tree : Tree) (env callee : Environment) (formal root : ℕ) (selectors
   actual-of_row j row row_at =
       let within = slice_get_within own_rows j row row_at in
       some-there actual_rows j (omega (arith, rows-alike, within))
-
-  pub row-of_actual : (j own : ℕ) → slice_get actual_rows j ≡ Some own → (row : ℕ) × (slice_get own_rows j ≡ Some row)
-  row-of_actual j own own_at =
-      let within = slice_get_within actual_rows j own own_at in
-      some-there own_rows j (omega (arith, rows-alike, within))

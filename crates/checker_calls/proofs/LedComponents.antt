@@ -1,33 +1,25 @@
 -- Steps that lead to an ordinal lead to a component; none lead on from an ordinal.
-use Rattle.std.proofs.Common.{arith, ◌≡◌, ◌∙◌, sym, ap, refl, subst, ℕ, Bool, true, cond, nat_eq, List, [], ◌∷◌, Option, Some}
+use Rattle.std.proofs.Common.{arith, ◌≡◌, ◌∙◌, sym, ap, refl, subst, Bool, true, cond, nat_eq, List, [], ◌∷◌, Option, Some}
 use Rattle.std.proofs.Common.{None}
 use Rattle.std.specs.Cmp.{int_eq_equiv}
 use Rattle.std.specs.List.{Contains}
 use Rattle.std.specs.Option.{option_and_then}
 use Rattle.std.specs.Ordering.{int_eq}
-use Rattle.std.specs.Prelude.{is_some, slice_get}
-use Rattle.std.proofs.lemmas.Bool.{and_from, eq-eqb, false≢true}
+use Rattle.std.proofs.lemmas.Bool.{and_from, eq-eqb}
 use Rattle.std.proofs.lemmas.Option.{cond_some, none-some, same_Some}
 use Rattle.types.specs.Components.{components_of}
-use Rattle.types.specs.Forms.{Array, Boolean, Char, Enumeration, Form, Integer, Record, Subrange}
-use Rattle.types.specs.Types.{before, element_of, field_at, field_in, field_of, form_at, form_range, is_ordinal, own_field}
+use Rattle.types.specs.Forms.{Form}
+use Rattle.types.specs.Types.{element_of, field_at, is_ordinal}
 use Rattle.types.specs.declared.form.ArrayElement.{ArrayElement}
 use Rattle.types.specs.declared.form.RecordField.{RecordField}
 use Rattle.types.specs.declared.form.Step.{Step}
 use Rattle.types.specs.declared.form.Step.TheVariants as step
 use Rattle.types.specs.declared.form.TypeId.{TypeId}
-use Rattle.types.proofs.Elements.{is_array}
-use Rattle.types.proofs.Fields.{is_field}
 use Rattle.types.proofs.Scalars.{ordinal_component}
 use Rattle.typed_tree.specs.Accesses.{are_values_of, element_type, field_type, led, selected}
 use Rattle.typed_tree.specs.declared.tree.Selector.{Selector}
 use Rattle.typed_tree.specs.declared.tree.Selector.TheVariants.{Element, Field}
-use Rattle.typed_tree.specs.declared.tree.Tree.{Tree}
-use Rattle.typed_tree.specs.declared.tree.Variable.{Variable}
-use Rattle.domain.specs.Facts as fact
-use Rattle.domain.specs.Facts.{Path}
 use Rattle.meaning.specs.Integers.{is_within}
-use Rattle.checker_rows.specs.Rows.{Named, behind_element, behind_name, part_named, steps_named, variable_named}
 use Rattle.checker_rows.proofs.Components.{Has}
 use Rattle.checker_rows.proofs.Numbered.{contains-has, has-contains}
 use Rattle.checker_rows.proofs.Selected.{Matches, reaches}
@@ -81,61 +73,3 @@ module _ (types : List Form) where
       has-contains (components_of types id) (s ∷ steps)
       (step-covers s id first.0 steps first.1
       (contains-has (components_of types first.0) steps (led-component steps first.0 own first.2 ordinal)))
-
-  formed : (id : TypeId) (form : Form) → form_at types id ≡ Some form → is_ordinal types id ≡ true → is_some (form_range form) ≡ true
-  formed id form is ordinal = sym (ap (λ (f : Option Form). is_some (option_and_then form_range f)) is) ∙ ordinal
-
-  ordinal-still : (s : Step) (id next : TypeId) → is_ordinal types id ≡ true → type_behind types s id ≡ Some next → ⊥
-  ordinal-still (step.Element index) id next ordinal is = by (element_of types id) refl is
-    where
-      by : (found : Option ArrayElement) → element_of types id ≡ found → element_behind index found ≡ Some next → ⊥
-      by None found is = none-some next is
-      by (Some e) found is = let array = is_array types id e found in false≢true (formed id _ array.form ordinal)
-  ordinal-still (step.Field position) id next ordinal is = by (field_at types id position) refl is
-    where
-      by : (found : Option RecordField) → field_at types id position ≡ found → field_behind found ≡ Some next → ⊥
-      by None found is = none-some next is
-      by (Some f) found is = let own = is_field types id position f found in false≢true (formed id _ own.form ordinal)
-
-  -- no steps lead on from an ordinal
-  pub led-ordinal : (steps : List Step) (id own : TypeId) → is_ordinal types id ≡ true → type_led types steps id ≡ Some own → (steps ≡ []) × (id ≡ own)
-  led-ordinal [] id own ordinal leads = (refl, same_Some id own leads)
-  led-ordinal (s ∷ steps) id own ordinal leads =
-      let first = first-led types s steps id own leads in absurd (ordinal-still s id first.0 ordinal first.1)
-
-  -- nor does a path
-  no-field : (id : TypeId) (name : List ℕ) → is_ordinal types id ≡ true → (field : RecordField) → field_of types id name ≡ Some field → ⊥
-  no-field id name ordinal field is = by (form_at types id) refl is
-    where
-      by : (form : Option Form) → form_at types id ≡ form → own_field id (field_in (before types id) name form) ≡ Some field → ⊥
-      by None at is = none-some field is
-      by (Some Integer) at is = none-some field is
-      by (Some Boolean) at is = none-some field is
-      by (Some Char) at is = none-some field is
-      by (Some (Enumeration last)) at is = none-some field is
-      by (Some (Subrange host first last)) at is = none-some field is
-      by (Some (Array packed index element)) at is = none-some field is
-      by (Some (Record packed fields)) at is = false≢true (formed id (Record packed fields) at ordinal)
-
-  pub named-ordinal : (steps : List fact.Step) (start named : Named) → is_ordinal types start.type_id ≡ true → steps_named types steps start ≡ Some named
-      → steps ≡ []
-  named-ordinal [] start named ordinal is = refl
-  named-ordinal (fact.Elements ∷ steps) start named ordinal is = by (element_of types start.type_id) refl is
-    where
-      by : (found : Option ArrayElement) → element_of types start.type_id ≡ found
-          → option_and_then (steps_named types steps) (behind_element start found) ≡ Some named → fact.Elements ∷ steps ≡ []
-      by None found is = absurd (none-some named is)
-      by (Some e) found is = let array = is_array types start.type_id e found in absurd (false≢true (formed start.type_id _ array.form ordinal))
-  named-ordinal (fact.Field name ∷ steps) start named ordinal is = by (field_of types start.type_id name) refl is
-    where
-      by : (found : Option RecordField) → field_of types start.type_id name ≡ found
-          → option_and_then (steps_named types steps) (behind_name start found) ≡ Some named → fact.Field name ∷ steps ≡ []
-      by None found is = absurd (none-some named is)
-      by (Some f) found is = absurd (no-field start.type_id name ordinal f found)
-
--- a path that names a part of an ordinal variable names the variable
-pub path-ordinal : (tree : Tree) (path : Path) (variable : Variable) (named : Named) → slice_get tree.variables.items path.root ≡ Some variable
-    → is_ordinal tree.types variable.type_id ≡ true → part_named tree path ≡ Some named → path.steps ≡ []
-path-ordinal tree path variable named is ordinal part =
-    named-ordinal tree.types path.steps (record { steps = []; type_id = variable.type_id }) named ordinal
-    (sym (ap (variable_named tree.types path.steps) is) ∙ part)

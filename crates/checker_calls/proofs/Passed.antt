@@ -1,5 +1,5 @@
 -- What is passed to the formal parameters of a block, as the meaning has it, as it fits them, and as the checker knows it.
-use Rattle.std.proofs.Common.{arith, ◌≡◌, ◌∙◌, sym, refl, subst, ℕ, ◌<◌, ℤ, ◌≤ℤ◌, Bool, true, false, List, [], ◌∷◌, length, map, Option, Some, None}
+use Rattle.std.proofs.Common.{arith, ◌≡◌, ◌∙◌, refl, ℕ, ◌<◌, ℤ, ◌≤ℤ◌, true, List, [], ◌∷◌, length, map, Option, Some, None}
 use Rattle.std.specs.Prelude.{int_le, nat_lt, neg_ℤ, slice_get, ◌&&◌}
 use Rattle.std.specs.List.{list_all}
 use Rattle.std.proofs.lemmas.List.{length-map}
@@ -30,7 +30,7 @@ use Rattle.checker_rows.proofs.Selected.{Matches}
 use Rattle.checker_state.specs.Holds.{IsIn, indexes_of, moment}
 use Rattle.checker_state.specs.Knows.{IsIndex, IsOfForm}
 use Rattle.checker_state.specs.Stores.{Index, Reach}
-use Rattle.checker_calls.specs.Actuals.{Actual, OfRows, OfValue, OfVariable, after_call, settled, unknown_index, unknown_reach}
+use Rattle.checker_calls.specs.Actuals.{Actual, OfRows, OfValue, OfVariable, after_call, unknown_index, unknown_reach}
 use Rattle.checker_calls.specs.Environments.{LiesIn, place_type, type_led}
 
 -- ---- what an access reaches
@@ -187,21 +187,3 @@ module _ (tree : Tree) (env : Environment) (before after : Store) where
     typed,
     integers,
   )
-
-  pub after-call_arguments : (roots : List ℕ) (actuals : List Actual) (arguments : List Argument) → AreArguments tree env before roots actuals arguments
-      → AreArguments tree env after roots (map after_call actuals) arguments
-  after-call_arguments [] [] [] are = tt
-  after-call_arguments [] [] (argument ∷ arguments) are = absurd are
-  after-call_arguments [] (actual ∷ actuals) arguments are = absurd are
-  after-call_arguments (root ∷ roots) [] arguments are = absurd are
-  after-call_arguments (root ∷ roots) (actual ∷ actuals) [] are = absurd are
-  after-call_arguments (root ∷ roots) (actual ∷ actuals) (argument ∷ arguments) (formal, is, own, others) =
-      (formal, is, after-call_argument formal actual argument own, after-call_arguments roots actuals arguments others)
-
--- what is known of actual parameters where one of them may hold a call; where none does, nothing changed
-pub settled-arguments : (tree : Tree) (env : Environment) (before after : Store) (holds_call : Bool) (roots : List ℕ) (actuals : List Actual)
-    (arguments : List Argument) → (holds_call ≡ false → after ≡ before) → AreArguments tree env before roots actuals arguments
-    → AreArguments tree env after roots (settled holds_call actuals) arguments
-settled-arguments tree env before after true roots actuals arguments same are = after-call_arguments tree env before after roots actuals arguments are
-settled-arguments tree env before after false roots actuals arguments same are =
-    subst (λ (store : Store). AreArguments tree env store roots actuals arguments) (sym (same refl)) are

@@ -71,13 +71,6 @@ module _ (tree : Tree) (pairs : List (ℕ × ℕ)) (block : ℕ) where
   all-alias-seen roots root alias inside among shown =
       among-flat (aliases_in listed block) roots root alias (among-contains roots root inside) (alias-seen root alias among shown)
 
-  -- where a variable has none, none of those that are listed with it is visible
-  pub none-seen : (root alias : ℕ) → aliases_in listed block root ≡ [] → is_among alias (aliases_of pairs root) ≡ true
-      → is_visible (outline_of tree) block alias ≡ false
-  none-seen root alias none among =
-      false_from_ne_true (is_visible (outline_of tree) block alias)
-      (λ shown. false≢true (sym (ap (is_among alias) none) ∙ alias-seen root alias among shown))
-
   -- what may share a place with a variable is one of its aliases
   pub apart-seen : (activations : ℕ) (env : Environment) → Proper tree pairs block activations env → (root : ℕ) (home : Place)
       → env.variables root ≡ Some home → IsApart env root home (aliases_in listed block root)

@@ -2,6 +2,5 @@ pub mod Tabled
 pub mod Claims
 pub mod Constants
 pub mod Behind
-pub mod Partners
 pub mod Touched
 pub mod OnWay
