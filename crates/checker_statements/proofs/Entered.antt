@@ -119,8 +119,9 @@ arms-entered base index rows [] context state = refl
 arms-entered base index rows (arm ∷ arms) context state =
     let start = arm_start index (slice_get rows 0) base in
     let first = statement_walk arm.0 context start in
-    let rest = arms_walk base index (drop 1 rows) (map statement_walk (map (λ s. s.0) arms)) context (joined_states (table_of context.tree) state first.after) in
-    and_then first.linked rest.linked _ _ (arm.1 context start) (arms-entered base index (drop 1 rows) arms context (joined_states (table_of context.tree) state first.after))
+    let met = joined_states (table_of context.tree) state first.after in
+    let rest = arms_walk base index (drop 1 rows) (map statement_walk (map (λ s. s.0) arms)) context met in
+    and_then first.linked rest.linked _ _ (arm.1 context start) (arms-entered base index (drop 1 rows) arms context met)
 
 case-entered : (head : CaseHead) (arms : List EnteredStmt) (known : Known)
     → Enters (case_walk head (map statement_walk (map (λ s. s.0) arms)) known) (joined (map entries_of_statement (map (λ s. s.0) arms)))

@@ -1,8 +1,8 @@
 -- What the turns of a loop change, the loop touches, and the aliases of that: at its head, and inside it as far as they are visible.
-use Rattle.std.proofs.Common.{◌≡◌, ⊎_elim, ◌∙◌, ap, subst, ℕ, Bool, true, false, ◌||◌, nat_eq, List, [], ◌∷◌, ◌++◌, Some}
+use Rattle.std.proofs.Common.{◌≡◌, ⊎_elim, ◌∙◌, ap, subst, ℕ, true, false, ◌||◌, nat_eq, List, [], ◌∷◌, ◌++◌, Some}
 use Rattle.std.proofs.Common.{None}
 use Rattle.std.specs.Prelude.{slice_get}
-use Rattle.std.proofs.lemmas.Bool.{false_from_ne_true, or_cases, or_left, or_right}
+use Rattle.std.proofs.lemmas.Bool.{both_ways, false_from_ne_true, or_cases, or_left, or_right}
 use Rattle.std.proofs.lemmas.List.Elements.{Contains-push_cases}
 use Rattle.typed_tree.specs.declared.tree.Loop.{Loop}
 use Rattle.typed_tree.specs.declared.tree.Tree.{Tree}
@@ -16,9 +16,6 @@ use Rattle.checker_calls.proofs.Lists.{among-contains, contains-among, filtered,
 use Rattle.checker_calls.proofs.SeenAliases.{all-alias-seen}
 use Rattle.checker_expressions.specs.Walk.{Context}
 use Rattle.checker_expressions.proofs.Sound.{Goes, IsClosed, World, is_seen, listed_in}
-
-not-both : (b : Bool) → b ≡ true → b ≡ false → ⊥
-not-both b is isnt = cc
 
 -- an alias that is visible in a block is listed
 alias-listed : (world : World) (block root alias : ℕ) → is_among alias (aliases_in (listed_in world) block root) ≡ true
@@ -42,10 +39,10 @@ kept-wider world block env root before after kept = record {
     narrow other apart =
         false_from_ne_true (is_among other (root ∷ aliases_in (listed_in world) block root))
         (λ is.
-        not-both (is_among other (root ∷ aliases_of world.pairs root))
+        both_ways (is_among other (root ∷ aliases_of world.pairs root)) apart
         (⊎_elim (λ same. or_left (nat_eq root other) (is_among other (aliases_of world.pairs root)) same)
         (λ alias. or_right (nat_eq root other) (is_among other (aliases_of world.pairs root)) (alias-listed world block root other alias))
-        (or_cases (nat_eq root other) (is_among other (aliases_in (listed_in world) block root)) is)) apart)
+        (or_cases (nat_eq root other) (is_among other (aliases_in (listed_in world) block root)) is)))
 
 -- ---- a loop
 

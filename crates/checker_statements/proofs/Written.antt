@@ -214,7 +214,8 @@ module _ (world : World) (block : ℕ) (env : Environment) where
         (subst (λ (aliases : List ℕ). K (made world.tree aliases))
         (sym (ap₂ (λ (listed : Listed) (b : ℕ). aliases_in listed b root) goes.pairs_are here.block_is))
         (made-knows world.tree world.pairs block s.activations env here.proper root home at pairs stores fit.targets
-        (λ one inside. behind-variables world.tree root selectors fit.structured one.0 (fit.are one inside)) s.store after are typed reach (is-reach world.tree root selectors id rows env s.store way matches (reach_unless_alias own reach) reached_own)
+        (λ one inside. behind-variables world.tree root selectors fit.structured one.0 (fit.are one inside)) s.store after are typed reach
+        (is-reach world.tree root selectors id rows env s.store way matches (reach_unless_alias own reach) reached_own)
         (λ formed.
         zipped-reached world.tree root selectors id rows env s.store way matches values many stores fit.are (reach_unless_alias own reach) reached_own formed)
         state here.stands.known))
