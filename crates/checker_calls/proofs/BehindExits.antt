@@ -1,6 +1,6 @@
 -- What is known behind a call holds there, with the facts that are claimed of the end of the callee's block.
 use Rattle.std.proofs.Common.{arith, ◌≡◌, ⊎_elim, ◌⊎◌, ◌∙◌, sym, ap, refl, subst, ℕ, Bool, true, false, cond, not, ◌&&◌}
-use Rattle.std.proofs.Common.{ℤ, pos, ◌+ℤ◌, ◌-ℤ◌, ◌≤ℤ◌, nat_eq, List, [], ◌∷◌, ◌++◌, length, map, Option, Some, None}
+use Rattle.std.proofs.Common.{ℤ, pos, ◌+ℤ◌, ◌-ℤ◌, ◌≤ℤ◌, nat_eq, List, [], ◌∷◌, length, map, Option, Some, None}
 use Rattle.std.specs.List.{Contains}
 use Rattle.std.specs.Prelude.{slice_get}
 use Rattle.std.proofs.lemmas.Bool.{and_from, and_parts, cond_both, eq-eqb, false≢true}
@@ -13,7 +13,6 @@ use Rattle.types.specs.declared.form.Step.{Step}
 use Rattle.typed_tree.specs.WellFormed.{is_parameter_kind, is_result_kind, is_value_kind}
 use Rattle.typed_tree.specs.declared.tree.Block.{Block}
 use Rattle.typed_tree.specs.declared.tree.Selector.{Selector}
-use Rattle.typed_tree.specs.declared.tree.Selector.TheVariants as selector
 use Rattle.typed_tree.specs.declared.tree.Tree.{Tree}
 use Rattle.typed_tree.specs.declared.tree.Variable.{Variable as DeclaredVariable}
 use Rattle.typed_tree.specs.declared.tree.VariableKind.{VariableKind}
@@ -26,12 +25,11 @@ use Rattle.meaning.specs.Meaning as meaning
 use Rattle.meaning.specs.Meaning.{Argument, environment_of, own_place, place_for, place_passed}
 use Rattle.meaning.specs.Store.{Environment, Place, Store, stored}
 use Rattle.checker_rows.specs.Rows.{Parts, all_parts, first_index, index_at, is_variable_row, rows_accessed, rows_of, rows_under}
-use Rattle.checker_rows.proofs.Accessed.{IsOf, indexes-are, rows-are}
-use Rattle.checker_rows.proofs.Numbered.{own-parts}
+use Rattle.checker_rows.proofs.Accessed.{IsOf, indexes-are}
 use Rattle.checker_rows.proofs.Selected.{Matches}
 use Rattle.checker_state.specs.Bounds.{Bound, constant, moved_bound, plus}
 use Rattle.checker_state.specs.Holds as holding
-use Rattle.checker_state.specs.Holds.{HasComponent, HasNumber, Holds, IsBound, IsBoundBy, LieBetween, Moment, StretchHolds, component_at, moment, part_of, value_at}
+use Rattle.checker_state.specs.Holds.{HasComponent, HasNumber, Holds, IsBound, IsBoundBy, LieBetween, Moment, StretchHolds, moment, part_of, value_at}
 use Rattle.checker_state.specs.Knows.{IsOfForm, Knows, bound_rests}
 use Rattle.checker_state.specs.Loops.{is_among, with_claim}
 use Rattle.checker_state.specs.State.{Claim, Ordered, Span, State, Stretched}
@@ -44,8 +42,8 @@ use Rattle.checker_state.proofs.Changed.{bound-stays}
 use Rattle.checker_state.proofs.Given.{first-of}
 use Rattle.checker_state.proofs.Looped.{claim-holds}
 use Rattle.checker_loops.specs.Loops.{rows_named, said, said_bound, stretch_of}
-use Rattle.checker_calls.specs.Actuals.{Actual, Bearer, Binding, OfRows, OfValue, OfVariable, Passed, Reached, actual_of, all_of_rows, bearers_for, bearers_named}
-use Rattle.checker_calls.specs.Actuals.{bearers_of, bound_to}
+use Rattle.checker_calls.specs.Actuals.{Actual, Bearer, Binding, OfRows, OfValue, OfVariable, Passed, Reached, actual_of, all_of_rows, bearers_for}
+use Rattle.checker_calls.specs.Actuals.{bearers_named, bearers_of, bound_to}
 use Rattle.checker_calls.specs.Environments.{LeavesPassed}
 use Rattle.checker_calls.specs.Exit.{Touches, bearer_defined, bearers_defined, behind_call, bounds_ordered, exit_bound, exit_bound_of, exit_plus, has_actual}
 use Rattle.checker_calls.specs.Exit.{is_own_path, is_steady, row_between, steady_bound, stretch_defined, stretches_defined, touched_behind, touches_of}
@@ -61,7 +59,7 @@ use Rattle.checker_calls.proofs.CallLeaves.{changes, exit-holds}
 use Rattle.checker_calls.proofs.Callee.{activation_of}
 use Rattle.checker_calls.proofs.Entered.{behind_assignments, parameter-own}
 use Rattle.checker_calls.proofs.ExitBearers.{Bears, IsSame, Lies, outer-bears, outer-same, parameter-bears, passed-lies}
-use Rattle.checker_calls.proofs.FormalRows.{same-value}
+use Rattle.checker_calls.proofs.FormalRows.{no-way, same-value, variable-row}
 use Rattle.checker_calls.proofs.Given.{AreOutward, bound_roots, fact_roots}
 use Rattle.checker_calls.proofs.Headings.{one-there}
 use Rattle.checker_calls.proofs.Lists.{among-contains, contains-more, in-map, in-one, of-map}
@@ -137,18 +135,6 @@ span-holds rows m row first last low high low_is high_is each = (
       let lies = subst (λ (indexes : List ℤ). LieBetween (record { first = low; last = high } ∷ []) indexes) (first-of steps index is).1 lie in
       each steps index of_row is lies.0 lies.1,
 )
-
--- where no step leads to what selectors do, there are none
-no-steps : (selectors : List Selector) (none way : List Step) → none ≡ [] → Matches selectors none → Matches selectors way → way ≡ []
-no-steps [] none [] is one two = refl
-no-steps [] none (s ∷ way) is one two = absurd two
-no-steps (selector.Element fits cells ∷ selectors) [] way is one two = absurd one
-no-steps (selector.Field position offset ∷ selectors) [] way is one two = absurd one
-no-steps (first ∷ selectors) (s ∷ none) way is one two = absurd (cc)
-
-none-before : (way rest : List Step) → [] ≡ way ++ rest → way ≡ []
-none-before [] rest is = refl
-none-before (s ∷ way) rest is = absurd (cc)
 
 module _ (tree : Tree) (pairs : List (ℕ × ℕ)) (number : ℕ) (block : Block) (arguments : List Argument) (caller : Environment) (activations from : ℕ)
     (store : Store) (actuals : List Actual) (claims : BlockClaims) (after : Store)
@@ -237,16 +223,11 @@ module _ (tree : Tree) (pairs : List (ℕ × ℕ)) (number : ℕ) (block : Block
   row-value : (root : ℕ) (variable : DeclaredVariable) (other : ℕ) (selectors : List Selector) (reach : Reach) → LiesHere root variable other selectors reach
       → (row : ℕ) → Contains (rows_accessed tree other selectors) row → is_variable_row tree row ≡ true → value_at inner root [] ≡ value_at outer row []
   row-value root variable other selectors reach lies row inside own =
-      let at = lies.1 in
       let found = one-there (λ (v : DeclaredVariable). not (is_structured tree.types v.type_id)) (slice_get tree.variables.items row) own in
-      let parts = own-parts tree row (slice_get_within tree.variables.items row found.0 found.1) in
-      let rows = rows-are tree other selectors variable.type_id at.actual_type in
-      let root_is : row ≡ other = sym (ap (λ (p : Parts). p.root) parts) ∙ rows.root_is row inside in
-      let of_row : IsOf tree row [] = subst (λ (p : Parts). Contains p.components []) (sym parts) (0, omega arith, refl) in
-      let behind = rows.lies row [] inside of_row in
-      let way : lies.0 ≡ [] = no-steps selectors behind.0 lies.0 (none-before behind.0 behind.1 behind.2) behind.3 at.matches in
-      same-value tree caller callee root other selectors lies.0 variable.type_id at after []
-      ∙ ap (λ (w : List Step). value_at outer other (w ++ [])) way ∙ ap (λ (r : ℕ). value_at outer r []) (sym root_is)
+      let whole = variable-row tree other selectors row inside (slice_get_within tree.variables.items row found.0 found.1) in
+      let matches = subst (λ (s : List Selector). Matches s lies.0) whole.1 lies.1.matches in
+      same-value tree caller callee root other selectors lies.0 variable.type_id lies.1 after [] ∙ ap (value_at outer other) (no-way lies.0 matches)
+      ∙ ap (λ (r : ℕ). value_at outer r []) whole.0
 
   parameter-bound : (root : ℕ) (variable : DeclaredVariable) → slice_get tree.variables.items root ≡ Some variable → (p : ParameterHere root variable)
       → (is_passed_value number variable ≡ true → is_among root claims.changes ≡ false) → (k m n : ℤ) → HasNumber inner root m → (m +ℤ k) ≡ n → (b : Bound)

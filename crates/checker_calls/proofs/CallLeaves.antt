@@ -273,7 +273,8 @@ module _ (tree : Tree) (pairs : List (ℕ × ℕ)) (number : ℕ) (block : Block
       (λ r inside. (rows-are tree root [] outward.0.type_id (own-type tree root outward.0 outward.1)).root_is r inside) j row bearer row_at
       (ap (λ (found : Option Actual). slice_get (bearers_changed tree root found) j) (sym here.no_actual) ∙ at))
       (λ (p : ParameterHere root outward.0).
-      passed p p.actual p.argument p.place_is p.known p.fits (ap (λ (found : Option Actual). slice_get (bearers_changed tree root found) j) (sym p.actual_is) ∙ at))
+      passed p p.actual p.argument p.place_is p.known p.fits
+      (ap (λ (found : Option Actual). slice_get (bearers_changed tree root found) j) (sym p.actual_is) ∙ at))
       (outward-cases tree pairs number block arguments caller activations from back.call store actuals back.are root outward)
     where
       passed : (p : ParameterHere root outward.0) (actual : Actual) (argument : Argument)

@@ -1,12 +1,11 @@
 -- What bears the leaves of a variable of a callee for its caller: where the callee ends, all of a row of the caller's is a row of the callee's, component
 -- by component.
-use Rattle.std.proofs.Common.{◌≡◌, ◌∙◌, sym, ap, refl, subst, ℕ, Bool, true, List, [], ◌∷◌, ◌++◌, length, map, Option, Some, None}
+use Rattle.std.proofs.Common.{◌≡◌, ◌∙◌, sym, ap, refl, subst, ℕ, Bool, true, List, [], ◌∷◌, ◌++◌, map, Option, Some, None}
 use Rattle.std.specs.List.{Contains}
 use Rattle.std.specs.Prelude.{slice_get, slice_index_or}
 use Rattle.std.proofs.lemmas.Bool.{false≢true}
 use Rattle.std.proofs.lemmas.Option.{same_Some}
 use Rattle.types.specs.declared.form.Step.{Step}
-use Rattle.typed_tree.specs.Accesses.{index_count}
 use Rattle.typed_tree.specs.declared.tree.Block.{Block}
 use Rattle.typed_tree.specs.declared.tree.Selector.{Selector}
 use Rattle.typed_tree.specs.declared.tree.Tree.{Tree}
@@ -30,16 +29,9 @@ use Rattle.checker_calls.proofs.FormalRows.{LiesAt, actual-row, first-behind_fie
 use Rattle.checker_calls.proofs.Parameters.{IsOuter, IsParameter, parameter-block}
 use Rattle.checker_calls.proofs.Passed.{Fits, IsArgument, IsReachedBy}
 
-none-indexed : (is_all : Bool) (indexes : List Index) → is_entire_by is_all indexes ≡ true → (is_all ≡ true) × (length indexes ≡ 0)
-none-indexed is_all [] is = (is, refl)
-none-indexed is_all (index ∷ indexes) is = absurd (false≢true is)
-
--- all of a row is reached without an index
-no-index : (env : Environment) (store : Store) (selectors : List Selector) (way : List Step) (reach : Reach) → IsReachedBy env store selectors way reach
-    → is_entire reach ≡ true → index_count selectors ≡ 0
-no-index env store selectors way reach reached is =
-    let parts = none-indexed reach.is_all reach.indexes is in
-    sym (reached.all parts.0) ∙ parts.1
+no-index : (is_all : Bool) (indexes : List Index) → is_entire_by is_all indexes ≡ true → indexes ≡ []
+no-index is_all [] is = refl
+no-index is_all (index ∷ indexes) is = absurd (false≢true is)
 
 module _ (tree : Tree) (pairs : List (ℕ × ℕ)) (number : ℕ) (block : Block) (arguments : List Argument) (caller : Environment) (activations from : ℕ)
     (store : Store) (actuals : List Actual) (claims : BlockClaims) (after : Store)
@@ -112,7 +104,7 @@ module _ (tree : Tree) (pairs : List (ℕ × ℕ)) (number : ℕ) (block : Block
       let at = lies.1 in
       let rows = rows-are tree other selectors variable.type_id at.actual_type in
       let inside = has-contains (rows_accessed tree other selectors) own (j, own_at) in
-      let none = no-index caller store selectors way reach lies.2 all in
+      let none = lies.2.none (no-index reach.is_all reach.indexes all) in
       let behind = rows.lies own steps inside of_row in
       let way_is : behind.0 ≡ way = one-way selectors behind.0 way none behind.3 at.matches in
       let steps_are : steps ≡ way ++ behind.1 = behind.2 ∙ ap (λ (w : List Step). w ++ behind.1) way_is in

@@ -27,3 +27,5 @@ pub mod CallLeaves
 pub mod Behind
 pub mod Given
 pub mod BehindExits
+pub mod Steady
+pub mod RowsBehind

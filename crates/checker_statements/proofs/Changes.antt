@@ -11,7 +11,6 @@ use Rattle.types.specs.declared.form.OrdinalRange.{OrdinalRange}
 use Rattle.types.specs.declared.form.Step.{Step}
 use Rattle.types.specs.declared.form.TypeId.{TypeId}
 use Rattle.typed_tree.specs.declared.tree.Tree.{Tree}
-use Rattle.typed_tree.specs.declared.tree.Variable.{Variable}
 use Rattle.domain.specs.Interval.{HasMember, Interval}
 use Rattle.meaning.specs.Counting.{next_value}
 use Rattle.meaning.specs.declared.store.Value.{Value}

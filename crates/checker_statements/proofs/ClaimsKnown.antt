@@ -1,13 +1,11 @@
 -- The claims of a certificate that names what the program has name what they may: what a caller may know, and at the end of a block its own result.
 use Rattle.std.proofs.Common.{arith, ◌≡◌, ⊎_elim, inl, inr, ◌∙◌, sym, ap, refl, subst, ℕ, suc, Bool, true, false, cond, not}
-use Rattle.std.proofs.Common.{◌&&◌, ◌||◌, nat_eq, List, [], ◌∷◌, ◌++◌, length, map, Option, Some, None}
+use Rattle.std.proofs.Common.{◌&&◌, ◌||◌, nat_eq, List, [], ◌∷◌, ◌++◌, length, map}
 use Rattle.std.specs.List.{Contains, list_all, range_with_len}
 use Rattle.std.specs.Prelude.{nat_lt, slice_get}
 use Rattle.std.proofs.lemmas.Bool.{and_parts, cases_lt, eqb-true, false≢true, not-true, or_cases, or_parts}
 use Rattle.std.proofs.lemmas.List.{get_or_past, length-map}
-use Rattle.std.proofs.lemmas.List.Elements.{All-contains}
 use Rattle.std.proofs.lemmas.List.FromFn.{get_or-map-range_with_len, length-range_with_len}
-use Rattle.std.proofs.lemmas.List.Sums.{AllPass-from_list_all}
 use Rattle.typed_tree.specs.WellFormed.{is_declared, is_local_kind, is_result_kind, is_round, is_value_kind, is_visible, of_one, outline_of}
 use Rattle.typed_tree.specs.declared.tree.Tree.{Tree}
 use Rattle.typed_tree.specs.declared.tree.Variable.{Variable}
@@ -24,6 +22,7 @@ use Rattle.certificate.specs.declared.AliasPair.{AliasPair}
 use Rattle.certificate.specs.Contents.{Section}
 use Rattle.checker_statements.proofs.HiddenControls.{IsKnownPair}
 use Rattle.checker_calls.specs.Sections.{BlockClaims, all_block_claims, all_pairs, block_claims_at, block_claims_in, no_block_claims, pair_of}
+use Rattle.checker_calls.proofs.AliasedStores.{all-pass}
 use Rattle.checker_calls.proofs.Lists.{of-flat, of-map}
 use Rattle.checker_calls.proofs.BehindExits.{IsOwnResult, IsResultOf, MayEnd}
 use Rattle.checker_calls.proofs.Given.{AreOutward}
@@ -35,10 +34,6 @@ use Rattle.checker_statements.specs.Names.{has_parameter, is_changed_value, pair
 use Rattle.checker_statements.specs.Names.{is_known, is_lasting, is_of_loops, is_outward, is_own_result, section_is_known}
 use Rattle.checker_expressions.proofs.Sound.{World}
 use Rattle.checker_expressions.proofs.CallLaws.{AreClaims}
-
--- a test that all pass, each of them passes
-each-passes : {A : Type 0} (test : A → Bool) (items : List A) (item : A) → list_all test items ≡ true → Contains items item → test item ≡ true
-each-passes test items item all inside = All-contains (λ x. test x ≡ true) items item (AllPass-from_list_all test items all) inside
 
 nothing-in : {A : Type 0} (items : List A) (item : A) → is_empty items ≡ true → Contains items item → ⊥
 nothing-in [] item none inside = omega (arith, inside.1)
@@ -86,7 +81,7 @@ roots-same (kept.Order root other n) = refl
 -- the variables that a fact names pass a test
 each-root : (test : ℕ → Bool) (one : KeptFact) (root : ℕ) → list_all test (fact_roots one) ≡ true → Contains (given.fact_roots (said_fact one)) root
     → test root ≡ true
-each-root test one root all inside = each-passes test (fact_roots one) root all (subst (λ (roots : List ℕ). Contains roots root) (roots-same one) inside)
+each-root test one root all inside = all-pass test (fact_roots one) root (subst (λ (roots : List ℕ). Contains roots root) (roots-same one) inside) all
 
 -- what is known where a block begins
 entry-outward : (tree : Tree) (block : ℕ) (one : KeptFact) → fact_is_on tree (is_outward tree block) one ≡ true → AreOutward tree block (said_fact one)
@@ -198,10 +193,10 @@ known-section tree section is =
         let c = and_parts (list_all (fact_is_on tree (is_outward tree section.block)) section.entry.items)
         (list_all (exit_is_known tree section) section.exit.items) b.1 in
         record {
-          changes = λ root inside. each-passes (is_outward tree section.block) section.changes.items root b.0 inside;
-          entry = λ fact inside. each-passes (fact_is_on tree (is_outward tree section.block)) section.entry.items fact c.0 inside;
-          exit = λ fact inside. each-passes (exit_is_known tree section) section.exit.items fact c.1 inside;
-          aliases = λ pair inside. each-passes (pair_is_known tree section.block) section.aliases.items pair a.0 inside;
+          changes = λ root inside. all-pass (is_outward tree section.block) section.changes.items root inside b.0;
+          entry = λ fact inside. all-pass (fact_is_on tree (is_outward tree section.block)) section.entry.items fact inside c.0;
+          exit = λ fact inside. all-pass (exit_is_known tree section) section.exit.items fact inside c.1;
+          aliases = λ pair inside. all-pass (pair_is_known tree section.block) section.aliases.items pair inside a.0;
         }
 
 module _ (world : World) (certificate : Certificate) (blocks_are : world.blocks ≡ all_block_claims world.tree certificate)
@@ -218,7 +213,7 @@ module _ (world : World) (certificate : Certificate) (blocks_are : world.blocks 
       (comes-from tree certificate number)
 
   known-here : (section : KeptSection) → Contains certificate.sections.items section → IsKnownSection tree section
-  known-here section inside = known-section tree section (each-passes (section_is_known tree) certificate.sections.items section names_known inside)
+  known-here section inside = known-section tree section (all-pass (section_is_known tree) certificate.sections.items section inside names_known)
 
   no-one : {A : Type 0} (items : List A) (item : A) → items ≡ [] → Contains items item → ⊥
   no-one items item none inside =

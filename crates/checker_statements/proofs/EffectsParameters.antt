@@ -27,7 +27,8 @@ use Rattle.checker_state.specs.Loops.{is_among}
 use Rattle.checker_calls.specs.Sections.{BlockClaims, block_claims_at}
 use Rattle.checker_calls.specs.Starts.{is_own}
 use Rattle.checker_calls.proofs.Callee.{in-roots}
-use Rattle.checker_expressions.proofs.EffectsKept.{IsOwn, Keeps, MayWriteTo, Standing, keeps-give, keeps-store, keeps-store_all, keeps-then, lies-itself, listing, own-write}
+use Rattle.checker_expressions.proofs.EffectsKept.{IsOwn, Keeps, MayWriteTo, Standing, keeps-give, keeps-store, keeps-store_all, keeps-then, lies-itself}
+use Rattle.checker_expressions.proofs.EffectsKept.{listing, own-write}
 use Rattle.checker_expressions.proofs.EffectsCalls.{DeclareTheirs, Grounds, activation_from, not-among, standing_from}
 
 -- ---- blocks of a well formed tree

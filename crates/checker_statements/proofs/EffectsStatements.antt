@@ -28,7 +28,6 @@ use Rattle.typed_tree.specs.Calls.{holds_call, whole_holds_call}
 use Rattle.typed_tree.specs.WellFormed.{all_hold, are_whole, is_control, is_local_kind, is_result_kind, is_well_formed_expr, is_well_formed_stmt}
 use Rattle.typed_tree.specs.WellFormed.{fits_target, leads_to_ordinal, of_one, outline_of, stmt_is_well_formed}
 use Rattle.meaning.specs.declared.outcome.Ending.TheVariants as ending
-use Rattle.meaning.specs.declared.store.Value.{Value}
 use Rattle.meaning.specs.declared.store.Value.TheVariants.{Number}
 use Rattle.meaning.specs.Store.{Place}
 use Rattle.meaning.specs.Counting.{has_values, value_behind}
@@ -47,7 +46,7 @@ use Rattle.checker_state.specs.Stores.{Reach}
 use Rattle.checker_state.specs.State.{State}
 use Rattle.checker_loops.specs.Cases.{arm_start, constants_before}
 use Rattle.checker_loops.specs.Loops.{claims_at, round_of, with_own}
-use Rattle.checker_loops.specs.Ways.{Way, next, turn_begun, turn_ended, way_of, way_out, where_counts}
+use Rattle.checker_loops.specs.Ways.{Way, turn_begun, turn_ended, way_of, way_out, where_counts}
 use Rattle.checker_calls.specs.Sections.{BlockClaims}
 use Rattle.checker_calls.specs.Starts.{is_own}
 use Rattle.checker_expressions.specs.declared.fault.Rule.TheVariants.{Changes, LoopEntry, LoopTurn}
@@ -55,7 +54,9 @@ use Rattle.checker_expressions.specs.Walk.{Context, Walking, may_change, value_w
 use Rattle.checker_expressions.specs.Walk as flow
 use Rattle.checker_statements.specs.Walk.{Stores, assign, assign_to, statement_step, statement_walk, store_to, stores_made}
 use Rattle.checker_statements.specs.Walk as walk
-use Rattle.checker_expressions.proofs.EffectsKept.{CanGive, IsOwn, Keeps, MayWriteTo, Standing, own-write, under-write, keeps-enter, keeps-give, keeps-line_ended, keeps-looped, keeps-require, keeps-stop, keeps-store, keeps-store_all, keeps-then, keeps-turn, keeps-undefine, keeps-when}
+use Rattle.checker_expressions.proofs.EffectsKept.{CanGive, IsOwn, Keeps, MayWriteTo, Standing, own-write, under-write, keeps-enter, keeps-give}
+use Rattle.checker_expressions.proofs.EffectsKept.{keeps-line_ended, keeps-looped, keeps-require, keeps-stop, keeps-store, keeps-store_all, keeps-then}
+use Rattle.checker_expressions.proofs.EffectsKept.{keeps-turn, keeps-undefine, keeps-when}
 use Rattle.checker_expressions.proofs.EffectsCalls.{CallsLeave, DeclareTheirs, Grounds, StandsIn, Yields, may-here, yields-asked, yields-then}
 use Rattle.checker_expressions.proofs.Effects.{access-kept, call-kept, parameter-kept, under-accessed, value-kept, whole-kept}
 

@@ -35,7 +35,9 @@ use Rattle.checker_state.specs.Forms.{root_of}
 use Rattle.checker_loops.specs.Cases.{arm_start, constants_before}
 use Rattle.place.specs.declared.Place.{Place}
 use Rattle.checker_expressions.specs.Walk.{Context, Walking, ◌>>=◌, access_walk, index_pieces, numbers_of, fitting, value_walk, parameter_walk, whole_walk}
-use Rattle.checker_statements.specs.Walk.{first_context, assign_to, arms_walk, case_walk, for_round, for_turns, for_walk, index_test, loop_walk, steady_in, tested_way, while_round, repeat_round, statement_step, statement_walk, where_so, all_of, block_walk, blocks_walk, begin_way, program_walk, reach_stored, result_use}
+use Rattle.checker_statements.specs.Walk.{first_context, assign_to, arms_walk, case_walk, for_round, for_turns, for_walk, index_test, loop_walk, steady_in}
+use Rattle.checker_statements.specs.Walk.{tested_way, while_round, repeat_round, statement_step, statement_walk, where_so, all_of, block_walk, blocks_walk}
+use Rattle.checker_statements.specs.Walk.{begin_way, program_walk, reach_stored, result_use}
 use Rattle.checker_expressions.proofs.Entered.{Enters, access-entered, and_no_more, and_then, call-entered, parameter-entered, value-entered, whole-entered}
 
 -- what comes behind the value of an assignment
@@ -117,8 +119,9 @@ arms-entered base index rows [] context state = refl
 arms-entered base index rows (arm ∷ arms) context state =
     let start = arm_start index (slice_get rows 0) base in
     let first = statement_walk arm.0 context start in
-    let rest = arms_walk base index (drop 1 rows) (map statement_walk (map (λ s. s.0) arms)) context (joined_states (table_of context.tree) state first.after) in
-    and_then first.linked rest.linked _ _ (arm.1 context start) (arms-entered base index (drop 1 rows) arms context (joined_states (table_of context.tree) state first.after))
+    let met = joined_states (table_of context.tree) state first.after in
+    let rest = arms_walk base index (drop 1 rows) (map statement_walk (map (λ s. s.0) arms)) context met in
+    and_then first.linked rest.linked _ _ (arm.1 context start) (arms-entered base index (drop 1 rows) arms context met)
 
 case-entered : (head : CaseHead) (arms : List EnteredStmt) (known : Known)
     → Enters (case_walk head (map statement_walk (map (λ s. s.0) arms)) known) (joined (map entries_of_statement (map (λ s. s.0) arms)))

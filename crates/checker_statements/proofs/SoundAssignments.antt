@@ -1,5 +1,5 @@
 -- Assignments are sound: the target is accessed, the value is evaluated and tested, and then it is stored.
-use Rattle.std.proofs.Common.{arith, ◌≡◌, ◌∙◌, sym, ap, refl, subst, ℕ, zero, suc, ◌<◌, ℤ, Bool, true, false, cond, not, ◌&&◌, nat_lt, length, List, [], ◌∷◌}
+use Rattle.std.proofs.Common.{arith, ◌≡◌, ◌∙◌, sym, ap, refl, subst, ℕ, zero, suc, ◌<◌, Bool, true, false, cond, not, ◌&&◌, nat_lt, length, List, [], ◌∷◌}
 use Rattle.std.proofs.Common.{Option, Some, None}
 use Rattle.std.specs.List.{Contains, list_all}
 use Rattle.std.specs.Option.{option_and_then}
@@ -26,7 +26,7 @@ use Rattle.typed_tree.specs.declared.tree.Stmt.TheOpen.Stmt-F.{Assign}
 use Rattle.typed_tree.specs.declared.tree.Tree.{Tree}
 use Rattle.typed_tree.specs.declared.tree.Variable.{Variable}
 use Rattle.checker_state.specs.Bounds.{Bound}
-use Rattle.domain.specs.Interval.{HasMember, Interval}
+use Rattle.domain.specs.Interval.{Interval}
 use Rattle.meaning.specs.declared.store.Value.{Value}
 use Rattle.meaning.specs.declared.store.Value.TheVariants.{Number}
 use Rattle.meaning.specs.Store.{Environment, Place as StorePlace, Store, part}
@@ -38,7 +38,8 @@ use Rattle.checker_state.specs.declared.value.Known.TheVariants.{Ordinal}
 use Rattle.checker_state.specs.Conditions.{bound_form}
 use Rattle.checker_state.specs.Holds.{IsIn, moment}
 use Rattle.checker_state.specs.Knows.{IsOfForm}
-use Rattle.checker_expressions.proofs.Sound.{IsKnown, Any_value, Good, IsValue, SoundCalls, SoundFrom, World, declared_in, from-then, good-weaker, is_seen, kept-rule, sites_in, sound-anywhere, sound-here, types_in, unbroken-left}
+use Rattle.checker_expressions.proofs.Sound.{IsKnown, Any_value, Good, IsValue, SoundCalls, SoundFrom, World, declared_in, from-then, good-weaker, is_seen}
+use Rattle.checker_expressions.proofs.Sound.{kept-rule, sites_in, sound-anywhere, sound-here, types_in, unbroken-left}
 use Rattle.checker_state.proofs.Refined.{expression-kept, forms-tell}
 use Rattle.checker_rows.specs.Limits.{limits_or_integer, row_limits}
 use Rattle.checker_rows.specs.Rows.{rows_accessed, rows_of, values_at}

@@ -16,7 +16,7 @@ use Rattle.typed_tree.specs.declared.tree.FunctionResult.{FunctionResult}
 use Rattle.typed_tree.specs.declared.tree.Tree.{Tree}
 use Rattle.typed_tree.specs.declared.tree.Variable.{Variable}
 use Rattle.typed_tree.proofs.Blocks.{are_loops_at}
-use Rattle.domain.specs.Facts.{Fact, Path, Range, Defined, Stretch, Order}
+use Rattle.domain.specs.Facts.{Fact, Range, Defined, Stretch, Order}
 use Rattle.domain.specs.Interval.{Interval, common}
 use Rattle.meaning.specs.declared.store.Value.{Value}
 use Rattle.meaning.specs.declared.store.Value.TheVariants.{Number}
@@ -52,7 +52,9 @@ use Rattle.checker_calls.proofs.Headings.{heading-at, same-numbers, well-heading
 use Rattle.checker_calls.proofs.Started.{called-start}
 use Rattle.checker_expressions.specs.declared.fault.Rule.TheVariants.{Exit}
 use Rattle.checker_expressions.specs.Walk.{Context, Walked, followed}
-use Rattle.checker_expressions.proofs.Sound.{Called, Good, Goes, Here, IsPartOf, LiesInResult, Returned, SoundCalls, World, activation_of, errs-here, good-give, good-then, good-weaker, kept-rule, nothing-new, open-here, part-left, part-right, parts_in, proper-grown, sites_in, unbroken-left, unbroken-right, variables_in}
+use Rattle.checker_expressions.proofs.Sound.{Called, Good, Goes, Here, IsPartOf, LiesInResult, Returned, SoundCalls, World, activation_of, errs-here, good-give}
+use Rattle.checker_expressions.proofs.Sound.{good-then, good-weaker, kept-rule, nothing-new, open-here, part-left, part-right, parts_in, proper-grown, sites_in}
+use Rattle.checker_expressions.proofs.Sound.{unbroken-left, unbroken-right, variables_in}
 use Rattle.checker_expressions.proofs.SoundCalls.{CallLaws}
 use Rattle.checker_statements.specs.Walk.{begin, block_walk, blocks_walk, facts_given, first_context, program_walk, result_use, statement_walk}
 use Rattle.checker_statements.proofs.EffectsParameters.{well-body}
@@ -311,9 +313,11 @@ module _ (tree : Tree) (certificate : Certificate) (unbroken : (program_walk tre
             ∙ entire-value visible t.store result.root home at_home ∙ is in
             let of_row = of_own (parts_in world) (table_of tree) (are-rows tree) m result.root bound in
             let typed = (in-types tree world.pairs number t.activations visible t.store here.proper here.fine.typed).components result.root [] v of_row value in
-            good-give world Found v t here.fine
-            (exit-in tree visible t.store claims.exit exits result.root [] v of_row value claims.exit (λ one listed. listed)
-            (row_limits (rows_of tree) result.root) typed, exits)
+            good-give world Found v t here.fine (
+              exit-in tree visible t.store claims.exit exits result.root [] v of_row value claims.exit (λ one listed. listed)
+                  (row_limits (rows_of tree) result.root) typed,
+              exits,
+            )
 
       -- the result of a function is visible in its block
       result-well : (result : FunctionResult) → block.heading.result ≡ Some result

@@ -29,7 +29,8 @@ use Rattle.checker_rows.proofs.Accessed.{row-leaf, rows-count, rows-are}
 use Rattle.checker_state.specs.Stores.{Reach}
 use Rattle.checker_expressions.specs.Walk as flow
 use Rattle.checker_expressions.proofs.Fitting.{copy-for, same-type}
-use Rattle.checker_expressions.proofs.Sound.{Any_value, Good, SoundCalls, SoundFrom, World, declared_in, from-then, is_seen, sound-anywhere, sound-here, types_in}
+use Rattle.checker_expressions.proofs.Sound.{Any_value, Good, SoundCalls, SoundFrom, World, declared_in, from-then, is_seen, sound-anywhere, sound-here}
+use Rattle.checker_expressions.proofs.Sound.{types_in}
 use Rattle.checker_expressions.proofs.SoundAccesses.{IsWholeIn, LeadsTo, leads-seen, leads-tests, leads-type, type-of}
 use Rattle.checker_expressions.proofs.SoundCalls.{CallLaws}
 use Rattle.checker_expressions.proofs.SoundExpressions.{SoundAction, access-sound, whole_value-sound}

@@ -37,8 +37,9 @@ use Rattle.checker_loops.specs.Loops.{Round, controls_inside, round_of, table_of
 use Rattle.checker_loops.proofs.Tabled.{are-rows}
 use Rattle.checker_loops.proofs.Touched.{all_control, inside-uncontrolled, inside-untouched, own-controls}
 use Rattle.checker_loops.specs.Pairs.{aliases_of, aliases_in}
-use Rattle.checker_loops.specs.Ways.{End, Way, entered, met, step, turn_begun, turn_ended, way_of, way_out, where_counts, with_values}
-use Rattle.checker_loops.proofs.OnWay.{Between, MayBe, begun-known, counts-known, counts-ordered, entered-known, kept-may, met-in, next-between, ordered-itself, untouched-form}
+use Rattle.checker_loops.specs.Ways.{End, Way, entered, met, turn_begun, turn_ended, way_of, way_out, where_counts, with_values}
+use Rattle.checker_loops.proofs.OnWay.{Between, MayBe, begun-known, counts-known, counts-ordered, entered-known, kept-may, met-in, next-between, ordered-itself}
+use Rattle.checker_loops.proofs.OnWay.{untouched-form}
 use Rattle.checker_calls.specs.Environments.{Fine, LiesUnder, Proper}
 use Rattle.checker_calls.proofs.AliasedStores.{AreWritten, IsApart, all-pass, hidden-apart, one-kept}
 use Rattle.checker_calls.proofs.AliasedTypes.{declared, written-begun, written-typed}
@@ -46,7 +47,9 @@ use Rattle.checker_calls.proofs.SeenAliases.{apart-seen, listed_pairs}
 use Rattle.checker_expressions.specs.Walk as flow
 use Rattle.checker_expressions.specs.Walk.{Context, Walked, Walking, followed}
 use Rattle.checker_expressions.proofs.Keeping.{Keeps, keeps-itself, keeps-then}
-use Rattle.checker_expressions.proofs.Sound.{Any_value, Good, Goes, Here, IsForetold, IsPartOf, Passes, Stands, World, good-give, good-then, good-weaker, here-behind, is_seen, nothing-new, part-left, part-right, parts_in, proper-grown, sites_in, stands-as, unbroken-left, unbroken-right, variables_in}
+use Rattle.checker_expressions.proofs.Sound.{Any_value, Good, Goes, Here, IsForetold, IsPartOf, Passes, Stands, World, good-give, good-then, good-weaker}
+use Rattle.checker_expressions.proofs.Sound.{here-behind, is_seen, nothing-new, part-left, part-right, parts_in, proper-grown, sites_in, stands-as}
+use Rattle.checker_expressions.proofs.Sound.{unbroken-left, unbroken-right, variables_in}
 use Rattle.checker_expressions.proofs.SoundCalls.{in_world, by-world}
 use Rattle.checker_expressions.proofs.SoundOperations.{within-sound}
 use Rattle.checker_statements.specs.Walk as walk
@@ -57,7 +60,8 @@ use Rattle.checker_statements.proofs.Rounds.{StandsIn, goes-inside, loop-closed}
 use Rattle.checker_statements.proofs.SparedCalls.{IsAlone}
 use Rattle.checker_expressions.proofs.EffectsKept.{Keeps as KeepsAt, lies-itself, watching}
 use Rattle.checker_state.proofs.Knows.{entire-value}
-use Rattle.checker_statements.proofs.SoundLoops.{AreControlled, AreFine, RoundEnds, SoundAmong, all-controls, here-as, inner, inner-controlled, loop-good, loop_begun, rounds-outer, rounds-own, turn-then, ways-good, with_head}
+use Rattle.checker_statements.proofs.SoundLoops.{AreControlled, AreFine, RoundEnds, SoundAmong, all-controls, here-as, inner, inner-controlled, loop-good}
+use Rattle.checker_statements.proofs.SoundLoops.{loop_begun, rounds-outer, rounds-own, turn-then, ways-good, with_head}
 use Rattle.checker_statements.proofs.Written.{Foretold}
 
 -- a number between two of a range lies in the range

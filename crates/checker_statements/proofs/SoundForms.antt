@@ -5,7 +5,7 @@ use Rattle.std.specs.declared.alloc.Global.{Global}
 use Rattle.std.specs.declared.vec.Vec.{Vec}
 use Rattle.std.specs.List.{list_all, list_any}
 use Rattle.std.specs.Prelude.{slice_get}
-use Rattle.std.proofs.lemmas.Bool.{and_parts, eq-eqb, ltb-true, or_left, or_right}
+use Rattle.std.proofs.lemmas.Bool.{and_parts, both_ways, eq-eqb, ltb-true, or_left, or_right}
 use Rattle.std.proofs.lemmas.List.Folds.{list_any-append}
 use Rattle.std.proofs.lemmas.List.{length-map}
 use Rattle.std.proofs.lemmas.List.Elements.{Contains-append_left}
@@ -43,7 +43,10 @@ use Rattle.checker_state.specs.Forms.{root_of}
 use Rattle.checker_state.specs.Holds.{HasNumber, moment}
 use Rattle.checker_state.specs.Knows.{IsOfForm, AreEntire}
 use Rattle.checker_state.specs.State.{Dead, State, is_dead}
-use Rattle.checker_expressions.proofs.Sound.{IsKnown, Any_value, Good, Here, IsForetold, IsPartOf, IsValue, SoundCalls, World, closed-passes, errs-here, good-then, good-weaker, here-behind, is_seen, nonempty-stands, nothing-new, open-here, part-left, part-right, parts_in, sites_in, sound-enter, sound-give, sound-given, sound-then, sound-written, stands-as, types_in, unbroken-left, unbroken-right, variables_in}
+use Rattle.checker_expressions.proofs.Sound.{IsKnown, Any_value, Good, Here, IsForetold, IsPartOf, IsValue, SoundCalls, World, closed-passes, errs-here}
+use Rattle.checker_expressions.proofs.Sound.{good-then, good-weaker, here-behind, is_seen, nonempty-stands, nothing-new, open-here, part-left, part-right}
+use Rattle.checker_expressions.proofs.Sound.{parts_in, sites_in, sound-enter, sound-give, sound-given, sound-then, sound-written, stands-as, types_in}
+use Rattle.checker_expressions.proofs.Sound.{unbroken-left, unbroken-right, variables_in}
 use Rattle.checker_state.proofs.Ranged.{common-in}
 use Rattle.checker_state.proofs.Refined.{expression-kept, forms-tell}
 use Rattle.checker_state.specs.Joins.{joined_states}
@@ -62,7 +65,8 @@ use Rattle.checker_expressions.proofs.SoundCalls.{CallLaws}
 use Rattle.checker_expressions.proofs.SoundExpressions.{SoundAction, parameter-sound, procedure-sound, value-sound}
 use Rattle.checker_statements.specs.Walk as walk
 use Rattle.checker_statements.specs.Walk.{statement_walk}
-use Rattle.checker_statements.proofs.Controls.{AreOrdinal, all-ordinal, control-ordinal, control-seen, controls-ordinal, inside-ordinal, loops-parts, one-ordinal, control-declared, ordinal-entire}
+use Rattle.checker_statements.proofs.Controls.{AreOrdinal, all-ordinal, control-ordinal, control-seen, controls-ordinal, inside-ordinal, loops-parts}
+use Rattle.checker_statements.proofs.Controls.{one-ordinal, control-declared, ordinal-entire}
 use Rattle.checker_statements.proofs.SoundAssignments.{assigned, assignment-sound, entire-lies, has_type, ordinal-values, site-within}
 use Rattle.checker_statements.proofs.SoundCase.{arm-missing, arms-behind, at-constants_known, entire-number, first-constants}
 use Rattle.checker_statements.proofs.SoundCopies.{copied, copying-sound}
@@ -91,9 +95,6 @@ only-other true b isnt is = absurd (cc)
 either-way : {P : Type 0} (b : Bool) → (b ≡ true → P) → (b ≡ false → P) → P
 either-way true one other = one refl
 either-way false one other = other refl
-
-true-isnt_false : (b : Bool) → b ≡ true → b ≡ false → ⊥
-true-isnt_false b is isnt = cc
 
 among-left : (root : ℕ) (first second : List ℕ) → is_among root first ≡ true → is_among root (first ++ second) ≡ true
 among-left root first second is =
@@ -470,9 +471,9 @@ module _ (world : World) (block : ℕ) (own_block : Block)
       (subst (λ k. meaning.is_among (constants_before k rows) n ≡ true) same_length among)))
       (λ missing.
       let unclosed : (is_dead state || closed) ≡ true → ⊥ = λ is.
-      true-isnt_false (meaning.is_among constants n)
+      both_ways (meaning.is_among constants n) missing
       (closed-passes (parts_in world) (variables_in world) visible state t.store closed (meaning.is_among constants n) here.stands.known
-      (λ covered_is. covered-among range constants n covered_is inside) is) missing in
+      (λ covered_is. covered-among range constants n covered_is inside) is) in
       subst (λ (reply : effect.Reply (Unit {0})). Good world (Foretold world visible context whole t.store) t reply)
       (sym (arm-missing site rows (map effect_of (bodies arms)) n env t
       (subst (λ k. meaning.is_among (constants_before k rows) n ≡ false) (same_length ∙ sym (length-map (bodies arms) effect_of)) missing)))

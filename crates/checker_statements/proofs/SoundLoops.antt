@@ -21,7 +21,9 @@ use Rattle.checker_state.specs.declared.value.Known.{Known}
 use Rattle.checker_state.specs.declared.value.Known.TheVariants.{Ordinal}
 use Rattle.checker_state.specs.Knows.{IsKept, Knows, AreEntire}
 use Rattle.checker_state.specs.Loops.{is_among}
-use Rattle.checker_expressions.proofs.Sound.{IsKnown, Any_value, Good, Goes, Here, IsForetold, IsPartOf, IsValue, Sound, Stands, World, good-give, good-then, good-weaker, here-behind, kept-rule, nothing-new, part-left, part-right, parts_in, proper-grown, stands-as, unbroken-left, unbroken-right, variables_in}
+use Rattle.checker_expressions.proofs.Sound.{IsKnown, Any_value, Good, Goes, Here, IsForetold, IsPartOf, IsValue, Sound, Stands, World, good-give, good-then}
+use Rattle.checker_expressions.proofs.Sound.{good-weaker, here-behind, kept-rule, nothing-new, part-left, part-right, parts_in, proper-grown, stands-as}
+use Rattle.checker_expressions.proofs.Sound.{unbroken-left, unbroken-right, variables_in}
 use Rattle.checker_state.specs.State.{State}
 use Rattle.checker_state.specs.Joins.{joined_states}
 use Rattle.checker_state.proofs.Joins.{join-holds}

@@ -1,5 +1,5 @@
 -- Stores to components of rows are sound: what is known behind them holds.
-use Rattle.std.proofs.Common.{◌≡◌, ⊎_elim, inl, inr, ◌∙◌, sym, ap, refl, subst, ℕ, ◌≤◌, ℤ, Bool, true, false, length, arith, List, [], ◌∷◌}
+use Rattle.std.proofs.Common.{◌≡◌, ⊎_elim, inl, inr, ◌∙◌, sym, ap, refl, subst, ℕ, ◌≤◌, ℤ, Bool, true, false, length, List, [], ◌∷◌}
 use Rattle.std.proofs.Common.{Option, Some, None}
 use Rattle.std.specs.Prelude.{map, slice_index_or}
 use Rattle.std.specs.List.{Contains}
@@ -15,7 +15,6 @@ use Rattle.meaning.specs.declared.store.Value.{Value}
 use Rattle.meaning.specs.Store.{Environment, Place, Store}
 use Rattle.meaning.specs.Store as store
 use Rattle.checker_state.specs.Holds.{IsIn, IsOfRow, component_at, indexes_of, moment, value_at}
-use Rattle.checker_state.specs.Loops.{is_among}
 use Rattle.checker_state.proofs.Apart.{part}
 use Rattle.checker_rows.specs.Rows.{Parts, all_parts, no_parts, rows_of, type_at}
 use Rattle.checker_state.specs.Stores.{Index, Reach, all_stored, with_joined}
@@ -28,8 +27,8 @@ use Rattle.checker_loops.proofs.Tabled.{are-rows}
 use Rattle.checker_calls.specs.Aliases.{Stored, index_unless_alias, reach_unless_alias, with_aliases_stored}
 use Rattle.checker_calls.specs.Environments.{Proper, place_type}
 use Rattle.checker_calls.proofs.Aliased.{aliases-ready}
-use Rattle.checker_calls.proofs.AliasedStores.{AreWritten, Pairs, at-head, head-or_tail, in-tail, own-came, value-defined}
-use Rattle.checker_calls.proofs.Lists.{of-map}
+use Rattle.checker_calls.proofs.AliasedStores.{AreWritten, Pairs, own-came, value-defined}
+use Rattle.checker_calls.proofs.Lists.{in-map, of-map}
 use Rattle.checker_calls.proofs.AliasedTypes.{AreStoredAs, AreTyped, are-aliased, row-type}
 use Rattle.checker_calls.proofs.Passed.{AreIndexesOn, IsReachedBy}
 use Rattle.checker_calls.proofs.SeenAliases.{listed_pairs}
@@ -197,16 +196,10 @@ module _ (tree : Tree) (pairs : List (ℕ × ℕ)) (block activations : ℕ) (en
       let same = row-type tree pairs block activations env proper one.0 pair.0 home own row.2 (home-at one row.1)
       (ap (place_type tree) (place-is pair.0 place place_is) ∙ type_is) ordinal in (
         record { type_id = type_at (rows_of tree) one.0; range = one.1 },
-        mapped (λ (o : ℕ × Interval). record { type_id = type_at (rows_of tree) o.0; range = o.1 }) stores one row.1,
+        in-map (λ (o : ℕ × Interval). record { type_id = type_at (rows_of tree) o.0; range = o.1 }) stores one row.1,
         same,
         targets.in_ranges pair one listed row.1 row.2,
       )
-    where
-      mapped : {A B : Type 0} (f : A → B) (xs : List A) (x : A) → Contains xs x → Contains (map f xs) (f x)
-      mapped f [] x (k, within, is) = absurd (omega (arith, within))
-      mapped f (first ∷ xs) x inside =
-          ⊎_elim (λ same. subst (λ (y : _). Contains (f first ∷ map f xs) (f y)) same (at-head (f first) (map f xs)))
-          (λ later. in-tail (f first) (f x) (map f xs) (mapped f xs x later)) (head-or_tail first x xs inside)
 
 -- ---- a state behind stores
 

@@ -1,12 +1,11 @@
 -- What a statement does itself, and the calls in it, leave as it was by its text: it changes no variables that it spares.
 use Rattle.std.specs.Prelude.{if◌then◌else◌, not}
-use Rattle.std.specs.List.{list_all, list_any}
-use Rattle.std.proofs.Common.{cond, ◌≡◌, ℕ, ℤ, pos, List, [], ◌∷◌, Bool, true, false, ◌&&◌, ◌||◌, Option, Some, None, Vec, Global, map, nat_eq, arith}
+use Rattle.std.specs.List.{list_any}
+use Rattle.std.proofs.Common.{◌≡◌, ℕ, ℤ, pos, List, [], ◌∷◌, Bool, true, false, ◌&&◌, ◌||◌, Option, Some, None, Vec, Global, map, nat_eq, arith}
 use Rattle.std.proofs.Common.{refl, sym, ap, subst}
 use Rattle.std.proofs.lemmas.Bool.{and_parts}
 use Rattle.types.specs.Components.{components_of}
 use Rattle.types.specs.declared.form.Step.TheVariants as step
-use Rattle.types.specs.declared.form.TypeId.{TypeId}
 use Rattle.typed_tree.specs.declared.tree.Access.{Access}
 use Rattle.typed_tree.specs.declared.tree.Call.{Call}
 use Rattle.typed_tree.specs.declared.tree.ForHead.{ForHead}
@@ -34,7 +33,7 @@ use Rattle.typed_tree.specs.declared.tree.Stmt.TheFolds.{map-Stmt, fold-roll-Stm
 use Rattle.typed_tree.specs.declared.tree.Stmt.TheViews.{roll-Stmt}
 use Rattle.typed_tree.specs.Threats.{Spares, all_so, all_spare, expr_spares, indexes_so, is_none_of, link_spares, passed_spares, spares, spares_in_expr}
 use Rattle.typed_tree.specs.Threats.{spares_in_indexes, spares_in_link, spares_in_parameter, spares_in_passed, spares_in_whole, spares_in_width}
-use Rattle.typed_tree.specs.Threats.{spares_in_written, statement_spares, alternative_spares}
+use Rattle.typed_tree.specs.Threats.{spares_in_written, statement_spares}
 use Rattle.typed_tree.specs.WellFormed.{length_of}
 use Rattle.meaning.specs.declared.outcome.Ending.TheVariants as ending
 use Rattle.meaning.specs.declared.store.Value.{Value}
@@ -47,7 +46,10 @@ use Rattle.meaning.specs.Meaning.{Argument, Calls, Combination, Evaluation, Exec
 use Rattle.meaning.specs.Meaning.{combined, default_width, effect_of, effect_step, in_turn, link_of, link_step, operated, parameter_of, passed_step}
 use Rattle.meaning.specs.Meaning.{passing_of, selected, value_of, value_step, values_of, whole_of, width_of, written_of, OfPlace, OfRow}
 use Rattle.meaning.specs.Meaning as meaning
-use Rattle.checker_expressions.proofs.EffectsKept.{CanGive, IsOwn, Keeps, MayChange, MayWriteTo, Standing, can-then, given-same, own-write, under-write, keeps-combined, keeps-enter, keeps-fetch, keeps-fetch_all, keeps-give, keeps-line_ended, keeps-looped, keeps-operated, keeps-require, keeps-stop, keeps-store, keeps-store_all, keeps-then, keeps-turn, keeps-valued, keeps-undefine, keeps-when, keeps-write}
+use Rattle.checker_expressions.proofs.EffectsKept.{CanGive, IsOwn, Keeps, MayChange, MayWriteTo, Standing, can-then, given-same, own-write, under-write}
+use Rattle.checker_expressions.proofs.EffectsKept.{keeps-combined, keeps-enter, keeps-fetch, keeps-fetch_all, keeps-give, keeps-line_ended, keeps-looped}
+use Rattle.checker_expressions.proofs.EffectsKept.{keeps-operated, keeps-require, keeps-stop, keeps-store, keeps-store_all, keeps-then, keeps-turn}
+use Rattle.checker_expressions.proofs.EffectsKept.{keeps-valued, keeps-undefine, keeps-when, keeps-write}
 use Rattle.checker_expressions.proofs.Effects.{under-accessed}
 
 -- a variable that is passed may be written

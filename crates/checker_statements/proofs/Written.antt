@@ -1,5 +1,5 @@
 -- What a run leaves that stores a value, or the values of components one after another; and that the walk over such stores foretells it.
-use Rattle.std.proofs.Common.{arith, ◌≡◌, ⊎_elim, ◌∙◌, sym, ap, ap₂, refl, subst, ℕ, ◌≤◌, ℤ, Bool, true, false, ◌||◌, length, List, [], ◌∷◌}
+use Rattle.std.proofs.Common.{arith, ◌≡◌, ⊎_elim, ◌∙◌, sym, ap, ap₂, subst, ℕ, ◌≤◌, ℤ, true, ◌||◌, length, List, [], ◌∷◌}
 use Rattle.std.proofs.Common.{◌++◌, Option, Some}
 use Rattle.std.specs.List.{Contains}
 use Rattle.std.specs.Prelude.{is_some, map, slice_get}
@@ -27,20 +27,19 @@ use Rattle.checker_rows.specs.Rows.{is_structured_variable, rows_accessed, rows_
 use Rattle.checker_state.specs.Changes.{assigned}
 use Rattle.checker_state.specs.Stores.{Reach, all_stored}
 use Rattle.checker_state.specs.State.{State}
-use Rattle.checker_loops.proofs.Touched.{all_control}
 use Rattle.checker_loops.specs.Loops.{Round, all_list}
 use Rattle.checker_loops.specs.Pairs.{aliases_of, Listed, aliases_in}
 use Rattle.checker_calls.specs.Aliases.{reach_unless_alias, unless_alias, with_aliases_stored}
 use Rattle.checker_calls.specs.Starts.{is_own}
 use Rattle.checker_calls.specs.Environments.{Fine, Proper}
 use Rattle.checker_calls.proofs.AliasedStores.{AreWritten, Pairs, at-head, head-or_tail, in-tail, none-written, one-kept, one-written, written-then}
-use Rattle.checker_calls.proofs.AliasedTypes.{AreTyped, IsClosedIn, control-keeps, listed-keeps, written-begun, written-typed}
+use Rattle.checker_calls.proofs.AliasedTypes.{AreTyped, IsClosedIn, listed-keeps, written-begun, written-typed}
 use Rattle.checker_calls.proofs.SeenAliases.{apart-seen}
 use Rattle.checker_expressions.specs.declared.fault.Rule.TheVariants.{Changes}
 use Rattle.checker_expressions.specs.Walk.{Context, Walked, followed}
 use Rattle.checker_expressions.specs.Walk as flow
-use Rattle.checker_expressions.proofs.Keeping.{Keeps}
-use Rattle.checker_expressions.proofs.Sound.{Any_value, Good, Here, IsForetold, World, good-give, good-then, good-weaker, kept-rule, nothing-new, parts_in, declared_in, listed_in, types_in, unbroken-left, variables_in}
+use Rattle.checker_expressions.proofs.Sound.{Any_value, Good, Here, IsForetold, World, good-give, good-then, good-weaker, kept-rule, nothing-new, parts_in}
+use Rattle.checker_expressions.proofs.Sound.{declared_in, listed_in, types_in, unbroken-left, variables_in}
 use Rattle.checker_statements.proofs.Rounds.{kept-wider}
 use Rattle.checker_expressions.proofs.SoundAccesses.{part-then}
 use Rattle.checker_calls.proofs.Passed.{AreComponentsOf, IsReachedBy}
@@ -89,14 +88,13 @@ module _ (world : World) (block : ℕ) (env : Environment) where
         (assigned-knows world.tree world.pairs block s.activations env here.proper root home at n s.store after are typed range form state inside of_form
         here.stands.known)))
 
-    -- a value is assigned, and of the loops round it nothing else changes
-    assign-good : (n : ℤ) (range : Interval) (form : Option Bound) (context : Context) (state : State) (s : effect.State)
+    -- a value is assigned to a variable that each loop round it lists
+    pub listed-good : (n : ℤ) (range : Interval) (form : Option Bound) (context : Context) (state : State) (s : effect.State)
         → Here world block env context state s → is_some (values_at (rows_of world.tree) root) ≡ true → IsIn (row_limits (rows_of world.tree) root) (Number n)
-        → HasMember range n → IsOfForm (moment env s.store) form (Number n)
-        → ((after : Store) → IsKept env (root ∷ aliases root) [] s.store after → Keeps env context.rounds s.store after)
+        → HasMember range n → IsOfForm (moment env s.store) form (Number n) → all_list root context.rounds ≡ true
         → Good world (Foretold world env context (walk.assign root form (Ordinal range) context state) s.store) s
         (effect.store (env.variables root) (Number n) s)
-    assign-good n range form context state s here ordinal own inside of_form keeps =
+    listed-good n range form context state s here ordinal own inside of_form listed =
         let before = s.store in
         let after = written before home (Number n) in
         let apart = apart-seen world.tree world.pairs block s.activations env here.proper root home at in
@@ -111,7 +109,9 @@ module _ (world : World) (block : ℕ) (env : Environment) where
             so = record {
               tie = tt;
               stands = record { goes = here.stands.goes; known = assign-known n range form context state s after here are typed inside of_form };
-              kept = keeps after (one-kept env (aliases root) root (whole n) before after are);
+              kept =
+                  listed-keeps world.tree world.pairs block s.activations env here.proper root home at context.rounds (closed-here context state s here)
+                  before after (wider root before after (one-kept env (aliases root) root (whole n) before after are)) listed;
             };
             fine = record {
               typed = written-typed world.tree env (aliases root) root (whole n) before after are typed here.fine.typed;
@@ -121,30 +121,6 @@ module _ (world : World) (block : ℕ) (env : Environment) where
             grown = omega arith;
           };
         })
-
-    -- to a variable that each loop round it lists
-    pub listed-good : (n : ℤ) (range : Interval) (form : Option Bound) (context : Context) (state : State) (s : effect.State)
-        → Here world block env context state s → is_some (values_at (rows_of world.tree) root) ≡ true → IsIn (row_limits (rows_of world.tree) root) (Number n)
-        → HasMember range n → IsOfForm (moment env s.store) form (Number n) → all_list root context.rounds ≡ true
-        → Good world (Foretold world env context (walk.assign root form (Ordinal range) context state) s.store) s
-        (effect.store (env.variables root) (Number n) s)
-    listed-good n range form context state s here ordinal own inside of_form listed =
-        assign-good n range form context state s here ordinal own inside of_form
-        (λ after kept.
-        listed-keeps world.tree world.pairs block s.activations env here.proper root home at context.rounds (closed-here context state s here) s.store after
-        (wider root s.store after kept) listed)
-
-    -- to one that controls a for statement in each
-    pub control-good : (n : ℤ) (range : Interval) (form : Option Bound) (context : Context) (state : State) (s : effect.State)
-        → Here world block env context state s → is_some (values_at (rows_of world.tree) root) ≡ true → IsIn (row_limits (rows_of world.tree) root) (Number n)
-        → HasMember range n → IsOfForm (moment env s.store) form (Number n) → all_control root context.rounds ≡ true
-        → Good world (Foretold world env context (walk.assign root form (Ordinal range) context state) s.store) s
-        (effect.store (env.variables root) (Number n) s)
-    control-good n range form context state s here ordinal own inside of_form controls =
-        assign-good n range form context state s here ordinal own inside of_form
-        (λ after kept.
-        control-keeps world.tree world.pairs block s.activations env here.proper root home at context.rounds (closed-here context state s here) s.store after
-        (wider root s.store after kept) controls)
 
   -- ---- stores of components, one after another
 
@@ -238,7 +214,8 @@ module _ (world : World) (block : ℕ) (env : Environment) where
         (subst (λ (aliases : List ℕ). K (made world.tree aliases))
         (sym (ap₂ (λ (listed : Listed) (b : ℕ). aliases_in listed b root) goes.pairs_are here.block_is))
         (made-knows world.tree world.pairs block s.activations env here.proper root home at pairs stores fit.targets
-        (λ one inside. behind-variables world.tree root selectors fit.structured one.0 (fit.are one inside)) s.store after are typed reach (is-reach world.tree root selectors id rows env s.store way matches (reach_unless_alias own reach) reached_own)
+        (λ one inside. behind-variables world.tree root selectors fit.structured one.0 (fit.are one inside)) s.store after are typed reach
+        (is-reach world.tree root selectors id rows env s.store way matches (reach_unless_alias own reach) reached_own)
         (λ formed.
         zipped-reached world.tree root selectors id rows env s.store way matches values many stores fit.are (reach_unless_alias own reach) reached_own formed)
         state here.stands.known))

@@ -43,7 +43,7 @@ use Rattle.checker_rows.specs.Rows.{rows_accessed, rows_of, type_at}
 use Rattle.checker_loops.specs.Cases.{arm_start, constants_before}
 use Rattle.checker_loops.specs.Loops.{Round, all_claims, claims_at, gives_claims}
 use Rattle.checker_loops.specs.Loops.{head_of, round_of, table_of, touched, with_own}
-use Rattle.checker_loops.specs.Ways.{End, Way, entered, met, next, steady, turn_begun, turn_ended, way_of, way_out}
+use Rattle.checker_loops.specs.Ways.{End, Way, entered, met, steady, turn_begun, turn_ended, way_of, way_out}
 use Rattle.checker_loops.specs.Ways.{where_counts, with_values}
 use Rattle.checker_loops.specs.Pairs.{aliases_in}
 use Rattle.checker_calls.specs.Sections.{BlockClaims, all_block_claims, all_pairs, block_claims_at}
