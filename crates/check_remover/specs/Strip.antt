@@ -1,26 +1,13 @@
 -- Stripped code: the code without its checks at sites that aren't open, its jumps moved. It does not say when a check
 -- may be taken out: that it never stops a run is for the reader of the open sites to know.
-use Rattle.std.specs.Prelude.{◌≡◌, ℕ, ◌==◌, Bool, true, List, Option, Some, None, map, filter, take, count_by}
+use Rattle.std.specs.Prelude.{◌≡◌, ℕ, ◌==◌, Bool, true, List, Some, map, filter, take, count_by}
 use Rattle.std.specs.Prelude.{slice_get}
 use Rattle.std.specs.List.{list_any}
 use Rattle.std.specs.Option.{option_map_or}
 use Rattle.pcode_assembler.specs.declared.code.Site.{Site}
 use Rattle.pcode_assembler.specs.declared.instr.Instr.{Instr}
 use Rattle.pcode_assembler.specs.declared.instr.Instr.TheVariants as instr
-
--- the site of a check
-abbrev pub check_site : Instr → Option ℕ
-check_site (instr.CheckRange site low high) = Some site
-check_site (instr.CheckZero site) = Some site
-check_site (instr.CheckDefined site length) = Some site
-check_site (instr.CheckSum site) = Some site
-check_site (instr.CheckDifference site) = Some site
-check_site (instr.CheckProduct site) = Some site
-check_site (instr.CheckSquare site) = Some site
-check_site (instr.CheckMembers site) = Some site
-check_site (instr.CheckSet site low high) = Some site
-check_site (instr.Fail site) = Some site
-check_site _ = None
+pub use Rattle.pcode_assembler.specs.Writable.{check_site}
 
 -- whether one of these sites has the id
 abbrev pub is_among : List Site → ℕ → Bool

@@ -1,4 +1,5 @@
 ghost use Rattle.std.specs.Prelude.{◌≡◌, ℕ, ◌≤◌, IfOk, length, map, filter};
+ghost use Rattle.pcode_assembler.specs.Writable.{EndsInNoCheck, IsWritable};
 ghost use Rattle.check_remover.specs.Places.{new_place};
 ghost use Rattle.check_remover.specs.Strip.{KeepsInstructions, is_among, moved, stays, strip};
 
@@ -9,7 +10,8 @@ use pcode_assembler::instr::Instr;
 use std::alloc::{AllocError, Global};
 
 /// The code without its checks at sites whose id isn't among the open ones. A jump goes to the first
-/// remaining instruction at or after its old target, or just past the last. The tables stay.
+/// remaining instruction at or after its old target, or just past the last. The tables stay. Code that can be written
+/// and whose last instruction is no check can be written then too.
 ///
 /// # Errors
 /// Want of memory.
@@ -20,6 +22,10 @@ pub fn remove(alloc: Global, code: &Code, open_sites: &[Site]) -> Result<Code, A
         KeepsInstructions open_sites.now code.now.instructions.items stripped.instructions.items) }
     ensures sites { IfOk result (λ stripped. stripped.sites.items ≡ code.now.sites.items) }
     ensures points { IfOk result (λ stripped. stripped.points.items ≡ code.now.points.items) }
+    ensures last { IfOk result (λ stripped.
+        EndsInNoCheck code.now.instructions.items → EndsInNoCheck stripped.instructions.items) }
+    ensures writable { IfOk result (λ stripped.
+        IsWritable code.now → EndsInNoCheck code.now.instructions.items → IsWritable stripped) }
 {
     Ok(Code {
         instructions: stripped(alloc, code, open_sites)?,

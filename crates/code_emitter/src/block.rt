@@ -12,7 +12,7 @@ use code_scheme::depth::needed_by_block;
 use code_scheme::frame::{Frame, level_of};
 use code_scheme::home::Home;
 use code_scheme::routine::Routine;
-use code_scheme::scope::{MOST_CELLS, Scope};
+use code_scheme::scope::{LINKS, MOST_CELLS, Scope};
 use code_scheme::size::measure;
 use pcode_assembler::instr::Instr;
 use std::alloc::{AllocError, Global};
@@ -86,6 +86,9 @@ pub fn scope_of<'s>(
     ensures { homes.now ≡ homes_of tree.now → frame ≡ frame_of tree.now.types tree.now.variables.items number
         → result ≡ block_scope tree.now routines.now number }
 {
-    let cells = frame.parameters.min(MOST_CELLS) + frame.others.min(MOST_CELLS);
-    Scope::of_block(homes, routines, level_of(tree, number), cells)
+    let next = LINKS
+        .saturating_add(frame.parameters)
+        .saturating_add(frame.others)
+        .min(MOST_CELLS);
+    Scope::of_block(homes, routines, level_of(tree, number), next)
 }

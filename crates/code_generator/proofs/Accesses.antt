@@ -72,7 +72,7 @@ module _ (g : Setting) where
 
   abbrev pub addressed_there : (held : List Cell) (place : ℕ) (t : TypeId) (q : Option Place) (s : effect.State) → Addressed held t q s → State
   addressed_there held place t None s h = absurd h
-  addressed_there held place t (Some p) s h = on g ((h.0 ++ held) ++ Number (pos h.2) ∷ []) place s.output
+  addressed_there held place t (Some p) s h = on g ((h.0 ++ held) ++ Number (pos h.2) ∷ []) place s
 
   abbrev pub address_on : List Cell → TypeId → ℕ → Aim (Option Place)
   address_on held t place = record { Holds = Addressed held t; there = addressed_there held place t; gain = 0 }
@@ -82,7 +82,7 @@ module _ (g : Setting) where
 
   -- an address that is there after some instructions
   pub addresses : (least : ℕ) (m : State) (base held : List Cell) (place d : ℕ) (p : Place) (t : TypeId) (s : effect.State) → Based g s base
-      → PartAt p t d → Comes g.target least m (on g ((base ++ held) ++ Number (pos d) ∷ []) place s.output) → g.below + length held < g.limit
+      → PartAt p t d → Comes g.target least m (on g ((base ++ held) ++ Number (pos d) ∷ []) place s) → g.below + length held < g.limit
       → Arrives g (address_on held t place) s.turns m (Gives (Some p) s)
   addresses least m base held place d p t s based part l room =
       ((base, based, d, part, room), comes_less g.target (s.turns - s.turns + 0) least m _ (omega arith) l, omega arith)
@@ -90,7 +90,7 @@ module _ (g : Setting) where
   -- what comes at an address
   pub at_address : {A : Type 0} (aim : Aim A) (held : List Cell) (place : ℕ) (t : TypeId) (next : Option Place → Action A)
       → ((base : List Cell) (d : ℕ) (p : Place) (u : effect.State) → Based g u base → PartAt p t d → g.below + length held < g.limit
-      → Runs g aim (on g ((base ++ held) ++ Number (pos d) ∷ []) place u.output) (next (Some p)) u)
+      → Runs g aim (on g ((base ++ held) ++ Number (pos d) ∷ []) place u) (next (Some p)) u)
       → (q : Option Place) (u : effect.State) (x : Addressed held t q u) → Runs g aim (addressed_there held place t q u x) (next q) u
   at_address aim held place t next h None u x = absurd x
   at_address aim held place t next h (Some p) u x = h x.0 x.2 p u x.1 x.3 x.4
@@ -101,27 +101,27 @@ module _ (g : Setting) where
       → (Stands g.target place c → Addresses m held (place + length c) t first s)
       → ((base : List Cell) (d : ℕ) (p : Place) (u : effect.State) → Stands g.target (place + length c) c' → Based g u base → PartAt p t d
       → g.below + length held < g.limit
-      → Runs g (aim (place + length c + length c')) (on g ((base ++ held) ++ Number (pos d) ∷ []) (place + length c) u.output) (next (Some p)) u)
+      → Runs g (aim (place + length c + length c')) (on g ((base ++ held) ++ Number (pos d) ∷ []) (place + length c) u) (next (Some p)) u)
       → Runs g (aim (place + length (c ++ c'))) m (first >>= next) s
   address_then aim c c' place m held t first next s exact stands runs h =
       then_code g (address_on held t) aim c c' place m first next s exact stands runs
-      (λ q u x rest. at_address (aim (place + length c + length c')) held (place + length c) t next (λ base d p v. h base d p v rest) q u x)
+      (λ q u x rest le. at_address (aim (place + length c + length c')) held (place + length c) t next (λ base d p v. h base d p v rest) q u x)
 
   -- ---- selectors
 
   -- the step to a field, whose place is so many cells further
   field_steps : (before place d : ℕ) (base held : List Cell) (s : effect.State) → Stands g.target place (field_code before) → Based g s base
       → g.below + length held < g.limit → d + before ≤ g.below
-      → Comes g.target 0 (on g ((base ++ held) ++ Number (pos d) ∷ []) place s.output)
-      (on g ((base ++ held) ++ Number (pos (d + before)) ∷ []) (place + length (field_code before)) s.output)
+      → Comes g.target 0 (on g ((base ++ held) ++ Number (pos d) ∷ []) place s)
+      (on g ((base ++ held) ++ Number (pos (d + before)) ∷ []) (place + length (field_code before)) s)
   field_steps zero place d base held s stands based room within =
       let here : place ≡ place + 0 = omega arith in
       let at : d ≡ d + 0 = omega arith in
-      subst (λ q. Comes g.target 0 (on g ((base ++ held) ++ Number (pos d) ∷ []) place s.output) (on g ((base ++ held) ++ Number (pos
-      (d + 0)) ∷ []) q s.output))
+      subst (λ q. Comes g.target 0 (on g ((base ++ held) ++ Number (pos d) ∷ []) place s) (on g ((base ++ held) ++ Number (pos
+      (d + 0)) ∷ []) q s))
       here
-      (subst (λ e. Comes g.target 0 (on g ((base ++ held) ++ Number (pos d) ∷ []) place s.output) (on g ((base ++ held) ++ Number
-      (pos e) ∷ []) place s.output)) at
+      (subst (λ e. Comes g.target 0 (on g ((base ++ held) ++ Number (pos d) ∷ []) place s) (on g ((base ++ held) ++ Number
+      (pos e) ∷ []) place s)) at
       (stays_here g.target _))
   field_steps (suc n) place d base held s stands based room within =
       let full = based.full in
@@ -129,10 +129,10 @@ module _ (g : Setting) where
       let same : offset (suc n) ≡ suc n = omega arith in
       let cells = base ++ held in
       let long = length-append base held in
-      let added = acts g (instr.Increase (offset (suc n))) (cells ++ Number (pos d) ∷ []) (cells ++ Number (pos (d + offset (suc n))) ∷ []) place s.output _
+      let added = acts g (instr.Increase (offset (suc n))) (cells ++ Number (pos d) ∷ []) (cells ++ Number (pos (d + offset (suc n))) ∷ []) place s _
       stands.0 refl
       (increases g.frame g.limit g.size cells (linked g s base held based) (offset (suc n)) d (omega arith) (omega arith)) in
-      subst (λ k. Comes g.target 0 (on g (cells ++ Number (pos d) ∷ []) place s.output) (on g (cells ++ Number (pos (d + k)) ∷ []) (place + 1) s.output)) same
+      subst (λ k. Comes g.target 0 (on g (cells ++ Number (pos d) ∷ []) place s) (on g (cells ++ Number (pos (d + k)) ∷ []) (place + 1) s)) same
       (comes_less g.target 0 1 _ _ (omega arith) added)
 
   -- the part that a field is
@@ -179,7 +179,7 @@ module _ (g : Setting) where
       → are_well_formed_indexes indexes ≡ true → are_selectors selectors ≡ true → length (expressions indexes) ≡ index_count selectors
       → led g.tree.types selectors t ≡ Some last → PartAt p t d → Based g s base
       → g.below + length held + fold max depth (map (λ i. i + 1) (depths indexes)) ≤ g.limit → g.below + length held < g.limit
-      → Addresses (on g ((base ++ held) ++ Number (pos d) ∷ []) place s.output) held (place + length (selectors_code selectors (codes indexes))) last
+      → Addresses (on g ((base ++ held) ++ Number (pos d) ∷ []) place s) held (place + length (selectors_code selectors (codes indexes))) last
       (selected selectors (map value_of (expressions indexes)) (around g) (Some p)) s
 
   -- a field is a step further; an index is evaluated, tested and gives way to the address of its element
@@ -188,8 +188,8 @@ module _ (g : Setting) where
       let here : place ≡ place + 0 = omega arith in
       let same = same_Some t last ends in
       inr (addresses 0 _ base held (place + 0) d p last s based (subst (λ u. PartAt p u d) same whole)
-      (subst (λ q. Comes g.target 0 (on g ((base ++ held) ++ Number (pos d) ∷ []) place s.output) (on g ((base ++ held) ++ Number
-      (pos d) ∷ []) q s.output)) here
+      (subst (λ q. Comes g.target 0 (on g ((base ++ held) ++ Number (pos d) ∷ []) place s) (on g ((base ++ held) ++ Number
+      (pos d) ∷ []) q s)) here
       (stays_here g.target _)) room)
   selectors_run (Field position before ∷ selectors) indexes depth place d base held p t last s stands wells well counts ends whole based deep room =
       let on_led = led_on g.tree.types (Field position before) selectors t last ends in
@@ -199,7 +199,7 @@ module _ (g : Setting) where
       let rest = selectors_code selectors (codes indexes) in
       let q = inner p (step.Field position ∷ []) in
       let e : place + length c + length rest ≡ place + length (c ++ rest) = omega (arith, length-append c rest) in
-      subst (λ there. Addresses (on g ((base ++ held) ++ Number (pos d) ∷ []) place s.output) held there last
+      subst (λ there. Addresses (on g ((base ++ held) ++ Number (pos d) ∷ []) place s) held there last
       (selected selectors (map value_of (expressions indexes)) (around g) (Some q)) s) e
       (runs_from g (address_on held last (place + length c + length rest)) 0 _ _
       (selected selectors (map value_of (expressions indexes)) (around g) (Some q)) s
@@ -234,7 +234,7 @@ module _ (g : Setting) where
       let one = (base2 ++ held) ++ Number (pos d) ∷ [] in
       let in_frame = linked g s2 base2 held based2 in
       let e : from + 1 + length indexing ≡ from + length (range_check fits ∷ indexing) = omega arith in
-      subst (λ there. Addresses (on g (one ++ Number n ∷ []) from s2.output) held there last (next v) s2) e
+      subst (λ there. Addresses (on g (one ++ Number n ∷ []) from s2) held there last (next v) s2) e
       (range_then g (address_on held last (from + 1 + length indexing)) fits v one from s2 (chosen_by v) rest.0
       (ltb-true fits.site (sites g) test_parts.0) (omega (arith, in_frame, length_one (base2 ++ held) (Number (pos d)))) fit2
       (λ holds.
@@ -249,7 +249,7 @@ module _ (g : Setting) where
       let limit = limit_far g in
       let long = length-append base2 held in
       let reached = acts g (instr.IndexAddress fits.range.first (row_length cells)) (one ++ Number n ∷ [])
-      ((base2 ++ held) ++ Number (pos (d + far.0 * cells)) ∷ []) (from + 1) s2.output _ rest.1.0 refl
+      ((base2 ++ held) ++ Number (pos (d + far.0 * cells)) ∷ []) (from + 1) s2 _ rest.1.0 refl
       (ap (λ size. on_two (element fits.range.first size) (frames_of g (one ++ Number n ∷ []))) same
       ∙ element_indexed g.frame g.limit g.size (base2 ++ held) in_frame fits.range.first n cells d far.0 (omega arith)
       (record { is = whole_bound }) fit2 far.1 small (omega arith)) in
@@ -349,7 +349,7 @@ module _ (g : Setting) where
   PushesAddress i d =
       (place : ℕ) (base held : List Cell) (s : effect.State) → StandsAt g.target place i (stays g.target.is_open i) → Based g s base
       → g.below + length held < g.limit
-      → Comes g.target 1 (on g (base ++ held) place s.output) (on g ((base ++ held) ++ Number (pos d) ∷ []) (place + 1) s.output)
+      → Comes g.target 1 (on g (base ++ held) place s) (on g ((base ++ held) ++ Number (pos d) ∷ []) (place + 1) s)
 
   -- how code reaches what selectors lead to from a cell: the cell lies at an offset in a frame; or the code of its address
   -- is that instruction and what follows from the selectors
@@ -391,7 +391,7 @@ module _ (g : Setting) where
       let full = based.full in
       let far = limit_far g in
       let long = length-append base held in
-      acts g (instr.LoadAddress level start) (base ++ held) ((base ++ held) ++ Number (pos (owner + start)) ∷ []) place s.output _ stands refl
+      acts g (instr.LoadAddress level start) (base ++ held) ((base ++ held) ++ Number (pos (owner + start)) ∷ []) place s _ stands refl
       (loads_address g.frame g.limit g.size (base ++ held) level start owner (omega arith) (frame_found level owner base held s based l) (omega arith))
 
   -- the address that a cell in a frame holds
@@ -402,7 +402,7 @@ module _ (g : Setting) where
       let full = based.full in
       let long = length-append base held in
       let there = slice_get-front base held (owner + start) (Number (pos address)) (based.keeps.each (owner + start) (Number (pos address)) at) in
-      acts g (instr.Load level start) (base ++ held) ((base ++ held) ++ Number (pos address) ∷ []) place s.output _ stands refl
+      acts g (instr.Load level start) (base ++ held) ((base ++ held) ++ Number (pos address) ∷ []) place s _ stands refl
       (loads g.frame g.limit g.size (base ++ held) level start owner (Number (pos address)) (omega arith) (frame_found level owner base held s based l)
       (slice_get_within (base ++ held) (owner + start) (Number (pos address)) there) there)
 
@@ -499,11 +499,11 @@ module _ (g : Setting) where
 
     pub pushed_runs : (place : ℕ) (base held : List Cell) (s : effect.State) → Stands g.target place (start.first ∷ rest_code) → Based g s base
         → g.below + length held + access_depth (depths indexes) ≤ g.limit
-        → Addresses (on g (base ++ held) place s.output) held (place + length (start.first ∷ rest_code)) last found s
+        → Addresses (on g (base ++ held) place s) held (place + length (start.first ∷ rest_code)) last found s
     pushed_runs place base held s stands based deep =
         let cells = base ++ held in
         let more = start_within 1 (map (λ i. i + 1) (depths indexes)) in
-        instr_then g (address_on held last) 1 start.first rest_code place (on g cells place s.output) _ found s
+        instr_then g (address_on held last) 1 start.first rest_code place (on g cells place s) _ found s
         (start.pushes place base held s stands.0 based (omega arith))
         (selectors_run start.rest indexes 1 (place + 1) start.cell base held start.there start.its last s stands.1 good start.well
         (counts ∙ sym start.counts) start.ends start.part based deep (omega arith))
@@ -519,17 +519,17 @@ module _ (g : Setting) where
     -- the code of an address
     pub address_runs : (place : ℕ) (base held : List Cell) (s : effect.State) → Stands g.target place (address_code g.scope access (codes indexes))
         → Based g s base → g.below + length held + access_depth (depths indexes) ≤ g.limit
-        → Addresses (on g (base ++ held) place s.output) held (place + length (address_code g.scope access (codes indexes))) last found s
+        → Addresses (on g (base ++ held) place s) held (place + length (address_code g.scope access (codes indexes))) last found s
     address_runs place base held s stands based deep =
-        subst (λ c. Addresses (on g (base ++ held) place s.output) held (place + length c) last found s) (sym address_is)
+        subst (λ c. Addresses (on g (base ++ held) place s) held (place + length c) last found s) (sym address_is)
         (pushed_runs place base held s (subst (Stands g.target place) address_is stands) based deep)
 
     -- the value of a scalar that is loaded, checked
     loaded_runs : (defined place : ℕ) (cells base held : List Cell) (p : Place) (d : ℕ) (s : effect.State) → defined < sites g → LiesIn g.world p d
         → StandsAt g.target (place + 1) (instr.CheckDefined defined 1) (g.target.is_open defined) → Based g s base → g.below + length held < g.limit
         → ((cell : Cell) → d < length (base ++ held) → slice_get (base ++ held) d ≡ Some cell
-        → Comes g.target 1 (on g cells place s.output) (on g ((base ++ held) ++ cell ∷ []) (place + 1) s.output))
-        → Evaluates g (on g cells place s.output) held (place + 1 + 1) (fetch (Some p) defined) s
+        → Comes g.target 1 (on g cells place s) (on g ((base ++ held) ++ cell ∷ []) (place + 1) s))
+        → Evaluates g (on g cells place s) held (place + 1 + 1) (fetch (Some p) defined) s
     loaded_runs defined place cells base held p d s within lies stands based room does =
         let above = alike_above g.world s.store base held based.alike in
         let loaded = does (cell_of (stored s.store p)) (cell_within g.world s.store (base ++ held) p d above lies) (above.scalars p d lies) in
@@ -547,7 +547,7 @@ module _ (g : Setting) where
           → (defined place : ℕ) (base held : List Cell) (s : effect.State) → defined < sites g
           → Stands g.target place (fetch_code way ++ (instr.CheckDefined defined 1 ∷ [])) → Based g s base
           → g.below + length held + access_depth (depths indexes) ≤ g.limit
-          → Evaluates g (on g (base ++ held) place s.output) held (place + length (fetch_code way ++ (instr.CheckDefined defined 1 ∷ [])))
+          → Evaluates g (on g (base ++ held) place s) held (place + length (fetch_code way ++ (instr.CheckDefined defined 1 ∷ [])))
           (found >>= λ q. fetch q defined) s
       fetch_by (At level first) is r defined place base held s within stands based deep =
           let cells = base ++ held in
@@ -556,12 +556,12 @@ module _ (g : Setting) where
           let long = length-append base held in
           let e : place + 1 + 1 ≡ place + 2 = omega arith in
           let selects = λ (rest : List Selector). (λ (t : effect.State). selected rest (map value_of (expressions indexes)) (around g) (Some start.there) t) in
-          subst (λ rest. Evaluates g (on g cells place s.output) held (place + 2)
+          subst (λ rest. Evaluates g (on g cells place s) held (place + 2)
           (selected rest (map value_of (expressions indexes)) (around g) (Some start.there) >>= λ q. fetch q defined) s) (sym r.3)
-          (subst (λ q. Evaluates g (on g cells place s.output) held q (fetch (Some start.there) defined) s) e
+          (subst (λ q. Evaluates g (on g cells place s) held q (fetch (Some start.there) defined) s) e
           (loaded_runs defined place cells base held start.there start.cell s within (scalar_there r.3) stands.1.0 based (omega arith)
           (λ cell inside at.
-          acts g (instr.Load level first) cells (cells ++ cell ∷ []) place s.output _ stands.0 refl
+          acts g (instr.Load level first) cells (cells ++ cell ∷ []) place s _ stands.0 refl
           (loads g.frame g.limit g.size cells level first r.0 cell (omega arith) (frame_found level r.0 base held s based r.1)
           (subst (λ d. d < length cells) r.2 inside) (ap (slice_get cells) (sym r.2) ∙ at)))))
       fetch_by (By code) is r defined place base held s within stands based deep =
@@ -569,31 +569,31 @@ module _ (g : Setting) where
           let load = instr.LoadIndirect 0 ∷ [] in
           let split = append_assoc code load check in
           let far = limit_far g in
-          subst (λ c. Evaluates g (on g (base ++ held) place s.output) held (place + length c) (found >>= λ q. fetch q defined) s) (sym split)
+          subst (λ c. Evaluates g (on g (base ++ held) place s) held (place + length c) (found >>= λ q. fetch q defined) s) (sym split)
           (address_then (value_on g held) code (load ++ check) place _ held last found (λ q. fetch q defined) s exact_found
           (subst (Stands g.target place) split stands)
-          (λ front. subst (λ c. Addresses (on g (base ++ held) place s.output) held (place + length c) last found s) (sym r)
+          (λ front. subst (λ c. Addresses (on g (base ++ held) place s) held (place + length c) last found s) (sym r)
           (pushed_runs place base held s (subst (Stands g.target place) r front) based deep))
           (λ base2 d p s2 rest based2 part2 room2.
           let full = based2.full in
           let long = length-append base2 held in
           let from = place + length code in
           let e : from + 1 + 1 ≡ from + 2 = omega arith in
-          subst (λ q. Evaluates g (on g ((base2 ++ held) ++ Number (pos d) ∷ []) from s2.output) held q (fetch (Some p) defined) s2) e
+          subst (λ q. Evaluates g (on g ((base2 ++ held) ++ Number (pos d) ∷ []) from s2) held q (fetch (Some p) defined) s2) e
           (loaded_runs defined from ((base2 ++ held) ++ Number (pos d) ∷ []) base2 held p d s2 within
           (ordinal_part g.tree.types g.world g.below g.known p last d ordinal part2) rest.1.0 based2 room2
           (λ cell inside at'.
-          acts g (instr.LoadIndirect 0) ((base2 ++ held) ++ Number (pos d) ∷ []) ((base2 ++ held) ++ cell ∷ []) from s2.output _ rest.0 refl
+          acts g (instr.LoadIndirect 0) ((base2 ++ held) ++ Number (pos d) ∷ []) ((base2 ++ held) ++ cell ∷ []) from s2 _ rest.0 refl
           (loads_indirect g.frame g.limit g.size (base2 ++ held) (linked g s2 base2 held based2) d cell (omega arith) (omega arith) inside at')))))
 
       -- the code of the value of an ordinal that is accessed, checked
       pub fetch_runs : (defined place : ℕ) (base held : List Cell) (s : effect.State) → defined < sites g
           → Stands g.target place (variable_code g.scope access (codes indexes) defined) → Based g s base
           → g.below + length held + access_depth (depths indexes) ≤ g.limit
-          → Evaluates g (on g (base ++ held) place s.output) held (place + length (variable_code g.scope access (codes indexes) defined))
+          → Evaluates g (on g (base ++ held) place s) held (place + length (variable_code g.scope access (codes indexes) defined))
           (found >>= λ q. fetch q defined) s
       fetch_runs defined place base held s within stands based deep =
-          subst (λ way. Evaluates g (on g (base ++ held) place s.output) held (place + length (fetch_code way ++ (instr.CheckDefined defined 1 ∷ [])))
+          subst (λ way. Evaluates g (on g (base ++ held) place s) held (place + length (fetch_code way ++ (instr.CheckDefined defined 1 ∷ [])))
           (found >>= λ q. fetch q defined) s) (sym start.way_is)
           (fetch_by start.way start.way_is start.reaches defined place base held s within
           (subst (λ way. Stands g.target place (fetch_code way ++ (instr.CheckDefined defined 1 ∷ []))) start.way_is stands) based deep)

@@ -58,33 +58,33 @@ module _ (g : Setting) (known : CallsAt g) where
     value_stored : (aim : ℕ → Aim (Unit {0})) (c : List Instr) (place : ℕ) (base held : List Cell) (s : effect.State) (next : Value → Action (Unit {0}))
         → Stands g.target place (value_code ++ c) → Based g s base → g.below + length held + expr_depth assignment.value ≤ g.limit
         → ((base2 : List Cell) (w : Value) (t : effect.State) → Stands g.target (place + length value_code) c → Based g t base2 → Fits (number_of w)
-        → Runs g (aim (place + length value_code + length c)) (on g ((base2 ++ held) ++ Number (number_of w) ∷ []) (place + length value_code) t.output)
+        → Runs g (aim (place + length value_code + length c)) (on g ((base2 ++ held) ++ Number (number_of w) ∷ []) (place + length value_code) t)
         (next w) t)
-        → Runs g (aim (place + length (value_code ++ c))) (on g (base ++ held) place s.output) (value_of assignment.value (around g) >>= (tested next)) s
+        → Runs g (aim (place + length (value_code ++ c))) (on g (base ++ held) place s) (value_of assignment.value (around g) >>= (tested next)) s
     value_stored aim c place base held s next stands based deep stored =
         let value = expr_code g.scope assignment.value in
         let check = range_check assignment.fits ∷ [] in
         let split = append_assoc value check c in
         let e : place + length value_code ≡ place + length value + 1 = omega (arith, length-append value check) in
-        subst (λ code. Runs g (aim (place + length code)) (on g (base ++ held) place s.output) (value_of assignment.value (around g) >>= (tested next)) s)
+        subst (λ code. Runs g (aim (place + length code)) (on g (base ++ held) place s) (value_of assignment.value (around g) >>= (tested next)) s)
         (sym split)
         (expr_then g known aim assignment.value (range_check assignment.fits ∷ c) place base held (tested next) s
         (subst (Stands g.target place) split stands) good based deep
-        (λ base2 w t rest based2 fit room.
+        (λ base2 w t rest based2 fit room le.
         let from = place + length value in
         let n = number_of w in
         let e' : from + 1 + length c ≡ from + length (range_check assignment.fits ∷ c) = omega arith in
-        subst (λ end. Runs g (aim end) (on g ((base2 ++ held) ++ Number n ∷ []) from t.output) (tested next w) t) e'
+        subst (λ end. Runs g (aim end) (on g ((base2 ++ held) ++ Number n ∷ []) from t) (tested next w) t) e'
         (range_then g (aim (from + 1 + length c)) assignment.fits w (base2 ++ held) from t (next w) rest.0 site_within (linked g t base2 held based2) fit
         (λ _.
-        subst (λ p. Runs g (aim (p + length c)) (on g ((base2 ++ held) ++ Number n ∷ []) p t.output) (next w) t) e
+        subst (λ p. Runs g (aim (p + length c)) (on g ((base2 ++ held) ++ Number n ∷ []) p t) (next w) t) e
         (stored base2 w t (subst (λ p. Stands g.target p c) (sym e) rest.1) based2 fit)))))
 
     -- a number on top is stored into a scalar in a frame
     stores_there : (level start owner : ℕ) (p : Place) (place : ℕ) (base held : List Cell) (n : ℤ) (s : effect.State) → Leads g.fixed level g.frame owner
         → LiesIn g.world p (owner + start) → Here g place (instr.Store level start) → Based g s base
-        → Comes g.target 1 (on g ((base ++ held) ++ Number n ∷ []) place s.output)
-        (on g (slice_set base (owner + start) (Number n) ++ held) (place + 1) s.output)
+        → Comes g.target 1 (on g ((base ++ held) ++ Number n ∷ []) place s)
+        (on g (slice_set base (owner + start) (Number n) ++ held) (place + 1) s)
     stores_there level start owner p place base held n s l lies here based =
         let below = base ++ held in
         let low = cell_within g.world s.store base p (owner + start) based.alike lies in
@@ -92,7 +92,7 @@ module _ (g : Setting) (known : CallsAt g) where
         let does = stores g.frame g.limit g.size below (linked g s base held based) (Number n) level start owner
         (frame_found g level owner base held s based l) (omega arith)
         ∙ ap (λ cs. Ok (frames_of g cs)) (set_front base held (owner + start) (Number n) low) in
-        acts g (instr.Store level start) (below ++ Number n ∷ []) (slice_set base (owner + start) (Number n) ++ held) place s.output
+        acts g (instr.Store level start) (below ++ Number n ∷ []) (slice_set base (owner + start) (Number n) ++ held) place s
         _ here refl does
 
     module _ (indexes : Indexes g) (last : TypeId) (start : Begins g assignment.target last (codes g indexes))
@@ -110,11 +110,11 @@ module _ (g : Setting) (known : CallsAt g) where
           → (address_of way ≡ start.first ∷ selectors_code start.rest (codes g indexes)) → (place : ℕ) (base held : List Cell)
           (s : effect.State) → Stands g.target place (store_code value_code way) → Based g s base
           → g.below + length held + store_depth (depths g indexes) (expr_depth assignment.value) ≤ g.limit
-          → Executes g (on g (base ++ held) place s.output) held (place + length (store_code value_code way)) (target_found >>= next) s
+          → Executes g (on g (base ++ held) place s) held (place + length (store_code value_code way)) (target_found >>= next) s
       store_by (At level first) r address place base held s stands based deep =
           let lies = subst (LiesIn g.world start.there) r.2 (scalar_there g assignment.target indexes last start wells_good counts ordinal r.3) in
           let store = instr.Store level first ∷ [] in
-          subst (λ rest. Executes g (on g (base ++ held) place s.output) held (place + length (value_code ++ store))
+          subst (λ rest. Executes g (on g (base ++ held) place s) held (place + length (value_code ++ store))
           (selected rest (map value_of (expressions g indexes)) (around g) (Some start.there) >>= next) s) (sym r.3)
           (value_stored (kept_on g held) store place base held s (effect.store (Some start.there)) stands based (omega arith)
           (λ base2 w t here based2 fit.
@@ -127,7 +127,7 @@ module _ (g : Setting) (known : CallsAt g) where
           let from = place + length c in
           address_then g (kept_on g held) c (value_code ++ store) place _ held last target_found next s
           (exact_found g assignment.target indexes last start wells_good counts) stands
-          (λ front. subst (λ code. Addresses g (on g (base ++ held) place s.output) held (place + length code) last target_found s) (sym address)
+          (λ front. subst (λ code. Addresses g (on g (base ++ held) place s) held (place + length code) last target_found s) (sym address)
           (pushed_runs g assignment.target indexes last start wells_good counts place base held s (subst (Stands g.target place) address front) based
           (omega arith)))
           (λ base1 d p s1 rest based1 part1 room1.
@@ -135,7 +135,7 @@ module _ (g : Setting) (known : CallsAt g) where
           let above = held ++ Number (pos d) ∷ [] in
           let high = length_one held (Number (pos d)) in
           let end = from + length value_code + 1 in
-          subst (λ cells. Executes g (on g cells from s1.output) held (from + length (value_code ++ store)) (next (Some p)) s1) (one_held g base1 held (pos d))
+          subst (λ cells. Executes g (on g cells from s1) held (from + length (value_code ++ store)) (next (Some p)) s1) (one_held g base1 held (pos d))
           (value_stored (kept_on g held) store from base1 above s1 (effect.store (Some p)) rest based1 (omega arith)
           (λ base2 w t here based2 fit.
           let n = number_of w in
@@ -144,10 +144,10 @@ module _ (g : Setting) (known : CallsAt g) where
           let long = length-append base2 held in
           let stored = acts g instr.StoreIndirect ((cells ++ Number (pos d) ∷ []) ++ Number n ∷ []) (slice_set base2 d (Number n) ++ held)
           (from + length value_code)
-          t.output _ here.0 refl
+          t _ here.0 refl
           (stores_indirect g.frame g.limit g.size cells (linked g t base2 held based2) d n (omega arith)
           ∙ ap (λ cs. Ok (frames_of g cs)) (set_front base2 held d (Number n) inside)) in
-          subst (λ cs. Executes g (on g (cs ++ Number n ∷ []) (from + length value_code) t.output) held end (effect.store (Some p) w) t)
+          subst (λ cs. Executes g (on g (cs ++ Number n ∷ []) (from + length value_code) t) held end (effect.store (Some p) w) t)
           (sym (one_held g base2 held (pos d)))
           (inr (done g 1 _ (slice_set base2 d (Number n)) held end (record t { store = kept t.store (Some p) w })
           (scalar_kept g p d t base2 w lies based2 fit) stored)))))
@@ -155,10 +155,10 @@ module _ (g : Setting) (known : CallsAt g) where
       store_runs : (place : ℕ) (base held : List Cell) (s : effect.State)
           → Stands g.target place (store_code value_code (reached g.scope assignment.target (codes g indexes))) → Based g s base
           → g.below + length held + store_depth (depths g indexes) (expr_depth assignment.value) ≤ g.limit
-          → Executes g (on g (base ++ held) place s.output) held (place + length (store_code value_code (reached g.scope assignment.target (codes g indexes))))
+          → Executes g (on g (base ++ held) place s) held (place + length (store_code value_code (reached g.scope assignment.target (codes g indexes))))
           (target_found >>= next) s
       store_runs place base held s stands based deep =
-          subst (λ way. Executes g (on g (base ++ held) place s.output) held (place + length (store_code value_code way)) (target_found >>= next) s)
+          subst (λ way. Executes g (on g (base ++ held) place s) held (place + length (store_code value_code way)) (target_found >>= next) s)
           (sym start.way_is)
           (store_by start.way start.reaches
           (ap address_of (sym start.way_is) ∙ address_is g assignment.target indexes last start wells_good counts) place base held s
@@ -199,7 +199,7 @@ module _ (g : Setting) (known : CallsAt g) where
         let next : Option Place → Action (Unit {0}) = λ q. value_of assignment.value (around g) >>= λ w. require
         (effect.is_in fits.range w) fits.site >>= λ _. effect.store q w
         in
-        subst (λ action. Executes g (on g (base ++ held) place s.output) held (place + length c) (action >>= next) (entered g assignment.number s))
+        subst (λ action. Executes g (on g (base ++ held) place s) held (place + length c) (action >>= next) (entered g assignment.number s))
         (sym (start.meant (map value_of (expressions g indexes))))
         (store_runs assignment three.0 site_within indexes led_to.last start one.0 led_to.counts led_to.is_wanted place base held s2 stands based deep)
 
@@ -211,7 +211,7 @@ module _ (g : Setting) (known : CallsAt g) where
   -- a row gives way to the components that got it
   row_stored : (p : Place) (type_id : TypeId) (d count place : ℕ) (base held : List Cell) (vs : List Value) (s : effect.State) → PartAt g p type_id d
       → cells_of g.tree.types type_id ≡ count → length vs ≡ count → AllFit vs → Stands g.target place (instr.StoreMany count ∷ []) → Based g s base
-      → Executes g (on g (((base ++ held) ++ Number (pos d) ∷ []) ++ value_cells vs) place s.output) held (place + 1)
+      → Executes g (on g (((base ++ held) ++ Number (pos d) ∷ []) ++ value_cells vs) place s) held (place + 1)
       (store_all (Some p) (components_of g.tree.types type_id) vs) s
   row_stored p type_id d count place base held vs s part cells long fit stands based =
       let below = base ++ held in
@@ -223,10 +223,10 @@ module _ (g : Setting) (known : CallsAt g) where
       let full = based.full in
       let many = g.known.cells g.tree.types type_id in
       let kept_base = row_kept g p components d vs s base part.from.each (omega arith) fit based in
-      let stored = acts g (instr.StoreMany count) ((below ++ Number (pos d) ∷ []) ++ row) (set_row base d row ++ held) place s.output _ stands.0 refl
+      let stored = acts g (instr.StoreMany count) ((below ++ Number (pos d) ∷ []) ++ row) (set_row base d row ++ held) place s _ stands.0 refl
       (stores_many g.frame g.limit g.size below (linked g s base held based) row count d (omega arith) (omega arith)
       ∙ ap (λ cs. Ok (frames_of g cs)) (set_row_front base held d row (omega arith))) in
-      inr (subst (Arrives g (kept_on g held (place + 1)) s.turns (on g ((below ++ Number (pos d) ∷ []) ++ row) place s.output))
+      inr (subst (Arrives g (kept_on g held (place + 1)) s.turns (on g ((below ++ Number (pos d) ∷ []) ++ row) place s))
       (sym (store_all_is p components vs s))
       (done g 1 _ (set_row base d row) held (place + 1) (record s { store = stored_all s.store p components vs }) kept_base stored))
 
@@ -275,9 +275,9 @@ module _ (g : Setting) (known : CallsAt g) where
         let from_there = place_found g target indexes led_to.last start one.0 led_to.counts in
         let next : List Form → Option Place → Action (Unit {0}) = λ types q.
         whole_of v (map value_of (expressions g value_indexes)) (around g) >>= λ values. store_all q (components_of types type_id) values in
-        subst (λ action. Executes g (on g (base ++ held) place s.output) held (place + length (c ++ (d ++ store))) (action >>= next g.environment.types)
+        subst (λ action. Executes g (on g (base ++ held) place s) held (place + length (c ++ (d ++ store))) (action >>= next g.environment.types)
         (entered g copying.number s)) (sym (start.meant (map value_of (expressions g indexes))))
-        (subst (λ types. Executes g (on g (base ++ held) place s.output) held (place + length (c ++ (d ++ store))) (from_there >>= next types) s2)
+        (subst (λ types. Executes g (on g (base ++ held) place s) held (place + length (c ++ (d ++ store))) (from_there >>= next types) s2)
         (sym g.types_are)
         (address_then g (kept_on g held) c (d ++ store) place _ held led_to.last from_there (next g.tree.types) s2
         (exact_found g target indexes led_to.last start one.0 led_to.counts) stands

@@ -5,7 +5,7 @@ use Rattle.code_generator.proofs.Words.{refl, sym, ap, ◌∙◌, subst, arith, 
 use Rattle.code_generator.proofs.Words.{nat_eq, nat_lt, slice_get, pos, ◌&&◌, ◌||◌, eqb-true, false≢true, ltb-true, length-map, sum_by-cons, slice_get_within}
 use Rattle.code_generator.proofs.Words.{components_of, cells_of, Block, Variable, VariableKind, heading_of, is_parameter_kind, is_variable_kind, roots_where}
 use Rattle.code_generator.proofs.Words.{Place, Argument, OfValue, OfRow, OfPlace, Cell, Undefined, Number, Home, routines_of, block_depth, living_need, Scope}
-use Rattle.code_generator.proofs.Words.{block_scope, called_routine, cells_where, count, is_parameter_of, links_to, other_cells, parameter_cells, slot_cells}
+use Rattle.code_generator.proofs.Words.{block_scope, called_routine, cells_where, is_parameter_of, links_to, other_cells, parameter_cells, slot_cells}
 use Rattle.code_generator.proofs.Words.{variable_home}
 use Rattle.std.proofs.lemmas.Bool.{false_from_ne_true}
 use Rattle.typed_tree.specs.declared.tree.VariableKind.TheVariants as kinds
@@ -582,9 +582,6 @@ module _ (g : Setting) (number : ℕ) (block : Block) (block_is : slice_get g.tr
       let limit = g.limit_is in
       omega (arith, low, limit, room, sum_by-cons (block_need g.tree) g.number g.callers, block_within g.tree g.number g.block g.block_is)
 
-  pub above : new_below ≡ new_frame + (4 + count parameters + count others)
-  above = let whole = (small_block g.tree g.short number block block_is).whole in omega (arith, whole)
-
   pub links_inside : new_frame + 4 ≤ new_below
   links_inside = omega arith
 
@@ -600,7 +597,6 @@ module _ (g : Setting) (number : ℕ) (block : Block) (block_is : slice_get g.tr
         stands = g.stands;
         comes_back = g.comes_back;
         repeats_are_few = g.repeats_are_few;
-        input = g.input;
         size = g.size;
         limit = new_frame + (4 + parameters + others + block_depth block);
         small = g.small;
@@ -625,7 +621,6 @@ module _ (g : Setting) (number : ℕ) (block : Block) (block_is : slice_get g.tr
         routines_are = refl;
         level_is = refl;
         near = new_near;
-        above_is = above;
         environment = new_environment;
         types_are = refl;
         shows = new_shows;

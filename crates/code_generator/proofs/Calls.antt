@@ -119,7 +119,7 @@ module _ (g : Setting) (depth : ℕ) (known : CallsRun depth) (depth_is : g.dept
   arrived = record {
     frames = framed (g.below + length held) g.limit g.size stack;
     place = g.target.to code_place;
-    input = g.input;
+    input = s.input;
     output = s.output;
   }
 
@@ -127,7 +127,7 @@ module _ (g : Setting) (depth : ℕ) (known : CallsRun depth) (depth_is : g.dept
   routine =
       ap (λ (rs : List Routine). routine_or_none (slice_get rs number)) g.routines_are ∙ ap routine_or_none (block_stands g.tree number block block_is).known
 
-  jump_comes : Comes g.target g.target.rate (on g ((base ++ (held ++ links_of g outer)) ++ cells) place s.output) arrived
+  jump_comes : Comes g.target g.target.rate (on g ((base ++ (held ++ links_of g outer)) ++ cells) place s) arrived
   jump_comes =
       let small = small_block g.tree g.short number block block_is in
       let few = small.parameters in
@@ -153,8 +153,8 @@ module _ (g : Setting) (depth : ℕ) (known : CallsRun depth) (depth_is : g.dept
       )) (index_is return return_short)
       ∙ ap (λ f. Ok (framed f g.limit g.size stack, g.target.to (called_routine g.scope number).place)) front_long
       ∙ ap (λ p. Ok (framed (g.below + length held) g.limit g.size stack, g.target.to p)) target_is in
-      comes_at_rate g.target _ (on g ((base ++ (held ++ links_of g outer)) ++ cells) place s.output) arrived stands.0
-      (ap (λ r. and_then r (at_place (record (on g ((base ++ (held ++ links_of g outer)) ++ cells) place s.output) { place = return }))) does)
+      comes_at_rate g.target _ (on g ((base ++ (held ++ links_of g outer)) ++ cells) place s) arrived stands.0
+      (ap (λ r. and_then r (at_place (record (on g ((base ++ (held ++ links_of g outer)) ++ cells) place s) { place = return }))) does)
 
   -- ---- the beginning of the frame
 
@@ -216,7 +216,7 @@ module _ (g : Setting) (depth : ℕ) (known : CallsRun depth) (depth_is : g.dept
     abbrev inside : ℕ
     inside = code_place + 1
 
-    enters_frame : Comes g.target 1 arrived (on its entry_cells inside s1.output)
+    enters_frame : Comes g.target 1 arrived (on its entry_cells inside s1)
     enters_frame =
         let does : entered (count others) (count (block_depth block)) (framed (g.below + length held) g.limit g.size stack)
         ≡ Some (framed its.frame its.limit its.size entry_cells) =
@@ -225,9 +225,9 @@ module _ (g : Setting) (depth : ℕ) (known : CallsRun depth) (depth_is : g.dept
         ∙ ap (λ n. Some (framed its.frame n its.size (stack ++ undefined))) (limits stack_long counts.1)
         ∙ ap (λ cs. Some (framed its.frame its.limit its.size cs))
         (append_assoc front (links ++ cells) undefined ∙ ap (λ l. front ++ l) (append_assoc links cells undefined)) in
-        comes_by g.target (instr.Enter (count others) (count (block_depth block))) arrived (on its entry_cells inside s1.output) code_stands.0.0
+        comes_by g.target (instr.Enter (count others) (count (block_depth block))) arrived (on its entry_cells inside s1) code_stands.0.0
         (ap (with_frame (record arrived { place = g.target.to code_place + 1 })) does
-        ∙ ap (λ p. Ok (running_at its entry_cells p s1.output)) (sym code_stands.0.1))
+        ∙ ap (λ p. Ok (running_at its entry_cells p s1)) (sym code_stands.0.1))
       where
         limits : length stack ≡ g.below + length held + 4 + parameters → count (block_depth block) ≡ block_depth block
             → length stack + others + count (block_depth block) ≡ its.limit
@@ -247,15 +247,16 @@ module _ (g : Setting) (depth : ℕ) (known : CallsRun depth) (depth_is : g.dept
         subst (Stands g.target behind_body) (ap (λ n. end_code its.scope n block.heading.result) callable.number_is) whole
 
     body_runs : (base2 : List Cell) (t : effect.State) → Based its t base2
-        → Returns its (on its base2 inside t.output) [] back is_function
+        → Returns its (on its base2 inside t) [] back is_function
         (effect_of block.body (around its) >>= λ _. result_of block.heading.result its.environment) t
     body_runs base2 t after =
         let body_stands = stands_front g.target inside (stmt_code block.body its.scope inside) (end_code its.scope number block.heading.result) code_stands.1 in
         let none = append-nil base2 in
-        let runs = stmt_runs block.body its known (omega arith) inside base2 [] t body_stands (well_block g.tree g.well number block block_is).body after refl
-        (omega arith) in
-        let ran = subst (λ cs. Executes its (on its cs inside t.output) [] behind_body (effect_of block.body (around its)) t) none runs in
-        then_runs its (kept_on its [] behind_body) (return_on its [] is_function back) (on its base2 inside t.output) (effect_of block.body (around its))
+        let whole = (small_block g.tree g.short number block block_is).whole in
+        let runs = stmt_runs block.body its known (omega arith) inside base2 [] t body_stands (well_block g.tree g.well number block block_is).body after
+        (omega (arith, whole)) (omega arith) in
+        let ran = subst (λ cs. Executes its (on its cs inside t) [] behind_body (effect_of block.body (around its)) t) none runs in
+        then_runs its (kept_on its [] behind_body) (return_on its [] is_function back) (on its base2 inside t) (effect_of block.body (around its))
         (λ _. result_of block.heading.result its.environment) t ((exact_around its).statements block.body) ran
         (λ _ u x le.
         (finish g number block block_is callable outer way base held cells arguments s based return depth depth_is room laid fits is_function kind_and_count.0
@@ -291,7 +292,7 @@ module _ (g : Setting) (depth : ℕ) (known : CallsRun depth) (depth_is : g.dept
 
     -- an end that the routine's code comes to
     ends_here : (end : Ending) (output : List ℕ) → Ends its left arrived end output
-        → Ends g s.turns (on g ((base ++ (held ++ links_of g outer)) ++ cells) place s.output) end output
+        → Ends g s.turns (on g ((base ++ (held ++ links_of g outer)) ++ cells) place s) end output
     ends_here ending.Finished output e = record { why = e.why; stops = stops_on g.target g.target.rate _ arrived _ jump_comes e.stops; so = e.so }
     ends_here (ending.Error site) output (inl e) =
         inl (record { why = e.why; stops = stops_on g.target g.target.rate _ arrived _ jump_comes e.stops; so = e.so })
@@ -307,7 +308,7 @@ module _ (g : Setting) (depth : ℕ) (known : CallsRun depth) (depth_is : g.dept
         )
 
     abbrev call_place : State
-    call_place = on g ((base ++ (held ++ links_of g outer)) ++ cells) place s.output
+    call_place = on g ((base ++ (held ++ links_of g outer)) ++ cells) place s
 
     returned : (r : Reply Value) → Arrives its (return_on its [] is_function back) left arrived r
         → Arrives g (return_on g held is_function (place + 1)) s.turns call_place (effect.and_then r ends_so)
@@ -315,7 +316,7 @@ module _ (g : Setting) (depth : ℕ) (known : CallsRun depth) (depth_is : g.dept
         let last = e.0.0 in
         let after = e.0.1 in
         let n = number_of v in
-        let came = subst (λ l. Comes g.target (left - t.turns + 0) arrived (on its (l ++ left_by its is_function n) back t.output)) (append-nil last) e.1 in
+        let came = subst (λ l. Comes g.target (left - t.turns + 0) arrived (on its (l ++ left_by its is_function n) back t)) (append-nil last) e.1 in
         let home = back_comes g number block block_is callable outer way base held cells arguments s based return depth depth_is room laid fits t last after
         is_function n back (place + 1) (return_stands last t after) (sym stands.1) return_within in (
           (
@@ -352,7 +353,7 @@ module _ (g : Setting) (depth : ℕ) (known : CallsRun depth) (depth_is : g.dept
       ∙ ap (λ o. activated g.tree (calls_of g.tree depth) number o arguments g.environment) block_is
 
   abbrev at_call : State
-  at_call = on g ((base ++ (held ++ links_of g outer)) ++ cells) place s.output
+  at_call = on g ((base ++ (held ++ links_of g outer)) ++ cells) place s
 
   -- the activation begins, if there is a turn for it and the frame fits
   abbrev behind_begin : ℕ → Action Value

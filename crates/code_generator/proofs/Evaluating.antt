@@ -16,7 +16,7 @@ use Rattle.code_generator.proofs.Acts.{framed, defines, is_in_range}
 use Rattle.code_generator.proofs.Alike.{cell_of, HasFit}
 use Rattle.code_generator.proofs.Numbers.{Fits, same_range}
 use Rattle.code_generator.proofs.Reach.{StandsAt, Stands}
-use Rattle.code_generator.proofs.Setting.{Setting, outline, around, on, Based, linked, passes, fails}
+use Rattle.code_generator.proofs.Setting.{AllHeld, Setting, outline, around, on, Based, linked, passes, fails}
 use Rattle.code_generator.proofs.Running.{Aim, Evaluates, Executes, Runs, check_then, gives}
 
 -- what is shown of the like is shown of these
@@ -35,29 +35,29 @@ module _ (g : Setting) where
   frames_of = framed g.frame g.limit g.size
 
   -- the machine behind the fetch of an instruction
-  abbrev pub fetched_at : List Cell → ℕ → List ℕ → State
-  fetched_at cells place output = record (on g cells place output) { place = g.target.to place + 1 }
+  abbrev pub fetched_at : List Cell → ℕ → effect.State → State
+  fetched_at cells place s = record (on g cells place s) { place = g.target.to place + 1 }
 
   -- the code c of an evaluation
   abbrev pub RunsAs : List Instr → ℕ → Bool → Evaluation → Type 0
   RunsAs c depth well evaluation =
       (place : ℕ) (base held : List Cell) (s : effect.State) → Stands g.target place c → well ≡ true → Based g s base
       → g.below + length held + depth ≤ g.limit
-      → Evaluates g (on g (base ++ held) place s.output) held (place + length c) (evaluation (around g)) s
+      → Evaluates g (on g (base ++ held) place s) held (place + length c) (evaluation (around g)) s
 
   -- the code c of an operator and its right operand
   abbrev pub CombinesAs : List Instr → ℕ → Bool → Combination → Type 0
   CombinesAs c depth well combination =
       (place : ℕ) (base held : List Cell) (left : Value) (s : effect.State) → Stands g.target place c → well ≡ true → Based g s base
       → g.below + length held + depth ≤ g.limit → Fits (number_of left)
-      → Evaluates g (on g ((base ++ held) ++ Number (number_of left) ∷ []) place s.output) held (place + length c) (combination (around g) left) s
+      → Evaluates g (on g ((base ++ held) ++ Number (number_of left) ∷ []) place s) held (place + length c) (combination (around g) left) s
 
   -- the code c of an execution
   abbrev pub ExecutesAs : Placed → ℕ → Bool → Execution → Type 0
   ExecutesAs c depth well execution =
       (place : ℕ) (base held : List Cell) (s : effect.State) → Stands g.target place (c g.scope place) → well ≡ true → Based g s base
-      → length held ≡ g.scope.height → g.below + length held + depth ≤ g.limit
-      → Executes g (on g (base ++ held) place s.output) held (place + length (c g.scope place)) (execution (around g)) s
+      → AllHeld g held → g.below + length held + depth ≤ g.limit
+      → Executes g (on g (base ++ held) place s) held (place + length (c g.scope place)) (execution (around g)) s
 
   -- what is shown of an expression, and of an operator and its right operand
   abbrev pub ExprRuns : Expr → Type 0
@@ -75,8 +75,8 @@ module _ (g : Setting) where
   -- the test of a value on top, and what comes behind it
   pub range_then : {A : Type 0} (aim : Aim A) (fits : RangeTest) (v : Value) (below : List Cell) (place : ℕ) (s : effect.State) (next : Action A)
       → StandsAt g.target place (range_check fits) (g.target.is_open fits.site) → fits.site < sites → g.frame + 4 ≤ length below → Fits (number_of v)
-      → (effect.is_in fits.range v ≡ true → Runs g aim (on g (below ++ Number (number_of v) ∷ []) (place + 1) s.output) next s)
-      → Runs g aim (on g (below ++ Number (number_of v) ∷ []) place s.output) (require (effect.is_in fits.range v) fits.site >>= (λ _. next)) s
+      → (effect.is_in fits.range v ≡ true → Runs g aim (on g (below ++ Number (number_of v) ∷ []) (place + 1) s) next s)
+      → Runs g aim (on g (below ++ Number (number_of v) ∷ []) place s) (require (effect.is_in fits.range v) fits.site >>= (λ _. next)) s
   range_then aim fits v below place s next stands within in_frame fit rest =
       check_then g aim (range_check fits) fits.site place (below ++ Number (number_of v) ∷ []) s next _ (effect.is_in fits.range v) stands refl refl
       (is_in_range g.frame g.limit g.size below in_frame fits.range.first fits.range.last (number_of v) ∙ ap Ok (sym (same_range fits.range v fit)))
@@ -86,12 +86,12 @@ module _ (g : Setting) where
   pub fetched_runs : (place defined : ℕ) (base held : List Cell) (s : effect.State) (found : Option Value)
       → StandsAt g.target place (instr.CheckDefined defined 1) (g.target.is_open defined) → defined < sites → Based g s base
       → g.below + length held < g.limit → HasFit found
-      → Evaluates g (on g ((base ++ held) ++ cell_of found ∷ []) place s.output) held (place + 1) (fetched found defined) s
+      → Evaluates g (on g ((base ++ held) ++ cell_of found ∷ []) place s) held (place + 1) (fetched found defined) s
   fetched_runs place defined base held s None stands within based room fit =
-      inr (fails g (instr.CheckDefined defined 1) ((base ++ held) ++ Undefined ∷ []) place defined s.output _ refl refl s.turns stands within
+      inr (fails g (instr.CheckDefined defined 1) ((base ++ held) ++ Undefined ∷ []) place defined s _ refl refl s.turns stands within
       (defines g.frame g.limit g.size (base ++ held) (linked g s base held based) Undefined))
   fetched_runs place defined base held s (Some v) stands within based room fit =
       inr (gives g 0 _ base held (place + 1) v s based
-      (passes g (instr.CheckDefined defined 1) ((base ++ held) ++ Number (number_of v) ∷ []) place defined s.output _ refl refl stands
+      (passes g (instr.CheckDefined defined 1) ((base ++ held) ++ Number (number_of v) ∷ []) place defined s _ refl refl stands
       (defines g.frame g.limit g.size (base ++ held) (linked g s base held based) (Number (number_of v))))
       fit room)

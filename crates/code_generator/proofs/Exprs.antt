@@ -99,12 +99,12 @@ module _ (g : Setting) where
 
   -- a number that is pushed
   number_runs : (n : ℤ) (place : ℕ) (base held : List Cell) (s : effect.State) → Here g place (instr.LoadConstant n) → Fits n → Based g s base
-      → g.below + length held + 1 ≤ g.limit → Evaluates g (on g (base ++ held) place s.output) held (place + 1) (give (value.Number n)) s
+      → g.below + length held + 1 ≤ g.limit → Evaluates g (on g (base ++ held) place s) held (place + 1) (give (value.Number n)) s
   number_runs n place base held s here fit based room =
       let full = based.full in
       let long = length-append base held in
       inr (gives g 1 _ base held (place + 1) (value.Number n) s based
-      (pushes_number g (base ++ held) n place s.output here (omega arith)) fit (omega arith))
+      (pushes_number g (base ++ held) n place s here (omega arith)) fit (omega arith))
 
   -- a constant
   constant_runs : (number : ℕ) (n : ℤ) → RunsAs g (expr_step g.scope (Constant number n)) (expr_depth_step (Constant number n))
@@ -124,7 +124,7 @@ module _ (g : Setting) where
       let led_to = leads g (is_ordinal types) access.root access.selectors.items (length (expressions g indexes))
       (subst (λ k. leads_to_ordinal (outline g) g.number access.root access.selectors.items k ≡ true) (as_many_wells g indexes) parts'.0) in
       let start = begins g access (is_ordinal g.tree.types) (length (expressions g indexes)) (codes g indexes) led_to in
-      subst (λ action. Evaluates g (on g (base ++ held) place s.output) held (place + length (variable_code g.scope access (codes g indexes) defined))
+      subst (λ action. Evaluates g (on g (base ++ held) place s) held (place + length (variable_code g.scope access (codes g indexes) defined))
       (action >>= λ q. fetch q defined) s) (sym (start.meant (map value_of (expressions g indexes))))
       (fetch_runs g access indexes led_to.last start parts.0 led_to.counts led_to.is_wanted defined place base held (entered g access.number s)
       (ltb-true defined (sites g) parts'.1) stands based room)
@@ -133,20 +133,20 @@ module _ (g : Setting) where
   given_runs : (apply : Instr) (place : ℕ) (stack base held : List Cell) (c d : ℤ) (s : effect.State) (act : frames.Frames → Attempt frames.Frames)
       → Here g place apply → deed_of apply ≡ Acts act → act (frames_of g stack) ≡ Ok (frames_of g ((base ++ held) ++ Number d ∷ [])) → d ≡ c
       → Fits c → Based g s base → g.below + length held < g.limit
-      → Evaluates g (on g stack place s.output) held (place + 1) (give (value.Number c)) s
+      → Evaluates g (on g stack place s) held (place + 1) (give (value.Number c)) s
   given_runs apply place stack base held c d s act here rule does same fit based room =
-      inr (gives g 1 _ base held (place + 1) (value.Number c) s based (acts g apply stack ((base ++ held) ++ Number c ∷ []) place s.output act here rule
+      inr (gives g 1 _ base held (place + 1) (value.Number c) s based (acts g apply stack ((base ++ held) ++ Number c ∷ []) place s act here rule
       (does ∙ ap (λ v. Ok (frames_of g ((base ++ held) ++ Number v ∷ []))) same)) fit room)
 
   -- a check, behind which more comes where it holds
   checked_then : (check : Instr) (site place end : ℕ) (stack held : List Cell) (s : effect.State) (next : Action ℤ) (test : frames.Frames → Attempt Bool)
       (good : Bool) → StandsAt g.target place check (g.target.is_open site) → moved g.target.to check ≡ check → deed_of check ≡ Tests site test
-      → test (frames_of g stack) ≡ Ok good → site < sites g → (good ≡ true → Evaluates g (on g stack (place + 1) s.output) held end (as_value next) s)
-      → Evaluates g (on g stack place s.output) held end (as_value (require good site >>= (λ _. next))) s
+      → test (frames_of g stack) ≡ Ok good → site < sites g → (good ≡ true → Evaluates g (on g stack (place + 1) s) held end (as_value next) s)
+      → Evaluates g (on g stack place s) held end (as_value (require good site >>= (λ _. next))) s
   checked_then check site place end stack held s next test true stands same rule e within rest =
-      runs_from g (value_on g held end) 0 _ _ (as_value next) s (passes g check stack place site s.output test same rule stands e) (rest refl)
+      runs_from g (value_on g held end) 0 _ _ (as_value next) s (passes g check stack place site s test same rule stands e) (rest refl)
   checked_then check site place end stack held s next test false stands same rule e within rest =
-      inr (fails g check stack place site s.output test same rule s.turns stands within e)
+      inr (fails g check stack place site s test same rule s.turns stands within e)
 
   -- an operation behind a check of its result or of its operand
   checked_runs : (check apply : Instr) (site place : ℕ) (stack base held : List Cell) (c d : ℤ) (s : effect.State) (test : frames.Frames → Attempt Bool)
@@ -154,13 +154,13 @@ module _ (g : Setting) where
       → moved g.target.to check ≡ check → deed_of check ≡ Tests site test → deed_of apply ≡ Acts act → test (frames_of g stack) ≡ Ok good
       → (good ≡ true → (act (frames_of g stack) ≡ Ok (frames_of g ((base ++ held) ++ Number d ∷ []))) × (d ≡ c) × Fits c) → site < (sites g) → Based g s base
       → g.below + length held < g.limit
-      → Evaluates g (on g stack place s.output) held (place + 2) (as_value (require good site >>= (λ _. give c))) s
+      → Evaluates g (on g stack place s) held (place + 2) (as_value (require good site >>= (λ _. give c))) s
   checked_runs check apply site place stack base held c d s test act good stands here same rule rule' e does within based room =
       checked_then check site place (place + 2) stack held s (give c) test good stands same rule e within
       (λ so.
       let d' = does so in
       let p : place + 1 + 1 ≡ place + 2 = omega arith in
-      subst (λ q. Evaluates g (on g stack (place + 1) s.output) held q (give (value.Number c)) s) p
+      subst (λ q. Evaluates g (on g stack (place + 1) s) held q (give (value.Number c)) s) p
       (given_runs apply (place + 1) stack base held c d s act here rule' d'.0 d'.1 d'.2 based room))
 
   -- a result that is checked to be of type integer
@@ -169,9 +169,9 @@ module _ (g : Setting) where
       → moved g.target.to check ≡ check → deed_of check ≡ Tests overflow test → deed_of apply ≡ Acts act
       → test (frames_of g stack) ≡ Ok (frames.is_integer c) → act (frames_of g stack) ≡ Ok (frames_of g ((base ++ held) ++ Number d ∷ []))
       → (Fits c → d ≡ c) → overflow < (sites g) → Based g s base → g.below + length held < g.limit
-      → Evaluates g (on g stack place s.output) held (place + 2) (as_value (unless_overflow (Some overflow) c)) s
+      → Evaluates g (on g stack place s) held (place + 2) (as_value (unless_overflow (Some overflow) c)) s
   result_runs check apply overflow place stack base held c d s test act stands here same rule rule' e does is within based room =
-      subst (λ t. Evaluates g (on g stack place s.output) held (place + 2) (as_value (require t overflow >>= (λ _. give c))) s)
+      subst (λ t. Evaluates g (on g stack place s) held (place + 2) (as_value (require t overflow >>= (λ _. give c))) s)
       (sym (same_test c))
       (checked_runs check apply overflow place stack base held c d s test act (frames.is_integer c) stands here same rule rule' e
       (λ good. let fit : Fits c = record { is = good } in (does, is fit, fit)) within based room)
@@ -192,40 +192,40 @@ module _ (g : Setting) where
     below_limit = let full = based.full in omega (arith, length-append base held)
 
     one_given : (apply : Instr) (f : ℤ → ℤ) (c : ℤ) → Here g place apply → deed_of apply ≡ Acts (frames.on_one f) → f n ≡ c → Fits c
-        → Evaluates g (on g one place s.output) held (place + 1) (give (value.Number c)) s
+        → Evaluates g (on g one place s) held (place + 1) (give (value.Number c)) s
     one_given apply f c here rule same fit' =
         given_runs apply place one base held c (f n) s _ here rule (on_one_is g.frame g.limit g.size cells within_frame f n below_limit) same fit' based room
 
     truth_given : (apply : Instr) (test : ℤ → Bool) → Here g place apply → deed_of apply ≡ Acts (frames.on_one (λ v. frames.truth (test v)))
-        → Evaluates g (on g one place s.output) held (place + 1) (give (value.Number (truth (test n)))) s
+        → Evaluates g (on g one place s) held (place + 1) (give (value.Number (truth (test n)))) s
     truth_given apply test here rule =
         one_given apply (λ v. frames.truth (test v)) (truth (test n)) here rule (same_truth (test n)) (subst Fits (same_truth (test n)) (fits_truth (test n)))
 
     -- nothing changes
-    left_as_it_is : Evaluates g (on g one place s.output) held place (give (value.Number n)) s
-    left_as_it_is = inr (gives g 0 _ base held place (value.Number n) s based (stays_here g.target (on g one place s.output)) fit room)
+    left_as_it_is : Evaluates g (on g one place s) held place (give (value.Number n)) s
+    left_as_it_is = inr (gives g 0 _ base held place (value.Number n) s based (stays_here g.target (on g one place s)) fit room)
 
     -- a step to the number beside it
     stepped_runs : (step : Instr) (f : ℤ → ℤ → ℤ) (c : ℤ) → Here g place (instr.LoadConstant (pos 1)) → Here g (place + 1) step
         → deed_of step ≡ Acts (frames.on_two f) → f n (pos 1) ≡ c → Fits c
-        → g.below + length held + 2 ≤ g.limit → Evaluates g (on g one place s.output) held (place + 2) (give (value.Number c)) s
+        → g.below + length held + 2 ≤ g.limit → Evaluates g (on g one place s) held (place + 2) (give (value.Number c)) s
     stepped_runs step f c at1 at2 rule same fit' deep =
         let full = based.full in
         let two = one ++ Number (pos 1) ∷ [] in
-        let pushed = pushes_number g one (pos 1) place s.output at1 (omega (arith, length_one cells (Number n), length-append base held)) in
+        let pushed = pushes_number g one (pos 1) place s at1 (omega (arith, length_one cells (Number n), length-append base held)) in
         let p : place + 1 + 1 ≡ place + 2 = omega arith in
-        subst (λ q. Evaluates g (on g one place s.output) held q (give (value.Number c)) s) p
+        subst (λ q. Evaluates g (on g one place s) held q (give (value.Number c)) s) p
         (runs_from g (value_on g held (place + 1 + 1)) 1 _ _ (give (value.Number c)) s pushed
         (given_runs step (place + 1) two base held c (f n (pos 1)) s _ at2 rule
         (on_two_is g.frame g.limit g.size cells within_frame n (pos 1) f below_limit) same fit' based room))
 
     -- what is calculated from a number
     calculation_runs : (does : Calculation) → Stands g.target place (calculation_code does) → calculation_is_well_formed (outline g) g.number does ≡ true
-        → Evaluates g (on g one place s.output) held (place + length (calculation_code does))
+        → Evaluates g (on g one place s) held (place + length (calculation_code does))
         (as_value (unless_overflow (overflow_of does) (calculated does n))) s
     calculation_runs calculation.Same stands well =
         let e : place ≡ place + 0 = omega arith in
-        subst (λ p. Evaluates g (on g one place s.output) held p (give (value.Number n)) s) e left_as_it_is
+        subst (λ p. Evaluates g (on g one place s) held p (give (value.Number n)) s) e left_as_it_is
     calculation_runs calculation.Negative stands well =
         one_given instr.Negate (int_wrapping_neg w32) (neg_ℤ n) stands.0 refl (negated_is n fit) (fits_negated n fit)
     calculation_runs calculation.Complement stands well = truth_given instr.Not (λ v. not (frames.is_true v)) stands.0 refl
@@ -240,16 +240,16 @@ module _ (g : Setting) where
     calculation_runs calculation.Parity stands well = truth_given instr.Odd is_odd stands.0 refl
     calculation_runs calculation.Ordinal stands well =
         let e : place ≡ place + 0 = omega arith in
-        subst (λ p. Evaluates g (on g one place s.output) held p (give (value.Number n)) s) e left_as_it_is
+        subst (λ p. Evaluates g (on g one place s) held p (give (value.Number n)) s) e left_as_it_is
 
     -- what comes of a number that lies in a range
     shift_runs : (range : OrdinalRange) (does : Shift) → Stands g.target place (shift_code does)
         → shift_is_well_formed (outline g) g.number range does ≡ true → int_le range.first n ≡ true → int_le n range.last ≡ true
         → g.below + length held + shift_depth does ≤ g.limit
-        → Evaluates g (on g one place s.output) held (place + length (shift_code does)) (give (value.Number (shifted does n))) s
+        → Evaluates g (on g one place s) held (place + length (shift_code does)) (give (value.Number (shifted does n))) s
     shift_runs range shift.Same stands well above below deep =
         let e : place ≡ place + 0 = omega arith in
-        subst (λ p. Evaluates g (on g one place s.output) held p (give (value.Number n)) s) e left_as_it_is
+        subst (λ p. Evaluates g (on g one place s) held p (give (value.Number n)) s) e left_as_it_is
     shift_runs range shift.Next stands well above below deep =
         let f = fits_next n range.last fit (record { is = well }) below in
         stepped_runs instr.Add (int_wrapping_add w32) (n +ℤ pos 1) stands.0 stands.1.0 refl (sum_is n (pos 1) fit (record { is = refl }) f) f deep
@@ -262,7 +262,7 @@ module _ (g : Setting) where
   operated_runs : (place : ℕ) (base held : List Cell) (n : ℤ) (s : effect.State) → Based g s base → g.below + length held < g.limit → Fits n
       → (operation : Monadic) → Stands g.target place (monadic_code operation) → monadic_is_well_formed (outline g) g.number operation ≡ true
       → g.below + length held + monadic_depth operation ≤ g.limit
-      → Evaluates g (on g ((base ++ held) ++ Number n ∷ []) place s.output) held (place + length (monadic_code operation))
+      → Evaluates g (on g ((base ++ held) ++ Number n ∷ []) place s) held (place + length (monadic_code operation))
       (as_value (operated operation n)) s
   operated_runs place base held n s based room fit (monadic.Plain does) stands well deep =
       calculation_runs place base held n s based room fit does stands well
@@ -272,7 +272,7 @@ module _ (g : Setting) where
       let within = and_parts (nat_lt fits.site (sites g)) (is_whole range.first && is_whole range.last) parts.0 in
       let end = place + 1 + length (shift_code does) in
       let e : end ≡ place + length (monadic_code (monadic.Tested fits does)) = omega arith in
-      subst (λ p. Evaluates g (on g ((base ++ held) ++ Number n ∷ []) place s.output) held p (as_value (operated (monadic.Tested fits does) n)) s) e
+      subst (λ p. Evaluates g (on g ((base ++ held) ++ Number n ∷ []) place s) held p (as_value (operated (monadic.Tested fits does) n)) s) e
       (checked_then (range_check fits) fits.site place end ((base ++ held) ++ Number n ∷ []) held s (give (shifted does n)) _
       (effect.is_in range (value.Number n)) stands.0 refl refl
       (is_in_range g.frame g.limit g.size (base ++ held) (linked g s base held based) range.first range.last n
@@ -293,7 +293,7 @@ module _ (g : Setting) where
       let next : Value → Action Value = λ w. as_value (operated operation (number_of w)) in
       value_then g (value_on g held) c (monadic_code operation) place _ held (v (around g)) next (entered g number s) exact stands
       (λ front. runs place base held (entered g number s) front parts.1 based (omega arith))
-      (λ base2 w t rest based2 fit2 room2.
+      (λ base2 w t rest based2 fit2 room2 le.
       operated_runs (place + length c) base2 held (number_of w) t based2 room2 fit2 operation rest parts.0 (omega arith))
 
   -- two numbers give way to a third
@@ -317,14 +317,14 @@ module _ (g : Setting) where
 
     truths_given : (apply : Instr) (test : ℤ → ℤ → Bool) → Here g place apply
         → deed_of apply ≡ Acts (frames.on_two (λ x y. frames.truth (test x y)))
-        → Evaluates g (on g two place s.output) held (place + 1) (give (value.Number (truth (test a b)))) s
+        → Evaluates g (on g two place s) held (place + 1) (give (value.Number (truth (test a b)))) s
     truths_given apply test here rule =
         given_runs apply place two base held (truth (test a b)) (frames.truth (test a b)) s _ here rule
         (on_two_is g.frame g.limit g.size (base ++ held) in_frame a b (λ x y. frames.truth (test x y)) within_limit) (same_truth (test a b))
         (subst Fits (same_truth (test a b)) (fits_truth (test a b))) based room
 
     relation_runs : (r : Relation) → Stands g.target place (relation_instr r ∷ [])
-        → Evaluates g (on g two place s.output) held (place + 1) (give (value.Number (truth (relates r a b)))) s
+        → Evaluates g (on g two place s) held (place + 1) (give (value.Number (truth (relates r a b)))) s
     relation_runs relation.Equal stands = truths_given instr.Equal int_eq stands.0 refl
     relation_runs relation.NotEqual stands = truths_given instr.NotEqual (λ x y. not (int_eq x y)) stands.0 refl
     relation_runs relation.Less stands = truths_given instr.Less int_lt stands.0 refl
@@ -337,12 +337,12 @@ module _ (g : Setting) where
         → StandsAt g.target place check (g.target.is_open overflow) → Here g (place + 1) apply → moved g.target.to check ≡ check
         → deed_of check ≡ Tests overflow test → deed_of apply ≡ Acts act → test (frames_of g two) ≡ Ok (frames.is_integer c)
         → act (frames_of g two) ≡ Ok (frames_of g ((base ++ held) ++ Number d ∷ [])) → (Fits c → d ≡ c) → nat_lt overflow (sites g) ≡ true
-        → Evaluates g (on g two place s.output) held (place + 2) (as_value (unless_overflow (Some overflow) c)) s
+        → Evaluates g (on g two place s) held (place + 2) (as_value (unless_overflow (Some overflow) c)) s
     both_checked check apply overflow c d test act stands here same rule rule' e does is well =
         result_runs check apply overflow place two base held c d s test act stands here same rule rule' e does is (ltb-true overflow (sites g) well) based room
 
     combined_runs : (operation : Dyadic) → Stands g.target place (dyadic_code operation) → dyadic_is_well_formed (outline g) g.number operation ≡ true
-        → Evaluates g (on g two place s.output) held (place + length (dyadic_code operation)) (as_value (combined operation a b)) s
+        → Evaluates g (on g two place s) held (place + length (dyadic_code operation)) (as_value (combined operation a b)) s
     combined_runs (dyadic.Plus overflow) stands well =
         both_checked (instr.CheckSum overflow) instr.Add overflow (a +ℤ b) (int_wrapping_add w32 a b) _ _ stands.0 stands.1.0 refl refl refl
         (sums g.frame g.limit g.size (base ++ held) in_frame a b)
@@ -375,7 +375,7 @@ module _ (g : Setting) where
   ordered_runs : (r : Relation) (count place : ℕ) (base held : List Cell) (vs ws : List Value) (s : effect.State) → length vs ≡ count → length ws ≡ count
       → Stands g.target place (instr.Compare count ∷ instr.LoadConstant (pos 0) ∷ relation_instr r ∷ []) → Based g s base
       → g.below + length held + 2 ≤ g.limit
-      → Evaluates g (on g (((base ++ held) ++ cells_of vs) ++ cells_of ws) place s.output) held (place + 3) (give (value.Number (meaning.compared r vs ws))) s
+      → Evaluates g (on g (((base ++ held) ++ cells_of vs) ++ cells_of ws) place s) held (place + 3) (give (value.Number (meaning.compared r vs ws))) s
   ordered_runs r count place base held vs ws s long as_long stands based deep =
       let cells = base ++ held in
       let full = based.full in
@@ -387,16 +387,16 @@ module _ (g : Setting) where
       let ordered = cells ++ Number order ∷ [] in
       let is_order : order ≡ order_of left right =
       same_order left right (length-map vs number_of ∙ long ∙ sym as_long ∙ sym (length-map ws number_of)) in
-      let compared = acts g (instr.Compare count) both ordered place s.output _ stands.0 refl
+      let compared = acts g (instr.Compare count) both ordered place s _ stands.0 refl
       (compares g.frame g.limit g.size cells (linked g s base held based) vs ws count long as_long (omega arith)) in
-      let zero = pushes_number g ordered (pos 0) (place + 1) s.output stands.1.0 (omega (arith, length_one cells (Number order))) in
+      let zero = pushes_number g ordered (pos 0) (place + 1) s stands.1.0 (omega (arith, length_one cells (Number order))) in
       let fit : Fits order = subst Fits (sym is_order) (order_fits left right) in
       let related = relation_runs (place + 1 + 1) base held order (pos 0) s based (omega arith) fit (record { is = refl }) r stands.1.1 in
       let whole = runs_from g (value_on g held (place + 1 + 1 + 1)) 2 _ _ (give (value.Number (truth (relates r order (pos 0))))) s
       (comes_on g.target 1 1 _ _ _ compared zero) related in
       let e : place + 1 + 1 + 1 ≡ place + 3 = omega arith in
-      subst (λ p. Evaluates g (on g both place s.output) held p (give (value.Number (meaning.compared r vs ws))) s) e
-      (subst (λ o. Evaluates g (on g both place s.output) held (place + 1 + 1 + 1) (give (value.Number (truth (relates r o
+      subst (λ p. Evaluates g (on g both place s) held p (give (value.Number (meaning.compared r vs ws))) s) e
+      (subst (λ o. Evaluates g (on g both place s) held (place + 1 + 1 + 1) (give (value.Number (truth (relates r o
       (pos 0))))) s) is_order whole)
 
   -- two whole values are compared
@@ -462,11 +462,11 @@ module _ (g : Setting) where
       → Stands g.target place (joined (map (link_code g.scope) (map (λ l. l.0) links)))
       → all_hold (map (is_well_formed_link (outline g) g.number) (map (λ l. l.0) links)) ≡ true → Based g s base
       → g.below + length held + fold max depth (map link_depth (map (λ l. l.0) links)) ≤ g.limit → g.below + length held < g.limit → Fits (number_of left)
-      → Evaluates g (on g ((base ++ held) ++ Number (number_of left) ∷ []) place s.output) held
+      → Evaluates g (on g ((base ++ held) ++ Number (number_of left) ∷ []) place s) held
       (place + length (joined (map (link_code g.scope) (map (λ l. l.0) links)))) (in_turn (map link_of (map (λ l. l.0) links)) (around g) left) s
   links_run [] depth place base held left s stands good based deep room fit =
       let e : place ≡ place + 0 = omega arith in
-      subst (λ p. Evaluates g (on g ((base ++ held) ++ Number (number_of left) ∷ []) place s.output) held p (give left) s) e
+      subst (λ p. Evaluates g (on g ((base ++ held) ++ Number (number_of left) ∷ []) place s) held p (give left) s) e
       (inr (gives g 0 _ base held place left s based (stays_here g.target _) fit room))
   links_run (l ∷ links) depth place base held left s stands good based deep room fit =
       let c = link_code g.scope l.0 in
@@ -474,7 +474,7 @@ module _ (g : Setting) where
       let d = start_within (max depth (link_depth l.0)) (map link_depth (map (λ k. k.0) links)) in
       value_then g (value_on g held) c rest place _ held (link_of l.0 (around g) left) (in_turn (map link_of (map (λ k. k.0) links)) (around g)) s
       (l.1.1 left) stands (λ front. l.1.0 place base held left s front (and_parts _ _ good).0 based (omega arith) fit)
-      (λ base2 w s2 back based2 fit2 room2.
+      (λ base2 w s2 back based2 fit2 room2 le.
       links_run links (max depth (link_depth l.0)) (place + length c) base2 held w s2 back (and_parts _ _ good).1 based2 deep room2 fit2)
 
   chain_runs : (first : (e : Expr) × ExprRuns g e) (links : List ((l : Link) × LinkRuns g l))
@@ -488,7 +488,7 @@ module _ (g : Setting) where
       let d = start_within (expr_depth first.0) (map link_depth (map (λ k. k.0) links)) in
       value_then g (value_on g held) c rest place _ held (value_of first.0 (around g)) (in_turn (map link_of (map (λ k. k.0) links)) (around g)) s
       ((exact_around g).values first.0) stands (λ front. first.1 place base held s front (and_parts _ _ good).0 based (omega arith))
-      (λ base2 w s2 back based2 fit2 room2.
+      (λ base2 w s2 back based2 fit2 room2 le.
       links_run links (expr_depth first.0) (place + length c) base2 held w s2 back (and_parts _ _ good).1 based2 deep room2 fit2)
 
   -- ---- actual parameters
@@ -509,7 +509,7 @@ module _ (g : Setting) where
       let next : Value → Action Argument = λ w. require (effect.is_in fits.range w) fits.site >>= λ _. give (OfValue w) in
       value_then g (passed_on g held 1 callee position) c check place _ held (value_of v.0 (around g)) next s ((exact_around g).values v.0) stands
       (λ front. v.1 place base held s front parts.0 based deep)
-      (λ base2 w t rest based2 fit room.
+      (λ base2 w t rest based2 fit room le.
       range_then g (passed_on g held 1 callee position (place + length c + 1)) fits w (base2 ++ held) (place + length c) t (give (OfValue w)) rest.0 within
       (linked g t base2 held based2) fit
       (λ so. inr (passes_it g 0 _ base2 held (Number (number_of w) ∷ []) (place + length c + 1) callee position (OfValue w) formal.0 t based2 formal.1
@@ -539,7 +539,7 @@ module _ (g : Setting) where
       (λ vs t x le.
       let cells = cells_of vs in
       let long : length cells ≡ n = length-cells_of vs ∙ x.2.0 in
-      subst (λ k. Passes g (on g ((x.0 ++ held) ++ cells) (place + length c) t.output) held (place + length c) k callee position (give (OfRow vs)) t) long
+      subst (λ k. Passes g (on g ((x.0 ++ held) ++ cells) (place + length c) t) held (place + length c) k callee position (give (OfRow vs)) t) long
       (inr (passes_it g 0 _ x.0 held cells (place + length c) callee position (OfRow vs) formal.0 t x.1 formal.1 (takes.0, x.2.0 ∙ sym many, x.2.1, refl)
       (stays_here g.target _))))
 
@@ -562,7 +562,7 @@ module _ (g : Setting) where
       let its : led_to.last ≡ formal.0.type_id = same_type g led_to.last type_id led_to.is_wanted ∙ same_type g type_id formal.0.type_id takes.1 in
       let found = place_found g access indexes led_to.last start one.0 led_to.counts in
       let next : Option Place → Action Argument = λ q. give (OfPlace q) in
-      subst (λ action. Passes g (on g (base ++ held) place s.output) held (place + length c) 1 callee position (action >>= next) s)
+      subst (λ action. Passes g (on g (base ++ held) place s) held (place + length c) 1 callee position (action >>= next) s)
       (sym (start.meant (map value_of (expressions g indexes))))
       (then_runs g (address_on g held led_to.last (place + length c)) (passed_on g held 1 callee position (place + length c)) _ found next
       (entered g access.number s) (exact_found g access indexes led_to.last start one.0 led_to.counts)
@@ -585,12 +585,12 @@ module _ (g : Setting) where
       → length held ≡ below + height → Stands g.target place (actuals_code actuals)
       → all_hold (placed_for callee position (map (is_well_formed_passed (outline g) g.number) (bare actuals))) ≡ true → Based g s base
       → g.below + below + actuals_depth height (map passed_depth (bare actuals)) ≤ g.limit
-      → AllPass g (on g (base ++ held) place s.output) held (place + length (actuals_code actuals)) callee position (length actuals)
+      → AllPass g (on g (base ++ held) place s) held (place + length (actuals_code actuals)) callee position (length actuals)
       (all_passed (map passing_of (bare actuals)) (around g)) s
   actuals_pass [] callee position below height place base held s high stands good based deep =
       let here : place ≡ place + 0 = omega arith in
-      let comes = subst (λ q. Comes g.target 0 (on g (base ++ held) place s.output) (on g ((base ++ held) ++ []) q s.output)) here
-      (subst (λ cells. Comes g.target 0 (on g (base ++ held) place s.output) (on g cells place s.output)) (sym (append-nil (base ++ held)))
+      let comes = subst (λ q. Comes g.target 0 (on g (base ++ held) place s) (on g ((base ++ held) ++ []) q s)) here
+      (subst (λ cells. Comes g.target 0 (on g (base ++ held) place s) (on g cells place s)) (sym (append-nil (base ++ held)))
       (stays_here g.target _)) in
       inr ((base, based, [], refl, omega (arith, high), refl), comes_less g.target (s.turns - s.turns + 0) 0 _ _ (omega arith) comes, omega arith)
   actuals_pass (one ∷ actuals) callee position below height place base held s high stands good based deep =
@@ -605,13 +605,13 @@ module _ (g : Setting) where
       then_code g (passed_on g held d.cells callee position) (all_on g held callee position total) c rest place _ (passing_of one.0 (around g)) next s
       ((exact_around g).actuals one.0) stands
       (λ front. one.1 callee position place base held s front parts.0 based (omega (arith, high)))
-      (λ argument t x back.
+      (λ argument t x back le.
       let cells = x.2 in
       let long = x.6 in
       let above = held ++ cells in
       let taller = length-append held cells in
       let end = place + length c + length rest in
-      subst (λ stack. AllPass g (on g stack (place + length c) t.output) held end callee position total (next argument) t) (sym (append_assoc x.0 held cells))
+      subst (λ stack. AllPass g (on g stack (place + length c) t) held end callee position total (next argument) t) (sym (append_assoc x.0 held cells))
       (then_runs g (all_on g above callee (suc position) (length actuals) end) (all_on g held callee position total end) _ others
       (λ arguments. give (argument ∷ arguments)) t (exact_passed (around g) (exact_around g) (bare actuals))
       (actuals_pass actuals callee (suc position) below (height + d.cells) (place + length c) x.0 above t (omega (arith, high, taller, long)) back parts.1 x.1
@@ -620,7 +620,7 @@ module _ (g : Setting) where
       let room = y.4 in
       inr (
         (y.0, y.1, cells ++ y.2, (x.3, x.4, cells, y.2, refl, x.5, y.3), omega (arith, room, taller, length-append cells y.2), ap suc y.5),
-        subst (λ stack. Comes g.target (u.turns - u.turns + 0) (on g ((y.0 ++ above) ++ y.2) end u.output) (on g stack end u.output))
+        subst (λ stack. Comes g.target (u.turns - u.turns + 0) (on g ((y.0 ++ above) ++ y.2) end u) (on g stack end u))
             (ap (λ l. l ++ y.2) (sym (append_assoc y.0 held cells)) ∙ append_assoc (y.0 ++ held) cells y.2)
             (comes_less g.target (u.turns - u.turns + 0) 0 _ _ (omega arith) (stays_here g.target _)),
         omega arith,
@@ -629,13 +629,13 @@ module _ (g : Setting) where
   -- the mark of a new frame, whose static link leads to this frame
   marked_runs : (level outer place : ℕ) (base held : List Cell) (s : effect.State) → Leads g.fixed level g.frame outer → Here g place (instr.MarkStack level)
       → Based g s base → g.below + length held + 4 ≤ g.limit
-      → Comes g.target 1 (on g (base ++ held) place s.output) (on g (base ++ (held ++ links_of g outer)) (place + 1) s.output)
+      → Comes g.target 1 (on g (base ++ held) place s) (on g (base ++ (held ++ links_of g outer)) (place + 1) s)
   marked_runs level outer place base held s l here based room =
       let cells = base ++ held in
       let full = based.full in
       let long = length-append base held in
-      subst (λ stack. Comes g.target 1 (on g cells place s.output) (on g stack (place + 1) s.output)) (append_assoc base held (links_of g outer))
-      (acts g (instr.MarkStack level) cells (cells ++ links_of g outer) place s.output _ here refl
+      subst (λ stack. Comes g.target 1 (on g cells place s) (on g stack (place + 1) s)) (append_assoc base held (links_of g outer))
+      (acts g (instr.MarkStack level) cells (cells ++ links_of g outer) place s _ here refl
       (marks g.frame g.limit g.size cells level outer (omega arith) (frame_found g level outer base held s based l)))
 
   module _ (known : CallsAt g) where
@@ -643,7 +643,7 @@ module _ (g : Setting) where
         → Stands g.target place (call_code g.scope call (map (passed_code g.scope) (bare actuals)))
         → is_well_formed_call (outline g) g.number is_function call (map (is_well_formed_passed (outline g) g.number) (bare actuals)) ≡ true → Based g s base
         → g.below + length held + call_depth (map passed_depth (bare actuals)) ≤ g.limit
-        → Returns g (on g (base ++ held) place s.output) held (place + length (call_code g.scope call (map (passed_code g.scope) (bare actuals)))) is_function
+        → Returns g (on g (base ++ held) place s) held (place + length (call_code g.scope call (map (passed_code g.scope) (bare actuals)))) is_function
         (meaning.call_of call (map passing_of (bare actuals)) (around g)) s
     call_returns is_function call actuals place base held s stands good based deep =
         let routine = called_routine g.scope call.block in
@@ -670,7 +670,7 @@ module _ (g : Setting) where
         (then_code g (all_on g above call.block 0 (length actuals)) (return_on g held is_function) c jump (place + 1) _
         (all_passed (map passing_of (bare actuals)) (around g)) next s1 (exact_passed (around g) (exact_around g) (bare actuals)) stands.1
         (λ front. actuals_pass actuals call.block 0 (length held) 4 (place + 1) base above s1 taller front parts.1 based deep)
-        (λ arguments t x jumping.
+        (λ arguments t x jumping le.
         let room = x.4 in
         known is_function call.block block.0 outer (place + 1 + length c) x.0 held x.2 arguments t block.1
         (subst (λ n. is_callable (outline g) g.number is_function n (heading_of block.0) ≡ true) (many ∙ sym x.5)
@@ -806,13 +806,13 @@ module _ (g : Setting) where
         → Stands g.target place (call_code g.scope call (map (passed_code g.scope) actuals))
         → is_well_formed_call (outline g) g.number is_function call (map (is_well_formed_passed (outline g) g.number) actuals) ≡ true → Based g s base
         → g.below + length held + call_depth (map passed_depth actuals) ≤ g.limit
-        → Returns g (on g (base ++ held) place s.output) held (place + length (call_code g.scope call (map (passed_code g.scope) actuals))) is_function
+        → Returns g (on g (base ++ held) place s) held (place + length (call_code g.scope call (map (passed_code g.scope) actuals))) is_function
         (meaning.call_of call (map passing_of actuals) (around g)) s
     call_runs is_function call actuals =
         subst (λ all. (place : ℕ) (base held : List Cell) (s : effect.State) → Stands g.target place (call_code g.scope call (map (passed_code g.scope) all))
         → is_well_formed_call (outline g) g.number is_function call (map (is_well_formed_passed (outline g) g.number) all) ≡ true → Based g s base
         → g.below + length held + call_depth (map passed_depth all) ≤ g.limit
-        → Returns g (on g (base ++ held) place s.output) held (place + length (call_code g.scope call (map (passed_code g.scope) all))) is_function
+        → Returns g (on g (base ++ held) place s) held (place + length (call_code g.scope call (map (passed_code g.scope) all))) is_function
         (meaning.call_of call (map passing_of all) (around g)) s) (bare_told actuals) (call_returns known is_function call (told_actuals actuals))
 
     -- an expression, and the code behind it
@@ -820,10 +820,10 @@ module _ (g : Setting) where
         (s : effect.State) → Stands g.target place (expr_code g.scope e ++ c) → is_well_formed_expr (outline g) g.number e ≡ true → Based g s base
         → g.below + length held + expr_depth e ≤ g.limit
         → ((base2 : List Cell) (v : Value) (t : effect.State) → Stands g.target (place + length (expr_code g.scope e)) c → Based g t base2
-        → Fits (number_of v) → g.below + length held < g.limit
+        → Fits (number_of v) → g.below + length held < g.limit → t.turns ≤ s.turns
         → Runs g (aim (place + length (expr_code g.scope e) + length c))
-        (on g ((base2 ++ held) ++ Number (number_of v) ∷ []) (place + length (expr_code g.scope e)) t.output) (next v) t)
-        → Runs g (aim (place + length (expr_code g.scope e ++ c))) (on g (base ++ held) place s.output) (value_of e (around g) >>= next) s
+        (on g ((base2 ++ held) ++ Number (number_of v) ∷ []) (place + length (expr_code g.scope e)) t) (next v) t)
+        → Runs g (aim (place + length (expr_code g.scope e ++ c))) (on g (base ++ held) place s) (value_of e (around g) >>= next) s
     expr_then aim e c place base held next s stands good based room h =
         value_then g aim (expr_code g.scope e) c place _ held (value_of e (around g)) next s ((exact_around g).values e) stands
         (λ front. expr_runs e place base held s front good based room) h
@@ -844,7 +844,7 @@ module _ (g : Setting) where
         (value_of width.value (around g) >>= width_then) s
         (λ t. and_then-and_then (value_of width.value (around g) t) next (λ n. give (value.Number n)))
         (expr_then (value_on g held) width.value (check ∷ []) place base held width_then s stands parts.1 based room
-        (λ base2 w s2 rest based2 fit room2.
+        (λ base2 w s2 rest based2 fit room2 le.
         let n = number_of w in
         checked_then check width.site (place + length c) (place + length c + 1) ((base2 ++ held) ++ Number n ∷ []) held s2 (give n) _ (int_le (pos 1) n)
         rest.0 refl refl

@@ -28,7 +28,8 @@ use Rattle.code_scheme.specs.Scopes.{block_level, held_offset, links}
 use Rattle.code_generator.proofs.Accesses.{LeadsTo, frame_found, leads}
 use Rattle.code_generator.proofs.Reach.{Comes, Stands, StandsAt, comes_on, comes_less, stays_here}
 use Rattle.code_generator.proofs.Numbers.{Fits}
-use Rattle.code_generator.proofs.Setting.{Setting, Shown, Way, Direct, ByAddress, Reaches, outline, on, Based, linked, limit_far, Here, acts, branches_on}
+use Rattle.code_generator.proofs.Setting.{AllHeld, Setting, Shown, Way, Direct, ByAddress, Reaches, outline, on, Based, linked, limit_far, Here, acts}
+use Rattle.code_generator.proofs.Setting.{branches_on}
 use Rattle.code_generator.proofs.Setting.{jumps}
 use Rattle.code_generator.proofs.Acts.{framed, pushes, loads, stores, on_two_is}
 use Rattle.code_generator.proofs.Alike.{LiesIn, Leads, HasFit, alike_set, cell_of, cell_within, keeps_set}
@@ -51,16 +52,16 @@ module _ (g : Setting) where
     scalar_inside s base based = cell_within g.world s.store base p (g.frame + start) based.alike lies
 
     -- what is popped into it
-    pub stores_scalar : (s : effect.State) (base held cells : List Cell) (cell : Cell) (place : ℕ) (output : List ℕ) → Based g s base
+    pub stores_scalar : (s : effect.State) (base held cells : List Cell) (cell : Cell) (place : ℕ) → Based g s base
         → cells ≡ (base ++ held) ++ cell ∷ [] → Here g place (instr.Store 0 start)
-        → Comes g.target 1 (on g cells place output) (on g (slice_set base (g.frame + start) cell ++ held) (place + 1) output)
-    stores_scalar s base held cells cell place output based is here =
+        → Comes g.target 1 (on g cells place s) (on g (slice_set base (g.frame + start) cell ++ held) (place + 1) s)
+    stores_scalar s base held cells cell place based is here =
         let below = base ++ held in
         let low = scalar_inside s base based in
         let at = length-append base held in
         let does = stores g.frame g.limit g.size below (linked g s base held based) cell 0 start g.frame refl (omega arith)
         ∙ ap (λ cs. Ok (frames_of cs)) (set_front base held (g.frame + start) cell low) in
-        acts g (instr.Store 0 start) cells (slice_set base (g.frame + start) cell ++ held) place output
+        acts g (instr.Store 0 start) cells (slice_set base (g.frame + start) cell ++ held) place s
         _ here refl (ap (λ cs. frames.store 0 start (frames_of cs)) is ∙ does)
 
   -- what is stored at a place of a scalar that lives is no later activation's
@@ -148,9 +149,9 @@ module _ (g : Setting) where
     slot = g.frame + control_offset g.scope root
 
     -- what is popped into it
-    pub stores_variable : (s : effect.State) (base held cells : List Cell) (cell : Cell) (place : ℕ) (output : List ℕ) → Based g s base
+    pub stores_variable : (s : effect.State) (base held cells : List Cell) (cell : Cell) (place : ℕ) → Based g s base
         → cells ≡ (base ++ held) ++ cell ∷ [] → Here g place (instr.Store 0 (control_offset g.scope root))
-        → Comes g.target 1 (on g cells place output) (on g (slice_set base slot cell ++ held) (place + 1) output)
+        → Comes g.target 1 (on g cells place s) (on g (slice_set base slot cell ++ held) (place + 1) s)
     stores_variable = stores_scalar scalar.home (control_offset g.scope root) scalar.lies
 
     pub inside : (s : effect.State) (base : List Cell) → Based g s base → slot < length base
@@ -171,15 +172,15 @@ module _ (g : Setting) where
   -- ---- held cells
 
   -- where they lie
-  held_at : (held : List Cell) (n : ℕ) → length held ≡ g.scope.height → g.below + (length held + n) < g.limit
+  held_at : (held : List Cell) (n : ℕ) → AllHeld g held → g.below + (length held + n) < g.limit
       → g.frame + held_offset g.scope n ≡ g.below + (length held + n)
-  held_at held n high room = let a = g.above_is in let b = limit_far g in omega (arith, high)
+  held_at held n high room = let far = limit_far g in omega (arith, high)
 
-  pub loads_held : (s : effect.State) (base held rest more cells : List Cell) (n : ℕ) (cell : Cell) (place : ℕ) (output : List ℕ) → Based g s base
-      → length held ≡ g.scope.height → cells ≡ (base ++ (held ++ rest)) ++ more → slice_get rest n ≡ Some cell
+  pub loads_held : (s : effect.State) (base held rest more cells : List Cell) (n : ℕ) (cell : Cell) (place : ℕ) → Based g s base
+      → AllHeld g held → cells ≡ (base ++ (held ++ rest)) ++ more → slice_get rest n ≡ Some cell
       → g.below + length held + length rest + length more < g.limit → Here g place (instr.Load 0 (held_offset g.scope n))
-      → Comes g.target 1 (on g cells place output) (on g (cells ++ cell ∷ []) (place + 1) output)
-  loads_held s base held rest more cells n cell place output based high is found room here =
+      → Comes g.target 1 (on g cells place s) (on g (cells ++ cell ∷ []) (place + 1) s)
+  loads_held s base held rest more cells n cell place based high is found room here =
       let full = based.full in
       let few = slice_get_within rest n cell found in
       let long = ap length is ∙ length-append (base ++ (held ++ rest)) more in
@@ -191,15 +192,15 @@ module _ (g : Setting) where
       (slice_behind base (held ++ rest) (length held + n) (length base + (length held + n)) refl ∙ slice_behind held rest n (length held + n) refl ∙ found) in
       let all : length cells ≡ length base + (length held + length rest) + length more =
       omega (arith, long, length-append base (held ++ rest), length-append held rest) in
-      acts g (instr.Load 0 (held_offset g.scope n)) cells (cells ++ cell ∷ []) place output _ here refl
+      acts g (instr.Load 0 (held_offset g.scope n)) cells (cells ++ cell ∷ []) place s _ here refl
       (loads g.frame g.limit g.size cells 0 (held_offset g.scope n) g.frame cell (omega (arith, all, full)) refl (omega (arith, at, all, few))
       there)
 
-  pub stores_held : (s : effect.State) (base held rest cells : List Cell) (n : ℕ) (cell : Cell) (place : ℕ) (output : List ℕ) → Based g s base
-      → length held ≡ g.scope.height → cells ≡ (base ++ (held ++ rest)) ++ cell ∷ [] → n < length rest → g.below + length held + length rest ≤ g.limit
+  pub stores_held : (s : effect.State) (base held rest cells : List Cell) (n : ℕ) (cell : Cell) (place : ℕ) → Based g s base
+      → AllHeld g held → cells ≡ (base ++ (held ++ rest)) ++ cell ∷ [] → n < length rest → g.below + length held + length rest ≤ g.limit
       → Here g place (instr.Store 0 (held_offset g.scope n))
-      → Comes g.target 1 (on g cells place output) (on g (base ++ (held ++ slice_set rest n cell)) (place + 1) output)
-  stores_held s base held rest cells n cell place output based high is few room here =
+      → Comes g.target 1 (on g cells place s) (on g (base ++ (held ++ slice_set rest n cell)) (place + 1) s)
+  stores_held s base held rest cells n cell place based high is few room here =
       let below = base ++ (held ++ rest) in
       let full = based.full in
       let at : g.frame + held_offset g.scope n ≡ length base + (length held + n) = held_at held n high (omega arith)
@@ -209,26 +210,26 @@ module _ (g : Setting) where
       (omega (arith, at, all)) ∙ ap (λ i. Ok (frames_of (slice_set below i cell))) at
       ∙ ap (λ cs. Ok (frames_of cs)) (set_above base (held ++ rest) (length held + n) cell)
       ∙ ap (λ cs. Ok (frames_of (base ++ cs))) (set_above held rest n cell) in
-      acts g (instr.Store 0 (held_offset g.scope n)) cells (base ++ (held ++ slice_set rest n cell)) place output
+      acts g (instr.Store 0 (held_offset g.scope n)) cells (base ++ (held ++ slice_set rest n cell)) place s
       _ here refl (ap (λ cs. frames.store 0 (held_offset g.scope n) (frames_of cs)) is ∙ does)
 
   -- two numbers on top give way to a third
-  pub operates : (i : Instr) (f : ℤ → ℤ → ℤ) (cells : List Cell) (a b : ℤ) (place : ℕ) (output : List ℕ) → Here g place i
+  pub operates : (i : Instr) (f : ℤ → ℤ → ℤ) (cells : List Cell) (a b : ℤ) (place : ℕ) (s : effect.State) → Here g place i
       → deed_of i ≡ Acts (on_two f) → g.frame + 4 ≤ length cells → length cells < g.limit
-      → Comes g.target 1 (on g ((cells ++ Number a ∷ []) ++ Number b ∷ []) place output) (on g (cells ++ Number (f a b) ∷ []) (place + 1) output)
-  operates i f cells a b place output here rule in_frame room =
-      acts g i ((cells ++ Number a ∷ []) ++ Number b ∷ []) (cells ++ Number (f a b) ∷ []) place output _ here rule
+      → Comes g.target 1 (on g ((cells ++ Number a ∷ []) ++ Number b ∷ []) place s) (on g (cells ++ Number (f a b) ∷ []) (place + 1) s)
+  operates i f cells a b place s here rule in_frame room =
+      acts g i ((cells ++ Number a ∷ []) ++ Number b ∷ []) (cells ++ Number (f a b) ∷ []) place s _ here rule
       (on_two_is g.frame g.limit g.size cells in_frame a b f room)
 
-  pub pushes_number : (cells : List Cell) (n : ℤ) (place : ℕ) (output : List ℕ) → Here g place (instr.LoadConstant n) → length cells < g.limit
-      → Comes g.target 1 (on g cells place output) (on g (cells ++ Number n ∷ []) (place + 1) output)
-  pushes_number cells n place output here room =
-      acts g (instr.LoadConstant n) cells (cells ++ Number n ∷ []) place output _ here refl
+  pub pushes_number : (cells : List Cell) (n : ℤ) (place : ℕ) (s : effect.State) → Here g place (instr.LoadConstant n) → length cells < g.limit
+      → Comes g.target 1 (on g cells place s) (on g (cells ++ Number n ∷ []) (place + 1) s)
+  pushes_number cells n place s here room =
+      acts g (instr.LoadConstant n) cells (cells ++ Number n ∷ []) place s _ here refl
       (pushes g.frame g.limit g.size cells n room)
 
   -- ---- the bounds of a for statement, which are held
 
-  module _ (s : effect.State) (base held : List Cell) (n l : ℤ) (output : List ℕ) (based : Based g s base) (high : length held ≡ g.scope.height)
+  module _ (s : effect.State) (base held : List Cell) (n l : ℤ) (based : Based g s base) (high : AllHeld g held)
       (room : g.below + length held + 4 ≤ g.limit) where
     abbrev bounds : List Cell
     bounds = Number n ∷ Number l ∷ []
@@ -247,55 +248,55 @@ module _ (g : Setting) where
         → Here g place (instr.Load 0 (held_offset g.scope 0)) → Here g (place + 1) (instr.Load 0 (held_offset g.scope 1)) → Here g (place + 1 + 1) i
         → StandsAt g.target (place + 1 + 1 + 1) (instr.JumpIfFalse out) true
         → deed_of i ≡ Acts (on_two f) → f n l ≡ truth holds
-        → Comes g.target 4 (on g here place output) (on g here (if holds then place + 4 else out) output)
+        → Comes g.target 4 (on g here place s) (on g here (if holds then place + 4 else out) s)
     decides i f holds place out at1 at2 at3 at4 rule is =
         let size = long in
-        let a = loads_held s base held bounds [] here 0 (Number n) place output based high (sym (append-nil here)) refl (omega arith) at1 in
-        let b = loads_held s base held bounds (Number n ∷ []) (here ++ Number n ∷ []) 1 (Number l) (place + 1) output based high refl refl (omega arith)
+        let a = loads_held s base held bounds [] here 0 (Number n) place based high (sym (append-nil here)) refl (omega arith) at1 in
+        let b = loads_held s base held bounds (Number n ∷ []) (here ++ Number n ∷ []) 1 (Number l) (place + 1) based high refl refl (omega arith)
         at2 in
-        let c = operates i f here n l (place + 1 + 1) output at3 rule in_frame (omega arith) in
-        let d = branches_on g out here (f n l) (place + 1 + 1 + 1) output at4 in_frame in
+        let c = operates i f here n l (place + 1 + 1) s at3 rule in_frame (omega arith) in
+        let d = branches_on g out here (f n l) (place + 1 + 1 + 1) s at4 in_frame in
         let whole = comes_on g.target 1 3 _ _ _ a (comes_on g.target 1 2 _ _ _ b (comes_on g.target 1 1 _ _ _ c d)) in
         let same : is_true (f n l) ≡ holds = ap is_true is ∙ true_truth holds in
         let p : place + 1 + 1 + 1 + 1 ≡ place + 4 = omega arith in
-        subst (λ q. Comes g.target 4 (on g here place output) (on g here (if holds then q else out) output)) p
-        (subst (λ b. Comes g.target 4 (on g here place output) (on g here (if b then place + 1 + 1 + 1 + 1 else out) output)) same whole)
+        subst (λ q. Comes g.target 4 (on g here place s) (on g here (if holds then q else out) s)) p
+        (subst (λ b. Comes g.target 4 (on g here place s) (on g here (if b then place + 1 + 1 + 1 + 1 else out) s)) same whole)
 
     -- a value that is held becomes that of the control variable
     pub begins : (control place : ℕ) (scalar : IsScalar control) → Fits n → Here g place (instr.Load 0 (held_offset g.scope 0))
         → Here g (place + 1) (instr.Store 0 (control_offset g.scope control))
-        → Comes g.target 2 (on g here place output) (on g (slice_set base (slot control scalar) (Number n) ++ (held ++ bounds)) (place + 2) output)
+        → Comes g.target 2 (on g here place s) (on g (slice_set base (slot control scalar) (Number n) ++ (held ++ bounds)) (place + 2) s)
     begins control place scalar fit at1 at2 =
         let p : place + 1 + 1 ≡ place + 2 = omega arith in
         let after = slice_set base (slot control scalar) (Number n) ++ (held ++ bounds) in
-        subst (λ q. Comes g.target 2 (on g here place output) (on g after q output)) p
+        subst (λ q. Comes g.target 2 (on g here place s) (on g after q s)) p
         (comes_on g.target 1 1 _ _ _
-        (loads_held s base held bounds [] here 0 (Number n) place output based high (sym (append-nil here)) refl (omega arith) at1)
-        (stores_variable control scalar s base (held ++ bounds) (here ++ Number n ∷ []) (Number n) (place + 1) output based refl at2))
+        (loads_held s base held bounds [] here 0 (Number n) place based high (sym (append-nil here)) refl (omega arith) at1)
+        (stores_variable control scalar s base (held ++ bounds) (here ++ Number n ∷ []) (Number n) (place + 1) based refl at2))
 
     -- the next value is held, and the next round begins
     pub steps : (i : Instr) (f : ℤ → ℤ → ℤ) (next : ℤ) (place head : ℕ) → Here g place (instr.Load 0 (held_offset g.scope 0))
         → Here g (place + 1) (instr.LoadConstant (pos 1)) → Here g (place + 1 + 1) i → Here g (place + 1 + 1 + 1) (instr.Store 0 (held_offset g.scope 0))
         → StandsAt g.target (place + 1 + 1 + 1 + 1) (instr.Jump head) true
         → deed_of i ≡ Acts (on_two f) → f n (pos 1) ≡ next
-        → Comes g.target 1 (on g here place output) (on g (base ++ (held ++ Number next ∷ Number l ∷ [])) head output)
+        → Comes g.target 1 (on g here place s) (on g (base ++ (held ++ Number next ∷ Number l ∷ [])) head s)
     steps i f next place head at1 at2 at3 at4 at5 rule is =
         let size = long in
-        let a = loads_held s base held bounds [] here 0 (Number n) place output based high (sym (append-nil here)) refl (omega arith) at1 in
-        let b = pushes_number (here ++ Number n ∷ []) (pos 1) (place + 1) output at2 (omega (arith, length_one here (Number n))) in
-        let c = operates i f here n (pos 1) (place + 1 + 1) output at3 rule in_frame (omega arith) in
-        let d = stores_held s base held bounds (here ++ Number (f n (pos 1)) ∷ []) 0 (Number (f n (pos 1))) (place + 1 + 1 + 1) output based high refl
+        let a = loads_held s base held bounds [] here 0 (Number n) place based high (sym (append-nil here)) refl (omega arith) at1 in
+        let b = pushes_number (here ++ Number n ∷ []) (pos 1) (place + 1) s at2 (omega (arith, length_one here (Number n))) in
+        let c = operates i f here n (pos 1) (place + 1 + 1) s at3 rule in_frame (omega arith) in
+        let d = stores_held s base held bounds (here ++ Number (f n (pos 1)) ∷ []) 0 (Number (f n (pos 1))) (place + 1 + 1 + 1) based high refl
         (omega arith) (omega arith) at4 in
-        let e = jumps g head (base ++ (held ++ Number (f n (pos 1)) ∷ Number l ∷ [])) (place + 1 + 1 + 1 + 1) output at5 in
+        let e = jumps g head (base ++ (held ++ Number (f n (pos 1)) ∷ Number l ∷ [])) (place + 1 + 1 + 1 + 1) s at5 in
         let whole = comes_on g.target 1 4 _ _ _ a (comes_on g.target 1 3 _ _ _ b (comes_on g.target 1 2 _ _ _ c (comes_on g.target 1 1 _ _ _ d e))) in
-        subst (λ m. Comes g.target 1 (on g here place output) (on g (base ++ (held ++ Number m ∷ Number l ∷ [])) head output)) is
+        subst (λ m. Comes g.target 1 (on g here place s) (on g (base ++ (held ++ Number m ∷ Number l ∷ [])) head s)) is
         (comes_less g.target 1 5 _ _ (omega arith) whole)
 
     -- behind the loop nothing more is held, and the control variable is undefined
     pub leaves : (control place : ℕ) (scalar : IsScalar control) → Fits n → Fits l → Here g place (instr.Store 0 (control_offset g.scope control))
         → Here g (place + 1) (instr.Store 0 (control_offset g.scope control)) → Here g (place + 1 + 1) (instr.Load (links_to g.scope 0) 2)
         → Here g (place + 1 + 1 + 1) (instr.Store 0 (control_offset g.scope control))
-        → Comes g.target 4 (on g here place output) (on g (slice_set base (slot control scalar) Undefined ++ held) (place + 4) output)
+        → Comes g.target 4 (on g here place s) (on g (slice_set base (slot control scalar) Undefined ++ held) (place + 4) s)
     leaves control place scalar fit fit' at1 at2 at3 at4 =
         let c = slot control scalar in
         let one = held ++ Number n ∷ [] in
@@ -307,8 +308,8 @@ module _ (g : Setting) where
         let s2 = record s1 { store = kept s1.store (g.environment.variables control) (value.Number n) } in
         let is1 : here ≡ (base ++ one) ++ Number l ∷ [] = ap (λ cs. base ++ cs) (sym (append_assoc held (Number n ∷ []) (Number l ∷ [])))
         ∙ sym (append_assoc base one (Number l ∷ [])) in
-        let a = stores_variable control scalar s base one here (Number l) place output based is1 at1 in
-        let b = stores_variable control scalar s1 base1 held (base1 ++ one) (Number n) (place + 1) output based1
+        let a = stores_variable control scalar s base one here (Number l) place based is1 at1 in
+        let b = stores_variable control scalar s1 base1 held (base1 ++ one) (Number n) (place + 1) based1
         (sym (append_assoc base1 held (Number n ∷ []))) at2 in
         let cells = base2 ++ held in
         let size = length-append base2 held in
@@ -316,19 +317,19 @@ module _ (g : Setting) where
         let links = linked g s2 base2 held based2 in
         let blank = slice_get-front base2 held (g.bottom + 2) Undefined (based2.keeps.each (g.bottom + 2) Undefined g.blank) in
         let up = links_to g.scope 0 in
-        let d = acts g (instr.Load up 2) cells (cells ++ Undefined ∷ []) (place + 1 + 1) output _ at3 refl
+        let d = acts g (instr.Load up 2) cells (cells ++ Undefined ∷ []) (place + 1 + 1) s _ at3 refl
         (loads g.frame g.limit g.size cells up 2 g.bottom Undefined (omega arith) (frame_found g up g.bottom base2 held s2 based2 g.chain)
         (slice_get_within cells (g.bottom + 2) Undefined blank) blank) in
-        let e = stores_variable control scalar s2 base2 held (cells ++ Undefined ∷ []) Undefined (place + 1 + 1 + 1) output based2 refl at4 in
+        let e = stores_variable control scalar s2 base2 held (cells ++ Undefined ∷ []) Undefined (place + 1 + 1 + 1) based2 refl at4 in
         let whole = comes_on g.target 1 3 _ _ _ a (comes_on g.target 1 2 _ _ _ b (comes_on g.target 1 1 _ _ _ d e)) in
         let same : slice_set base2 c Undefined ≡ slice_set base c Undefined = set_twice base1 c (Number n) Undefined ∙ set_twice base c (Number l) Undefined in
         let p : place + 1 + 1 + 1 + 1 ≡ place + 4 = omega arith in
-        subst (λ q. Comes g.target 4 (on g here place output) (on g (slice_set base c Undefined ++ held) q output)) p
-        (subst (λ cs. Comes g.target 4 (on g here place output) (on g (cs ++ held) (place + 1 + 1 + 1 + 1) output)) same whole)
+        subst (λ q. Comes g.target 4 (on g here place s) (on g (slice_set base c Undefined ++ held) q s)) p
+        (subst (λ cs. Comes g.target 4 (on g here place s) (on g (cs ++ held) (place + 1 + 1 + 1 + 1) s)) same whole)
 
   -- ---- the index of a case statement, which is held
 
-  module _ (s : effect.State) (base held : List Cell) (n : ℤ) (output : List ℕ) (based : Based g s base) (high : length held ≡ g.scope.height)
+  module _ (s : effect.State) (base held : List Cell) (n : ℤ) (based : Based g s base) (high : AllHeld g held)
       (room : g.below + length held + 3 ≤ g.limit) where
     abbrev index : List Cell
     index = base ++ (held ++ Number n ∷ [])
@@ -336,43 +337,43 @@ module _ (g : Setting) where
     -- one constant
     compares : (constant : ℤ) (arm place : ℕ) → Here g place (instr.LoadConstant constant) → Here g (place + 1) (instr.Load 0 (held_offset g.scope 0))
         → Here g (place + 1 + 1) instr.NotEqual → StandsAt g.target (place + 1 + 1 + 1) (instr.JumpIfFalse arm) true
-        → Comes g.target 0 (on g index place output) (on g index (if not (int_eq constant n) then place + 1 + 1 + 1 + 1 else arm) output)
+        → Comes g.target 0 (on g index place s) (on g index (if not (int_eq constant n) then place + 1 + 1 + 1 + 1 else arm) s)
     compares constant arm place at1 at2 at3 at4 =
         let full = based.full in
         let size : length index ≡ g.below + length held + 1 = omega (arith, length-append base (held ++ Number n ∷ []), length-append held (Number n ∷ [])) in
         let in_frame = linked g s base (held ++ Number n ∷ []) based in
         let differs = truth (not (int_eq constant n)) in
-        let a = pushes_number index constant place output at1 (omega arith) in
-        let b = loads_held s base held (Number n ∷ []) (Number constant ∷ []) (index ++ Number constant ∷ []) 0 (Number n) (place + 1) output based high
+        let a = pushes_number index constant place s at1 (omega arith) in
+        let b = loads_held s base held (Number n ∷ []) (Number constant ∷ []) (index ++ Number constant ∷ []) 0 (Number n) (place + 1) based high
         refl
         refl (omega arith) at2 in
-        let c = operates instr.NotEqual (frames.of_two dyadic.NotEqual) index constant n (place + 1 + 1) output at3 refl in_frame (omega arith) in
-        let d = branches_on g arm index differs (place + 1 + 1 + 1) output at4 in_frame in
+        let c = operates instr.NotEqual (frames.of_two dyadic.NotEqual) index constant n (place + 1 + 1) s at3 refl in_frame (omega arith) in
+        let d = branches_on g arm index differs (place + 1 + 1 + 1) s at4 in_frame in
         let whole = comes_on g.target 1 3 _ _ _ a (comes_on g.target 1 2 _ _ _ b (comes_on g.target 1 1 _ _ _ c d)) in
         comes_less g.target 0 4 _ _ (omega arith)
-        (subst (λ b. Comes g.target 4 (on g index place output) (on g index (if b then place + 1 + 1 + 1 + 1 else arm) output))
+        (subst (λ b. Comes g.target 4 (on g index place s) (on g index (if b then place + 1 + 1 + 1 + 1 else arm) s))
         (true_truth (not (int_eq constant n))) whole)
 
     compares_by : (row : List ℤ) (arm place next : ℕ) (same : Bool)
-        → Comes g.target 0 (on g index place output) (on g index (if not same then next else arm) output)
-        → Comes g.target 0 (on g index next output) (on g index (if is_among row n then arm else next + length (row_code g.scope arm row)) output)
-        → Comes g.target 0 (on g index place output)
-        (on g index (if same || is_among row n then arm else next + length (row_code g.scope arm row)) output)
+        → Comes g.target 0 (on g index place s) (on g index (if not same then next else arm) s)
+        → Comes g.target 0 (on g index next s) (on g index (if is_among row n then arm else next + length (row_code g.scope arm row)) s)
+        → Comes g.target 0 (on g index place s)
+        (on g index (if same || is_among row n then arm else next + length (row_code g.scope arm row)) s)
     compares_by row arm place next true first rest = first
     compares_by row arm place next false first rest = comes_on g.target 0 0 _ _ _ first rest
 
     -- a row of constants: to the arm with one that is the index, or behind the row
     pub compares_row : (row : List ℤ) (arm place : ℕ) → Stands g.target place (row_code g.scope arm row)
-        → Comes g.target 0 (on g index place output)
-        (on g index (if is_among row n then arm else place + length (row_code g.scope arm row)) output)
+        → Comes g.target 0 (on g index place s)
+        (on g index (if is_among row n then arm else place + length (row_code g.scope arm row)) s)
     compares_row [] arm place stands =
         let e : place ≡ place + 0 = omega arith in
-        subst (λ p. Comes g.target 0 (on g index place output) (on g index p output)) e (stays_here g.target (on g index place output))
+        subst (λ p. Comes g.target 0 (on g index place s) (on g index p s)) e (stays_here g.target (on g index place s))
     compares_row (constant ∷ row) arm place stands =
         let rest = compares_row row arm (place + 1 + 1 + 1 + 1) stands.1.1.1.1 in
         let first = compares constant arm place stands.0 stands.1.0 stands.1.1.0 stands.1.1.1.0 in
         let e : place + 1 + 1 + 1 + 1 + length (row_code g.scope arm row) ≡ place + length (row_code g.scope arm (constant ∷ row)) = omega arith in
-        subst (λ p. Comes g.target 0 (on g index place output) (on g index (if is_among (constant ∷ row) n then arm else p) output)) e
+        subst (λ p. Comes g.target 0 (on g index place s) (on g index (if is_among (constant ∷ row) n then arm else p) s)) e
         (compares_by row arm place (place + 1 + 1 + 1 + 1) (int_eq constant n) first rest)
 
 -- ---- the values of a control variable

@@ -1,14 +1,14 @@
 -- Loops: a head where each round begins, and a round that comes back to it or leaves the loop. Each round behind which
 -- another follows uses a turn, so a run with as many turns as a bound takes no more rounds than that.
 use Rattle.code_generator.proofs.Words.{◌≡◌, ℕ, zero, suc, ◌+◌, ◌-◌, ◌<◌, ◌≤◌, ◌⊎◌, List, ◌++◌, Option, Some, None, inl, inr, refl, arith, Ending, Reply, Gives}
-use Rattle.code_generator.proofs.Words.{Action, ◌>>=◌, UsesTurnsExactly, Cell, State}
+use Rattle.code_generator.proofs.Words.{Action, ◌>>=◌, UsesTurnsExactly, Cell, Instr, State, length}
 use Rattle.meaning.specs.declared.outcome.Ending.TheVariants as ending
 use Rattle.meaning.specs.Effect as effect
 use Rattle.meaning.specs.Effect.{Round, use_turn}
 use Rattle.meaning.specs.Laws.{GoesRoundByRound}
-use Rattle.code_generator.proofs.Reach.{Comes, comes_less, stays_here}
-use Rattle.code_generator.proofs.Setting.{Setting, on, Based, Halts, Ends, Starves, starves_on}
-use Rattle.code_generator.proofs.Running.{Aim, Arrives, Executes, Runs, arrives_on, done, kept_on, runs_same, then_runs}
+use Rattle.code_generator.proofs.Reach.{Comes, Stands, comes_less, stays_here}
+use Rattle.code_generator.proofs.Setting.{Setting, on, Based, Ends, Starves, starves_on}
+use Rattle.code_generator.proofs.Running.{Aim, Arrives, Executes, Runs, arrives_on, done, done_then, kept_on, runs_same, then_runs}
 
 -- in a setting, a loop with what is held at its head where a round begins with this, its head and its end, and what is
 -- held there
@@ -20,8 +20,8 @@ module _ (g : Setting) {A : Type 0} (fit : A → Type 0) (hold : A → List Cell
   IsRound bound (Some a) s = (base : List Cell) × Based g s base × (s.turns < bound) × fit a
 
   abbrev pub round_there : (bound : ℕ) (more : Option A) (s : effect.State) → IsRound bound more s → State
-  round_there bound None s h = on g (h.0 ++ held) end s.output
-  round_there bound (Some a) s h = on g (h.0 ++ hold a) head s.output
+  round_there bound None s h = on g (h.0 ++ held) end s
+  round_there bound (Some a) s h = on g (h.0 ++ hold a) head s
 
   abbrev pub round_on : ℕ → ℕ → Aim (Option A)
   round_on gain bound = record { Holds = IsRound bound; there = round_there bound; gain = gain }
@@ -33,7 +33,7 @@ module _ (g : Setting) {A : Type 0} (fit : A → Type 0) (hold : A → List Cell
   abbrev pub RoundsBehind : ℕ → ℕ → ℕ → State → Action (Option A) → effect.State → Type 0
   RoundsBehind gain bound turns m action s = Starves g m action s ⊎ Arrives g (round_on gain bound) turns m (action s)
 
-  pub rounds_later : (gain bound turns : ℕ) (a b : State) (action : Action (Option A)) (s : effect.State) → s.turns ≤ turns
+  rounds_later : (gain bound turns : ℕ) (a b : State) (action : Action (Option A)) (s : effect.State) → s.turns ≤ turns
       → Comes g.target (turns - s.turns) a b → Rounds gain bound b action s → RoundsBehind gain bound turns a action s
   rounds_later gain bound turns a b action s le l (inl x) = inl (starves_on g (turns - s.turns) a b action s l x)
   rounds_later gain bound turns a b action s le l (inr e) = inr (arrives_on g (round_on gain bound) turns s.turns a b (action s) le l e)
@@ -54,11 +54,37 @@ module _ (g : Setting) {A : Type 0} (fit : A → Type 0) (hold : A → List Cell
       by zero is = inr (m, comes_less g.target (s.turns - g.slack) 0 m m (omega (arith, is)) (stays_here g.target m), same)
       by (suc left) is = behind left is (h left is)
 
+  -- the loop is over
+  pub round_over : (gain bound least : ℕ) (m : State) (base : List Cell) (s : effect.State) → Based g s base → gain ≤ least
+      → Comes g.target least m (on g (base ++ held) end s) → Rounds gain bound m (effect.give None) s
+  round_over gain bound least m base s based le l =
+      inr ((base, based), comes_less g.target (s.turns - s.turns + gain) least m _ (omega (arith, le)) l, omega arith)
+
+  -- another round comes
+  pub round_again : (gain bound least : ℕ) (m : State) (a : A) (base : List Cell) (s : effect.State) → Based g s base → gain ≤ least → s.turns < bound
+      → fit a → Comes g.target least m (on g (base ++ hold a) head s) → Rounds gain bound m (effect.give (Some a)) s
+  round_again gain bound least m a base s based le few fits l =
+      inr ((base, based, few, fits), comes_less g.target (s.turns - s.turns + gain) least m _ (omega (arith, le)) l, omega arith)
+
+  -- a turn, for which an instruction makes up; the code of the body, and the code that comes behind it
+  pub turn_then : (bound : ℕ) (c c' : List Instr) (place : ℕ) (m there : State) (over : List Cell) (body : Action (Unit {0})) (more : Option A)
+      (s : effect.State) → m.output ≡ s.output → Comes g.target 1 m there → s.turns ≤ bound → UsesTurnsExactly body → Stands g.target place (c ++ c')
+      → ((left : ℕ) → left ≤ s.turns → Stands g.target place c → Executes g there over (place + length c) body (record s { turns = left }))
+      → ((base : List Cell) (t : effect.State) → Stands g.target (place + length c) c' → Based g t base → t.turns < bound
+      → Rounds 0 bound (on g (base ++ over) (place + length c) t) (effect.give more) t)
+      → Rounds 0 bound m (use_turn >>= λ _. body >>= λ _. effect.give more) s
+  turn_then bound c c' place m there over body more s same came le exact stands runs behind =
+      turned bound s m (λ _. body >>= λ _. effect.give more) same (λ left is.
+      rounds_later 0 bound s.turns m there (body >>= λ _. effect.give more) (record s { turns = left }) (omega (arith, is))
+      (comes_less g.target (s.turns - left) 1 m there (omega (arith, is)) came)
+      (done_then g (λ _. round_on 0 bound) c c' place there over body (λ _. effect.give more) (record s { turns = left }) exact stands
+      (runs left (omega (arith, is))) (λ base t rest based fewer. behind base t rest based (omega (arith, is, fewer, le)))))
+
   -- behind a round the next one comes, or the loop is over
   round_then : (m : State) (first : Action (Option A)) (next : A → Action (Unit {0})) (s : effect.State) → UsesTurnsExactly first
       → Rounds 0 s.turns m first s
       → ((a : A) (base : List Cell) (t : effect.State) → t.turns < s.turns → fit a → Based g t base
-      → Executes g (on g (base ++ hold a) head t.output) held end (next a) t)
+      → Executes g (on g (base ++ hold a) head t) held end (next a) t)
       → Executes g m held end (first >>= λ more. effect.another more next) s
   round_then m first next s exact e h =
       then_runs g (round_on 0 s.turns) (kept_on g held end) m first (λ more. effect.another more next) s exact e by
@@ -71,11 +97,11 @@ module _ (g : Setting) {A : Type 0} (fit : A → Type 0) (hold : A → List Cell
   -- what is shown of each round
   abbrev pub RoundRuns : Round A → Type 0
   RoundRuns round =
-      (a : A) (base : List Cell) (s : effect.State) → fit a → Based g s base → Rounds 0 s.turns (on g (base ++ hold a) head s.output) (round a) s
+      (a : A) (base : List Cell) (s : effect.State) → fit a → Based g s base → Rounds 0 s.turns (on g (base ++ hold a) head s) (round a) s
 
   module _ (round : Round A) (goes : GoesRoundByRound round) (exact : (a : A) → UsesTurnsExactly (round a)) (runs : RoundRuns round) where
     loops_within : (bound : ℕ) (a : A) (base : List Cell) (s : effect.State) → s.turns ≤ bound → fit a → Based g s base
-        → Executes g (on g (base ++ hold a) head s.output) held end (effect.looped round a) s
+        → Executes g (on g (base ++ hold a) head s) held end (effect.looped round a) s
     loops_within zero a base s few fits based =
         runs_same g (kept_on g held end) _ (effect.looped round a) (round a >>= λ more. effect.another more (effect.looped round)) s (goes a)
         (round_then _ (round a) (effect.looped round) s (exact a) (runs a base s fits based) (λ b base2 t fewer fits2 based2. absurd (omega arith)))
@@ -86,90 +112,44 @@ module _ (g : Setting) {A : Type 0} (fit : A → Type 0) (hold : A → List Cell
 
     -- the loop
     pub loops : (a : A) (base : List Cell) (s : effect.State) → fit a → Based g s base
-        → Executes g (on g (base ++ hold a) head s.output) held end (effect.looped round a) s
+        → Executes g (on g (base ++ hold a) head s) held end (effect.looped round a) s
     loops a base s fits based = loops_within s.turns a base s (omega arith) fits based
 
 -- the setting with other slack, and with other cells held
 abbrev pub reset : Setting → ℕ → ℕ → Setting
-reset g slack height = record g {
+reset g slack next = record g {
   slack = slack;
-  scope = record g.scope { height = height };
+  scope = record g.scope { next = next };
   homes_are = g.homes_are;
   routines_are = g.routines_are;
   level_is = g.level_is;
   near = g.near;
-  above_is = g.above_is;
   shows = λ root variable at seen.
       let x = g.shows root variable at seen in
       record { place = x.place; place_is = x.place_is; owner = x.owner; leads = x.leads; way = x.way; reaches = x.reaches };
   chain = g.chain;
 }
 
-module _ (g : Setting) (slack height : ℕ) where
-  pub to_reset : (s : effect.State) (base : List Cell) → Based g s base → Based (reset g slack height) s base
-  to_reset s base based = record {
-    full = based.full;
-    alike = based.alike;
-    keeps = based.keeps;
-    old = based.old;
-    fresh = based.fresh;
-    lasting = based.lasting;
-    deep = based.deep;
-  }
-
-  pub from_reset : (s : effect.State) (base : List Cell) → Based (reset g slack height) s base → Based g s base
-  from_reset s base based = record {
-    full = based.full;
-    alike = based.alike;
-    keeps = based.keeps;
-    old = based.old;
-    fresh = based.fresh;
-    lasting = based.lasting;
-    deep = based.deep;
-  }
-
-  halts_from_reset : (m : State) (why : Ending) (output : List ℕ) → Halts (reset g slack height) m why output → Halts g m why output
-  halts_from_reset m why output h = record { why = h.why; stops = h.stops; so = h.so }
-
+module _ (g : Setting) (slack next : ℕ) where
   -- an end with less slack, by fewer turns
-  pub ends_from_reset : (turns left : ℕ) (m : State) (why : Ending) (output : List ℕ) → turns - g.slack ≤ left - slack
-      → Ends (reset g slack height) left m why output → Ends g turns m why output
-  ends_from_reset turns left m ending.Finished output le e = halts_from_reset m ending.Finished output e
-  ends_from_reset turns left m (ending.Error site) output le (inl e) = inl (halts_from_reset m (ending.Error site) output e)
-  ends_from_reset turns left m (ending.Error site) output le (inr closed) = inr closed
-  ends_from_reset turns left m (ending.Input point fault) output le e = halts_from_reset m (ending.Input point fault) output e
+  ends_from_reset : (turns left : ℕ) (m : State) (why : Ending) (output : List ℕ) → turns - g.slack ≤ left - slack
+      → Ends (reset g slack next) left m why output → Ends g turns m why output
+  ends_from_reset turns left m ending.Finished output le e = e
+  ends_from_reset turns left m (ending.Error site) output le e = e
+  ends_from_reset turns left m (ending.Input point fault) output le e = e
   ends_from_reset turns left m ending.More output le e = (e.0, comes_less g.target (turns - g.slack) (left - slack) m e.0 le e.1, e.2)
-
-  -- a statement with as much slack
-  pub executes_from_reset : (m : State) (held : List Cell) (place : ℕ) (action : Action (Unit {0})) (s : effect.State) → slack ≡ g.slack
-      → Executes (reset g slack height) m held place action s → Executes g m held place action s
-  executes_from_reset m held place action s same (inl x) = inl x
-  executes_from_reset m held place action s same (inr e) = inr (by (action s) e)
-    where
-      by : (r : Reply (Unit {0})) → Arrives (reset g slack height) (kept_on (reset g slack height) held place) s.turns m r
-          → Arrives g (kept_on g held place) s.turns m r
-      by (Gives done t) e = ((e.0.0, from_reset t e.0.0 e.0.1), e.1, e.2)
-      by (effect.Stops why t) e = ends_from_reset s.turns s.turns m why t.output (omega arith) e
 
   -- a round with less slack, behind its turn
   pub rounds_from_reset : {A : Type 0} (fit : A → Type 0) (hold : A → List Cell) (head end : ℕ) (held : List Cell) (left : ℕ) (m : State)
       (action : Action (Option A)) (s : effect.State) → suc slack ≤ g.slack → s.turns ≡ left
-      → Rounds (reset g slack height) fit hold head end held 1 (suc left) m action s
+      → Rounds (reset g slack next) fit hold head end held 1 (suc left) m action s
       → RoundsBehind g fit hold head end held 0 (suc left) (suc left) m action s
   rounds_from_reset fit hold head end held left m action s le is (inl x) = inl x
   rounds_from_reset {A} fit hold head end held left m action s le is (inr e) = inr (by (action s) e)
     where
       by : (r : Reply (Option A))
-          → Arrives (reset g slack height) (round_on (reset g slack height) fit hold head end held 1 (suc left)) s.turns m r
+          → Arrives (reset g slack next) (round_on (reset g slack next) fit hold head end held 1 (suc left)) s.turns m r
           → Arrives g (round_on g fit hold head end held 0 (suc left)) (suc left) m r
-      by (Gives None t) e = (
-        (e.0.0, from_reset t e.0.0 e.0.1),
-        comes_less g.target (suc left - t.turns + 0) (s.turns - t.turns + 1) m _ (omega arith) e.1,
-        omega (arith, e.2),
-      )
-      by (Gives (Some a) t) e = (
-        (e.0.0, from_reset t e.0.0 e.0.1, e.0.2, e.0.3),
-        comes_less g.target (suc left - t.turns + 0) (s.turns - t.turns + 1) m _ (omega arith) e.1,
-        omega (arith, e.2),
-      )
+      by (Gives more t) e =
+          (e.0, comes_less g.target (suc left - t.turns + 0) (s.turns - t.turns + 1) m _ (omega arith) e.1, omega (arith, e.2))
       by (effect.Stops why t) e = ends_from_reset (suc left) s.turns m why t.output (omega arith) e

@@ -47,7 +47,7 @@ module _ (g : Setting) where
   passed_on held count callee position place = record {
     Holds = λ argument s. (base : List Cell) × Based g s base × (cells : List Cell) × (formal : Variable)
         × (formal_of (outline g) callee position ≡ Some formal) × Fitted formal argument cells × (length cells ≡ count);
-    there = λ argument s h. on g ((h.0 ++ held) ++ h.2) place s.output;
+    there = λ argument s h. on g ((h.0 ++ held) ++ h.2) place s;
     gain = 0;
   }
 
@@ -57,7 +57,7 @@ module _ (g : Setting) where
   -- what is passed is there
   pub passes_it : (least : ℕ) (m : State) (base held cells : List Cell) (place callee position : ℕ) (argument : Argument) (formal : Variable)
       (s : effect.State) → Based g s base → formal_of (outline g) callee position ≡ Some formal → Fitted formal argument cells
-      → Comes g.target least m (on g ((base ++ held) ++ cells) place s.output)
+      → Comes g.target least m (on g ((base ++ held) ++ cells) place s)
       → Arrives g (passed_on held (length cells) callee position place) s.turns m (Gives argument s)
   passes_it least m base held cells place callee position argument formal s based is fitted l =
       ((base, based, cells, formal, is, fitted, refl), comes_less g.target (s.turns - s.turns + 0) least m _ (omega arith) l, omega arith)
@@ -67,7 +67,7 @@ module _ (g : Setting) where
   PassesAs c depth well passing =
       (callee position place : ℕ) (base held : List Cell) (s : effect.State) → Stands g.target place c → well callee position ≡ true → Based g s base
       → g.below + length held + depth.depth ≤ g.limit
-      → Passes (on g (base ++ held) place s.output) held (place + length c) depth.cells callee position (passing (around g)) s
+      → Passes (on g (base ++ held) place s) held (place + length c) depth.cells callee position (passing (around g)) s
 
   -- what is shown of an actual parameter
   abbrev pub PassedRuns : Passed → Type 0
@@ -79,7 +79,7 @@ module _ (g : Setting) where
   all_on held callee position total place = record {
     Holds = λ arguments s. (base : List Cell) × Based g s base × (cells : List Cell) × AllFitted callee position arguments cells
         × (g.below + length held + length cells ≤ g.limit) × (length arguments ≡ total);
-    there = λ arguments s h. on g ((h.0 ++ held) ++ h.2) place s.output;
+    there = λ arguments s h. on g ((h.0 ++ held) ++ h.2) place s;
     gain = 0;
   }
 
@@ -97,7 +97,7 @@ module _ (g : Setting) where
   abbrev pub return_on : List Cell → Bool → ℕ → Aim Value
   return_on held is_function place = record {
     Holds = λ v s. (base : List Cell) × Based g s base × Fits (number_of v);
-    there = λ v s h. on g ((h.0 ++ held) ++ left_by is_function (number_of v)) place s.output;
+    there = λ v s h. on g ((h.0 ++ held) ++ left_by is_function (number_of v)) place s;
     gain = 0;
   }
 
@@ -125,7 +125,7 @@ module _ (g : Setting) where
       then_runs g (return_on held false place) (kept_on g held place) m action (λ _. effect.give tt) s exact e
       (λ v t x le.
       let cells = x.0 ++ held in
-      inr (done g 0 _ x.0 held place t x.1 (subst (λ l. Comes g.target 0 (on g (cells ++ []) place t.output) (on g l place t.output)) (append-nil cells)
+      inr (done g 0 _ x.0 held place t x.1 (subst (λ l. Comes g.target 0 (on g (cells ++ []) place t) (on g l place t)) (append-nil cells)
       (stays_here g.target _))))
 
   -- the links of a new frame, whose static link leads to this frame
@@ -144,7 +144,7 @@ module _ (g : Setting) where
       → slice_get g.target.whole place
       ≡ Some (instr.CallProcedure (row_length (called_routine g.scope callee).cells) (called_routine g.scope callee).place)
       → Based g s base → AllFitted callee 0 arguments cells → g.below + length held + 4 + length cells ≤ g.limit
-      → Returns (on g ((base ++ (held ++ links_of outer)) ++ cells) place s.output) held (place + 1) is_function
+      → Returns (on g ((base ++ (held ++ links_of outer)) ++ cells) place s) held (place + 1) is_function
       (calls_of g.tree g.depth callee arguments g.environment) s
 
 -- the same in each setting where calls may be so many in one another

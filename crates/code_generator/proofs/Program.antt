@@ -47,6 +47,7 @@ use Rattle.code_generator.proofs.Repeats.{repeats}
 use Rattle.code_generator.proofs.Running as running
 use Rattle.code_generator.proofs.Setting.{Setting, on, around, Halts, Ends, Starves}
 use Rattle.code_generator.proofs.Stmts.{stmt_runs}
+use Rattle.code_generator.proofs.Unread.{reads_nothing}
 use Rattle.code_generator.proofs.Running.{Executes, kept_on}
 
 -- a program whose code stands in the machine's code, with the checks of some sites left out at which it never errs
@@ -131,35 +132,38 @@ module _ (known : Known) (tree : Tree) (well : IsWellFormed tree) (short : is_to
         abbrev first_cells : List Cell
         first_cells = started.cells known tree well short target sites_are stands comes_back repeats_are_few input cells small block block_is fits turns
 
+        abbrev first : effect.State
+        first = meant.first_state input turns
+
         abbrev inside : State
-        inside = on setting (first_cells ++ []) 1 []
+        inside = on setting (first_cells ++ []) 1 first
 
         comes_in : Comes target 1 start inside
         comes_in =
-            let there : State = record start { frames = framed 0 needed_cells cells first_cells; place = 1 } in
+            let begun : State = record start { input = first.input } in
+            let there : State = record begun { frames = framed 0 needed_cells cells first_cells; place = 1 } in
             let limit : 4 + count variables + count depth ≡ needed_cells = omega (arith, none, counts.0, counts.1) in
             let does : entered (count variables) (count depth) (framed 0 4 cells links) ≡ Some (framed 0 needed_cells cells first_cells) =
             enters 0 4 cells links (count variables) (count depth) (omega (arith, limit, fits))
             ∙ ap (λ n. Some (framed 0 n cells (links ++ replicate (count variables) Undefined))) limit
             ∙ ap (λ n. Some (framed 0 needed_cells cells (links ++ replicate n Undefined))) counts.0 in
-            let came = comes_by target (instr.Enter (count variables) (count depth)) start there
-            (ap (slice_get target.code) (sym starts) ∙ own_stands.0.0) (ap (with_frame (record start { place = 1 })) does) in
+            let came = comes_by target (instr.Enter (count variables) (count depth)) begun there
+            (ap (slice_get target.code) (sym starts) ∙ own_stands.0.0) (ap (with_frame (record begun { place = 1 })) does) in
             let second : target.to 1 ≡ 1 = own_stands.0.1 ∙ ap (λ n. n + 1) starts in
-            subst (λ cs. Comes target 1 start (on setting cs 1 [])) (sym (append-nil first_cells))
-            (subst (λ index. Comes target 1 start (record there { place = index })) (sym second) came)
+            subst (λ cs. Comes target 1 start (on setting cs 1 first)) (sym (append-nil first_cells))
+            (subst (λ index. Comes target 1 start (record there { place = index })) (sym second)
+            (comes_on target 0 1 start begun there (reads_nothing first.input target start) came))
 
         abbrev does : Action (Unit {0})
         does = effect_of block.body (around setting)
 
-        abbrev first : effect.State
-        first = meant.first_state input turns
-
         body_runs : Executes setting inside [] (1 + length body) does first
         body_runs =
+            let whole = (small_block tree short 0 block block_is).whole in
             stmt_runs block.body setting (calls_run (suc turns)) (omega arith) 1 first_cells [] first
             (stands_front target 1 body (instr.Stop ∷ []) own_stands.1) (well_block tree well 0 block block_is).body
-            (started.first_based known tree well short target sites_are stands comes_back repeats_are_few input cells small block block_is fits turns) refl
-            (omega arith)
+            (started.first_based known tree well short target sites_are stands comes_back repeats_are_few input cells small block block_is fits turns)
+            (omega (arith, whole)) (omega arith)
 
         means : meaning tree input turns ≡ ended (does first)
         means = ap (λ o. ended (meant.run_of tree (suc turns) o first)) block_is
@@ -189,7 +193,7 @@ module _ (known : Known) (tree : Tree) (well : IsWellFormed tree) (short : is_to
         finishes : (r : Reply (Unit {0})) → running.Arrives setting (kept_on setting [] (1 + length body)) turns inside r
             → ((site : ℕ) → (ended r).ending ≡ ending.Error site → target.is_open site ≡ false → ⊥) → Arrives turns (ended r)
         finishes (Gives tt s) e open_alone =
-            let last = on setting (e.0.0 ++ []) (1 + length body) s.output in
+            let last = on setting (e.0.0 ++ []) (1 + length body) s in
             let at_end = stands_back target 1 body (instr.Stop ∷ []) own_stands.1 in
             let t = stops_by target instr.Stop last stop.Finished at_end.0.0 refl in
             let u = stops_on target 1 start inside _ comes_in (stops_on target (turns - s.turns + 0) inside last _ e.1 t) in

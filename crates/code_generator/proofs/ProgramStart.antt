@@ -17,7 +17,7 @@ use Rattle.code_generator.specs.Known.{Known}
 use Rattle.code_generator.specs.Large.{is_too_large}
 use Rattle.code_generator.specs.Tables.{site_table}
 use Rattle.code_generator.proofs.Alike.{Activation, World, Fixed, Lies, LiesIn, IsApart, Leads}
-use Rattle.code_generator.proofs.Cells.{home_is, lies_inside, others_few, own_scalars, owned_back, owned_in, slot_of, small_block, start_near, other_ends}
+use Rattle.code_generator.proofs.Cells.{home_is, lies_inside, others_few, own_scalars, owned_back, owned_in, slot_of, start_near, other_ends}
 use Rattle.code_generator.proofs.Cells.{starts_as_other, where_cons}
 use Rattle.code_generator.proofs.Nesting.{heading_at, nothing_round_program, same_numbers, well_block}
 use Rattle.code_generator.proofs.Parts.{IsPart}
@@ -242,9 +242,6 @@ module _ (known : Known) (tree : Tree) (well : IsWellFormed tree) (short : is_to
 
   -- ---- the setting
 
-  pub above : below ≡ 0 + scope.above
-  above = let whole = (small_block tree short 0 block block_is).whole in omega (arith, whole)
-
   pub limit_there : 4 + parameter_cells tree 0 + others + block_depth block ≡ 0 + (4 + parameter_cells tree 0 + others + block_depth block)
   limit_there = omega arith
 
@@ -260,7 +257,6 @@ module _ (known : Known) (tree : Tree) (well : IsWellFormed tree) (short : is_to
         stands = stands;
         comes_back = comes_back;
         repeats_are_few = repeats_are_few;
-        input = input;
         size = size;
         limit = 4 + parameter_cells tree 0 + others + block_depth block;
         small = small;
@@ -285,7 +281,6 @@ module _ (known : Known) (tree : Tree) (well : IsWellFormed tree) (short : is_to
         routines_are = refl;
         level_is = refl;
         near = near;
-        above_is = above;
         environment = environment;
         types_are = refl;
         shows = shows;

@@ -157,7 +157,7 @@ module _ (g : Setting) (number : ℕ) (block : Block) (block_is : slice_get g.tr
     -- the return to the caller's frame
     pub back_comes : (is_function : Bool) (n : ℤ) (place there : ℕ) → StandsAt g.target place (instr.Return (count_of is_function)) true
         → return ≡ g.target.to there → return < length g.target.code
-        → Comes g.target 1 (on its (last ++ left_by g is_function n) place t.output) (on g ((restored ++ held) ++ left_by g is_function n) there t.output)
+        → Comes g.target 1 (on its (last ++ left_by g is_function n) place t) (on g ((restored ++ held) ++ left_by g is_function n) there t)
     back_comes is_function n place there stands is within =
         let top = left_by g is_function n in
         let cells' = last ++ top in
@@ -174,12 +174,12 @@ module _ (g : Setting) (number : ℕ) (block : Block) (block_is : slice_get g.tr
         let rows : take its.frame cells' ++ drop (length cells' - count_of is_function) cells' ≡ (restored ++ held) ++ top =
         ap (λ l. l ++ drop (length cells' - count_of is_function) cells') (take-append-le its.frame last top low ∙ split)
         ∙ ap (λ k. (restored ++ held) ++ drop k cells') at ∙ ap (λ l. (restored ++ held) ++ l) (drop-append_seam last top) in
-        comes_by g.target (instr.Return (count_of is_function)) (on its cells' place t.output) (on g ((restored ++ held) ++ top) there t.output) stands.0
-        (ap (λ r. and_then r (at_place (record (on its cells' place t.output) { place = g.target.to place + 1 })))
+        comes_by g.target (instr.Return (count_of is_function)) (on its cells' place t) (on g ((restored ++ held) ++ top) there t) stands.0
+        (ap (λ r. and_then r (at_place (record (on its cells' place t) { place = g.target.to place + 1 })))
         (does ∙ ap (λ cs. Ok (framed g.frame g.limit its.size cs, return)) rows)
-        ∙ ap (λ i. Ok (on_at ((restored ++ held) ++ top) i t.output)) is)
+        ∙ ap (λ i. Ok (on_at ((restored ++ held) ++ top) i t)) is)
       where
-        on_at : List Cell → ℕ → List ℕ → State
+        on_at : List Cell → ℕ → effect.State → State
         on_at = running_at g
 
         top_long : (is_function : Bool) (n : ℤ) → length (left_by g is_function n) ≡ count_of is_function
@@ -258,7 +258,7 @@ module _ (g : Setting) (number : ℕ) (block : Block) (block_is : slice_get g.tr
     result_runs : (place : ℕ) (last : List Cell) (t : effect.State) → Based its t last
         → Stands its.target place (instr.Load 0 (variable_home its.scope result.root).start ∷ instr.CheckDefined result.defined 1 ∷ [])
         → length last < its.limit
-        → Returns its (on its (last ++ []) place t.output) [] (place + 1 + 1) true (fetch (its.environment.variables result.root) result.defined) t
+        → Returns its (on its (last ++ []) place t) [] (place + 1 + 1) true (fetch (its.environment.variables result.root) result.defined) t
     result_runs place last t after stands space =
         let p = own_place s.activations result.root in
         let d = its.frame + (variable_home its.scope result.root).start in
@@ -268,10 +268,10 @@ module _ (g : Setting) (number : ℕ) (block : Block) (block_is : slice_get g.tr
         let cell = cell_of (stored t.store p) in
         let full = after.full in
         let long = length-append last [] in
-        let loaded = acts its (instr.Load 0 start) stack (stack ++ cell ∷ []) place t.output _ stands.0 refl
+        let loaded = acts its (instr.Load 0 start) stack (stack ++ cell ∷ []) place t _ stands.0 refl
         (loads its.frame its.limit its.size stack 0 start its.frame cell (omega (arith, long, space)) refl
         (cell_within its.world t.store stack p d above lies) (above.scalars p d lies)) in
-        subst (λ o. Returns its (on its stack place t.output) [] (place + 1 + 1) true (fetch o result.defined) t) (sym place_is)
+        subst (λ o. Returns its (on its stack place t) [] (place + 1 + 1) true (fetch o result.defined) t) (sym place_is)
         (evaluated_returns its _ [] (place + 1 + 1) (fetch (Some p) result.defined) t
         (runs_from its (value_on its [] (place + 1 + 1)) 1 _ _ (fetch (Some p) result.defined) t loaded
         (fetched_runs its (place + 1) result.defined last [] t (stored t.store p) stands.1.0 (ltb-true result.defined (sites g) good.0) after
@@ -281,11 +281,11 @@ module _ (g : Setting) (number : ℕ) (block : Block) (block_is : slice_get g.tr
   finishes : (result : Option FunctionResult) (is_function : Bool) → block.heading.result ≡ result → is_kind_of is_function result ≡ true → (place : ℕ)
       (last : List Cell) (t : effect.State) → Based its t last → Stands its.target place (return_code its.scope result)
       → its.below + result_depth result ≤ its.limit
-      → Returns its (on its (last ++ []) place t.output) [] (back_place is_function place) is_function (result_of result its.environment) t
+      → Returns its (on its (last ++ []) place t) [] (back_place is_function place) is_function (result_of result its.environment) t
       × StandsAt its.target (back_place is_function place) (instr.Return (count_of is_function)) true
   finishes None false is kind place last t after stands deep =
       let none = comes_less g.target (t.turns - t.turns + 0) 0 _ _ (omega arith)
-      (subst (λ cs. Comes g.target 0 (on its (last ++ []) place t.output) (on its cs place t.output)) (sym (append-nil (last ++ [])))
+      (subst (λ cs. Comes g.target 0 (on its (last ++ []) place t) (on its cs place t)) (sym (append-nil (last ++ [])))
       (stays_here g.target _)) in
       (inr ((last, after, record { is = refl }), none, omega arith), stands.0)
   finishes None true is kind place last t after stands deep = absurd (false≢true kind)
@@ -297,7 +297,7 @@ module _ (g : Setting) (number : ℕ) (block : Block) (block_is : slice_get g.tr
   pub finish : (is_function : Bool) → is_kind_of is_function block.heading.result ≡ true → (place : ℕ)
       (last : List Cell) (t : effect.State) → Based its t last → Stands its.target place (return_code its.scope block.heading.result)
       → its.below + result_depth block.heading.result ≤ its.limit
-      → Returns its (on its (last ++ []) place t.output) [] (back_place is_function place) is_function
+      → Returns its (on its (last ++ []) place t) [] (back_place is_function place) is_function
       (result_of block.heading.result its.environment) t
       × StandsAt its.target (back_place is_function place) (instr.Return (count_of is_function)) true
   finish is_function kind place last t after stands deep =

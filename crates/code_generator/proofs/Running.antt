@@ -13,7 +13,7 @@ use Rattle.code_generator.proofs.Exact.{exact_give, exact_then}
 use Rattle.code_generator.proofs.Numbers.{Fits}
 use Rattle.code_generator.proofs.Reach.{Stands, StandsAt, Comes, comes_on, comes_less, stands_front, stands_back, stays_here}
 use Rattle.code_generator.proofs.Setting.{Setting, on, Based, Ends, ends_on, Starves, starves_on, starves_same, starves_first, starves_behind, as_value, passes}
-use Rattle.code_generator.proofs.Setting.{fails, branched}
+use Rattle.code_generator.proofs.Setting.{fails, branched, jumps}
 
 -- where code is to come with what a piece gives: what holds then, the machine there, and for how many turns more than the
 -- piece used its instructions make up
@@ -107,14 +107,14 @@ module _ (g : Setting) where
   pub then_code : {A B : Type 0} (aim : ℕ → Aim A) (aim' : ℕ → Aim B) (c c' : List Instr) (place : ℕ) (m : State) (first : Action A)
       (next : A → Action B) (s : effect.State) → UsesTurnsExactly first → Stands g.target place (c ++ c')
       → (Stands g.target place c → Runs (aim (place + length c)) m first s)
-      → ((v : A) (t : effect.State) (h : (aim (place + length c)).Holds v t) → Stands g.target (place + length c) c'
+      → ((v : A) (t : effect.State) (h : (aim (place + length c)).Holds v t) → Stands g.target (place + length c) c' → t.turns ≤ s.turns
       → Runs (aim' (place + length c + length c')) ((aim (place + length c)).there v t h) (next v) t)
       → Runs (aim' (place + length (c ++ c'))) m (first >>= next) s
   then_code aim aim' c c' place m first next s exact stands runs h =
       let e : place + length c + length c' ≡ place + length (c ++ c') = omega (arith, length-append c c') in
       subst (λ end. Runs (aim' end) m (first >>= next) s) e
       (then_runs (aim (place + length c)) (aim' (place + length c + length c')) m first next s exact (runs (stands_front g.target place c c' stands))
-      (λ v t holds le. h v t holds (stands_back g.target place c c' stands)))
+      (λ v t holds. h v t holds (stands_back g.target place c c' stands)))
 
   -- an instruction, and the code of a piece
   pub instr_then : {A : Type 0} (aim : ℕ → Aim A) (least : ℕ) (i : Instr) (c : List Instr) (place : ℕ) (m there : State) (action : Action A)
@@ -128,20 +128,20 @@ module _ (g : Setting) where
   pub check_then : {A : Type 0} (aim : Aim A) (check : Instr) (site place : ℕ) (cells : List Cell) (s : effect.State) (next : Action A)
       (test : Frames → Attempt Bool) (good : Bool) → StandsAt g.target place check (g.target.is_open site) → moved g.target.to check ≡ check
       → deed_of check ≡ Tests site test → test (framed g.frame g.limit g.size cells) ≡ Ok good → site < length g.tree.sites.items
-      → (good ≡ true → Runs aim (on g cells (place + 1) s.output) next s)
-      → Runs aim (on g cells place s.output) (require good site >>= (λ _. next)) s
+      → (good ≡ true → Runs aim (on g cells (place + 1) s) next s)
+      → Runs aim (on g cells place s) (require good site >>= (λ _. next)) s
   check_then aim check site place cells s next test true stands same rule e within rest =
-      runs_from aim 0 _ _ next s (passes g check cells place site s.output test same rule stands e) (rest refl)
+      runs_from aim 0 _ _ next s (passes g check cells place site s test same rule stands e) (rest refl)
   check_then aim check site place cells s next test false stands same rule e within rest =
-      inr (fails g check cells place site s.output test same rule s.turns stands within e)
+      inr (fails g check cells place site s test same rule s.turns stands within e)
 
   -- a conditional jump behind a number, and what comes at either place
   pub branch_then : {A : Type 0} (aim : Aim A) (target : ℕ) (below : List Cell) (n : ℤ) (place : ℕ) (next : Bool → Action A) (s : effect.State)
       → StandsAt g.target place (instr.JumpIfFalse target) true → g.frame + 4 ≤ length below
-      → Runs aim (on g below (place + 1) s.output) (next true) s → Runs aim (on g below target s.output) (next false) s
-      → Runs aim (on g (below ++ Number n ∷ []) place s.output) (next (is_true n)) s
+      → Runs aim (on g below (place + 1) s) (next true) s → Runs aim (on g below target s) (next false) s
+      → Runs aim (on g (below ++ Number n ∷ []) place s) (next (is_true n)) s
   branch_then aim target below n place next s stands in_frame so not_so =
-      branched g (λ b. Runs aim (on g (below ++ Number n ∷ []) place s.output) (next b) s) target below n place s.output stands in_frame
+      branched g (λ b. Runs aim (on g (below ++ Number n ∷ []) place s) (next b) s) target below n place s stands in_frame
       (λ came. runs_from aim 1 _ _ (next true) s came so) (λ came. runs_from aim 1 _ _ (next false) s came not_so)
 
   -- ---- what comes on top of the cells that are held
@@ -150,7 +150,7 @@ module _ (g : Setting) where
   abbrev pub top_on : {A : Type 0} → (A → Type 0) → (A → List Cell) → List Cell → ℕ → Aim A
   top_on IsSo top held place = record {
     Holds = λ v s. (base : List Cell) × Based g s base × IsSo v;
-    there = λ v s h. on g ((h.0 ++ held) ++ top v) place s.output;
+    there = λ v s h. on g ((h.0 ++ held) ++ top v) place s;
     gain = 0;
   }
 
@@ -158,15 +158,15 @@ module _ (g : Setting) where
   pub beside : {A B : Type 0} (IsSo : A → Type 0) (top : A → List Cell) (aim : ℕ → Aim B) (c c' : List Instr) (place : ℕ) (base held row : List Cell)
       (first : Action A) (next : A → Action B) (s : effect.State) → UsesTurnsExactly first → Stands g.target place (c ++ c')
       → (Stands g.target place c
-      → Runs (top_on IsSo top (held ++ row) (place + length c)) (on g (base ++ (held ++ row)) place s.output) first s)
+      → Runs (top_on IsSo top (held ++ row) (place + length c)) (on g (base ++ (held ++ row)) place s) first s)
       → ((base2 : List Cell) (v : A) (t : effect.State) → Stands g.target (place + length c) c' → Based g t base2 → IsSo v
-      → Runs (aim (place + length c + length c')) (on g (((base2 ++ held) ++ row) ++ top v) (place + length c) t.output) (next v) t)
-      → Runs (aim (place + length (c ++ c'))) (on g ((base ++ held) ++ row) place s.output) (first >>= next) s
+      → Runs (aim (place + length c + length c')) (on g (((base2 ++ held) ++ row) ++ top v) (place + length c) t) (next v) t)
+      → Runs (aim (place + length (c ++ c'))) (on g ((base ++ held) ++ row) place s) (first >>= next) s
   beside IsSo top aim c c' place base held row first next s exact stands runs h =
-      subst (λ cells. Runs (aim (place + length (c ++ c'))) (on g cells place s.output) (first >>= next) s) (sym (append_assoc base held row))
+      subst (λ cells. Runs (aim (place + length (c ++ c'))) (on g cells place s) (first >>= next) s) (sym (append_assoc base held row))
       (then_code (top_on IsSo top (held ++ row)) aim c c' place _ first next s exact stands runs
-      (λ v t x rest.
-      subst (λ cells. Runs (aim (place + length c + length c')) (on g (cells ++ top v) (place + length c) t.output) (next v) t)
+      (λ v t x rest le.
+      subst (λ cells. Runs (aim (place + length c + length c')) (on g (cells ++ top v) (place + length c) t) (next v) t)
       (append_assoc x.0 held row) (h x.0 v t rest x.1 x.2)))
 
   -- ---- the code of an expression
@@ -186,7 +186,7 @@ module _ (g : Setting) where
 
   -- a value that is there after some instructions
   pub gives : (least : ℕ) (m : State) (base held : List Cell) (place : ℕ) (v : Value) (s : effect.State) → Based g s base
-      → Comes g.target least m (on g ((base ++ held) ++ Number (number_of v) ∷ []) place s.output) → Fits (number_of v) → g.below + length held < g.limit
+      → Comes g.target least m (on g ((base ++ held) ++ Number (number_of v) ∷ []) place s) → Fits (number_of v) → g.below + length held < g.limit
       → Arrives (value_on held place) s.turns m (Gives v s)
   gives least m base held place v s based l fit room =
       ((base, based, (fit, room)), comes_less g.target (s.turns - s.turns + 0) least m _ (omega arith) l, omega arith)
@@ -196,8 +196,8 @@ module _ (g : Setting) where
       (next : Value → Action A) (s : effect.State) → UsesTurnsExactly first → Stands g.target place (c ++ c')
       → (Stands g.target place c → Evaluates m held (place + length c) first s)
       → ((base : List Cell) (v : Value) (t : effect.State) → Stands g.target (place + length c) c' → Based g t base → Fits (number_of v)
-      → g.below + length held < g.limit
-      → Runs (aim (place + length c + length c')) (on g ((base ++ held) ++ Number (number_of v) ∷ []) (place + length c) t.output) (next v) t)
+      → g.below + length held < g.limit → t.turns ≤ s.turns
+      → Runs (aim (place + length c + length c')) (on g ((base ++ held) ++ Number (number_of v) ∷ []) (place + length c) t) (next v) t)
       → Runs (aim (place + length (c ++ c'))) m (first >>= next) s
   value_then aim c c' place m held first next s exact stands runs h =
       then_code (value_on held) aim c c' place m first next s exact stands runs (λ v t x rest. h x.0 v t rest x.1 x.2.0 x.2.1)
@@ -207,14 +207,14 @@ module _ (g : Setting) where
       (next : ℤ → Action A) (s : effect.State) → UsesTurnsExactly first → Stands g.target place (c ++ c')
       → (Stands g.target place c → Evaluates m held (place + length c) (as_value first) s)
       → ((base : List Cell) (n : ℤ) (t : effect.State) → Stands g.target (place + length c) c' → Based g t base → Fits n
-      → Runs (aim (place + length c + length c')) (on g ((base ++ held) ++ Number n ∷ []) (place + length c) t.output) (next n) t)
+      → Runs (aim (place + length c + length c')) (on g ((base ++ held) ++ Number n ∷ []) (place + length c) t) (next n) t)
       → Runs (aim (place + length (c ++ c'))) m (first >>= next) s
   number_then aim c c' place m held first next s exact stands runs h =
       runs_same (aim (place + length (c ++ c'))) m (first >>= next) (as_value first >>= λ v. next (number_of v)) s
       (λ t. sym (and_then-and_then (first t) (λ n. effect.give (value.Number n)) (λ v. next (number_of v))))
       (value_then aim c c' place m held (as_value first) (λ v. next (number_of v)) s
       (exact_then first (λ n. effect.give (value.Number n)) exact (λ n. exact_give (value.Number n))) stands runs
-      (λ base v t rest based fit room. h base (number_of v) t rest based fit))
+      (λ base v t rest based fit room le. h base (number_of v) t rest based fit))
 
   -- ---- the code of a statement
 
@@ -222,7 +222,7 @@ module _ (g : Setting) where
   abbrev pub kept_on : List Cell → ℕ → Aim (Unit {0})
   kept_on held place = record {
     Holds = λ v s. (base : List Cell) × Based g s base;
-    there = λ v s h. on g (h.0 ++ held) place s.output;
+    there = λ v s h. on g (h.0 ++ held) place s;
     gain = 0;
   }
 
@@ -231,15 +231,15 @@ module _ (g : Setting) where
 
   -- a state that is there after some instructions
   pub done : (least : ℕ) (m : State) (base held : List Cell) (place : ℕ) (s : effect.State) → Based g s base
-      → Comes g.target least m (on g (base ++ held) place s.output) → Arrives (kept_on held place) s.turns m (Gives tt s)
+      → Comes g.target least m (on g (base ++ held) place s) → Arrives (kept_on held place) s.turns m (Gives tt s)
   done least m base held place s based l = ((base, based), comes_less g.target (s.turns - s.turns + 0) least m _ (omega arith) l, omega arith)
 
   -- a statement, and the code behind it
   pub done_then : {A : Type 0} (aim : ℕ → Aim A) (c c' : List Instr) (place : ℕ) (m : State) (held : List Cell) (first : Action (Unit {0}))
       (next : Unit {0} → Action A) (s : effect.State) → UsesTurnsExactly first → Stands g.target place (c ++ c')
       → (Stands g.target place c → Executes m held (place + length c) first s)
-      → ((base : List Cell) (t : effect.State) → Stands g.target (place + length c) c' → Based g t base
-      → Runs (aim (place + length c + length c')) (on g (base ++ held) (place + length c) t.output) (next tt) t)
+      → ((base : List Cell) (t : effect.State) → Stands g.target (place + length c) c' → Based g t base → t.turns ≤ s.turns
+      → Runs (aim (place + length c + length c')) (on g (base ++ held) (place + length c) t) (next tt) t)
       → Runs (aim (place + length (c ++ c'))) m (first >>= next) s
   done_then aim c c' place m held first next s exact stands runs h =
       then_code (kept_on held) aim c c' place m first next s exact stands runs (λ v t x rest. h x.0 t rest x.1)
@@ -247,7 +247,16 @@ module _ (g : Setting) where
   -- what the machine does behind a statement that gives
   pub behind_executes : (m : State) (held held' : List Cell) (place place' : ℕ) (action : Action (Unit {0})) (s : effect.State)
       → Executes m held place action s
-      → ((base : List Cell) (t : effect.State) → Based g t base → Comes g.target 0 (on g (base ++ held) place t.output) (on g (base ++ held') place' t.output))
+      → ((base : List Cell) (t : effect.State) → Based g t base → Comes g.target 0 (on g (base ++ held) place t) (on g (base ++ held') place' t))
       → Executes m held' place' action s
   behind_executes m held held' place place' action s e h =
       runs_to (kept_on held place) (kept_on held' place') m action s (omega arith) e (λ v t x. ((x.0, x.1), h x.0 t x.1))
+
+  -- a statement, and a jump behind it
+  pub done_jumps : (c c' : List Instr) (place out : ℕ) (m : State) (held : List Cell) (action : Action (Unit {0})) (s : effect.State)
+      → Stands g.target place (c ++ (instr.Jump out ∷ c')) → (Stands g.target place c → Executes m held (place + length c) action s)
+      → Executes m held out action s
+  done_jumps c c' place out m held action s stands runs =
+      behind_executes m held held (place + length c) out action s (runs (stands_front g.target place c (instr.Jump out ∷ c') stands))
+      (λ base t based.
+      comes_less g.target 0 1 _ _ (omega arith) (jumps g out (base ++ held) (place + length c) t (stands_back g.target place c (instr.Jump out ∷ c') stands).0))

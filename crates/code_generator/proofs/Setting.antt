@@ -52,6 +52,25 @@ pub record Shown (tree : Tree) (world : World) (fixed : Fixed) (end frame : ℕ)
     pub way : Way
     pub reaches : Reaches tree world fixed end place variable (owner + (variable_home scope root).start) (variable_home scope root).refers way
 
+-- the cells below those that are held, as many as told and alike to a store, where so many activations have begun, these
+-- blocks last, and so many turns are left
+pub record Grounded (world : World) (fixed : Fixed) (below : ℕ) (blocks : List ℕ) (depth : ℕ) (store : meant.Store) (activations : ℕ) (living : List ℕ)
+    (turns : ℕ) (base : List Cell) : Type 0 where
+  pub full : length base ≡ below
+  pub alike : Alike world store base
+  pub keeps : Keeps fixed base
+  -- the activations that live have begun, and those that haven't own nothing
+  pub old : (a : Activation) → Lives world a → a.number < activations
+  pub fresh : (p : Place) → activations ≤ p.activation → stored store p ≡ None
+  pub lasting : living ≡ blocks
+  pub deep : turns < depth
+
+-- from a state the machine stops as the program ends
+pub record HaltsAs (target : Target) (tree : Tree) (m : State) (end : Ending) (output : List ℕ) : Type 0 where
+  pub why : Stop
+  pub stops : Stops target m (record { output = output; stop = why })
+  pub so : StopsAs tree end why
+
 -- an activation of a block that runs on the machine
 pub record Setting : Type 0 where
   pub known : Known
@@ -66,7 +85,6 @@ pub record Setting : Type 0 where
   pub comes_back : (place count routine : ℕ) → slice_get target.whole place ≡ Some (instr.CallProcedure count routine)
       → (target.to place + 1 < length target.code) × (target.to place + 1 ≤ 1000000)
   pub repeats_are_few : (number : ℕ) (block : Block) → slice_get tree.blocks.items number ≡ Some block → suc (repeats block.body) ≤ target.rate
-  pub input : List ℕ
   -- how many cells the machine has, and how far the frame's pushes go
   pub size : ℕ
   pub limit : ℕ
@@ -103,8 +121,6 @@ pub record Setting : Type 0 where
   -- an offset reaches all of a variable
   pub near : (root : ℕ) (variable : Variable) → slice_get tree.variables.items root ≡ Some variable → (variable_home scope root).refers ≡ false
       → (variable_home scope root).start + cells_of tree.types variable.type_id ≤ 16777215
-  -- where the cells begin that are held
-  pub above_is : below ≡ frame + scope.above
   pub environment : Environment
   pub types_are : environment.types ≡ tree.types
   pub shows : (root : ℕ) (variable : Variable) → slice_get tree.variables.items root ≡ Some variable → is_visible (outline_of tree) number root ≡ true
@@ -139,29 +155,21 @@ module _ (g : Setting) where
   entered number s = record s { visited = s.visited ++ record { number = number; environment = g.environment; store = s.store } ∷ [] }
 
   -- the machine in the running frame, at an instruction of its code
-  abbrev pub running_at : List Cell → ℕ → List ℕ → State
-  running_at cells index output =
-      record { frames = framed g.frame g.limit g.size cells; place = index; input = g.input; output = output }
+  abbrev pub running_at : List Cell → ℕ → effect.State → State
+  running_at cells index s =
+      record { frames = framed g.frame g.limit g.size cells; place = index; input = s.input; output = s.output }
 
   -- the machine in the running frame, where a place of the program's code goes
-  abbrev pub on : List Cell → ℕ → List ℕ → State
-  on cells place output = running_at cells (g.target.to place) output
+  abbrev pub on : List Cell → ℕ → effect.State → State
+  on cells place s = running_at cells (g.target.to place) s
 
-  -- the cells below those that are held, as many as ever and alike to a store, where so many activations have begun, these
-  -- blocks last, and so many turns are left
-  pub record Grounded (store : meant.Store) (activations : ℕ) (living : List ℕ) (turns : ℕ) (base : List Cell) : Type 0 where
-    pub full : length base ≡ g.below
-    pub alike : Alike g.world store base
-    pub keeps : Keeps g.fixed base
-    -- the activations that live have begun, and those that haven't own nothing
-    pub old : (a : Activation) → Lives g.world a → a.number < activations
-    pub fresh : (p : Place) → activations ≤ p.activation → stored store p ≡ None
-    pub lasting : living ≡ g.number ∷ g.callers
-    pub deep : turns < g.depth
-
-  -- the same of a state
+  -- the cells below those that are held, on which the code of a piece of the block stands
   abbrev pub Based : effect.State → List Cell → Type 0
-  Based s base = Grounded s.store s.activations s.living s.turns base
+  Based s base = Grounded g.world g.fixed g.below (g.number ∷ g.callers) g.depth s.store s.activations s.living s.turns base
+
+  -- these are all the cells that are held: above them the next one lies where the code takes it to lie
+  abbrev pub AllHeld : List Cell → Type 0
+  AllHeld held = g.below + length held ≡ g.frame + g.scope.next
 
   -- behind some turns
   pub later : (left : ℕ) (s : effect.State) (base : List Cell) → left ≤ s.turns → Based s base → Based (record s { turns = left }) base
@@ -188,10 +196,8 @@ module _ (g : Setting) where
   limit_far = let a = g.inside in let b = g.small in omega arith
 
   -- from here the machine stops as the program ends
-  pub record Halts (m : State) (end : Ending) (output : List ℕ) : Type 0 where
-    pub why : Stop
-    pub stops : Stops g.target m (record { output = output; stop = why })
-    pub so : StopsAs g.tree end why
+  abbrev pub Halts : State → Ending → List ℕ → Type 0
+  Halts m end output = HaltsAs g.target g.tree m end output
 
   -- What the machine does where the program ends, with so many turns left here: it stops as the program ends; or the
   -- turns were used up, and it goes on by as many instructions at least, but for those that have none yet; or the
@@ -225,98 +231,98 @@ module _ (g : Setting) where
   Here place i = (slice_get g.target.code (g.target.to place) ≡ Some i) × (g.target.to (place + 1) ≡ g.target.to place + 1)
 
   -- an instruction that goes on with the next one
-  pub goes_on : (i : Instr) (cells after : List Cell) (place : ℕ) (output more : List ℕ) → Here place i
-      → obeys g.target i (running_at cells (g.target.to place + 1) output) ≡ Ok (running_at after (g.target.to place + 1) more)
-      → Comes g.target 1 (on cells place output) (on after (place + 1) more)
-  goes_on i cells after place output more here does =
-      subst (λ index. Comes g.target 1 (on cells place output) (running_at after index more)) (sym here.1)
-      (comes_by g.target i (on cells place output) (running_at after (g.target.to place + 1) more) here.0 does)
+  pub goes_on : (i : Instr) (cells after : List Cell) (place : ℕ) (s t : effect.State) → Here place i
+      → obeys g.target i (running_at cells (g.target.to place + 1) s) ≡ Ok (running_at after (g.target.to place + 1) t)
+      → Comes g.target 1 (on cells place s) (on after (place + 1) t)
+  goes_on i cells after place s t here does =
+      subst (λ index. Comes g.target 1 (on cells place s) (running_at after index t)) (sym here.1)
+      (comes_by g.target i (on cells place s) (running_at after (g.target.to place + 1) t) here.0 does)
 
   -- an instruction of the store alone
-  pub acts : (i : Instr) (cells after : List Cell) (place : ℕ) (output : List ℕ) (act : Frames → Attempt Frames) → Here place i → deed_of i ≡ Acts act
-      → act (framed g.frame g.limit g.size cells) ≡ Ok (framed g.frame g.limit g.size after) → Comes g.target 1 (on cells place output)
-      (on after (place + 1) output)
-  acts i cells after place output act here rule e =
-      let m = running_at cells (g.target.to place + 1) output in
-      goes_on i cells after place output output here
+  pub acts : (i : Instr) (cells after : List Cell) (place : ℕ) (s : effect.State) (act : Frames → Attempt Frames) → Here place i → deed_of i ≡ Acts act
+      → act (framed g.frame g.limit g.size cells) ≡ Ok (framed g.frame g.limit g.size after) → Comes g.target 1 (on cells place s)
+      (on after (place + 1) s)
+  acts i cells after place s act here rule e =
+      let m = running_at cells (g.target.to place + 1) s in
+      goes_on i cells after place s s here
       (ap (λ deed. carried_out g.target.sites (length g.target.code) deed m) rule ∙ ap (λ a. and_then a (with_frames m)) e)
 
   -- a jump goes where its target goes
-  pub jumps : (target : ℕ) (cells : List Cell) (place : ℕ) (output : List ℕ) → StandsAt g.target place (instr.Jump target) true
-      → Comes g.target 1 (on cells place output) (on cells target output)
-  jumps target cells place output stands = comes_by g.target (instr.Jump (g.target.to target)) (on cells place output) (on cells target output) stands.0 refl
+  pub jumps : (target : ℕ) (cells : List Cell) (place : ℕ) (s : effect.State) → StandsAt g.target place (instr.Jump target) true
+      → Comes g.target 1 (on cells place s) (on cells target s)
+  jumps target cells place s stands = comes_by g.target (instr.Jump (g.target.to target)) (on cells place s) (on cells target s) stands.0 refl
 
   -- a conditional jump pops a number, and goes where its target goes if that is 0
-  branches_by : (target : ℕ) (cells below : List Cell) (place : ℕ) (output : List ℕ) (holds : Bool) → Here place (instr.JumpIfFalse (g.target.to target))
+  branches_by : (target : ℕ) (cells below : List Cell) (place : ℕ) (s : effect.State) (holds : Bool) → Here place (instr.JumpIfFalse (g.target.to target))
       → jumped_if_false (g.target.to target) (framed g.frame g.limit g.size cells) ≡ Ok
       (framed g.frame g.limit g.size below, if holds then None else Some (g.target.to target))
-      → Comes g.target 1 (on cells place output) (on below (if holds then place + 1 else target) output)
-  branches_by target cells below place output true here e =
-      subst (λ index. Comes g.target 1 (on cells place output) (running_at below index output)) (sym here.1)
-      (comes_by g.target (instr.JumpIfFalse (g.target.to target)) (on cells place output) (running_at below (g.target.to place + 1) output) here.0
-      (ap (λ r. and_then r (with_place (running_at cells (g.target.to place + 1) output))) e))
-  branches_by target cells below place output false here e =
-      comes_by g.target (instr.JumpIfFalse (g.target.to target)) (on cells place output) (on below target output) here.0
-      (ap (λ r. and_then r (with_place (running_at cells (g.target.to place + 1) output))) e)
+      → Comes g.target 1 (on cells place s) (on below (if holds then place + 1 else target) s)
+  branches_by target cells below place s true here e =
+      subst (λ index. Comes g.target 1 (on cells place s) (running_at below index s)) (sym here.1)
+      (comes_by g.target (instr.JumpIfFalse (g.target.to target)) (on cells place s) (running_at below (g.target.to place + 1) s) here.0
+      (ap (λ r. and_then r (with_place (running_at cells (g.target.to place + 1) s))) e))
+  branches_by target cells below place s false here e =
+      comes_by g.target (instr.JumpIfFalse (g.target.to target)) (on cells place s) (on below target s) here.0
+      (ap (λ r. and_then r (with_place (running_at cells (g.target.to place + 1) s))) e)
 
-  pub branches_on : (target : ℕ) (below : List Cell) (n : ℤ) (place : ℕ) (output : List ℕ) → StandsAt g.target place (instr.JumpIfFalse target) true
+  pub branches_on : (target : ℕ) (below : List Cell) (n : ℤ) (place : ℕ) (s : effect.State) → StandsAt g.target place (instr.JumpIfFalse target) true
       → g.frame + 4 ≤ length below
-      → Comes g.target 1 (on (below ++ Number n ∷ []) place output) (on below (if is_true n then place + 1 else target) output)
-  branches_on target below n place output stands in_frame =
-      branches_by target (below ++ Number n ∷ []) below place output (is_true n) stands
+      → Comes g.target 1 (on (below ++ Number n ∷ []) place s) (on below (if is_true n then place + 1 else target) s)
+  branches_on target below n place s stands in_frame =
+      branches_by target (below ++ Number n ∷ []) below place s (is_true n) stands
       (branches g.frame g.limit g.size below in_frame (g.target.to target) n)
 
   -- what is so of either way
-  pub branched : (IsSo : Bool → Type 0) (target : ℕ) (below : List Cell) (n : ℤ) (place : ℕ) (output : List ℕ)
+  pub branched : (IsSo : Bool → Type 0) (target : ℕ) (below : List Cell) (n : ℤ) (place : ℕ) (s : effect.State)
       → StandsAt g.target place (instr.JumpIfFalse target) true → g.frame + 4 ≤ length below
-      → (Comes g.target 1 (on (below ++ Number n ∷ []) place output) (on below (place + 1) output) → IsSo true)
-      → (Comes g.target 1 (on (below ++ Number n ∷ []) place output) (on below target output) → IsSo false) → IsSo (is_true n)
-  branched IsSo target below n place output stands in_frame so not_so = by (is_true n) (branches_on target below n place output stands in_frame)
+      → (Comes g.target 1 (on (below ++ Number n ∷ []) place s) (on below (place + 1) s) → IsSo true)
+      → (Comes g.target 1 (on (below ++ Number n ∷ []) place s) (on below target s) → IsSo false) → IsSo (is_true n)
+  branched IsSo target below n place s stands in_frame so not_so = by (is_true n) (branches_on target below n place s stands in_frame)
     where
-      by : (b : Bool) → Comes g.target 1 (on (below ++ Number n ∷ []) place output) (on below (if b then place + 1 else target) output) → IsSo b
+      by : (b : Bool) → Comes g.target 1 (on (below ++ Number n ∷ []) place s) (on below (if b then place + 1 else target) s) → IsSo b
       by true came = so came
       by false came = not_so came
 
   -- a check, which stays or is left out, and what it tests
-  module _ (check : Instr) (cells : List Cell) (place site : ℕ) (output : List ℕ) (test : Frames → Attempt Bool) (same : moved g.target.to check ≡ check)
+  module _ (check : Instr) (cells : List Cell) (place site : ℕ) (s : effect.State) (test : Frames → Attempt Bool) (same : moved g.target.to check ≡ check)
       (rule : deed_of check ≡ Tests site test) where
     abbrev tested_at : Attempt Bool → Next
-    tested_at = checked g.target.sites site (running_at cells (g.target.to place + 1) output)
+    tested_at = checked g.target.sites site (running_at cells (g.target.to place + 1) s)
 
     tests_it : (holds : Attempt Bool) → test (framed g.frame g.limit g.size cells) ≡ holds
-        → obeys g.target check (running_at cells (g.target.to place + 1) output) ≡ tested_at holds
+        → obeys g.target check (running_at cells (g.target.to place + 1) s) ≡ tested_at holds
     tests_it holds e =
-        ap (λ deed. carried_out g.target.sites (length g.target.code) deed (running_at cells (g.target.to place + 1) output)) rule ∙ ap tested_at e
+        ap (λ deed. carried_out g.target.sites (length g.target.code) deed (running_at cells (g.target.to place + 1) s)) rule ∙ ap tested_at e
 
     passes_by : (stayed : Bool) → StandsAt g.target place check stayed → test (framed g.frame g.limit g.size cells) ≡ Ok true
-        → Comes g.target 0 (on cells place output) (on cells (place + 1) output)
+        → Comes g.target 0 (on cells place s) (on cells (place + 1) s)
     passes_by true stands e =
         comes_less g.target 0 1 _ _ (omega arith)
-        (goes_on check cells cells place output output (stands.0 ∙ ap Some same, stands.1) (tests_it (Ok true) e))
+        (goes_on check cells cells place s s (stands.0 ∙ ap Some same, stands.1) (tests_it (Ok true) e))
     passes_by false stands e =
-        subst (λ index. Comes g.target 0 (on cells place output) (running_at cells index output)) (sym stands) (stays_here g.target (on cells place output))
+        subst (λ index. Comes g.target 0 (on cells place s) (running_at cells index s)) (sym stands) (stays_here g.target (on cells place s))
 
     -- the test holds
     pub passes : StandsAt g.target place check (g.target.is_open site) → test (framed g.frame g.limit g.size cells) ≡ Ok true
-        → Comes g.target 0 (on cells place output) (on cells (place + 1) output)
+        → Comes g.target 0 (on cells place s) (on cells (place + 1) s)
     passes stands e = passes_by (g.target.is_open site) stands e
 
     fails_by : (turns : ℕ) (stayed : Bool) → g.target.is_open site ≡ stayed → StandsAt g.target place check stayed → site < length g.tree.sites.items
-        → test (framed g.frame g.limit g.size cells) ≡ Ok false → Ends turns (on cells place output) (ending.Error site) output
+        → test (framed g.frame g.limit g.size cells) ≡ Ok false → Ends turns (on cells place s) (ending.Error site) s.output
     fails_by turns true known stands within e =
         let found = slice_there g.tree.sites.items site within in
         let entry = ap (λ sites. slice_get sites site) g.sites_are ∙ slice_map in_plain_numbers g.tree.sites.items site found.0 found.1 in
         let does = tests_it (Ok false) e ∙ ap (λ o. Err (error_of o)) entry in
         inl (record {
           why = stop.Error (in_plain_numbers found.0);
-          stops = stops_by g.target check (on cells place output) (stop.Error (in_plain_numbers found.0)) (stands.0 ∙ ap Some same) does;
+          stops = stops_by g.target check (on cells place s) (stop.Error (in_plain_numbers found.0)) (stands.0 ∙ ap Some same) does;
           so = (found.0, found.1, refl);
         })
     fails_by turns false closed stands within e = inr closed
 
     -- the test doesn't hold
     pub fails : (turns : ℕ) → StandsAt g.target place check (g.target.is_open site) → site < length g.tree.sites.items
-        → test (framed g.frame g.limit g.size cells) ≡ Ok false → Ends turns (on cells place output) (ending.Error site) output
+        → test (framed g.frame g.limit g.size cells) ≡ Ok false → Ends turns (on cells place s) (ending.Error site) s.output
     fails turns stands within e = fails_by turns (g.target.is_open site) refl stands within e
 
   -- ---- a full store

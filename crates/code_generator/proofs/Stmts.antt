@@ -35,7 +35,6 @@ use Rattle.meaning.specs.declared.store.Value.TheVariants as value
 use Rattle.meaning.specs.Store.{kept, forgotten}
 use Rattle.meaning.specs.Counting.{has_values, next_value, value_behind}
 use Rattle.meaning.specs.Effect as effect
-use Rattle.meaning.specs.Laws.{GoesRoundByRound}
 use Rattle.meaning.specs.Effect.{Round}
 use Rattle.meaning.specs.Meaning.{Execution, is_so, turn_if, while_round, repeat_round, for_round, for_rounds, for_between, is_among, arm_of, whole_of}
 use Rattle.meaning.specs.Meaning.{alternative_of, width_of, effect_of, effect_step, parameter_of, all_of, line_ended, call_of, passing_of}
@@ -54,9 +53,10 @@ use Rattle.code_scheme.specs.Depth.{call_depth, greatest, passed_depth, stmt_dep
 use Rattle.typed_tree.specs.WellFormed.{is_well_formed_width, is_well_formed_parameter, is_well_formed_test, is_well_formed_stmt, fits_target, whole_indexes}
 use Rattle.typed_tree.specs.WellFormed.{are_whole, stmt_is_well_formed, is_control, is_well_formed_call, is_well_formed_passed, is_well_formed_whole, length_of}
 use Rattle.code_generator.proofs.Reach.{Stands, StandsAt, stands_front, stands_back, Comes, comes_less, comes_on, stays_here}
-use Rattle.code_generator.proofs.Setting.{branched, goes_around, Setting, outline, around, exact_around, on, Based, later, linked, limit_far, Here, goes_on}
+use Rattle.code_generator.proofs.Setting.{AllHeld, branched, goes_around, Setting, outline, around, exact_around, on, Based, later, linked, limit_far}
+use Rattle.code_generator.proofs.Setting.{Here, goes_on}
 use Rattle.code_generator.proofs.Setting.{jumps, fails, entered}
-use Rattle.code_generator.proofs.Loops.{Rounds, RoundsBehind, RoundRuns, rounds_later, turned, loops, reset, to_reset, rounds_from_reset, executes_from_reset}
+use Rattle.code_generator.proofs.Loops.{Rounds, RoundsBehind, RoundRuns, round_again, round_over, turn_then, turned, loops, reset, rounds_from_reset}
 use Rattle.code_generator.proofs.Loops.{round_on}
 use Rattle.code_generator.proofs.Accesses.{Indexes, expressions, wells, codes as index_codes}
 use Rattle.code_generator.proofs.Assigns.{told, told_back, assign_runs, copy_runs}
@@ -67,13 +67,14 @@ use Rattle.code_generator.proofs.Repeats.{repeats, repeats_step}
 use Rattle.code_generator.proofs.Wholes.{AllFit, few_components, fitting_bytes, whole_runs, row_then}
 use Rattle.code_generator.proofs.Held.{slot, IsScalar, is_scalar, variable_kept, variable_forgotten, loads_held, stores_held, decides, begins, steps, leaves}
 use Rattle.code_generator.proofs.Held.{compares_row, last_is, next_fits, one_fits}
+use Rattle.code_scheme.proofs.Arms.{length-arms, length-row}
 use Rattle.code_scheme.proofs.Pieces.{length-For}
 use Rattle.code_generator.proofs.Acts.{writes}
 use Rattle.code_generator.proofs.Numbers.{Fits, fits_by_abs, sum_is, difference_is}
 use Rattle.code_generator.proofs.Rows.{cells_of, length-cells_of, numbers_of, same_byte, writes_string}
-use Rattle.code_generator.proofs.Exprs.{call_runs, expr_runs, width_runs, expr_then}
-use Rattle.code_generator.proofs.Running.{Aim, Executes, Runs, behind_executes, branch_then, done, done_then, kept_on, number_then, runs_from, then_runs}
-use Rattle.code_generator.proofs.Running.{value_on}
+use Rattle.code_generator.proofs.Exprs.{call_runs, width_runs, expr_then}
+use Rattle.code_generator.proofs.Running.{Aim, done_jumps, Executes, Runs, behind_executes, branch_then, done, done_then, kept_on, number_then, runs_from}
+use Rattle.code_generator.proofs.Running.{then_runs}
 use Rattle.code_generator.proofs.Lists.{length_one}
 
 -- what the machine writes in a width is what the program writes
@@ -115,46 +116,50 @@ placed_flat : {X : Type 0} (code_of : Scope → X → List Instr) (scope : Scope
 placed_flat code_of scope [] place = refl
 placed_flat code_of scope (x ∷ xs) place = ap (λ rest. code_of scope x ++ rest) (placed_flat code_of scope xs (place + length (code_of scope x)))
 
+-- the state behind a text
+abbrev written : effect.State → List ℕ → effect.State
+written s text = record s { output = s.output ++ text }
+
 module _ (g : Setting) (known : CallsAt g) where
   -- a value and its width give way to a text
-  text_runs : (write : Instr) (text : List ℕ) (place : ℕ) (cells after : List Cell) (output : List ℕ)
+  text_runs : (write : Instr) (text : List ℕ) (place : ℕ) (cells after : List Cell) (s : effect.State)
       (act : frames.Frames → Attempt (frames.Frames × List ℕ)) → Here g place write → deed_of write ≡ Writes act
-      → act (frames_of g cells) ≡ Ok (frames_of g after, text) → Comes g.target 1 (on g cells place output) (on g after (place + 1) (output ++ text))
-  text_runs write text place cells after output act here rule does =
-      let m = fetched_at g cells place output in
-      goes_on g write cells after place output (output ++ text) here
+      → act (frames_of g cells) ≡ Ok (frames_of g after, text) → Comes g.target 1 (on g cells place s) (on g after (place + 1) (written s text))
+  text_runs write text place cells after s act here rule does =
+      let m = fetched_at g cells place s in
+      goes_on g write cells after place s (written s text) here
       (ap (λ deed. machine.carried_out g.target.sites (length g.target.code) deed m) rule ∙ ap (λ r. machine.and_then r (with_text m)) does)
 
-  ordinal_writes : (r : Representation) (place : ℕ) (cells : List Cell) (n w : ℤ) (output : List ℕ) → Fits n → Stands g.target place (ordinal_instr r ∷ [])
+  ordinal_writes : (r : Representation) (place : ℕ) (cells : List Cell) (n w : ℤ) (s : effect.State) → Fits n → Stands g.target place (ordinal_instr r ∷ [])
       → g.frame + 4 ≤ length cells
-      → Comes g.target 1 (on g ((cells ++ Number n ∷ []) ++ Number w ∷ []) place output)
-      (on g cells (place + 1) (output ++ effect.text_of r n w))
-  ordinal_writes representation.Char place cells n w output fit stands in_frame =
+      → Comes g.target 1 (on g ((cells ++ Number n ∷ []) ++ Number w ∷ []) place s)
+      (on g cells (place + 1) (written s (effect.text_of r n w)))
+  ordinal_writes representation.Char place cells n w s fit stands in_frame =
       let two = (cells ++ Number n ∷ []) ++ Number w ∷ [] in
-      subst (λ t. Comes g.target 1 (on g two place output) (on g cells (place + 1) (output ++ t))) (same_char_text n w fit)
-      (text_runs instr.WriteChar (texts.char_text n w) place two cells output _ stands.0 refl
+      subst (λ t. Comes g.target 1 (on g two place s) (on g cells (place + 1) (written s t))) (same_char_text n w fit)
+      (text_runs instr.WriteChar (texts.char_text n w) place two cells s _ stands.0 refl
       (writes g.frame g.limit g.size cells in_frame n w texts.char_text))
-  ordinal_writes representation.Integer place cells n w output fit stands in_frame =
+  ordinal_writes representation.Integer place cells n w s fit stands in_frame =
       let two = (cells ++ Number n ∷ []) ++ Number w ∷ [] in
-      subst (λ t. Comes g.target 1 (on g two place output) (on g cells (place + 1) (output ++ t))) (same_integer_text n w)
-      (text_runs instr.WriteInteger (texts.integer_text n w) place two cells output _ stands.0 refl
+      subst (λ t. Comes g.target 1 (on g two place s) (on g cells (place + 1) (written s t))) (same_integer_text n w)
+      (text_runs instr.WriteInteger (texts.integer_text n w) place two cells s _ stands.0 refl
       (writes g.frame g.limit g.size cells in_frame n w texts.integer_text))
-  ordinal_writes representation.Boolean place cells n w output fit stands in_frame =
+  ordinal_writes representation.Boolean place cells n w s fit stands in_frame =
       let two = (cells ++ Number n ∷ []) ++ Number w ∷ [] in
-      subst (λ t. Comes g.target 1 (on g two place output) (on g cells (place + 1) (output ++ t)))
+      subst (λ t. Comes g.target 1 (on g two place s) (on g cells (place + 1) (written s t)))
       (same_string_text (if frames.is_true n then codes "true" else codes "false") w)
-      (text_runs instr.WriteBoolean (texts.boolean_text n w) place two cells output _ stands.0 refl
+      (text_runs instr.WriteBoolean (texts.boolean_text n w) place two cells s _ stands.0 refl
       (writes g.frame g.limit g.size cells in_frame n w texts.boolean_text))
 
-  string_writes : (count : ℕ) (row : List Value) (place : ℕ) (cells : List Cell) (w : ℤ) (output : List ℕ) → length row ≡ count → AllFit row
+  string_writes : (count : ℕ) (row : List Value) (place : ℕ) (cells : List Cell) (w : ℤ) (s : effect.State) → length row ≡ count → AllFit row
       → Stands g.target place (instr.WriteString count ∷ []) → g.frame + 4 ≤ length cells
-      → Comes g.target 1 (on g ((cells ++ cells_of row) ++ Number w ∷ []) place output)
-      (on g cells (place + 1) (output ++ effect.row_text row w))
-  string_writes count row place cells w output long fit stands in_frame =
+      → Comes g.target 1 (on g ((cells ++ cells_of row) ++ Number w ∷ []) place s)
+      (on g cells (place + 1) (written s (effect.row_text row w)))
+  string_writes count row place cells w s long fit stands in_frame =
       let string = (cells ++ cells_of row) ++ Number w ∷ [] in
-      subst (λ t. Comes g.target 1 (on g string place output) (on g cells (place + 1) (output ++ t)))
+      subst (λ t. Comes g.target 1 (on g string place s) (on g cells (place + 1) (written s t)))
       (same_string_text (map texts.byte_of (numbers_of row)) w ∙ ap (λ bytes. effect.string_text bytes w) (fitting_bytes row fit))
-      (text_runs (instr.WriteString count) (texts.string_text (map texts.byte_of (numbers_of row)) w) place string cells output _ stands.0 refl
+      (text_runs (instr.WriteString count) (texts.string_text (map texts.byte_of (numbers_of row)) w) place string cells s _ stands.0 refl
       (writes_string g.frame g.limit g.size cells in_frame row w count long))
 
   -- a width above the cells of a value, with which it gives way to a text
@@ -163,9 +168,9 @@ module _ (g : Setting) (known : CallsAt g) where
       → Stands g.target place (width_code g.scope width v ++ (write_instr v ∷ [])) → is_well_formed_width (outline g) g.number width ≡ true
       → Based g s base
       → g.below + length held + (width_depth width + length row) ≤ g.limit
-      → ((there : ℕ) (cells : List Cell) (w : ℤ) (output : List ℕ) → Stands g.target there (write_instr v ∷ []) → g.frame + 4 ≤ length cells
-      → Comes g.target 1 (on g ((cells ++ cells_of row) ++ Number w ∷ []) there output) (on g cells (there + 1) (output ++ text w)))
-      → Executes g (on g ((base ++ held) ++ cells_of row) place s.output) held (place + length (width_code g.scope width v ++ (write_instr v ∷ [])))
+      → ((there : ℕ) (cells : List Cell) (w : ℤ) (u : effect.State) → Stands g.target there (write_instr v ∷ []) → g.frame + 4 ≤ length cells
+      → Comes g.target 1 (on g ((cells ++ cells_of row) ++ Number w ∷ []) there u) (on g cells (there + 1) (written u (text w))))
+      → Executes g (on g ((base ++ held) ++ cells_of row) place s) held (place + length (width_code g.scope width v ++ (write_instr v ∷ [])))
       (width_of width default (around g) >>= (λ w. effect.write (text w))) s
   width_writes width v default row text place base held s is fit stands good based deep writes =
       let wide = width_code g.scope width v in
@@ -173,15 +178,15 @@ module _ (g : Setting) (known : CallsAt g) where
       let more = held ++ cells_of row in
       let long = length-append held (cells_of row) in
       let next : ℤ → Action (Unit {0}) = λ w. effect.write (text w) in
-      subst (λ cells. Executes g (on g cells place s.output) held (place + length (wide ++ writing)) (width_of width default (around g) >>= next) s)
+      subst (λ cells. Executes g (on g cells place s) held (place + length (wide ++ writing)) (width_of width default (around g) >>= next) s)
       (sym (append_assoc base held (cells_of row)))
       (number_then g (kept_on g held) wide writing place _ more (width_of width default (around g)) next s ((exact_around g).widths width default) stands
       (λ front. width_runs g known width v default is fit place base more s front good based (omega (arith, length-cells_of row)))
       (λ base2 w u rest based2 fit2.
-      subst (λ cells. Executes g (on g (cells ++ Number w ∷ []) (place + length wide) u.output) held (place + length wide + 1) (next w) u)
+      subst (λ cells. Executes g (on g (cells ++ Number w ∷ []) (place + length wide) u) held (place + length wide + 1) (next w) u)
       (append_assoc base2 held (cells_of row))
-      (inr (done g 1 _ base2 held (place + length wide + 1) (record u { output = u.output ++ text w }) based2
-      (writes (place + length wide) (base2 ++ held) w u.output rest (linked g u base2 held based2))))))
+      (inr (done g 1 _ base2 held (place + length wide + 1) (written u (text w)) based2
+      (writes (place + length wide) (base2 ++ held) w u rest (linked g u base2 held based2))))))
 
   -- a value that is written, and its width
   abbrev ParameterRuns : WriteParameter → Type 0
@@ -214,7 +219,7 @@ module _ (g : Setting) (known : CallsAt g) where
       (λ base2 row t rest based2 long fit.
       width_writes width (String v vec) (pos n) row (effect.row_text row) (place + length c) base2 held t (ap (λ m. instr.LoadConstant (pos m)) (sym same))
       (fits_by_abs (pos n) (omega arith)) rest parts.1 based2 (omega (arith, long))
-      (λ there cells w output here in_frame. string_writes (row_length n) row there cells w output (long ∙ same) fit here in_frame))
+      (λ there cells w u here in_frame. string_writes (row_length n) row there cells w u (long ∙ same) fit here in_frame))
 
   written_runs : (v : Written) (width : Option Width) → ParameterRuns (record { value = v; width = width })
   written_runs (Ordinal v r) width place base held s stands good based high deep =
@@ -223,10 +228,10 @@ module _ (g : Setting) (known : CallsAt g) where
       let default = default_width_of r in
       expr_then g known (kept_on g held) v (wide ++ (ordinal_instr r ∷ [])) place base held
       (λ x. width_of width default (around g) >>= λ w. effect.write (effect.text_of r (number_of x) w)) s stands parts.0 based (omega arith)
-      (λ base2 x t rest based2 fit room.
+      (λ base2 x t rest based2 fit room le.
       width_writes width (Ordinal v r) default (x ∷ []) (effect.text_of r (number_of x)) (place + length (expr_code g.scope v)) base2 held t (same_default r)
       (default_fits r) rest parts.1 based2 (omega arith)
-      (λ there cells w output here in_frame. ordinal_writes r there cells (number_of x) w output fit here in_frame))
+      (λ there cells w u here in_frame. ordinal_writes r there cells (number_of x) w u fit here in_frame))
   written_runs (String v indexes) width place base held s stands good based high deep =
       let runs = subst (StringRuns v indexes width) (told_back g known indexes.items) (string_runs v indexes width (told g known indexes.items)) in
       runs place base held s stands good based high deep
@@ -236,10 +241,10 @@ module _ (g : Setting) (known : CallsAt g) where
 
   -- nothing to do
   nothing_runs : (place : ℕ) (base held : List Cell) (s : effect.State) → Based g s base
-      → Executes g (on g (base ++ held) place s.output) held (place + 0) (give tt) s
+      → Executes g (on g (base ++ held) place s) held (place + 0) (give tt) s
   nothing_runs place base held s based =
       let e : place ≡ place + 0 = omega arith in
-      inr (done g 0 _ base held (place + 0) s based (subst (λ p. Comes g.target 0 (on g (base ++ held) place s.output) (on g (base ++ held) p s.output)) e
+      inr (done g 0 _ base held (place + 0) s based (subst (λ p. Comes g.target 0 (on g (base ++ held) place s) (on g (base ++ held) p s)) e
       (stays_here g.target _)))
 
   -- pieces that are executed one after another
@@ -247,8 +252,8 @@ module _ (g : Setting) (known : CallsAt g) where
       (exact : (x : X) → UsesTurnsExactly (meant_by x (around g))) (xs : List X)
       → Each (λ x. ExecutesAs g (code_of x) (depth_of x) (well_of x) (meant_by x)) xs → (depth place : ℕ) (base held : List Cell) (s : effect.State)
       → Stands g.target place (placed (map (λ code. code g.scope) (map code_of xs)) place) → all_hold (map well_of xs) ≡ true → Based g s base
-      → length held ≡ g.scope.height → g.below + length held + fold max depth (map depth_of xs) ≤ g.limit
-      → Executes g (on g (base ++ held) place s.output) held (place + length (placed (map (λ code. code g.scope) (map code_of xs)) place))
+      → AllHeld g held → g.below + length held + fold max depth (map depth_of xs) ≤ g.limit
+      → Executes g (on g (base ++ held) place s) held (place + length (placed (map (λ code. code g.scope) (map code_of xs)) place))
       (all_of (map meant_by xs) (around g)) s
   all_run code_of depth_of well_of meant_by exact [] each depth place base held s stands good based high deep = nothing_runs place base held s based
   all_run code_of depth_of well_of meant_by exact (x ∷ xs) each depth place base held s stands good based high deep =
@@ -257,7 +262,7 @@ module _ (g : Setting) (known : CallsAt g) where
       let d = start_within (max depth (depth_of x)) (map depth_of xs) in
       done_then g (kept_on g held) c rest place _ held (meant_by x (around g)) (λ _. all_of (map meant_by xs) (around g)) s (exact x) stands
       (λ front. each.0 place base held s front (and_parts _ _ good).0 based high (omega arith))
-      (λ base2 t back based2.
+      (λ base2 t back based2 le.
       all_run code_of depth_of well_of meant_by exact xs each.1 (max depth (depth_of x)) (place + length c) base2 held t back (and_parts _ _ good).1 based2 high
       (omega arith))
 
@@ -267,10 +272,10 @@ module _ (g : Setting) (known : CallsAt g) where
 
   -- a line end behind a writeln
   line_end_runs : (ends_line : Bool) (place : ℕ) (base held : List Cell) (s : effect.State) → Stands g.target place (line_end_code ends_line)
-      → Based g s base → Executes g (on g (base ++ held) place s.output) held (place + length (line_end_code ends_line)) (line_ended ends_line) s
+      → Based g s base → Executes g (on g (base ++ held) place s) held (place + length (line_end_code ends_line)) (line_ended ends_line) s
   line_end_runs true place base held s stands based =
-      inr (done g 1 _ base held (place + 1) (record s { output = s.output ++ 10 ∷ [] }) based
-      (goes_on g instr.WriteLine (base ++ held) (base ++ held) place s.output (s.output ++ 10 ∷ []) stands.0 refl))
+      inr (done g 1 _ base held (place + 1) (written s (10 ∷ [])) based
+      (goes_on g instr.WriteLine (base ++ held) (base ++ held) place s (written s (10 ∷ [])) stands.0 refl))
   line_end_runs false place base held s stands based = nothing_runs place base held s based
 
   write_runs : (writing : Writing)
@@ -286,10 +291,10 @@ module _ (g : Setting) (known : CallsAt g) where
       done_then g (kept_on g held) c (line_end_code writing.ends_line) place _ held (all_of (map parameter_of ps) (around g))
       (λ _. line_ended writing.ends_line) s1 (exact_parameters (around g) (exact_around g) ps) stands
       (λ front.
-      subst (λ p. Executes g (on g (base ++ held) place s.output) held (place + length p) (all_of (map parameter_of ps) (around g)) s1) same
+      subst (λ p. Executes g (on g (base ++ held) place s) held (place + length p) (all_of (map parameter_of ps) (around g)) s1) same
       (all_run code_of parameter_depth (is_well_formed_parameter (outline g) g.number) parameter_of ((exact_around g).written) ps (each_parameter ps) 0 place
       base held s1 (subst (Stands g.target place) (sym same) front) good based high deep))
-      (λ base2 t rest based2. line_end_runs writing.ends_line (place + length c) base2 held t rest based2)
+      (λ base2 t rest based2 le. line_end_runs writing.ends_line (place + length c) base2 held t rest based2)
 
   -- a condition, a jump where it is false, and what comes at either place
   condition_then : {A : Type 0} (aim : ℕ → Aim A) (condition : Expr) (target : ℕ) (c : List Instr) (place : ℕ) (base held : List Cell)
@@ -297,18 +302,18 @@ module _ (g : Setting) (known : CallsAt g) where
       → is_well_formed_expr (outline g) g.number condition ≡ true → Based g s base → g.below + length held + expr_depth condition ≤ g.limit
       → ((base2 : List Cell) (t : effect.State) → Stands g.target (place + length (expr_code g.scope condition) + 1) c → Based g t base2
       → Runs g (aim (place + length (expr_code g.scope condition) + 1 + length c))
-      (on g (base2 ++ held) (place + length (expr_code g.scope condition) + 1) t.output) (next true) t)
+      (on g (base2 ++ held) (place + length (expr_code g.scope condition) + 1) t) (next true) t)
       → ((base2 : List Cell) (t : effect.State) → Stands g.target (place + length (expr_code g.scope condition) + 1) c → Based g t base2
-      → Runs g (aim (place + length (expr_code g.scope condition) + 1 + length c)) (on g (base2 ++ held) target t.output) (next false) t)
-      → Runs g (aim (place + length (expr_code g.scope condition ++ (instr.JumpIfFalse target ∷ c)))) (on g (base ++ held) place s.output)
+      → Runs g (aim (place + length (expr_code g.scope condition) + 1 + length c)) (on g (base2 ++ held) target t) (next false) t)
+      → Runs g (aim (place + length (expr_code g.scope condition ++ (instr.JumpIfFalse target ∷ c)))) (on g (base ++ held) place s)
       (value_of condition (around g) >>= (λ v. next (is_so v))) s
   condition_then aim condition target c place base held next s stands good based room so not_so =
       let jump = instr.JumpIfFalse target in
       let first = place + length (expr_code g.scope condition) in
       let e : first + 1 + length c ≡ first + length (jump ∷ c) = omega arith in
       expr_then g known aim condition (jump ∷ c) place base held (λ v. next (is_so v)) s stands good based room
-      (λ base2 v t rest based2 fit room2.
-      subst (λ end. Runs g (aim end) (on g ((base2 ++ held) ++ Number (number_of v) ∷ []) first t.output) (next (is_so v)) t) e
+      (λ base2 v t rest based2 fit room2 le.
+      subst (λ end. Runs g (aim end) (on g ((base2 ++ held) ++ Number (number_of v) ∷ []) first t) (next (is_so v)) t) e
       (branch_then g (aim (first + 1 + length c)) target (base2 ++ held) (number_of v) first next t rest.0 (linked g t base2 held based2)
       (so base2 t rest.1 based2) (not_so base2 t rest.1 based2)))
 
@@ -389,17 +394,18 @@ if_else_runs g known number condition consequence alternative few place base hel
     omega (arith, length-append test (instr.JumpIfFalse no ∷ (code ++ behind)), length-append code behind) in
     let parts = and_parts _ _ good in
     let next : Bool → Action (Unit {0}) = λ holds. if holds then effect_of consequence.0 (around g) else effect_of alternative.0 (around g) in
-    subst (λ p. Executes g (on g (base ++ held) place s.output) held p (value_of condition (around g) >>= (λ v. next (is_so v))) (entered g number s)) e
+    subst (λ p. Executes g (on g (base ++ held) place s) held p (value_of condition (around g) >>= (λ v. next (is_so v))) (entered g number s)) e
     (condition_then g (known g refl) (λ _. kept_on g held end) condition no (code ++ behind) place base held next (entered g number s) stands parts.0 based
     (omega arith)
     (λ base2 t inside based2.
-    behind_executes g _ held held (yes + length code) end (effect_of consequence.0 (around g)) t
-    (consequence.1 g known (omega arith) yes base2 held t (stands_front g.target yes code behind inside) (and_parts _ _ parts.1).0 based2 high (omega arith))
-    (λ base3 u based3.
-    comes_less g.target 0 1 _ _ (omega arith)
-    (jumps g end (base3 ++ held) (yes + length code) u.output (stands_back g.target yes code behind inside).0)))
+    done_jumps g code other yes end _ held (effect_of consequence.0 (around g)) t inside
+    (λ front. consequence.1 g known (omega arith) yes base2 held t front (and_parts _ _ parts.1).0 based2 high (omega arith)))
     (λ base2 t inside based2.
     alternative.1 g known (omega arith) no base2 held t (stands_back g.target yes code behind inside).1 (and_parts _ _ parts.1).1 based2 high (omega arith)))
+
+-- what each round of a loop begins with that holds nothing
+abbrev always : Unit {0} → Type 0
+always start = Unit {0}
 
 -- a while statement
 while_runs : (g : Setting) (known : CallsRun g.depth) (head : LoopHead) (body : (s : Stmt) × StmtRuns s) → repeats body.0 ≤ g.slack
@@ -413,44 +419,30 @@ while_runs g known head body few place base held s stands good based high deep =
     let code = stmt_code body.0 g.scope inside in
     let end = inside + length code + 1 in
     let back = instr.Jump place ∷ [] in
-    let front = stands_front g.target place test (instr.JumpIfFalse end ∷ (code ++ back)) stands in
-    let here = stands_back g.target place test (instr.JumpIfFalse end ∷ (code ++ back)) stands in
-    let within = here.1 in
-    let jump = stands_back g.target inside code back within in
     let e : end ≡ place + length (test ++ (instr.JumpIfFalse end ∷ (code ++ back))) =
     omega (arith, length-append test (instr.JumpIfFalse end ∷ (code ++ back)), length-append code back) in
     let parts = and_parts (is_well_formed_expr (outline g) g.number head.condition) (is_well_formed_stmt (outline g) g.number body.0) good in
     let hold : Unit {0} → List Cell = λ _. held in
-    let round : Round (Unit {0}) = while_round (value_of head.condition) (effect_of body.0) (around g) in
-    let aim : ℕ → Aim (Option (Unit {0})) = round_on g (λ _. Unit {0}) hold place end held 0 in
     let does = effect_of body.0 (around g) in
-    let runs : RoundRuns g (λ _. Unit {0}) hold place end held round =
-    λ start base2 t fits based2.
-    then_runs g (value_on g held (place + length test)) (aim t.turns) _ (value_of head.condition (around g)) (λ v. turn_if (is_so v) does) t
-    ((exact_around g).values head.condition) (expr_runs g (known g refl) head.condition place base2 held t front parts.0 based2 (omega arith))
-    (λ v u x fewer.
-    let tested = on g ((x.0 ++ held) ++ Number (number_of v) ∷ []) (place + length test) u.output in
-    branched g (λ b. Runs g (aim t.turns) tested (turn_if b does) u) end (x.0 ++ held) (number_of v) (place + length test) u.output here.0
-    (linked g u x.0 held x.1)
+    let round : Round (Unit {0}) = while_round (value_of head.condition) (effect_of body.0) (around g) in
+    subst (λ p. Executes g (on g (base ++ held) place s) held p (effect.looped round tt) s1) e
+    (loops g always hold place end held round ((goes_around g).whiles head.condition body.0)
+    (λ start. exact_while_round (around g) (exact_around g) head.condition body.0)
+    (λ start base2 t fits based2.
+    expr_then g (known g refl) (λ _. round_on g always hold place end held 0 t.turns) head.condition (instr.JumpIfFalse end ∷ (code ++ back)) place base2 held
+    (λ v. turn_if (is_so v) does) t stands parts.0 based2 (omega arith)
+    (λ base3 v u rest based3 fit room le.
+    let tested = on g ((base3 ++ held) ++ Number (number_of v) ∷ []) (place + length test) u in
+    branched g (λ b. Rounds g always hold place end held 0 t.turns tested (turn_if b does) u) end (base3 ++ held) (number_of v) (place + length test) u rest.0
+    (linked g u base3 held based3)
     (λ came.
-    turned g (λ _. Unit {0}) hold place end held t.turns u tested (λ _. does >>= λ _. give (Some tt)) refl
-    (λ left is.
-    let u' = record u { turns = left } in
-    rounds_later g (λ _. Unit {0}) hold place end held 0 t.turns u.turns tested (on g (x.0 ++ held) inside u.output) (does >>= λ _. give (Some tt)) u'
-    (omega (arith, is)) (comes_less g.target (u.turns - left) 1 tested _ (omega (arith, is)) came)
-    (then_runs g (kept_on g held (inside + length code)) (aim t.turns) _ does (λ _. give (Some tt)) u' ((exact_around g).statements body.0)
-    (body.1 g known few inside x.0 held u' (stands_front g.target inside code back within) parts.1 (later g left u x.0 (omega (arith, is)) x.1) high
-    (omega arith))
-    (λ _ w y fewest. inr (
-      (y.0, y.1, omega (arith, is, fewer, fewest), tt),
-      comes_less g.target (w.turns - w.turns + 0) 1 _ _ (omega arith) (jumps g place (y.0 ++ held) (inside + length code) w.output jump.0),
-      omega arith,
-    )))))
-    (λ came. inr ((x.0, x.1), comes_less g.target (u.turns - u.turns + 0) 1 tested _ (omega arith) came, omega arith))) in
-    let goes = (goes_around g).whiles head.condition body.0 in
-    subst (λ p. Executes g (on g (base ++ held) place s.output) held p (effect.looped round tt) s1) e
-    (loops g (λ _. Unit {0}) hold place end held round goes
-    (λ start. exact_while_round (around g) (exact_around g) head.condition body.0) runs tt base s1 tt based)
+    turn_then g always hold place end held t.turns code back inside tested _ held does (Some tt) u refl came le ((exact_around g).statements body.0) rest.1
+    (λ left fewer front.
+    body.1 g known few inside base3 held (record u { turns = left }) front parts.1 (later g left u base3 fewer based3) high (omega arith))
+    (λ base4 w jump based4 fewest.
+    round_again g always hold place end held 0 t.turns 1 _ tt base4 w based4 (omega arith) fewest tt
+    (jumps g place (base4 ++ held) (inside + length code) w jump.0)))
+    (λ came. round_over g always hold place end held 0 t.turns 1 tested base3 u based3 (omega arith) came))) tt base s1 tt based)
 
 -- a repeat statement
 repeat_runs : (g : Setting) (known : CallsRun g.depth) (head : LoopHead) (ss : List ((s : Stmt) × StmtRuns s))
@@ -461,15 +453,13 @@ repeat_runs : (g : Setting) (known : CallsRun g.depth) (head : LoopHead) (ss : L
     (λ e. effect.enter head.number e.visible >>= λ _. effect.looped (repeat_round (all_of (map effect_of (bare ss))) (value_of head.condition) e) tt)
 repeat_runs g known head ss few place base held s stands good based high deep =
     let s1 = entered g head.number s in
-    let h = reset g (g.slack - 1) g.scope.height in
+    let h = reset g (g.slack - 1) g.scope.next in
     let known_there = known h refl in
     let code = placed (map (λ c. c g.scope) (map stmt_code (bare ss))) place in
     let test = expr_code g.scope head.condition in
     let last = place + length code in
     let end = last + length test + 1 in
     let back = instr.JumpIfFalse place ∷ [] in
-    let behind = stands_back g.target place code (test ++ back) stands in
-    let jump = stands_back g.target last test back behind in
     let e : end ≡ place + length (code ++ (test ++ back)) = omega (arith, length-append code (test ++ back), length-append test back) in
     let parts = and_parts (all_hold (map (is_well_formed_stmt (outline g) g.number) (bare ss)))
     (is_well_formed_expr (outline g) g.number head.condition) good in
@@ -478,78 +468,87 @@ repeat_runs g known head ss few place base held s stands good based high deep =
     let round : Round (Unit {0}) = repeat_round statements (value_of head.condition) (around g) in
     let until : Value → Action (Option (Unit {0})) = λ v. give (if is_so v then None else Some tt) in
     let rest : Action (Option (Unit {0})) = statements (around g) >>= λ _. value_of head.condition (around g) >>= until in
-    let aim : ℕ → Aim (Option (Unit {0})) = round_on h (λ _. Unit {0}) hold place end held 1 in
     let inside : (left : ℕ) (base2 : List Cell) (t : effect.State) → t.turns ≡ left → Based h t base2
-    → Rounds h (λ _. Unit {0}) hold place end held 1 (suc left) (on g (base2 ++ held) place t.output) rest t =
+    → Rounds h always hold place end held 1 (suc left) (on g (base2 ++ held) place t) rest t =
     λ left base2 t is based2.
-    then_runs h (kept_on h held last) (aim (suc left)) _ (statements (around g)) (λ _. value_of head.condition (around g) >>= until) t
-    (exact_statements (around g) (exact_around g) (bare ss))
-    (all_run h known_there stmt_code stmt_depth (is_well_formed_stmt (outline g) g.number) effect_of ((exact_around g).statements) (bare ss)
-    (each_statement h known ss 0 (omega arith)) 0 place base2 held t (stands_front g.target place code (test ++ back) stands) parts.0 based2 high (omega arith))
-    (λ _ u x fewer.
-    then_runs h (value_on h held (last + length test)) (aim (suc left)) _ (value_of head.condition (around g)) until u ((exact_around g).values head.condition)
-    (expr_runs h known_there head.condition last x.0 held u (stands_front g.target last test back behind) parts.1 x.1 (omega arith))
-    (λ v w y fewest.
-    let tested = on g ((y.0 ++ held) ++ Number (number_of v) ∷ []) (last + length test) w.output in
-    branched g (λ b. Runs h (aim (suc left)) tested (give (if b then None else Some tt)) w) place (y.0 ++ held) (number_of v) (last + length test) w.output
-    jump.0 (linked h w y.0 held y.1)
-    (λ came. inr ((y.0, y.1), comes_less g.target (w.turns - w.turns + 1) 1 tested _ (omega arith) came, omega arith))
-    (λ came. inr (
-      (y.0, y.1, omega (arith, is, fewer, fewest), tt),
-      comes_less g.target (w.turns - w.turns + 1) 1 tested _ (omega arith) came,
-      omega arith,
-    )))) in
-    let runs : RoundRuns g (λ _. Unit {0}) hold place end held round =
-    λ start base2 t fits based2.
-    turned g (λ _. Unit {0}) hold place end held t.turns t _ (λ _. rest) refl (λ left is.
-    subst (λ n. RoundsBehind g (λ _. Unit {0}) hold place end held 0 n n (on g (base2 ++ held) place t.output) rest (record t { turns = left }))
-    (sym is)
-    (rounds_from_reset g (g.slack - 1) g.scope.height (λ _. Unit {0}) hold place end held left _ rest (record t { turns = left }) (omega arith) refl
-    (inside left base2 (record t { turns = left }) refl
-    (to_reset g (g.slack - 1) g.scope.height (record t { turns = left }) base2 (later g left t base2 (omega (arith, is)) based2))))) in
-    let goes = (goes_around g).repeats (bare ss) head.condition in
-    subst (λ p. Executes g (on g (base ++ held) place s.output) held p (effect.looped round tt) s1) e
-    (loops g (λ _. Unit {0}) hold place end held round goes (λ start. exact_repeat_round (around g) (exact_around g) (bare ss) head.condition) runs tt
-    base s1 tt based)
+    done_then h (λ _. round_on h always hold place end held 1 (suc left)) code (test ++ back) place _ held (statements (around g))
+    (λ _. value_of head.condition (around g) >>= until) t (exact_statements (around g) (exact_around g) (bare ss)) stands
+    (λ front.
+    all_run h known_there stmt_code stmt_depth (is_well_formed_stmt (outline g) g.number) effect_of ((exact_around g).statements) (bare ss)
+    (each_statement h known ss 0 (omega arith)) 0 place base2 held t front parts.0 based2 high (omega arith))
+    (λ base3 u behind based3 fewer.
+    expr_then h known_there (λ _. round_on h always hold place end held 1 (suc left)) head.condition back last base3 held until u behind parts.1 based3
+    (omega arith)
+    (λ base4 v w jump based4 fit room fewest.
+    let tested = on g ((base4 ++ held) ++ Number (number_of v) ∷ []) (last + length test) w in
+    branched g (λ b. Rounds h always hold place end held 1 (suc left) tested (give (if b then None else Some tt)) w) place (base4 ++ held) (number_of v)
+    (last + length test) w jump.0 (linked h w base4 held based4)
+    (λ came. round_over h always hold place end held 1 (suc left) 1 tested base4 w based4 (omega arith) came)
+    (λ came.
+    round_again h always hold place end held 1 (suc left) 1 tested tt base4 w based4 (omega arith) (omega (arith, is, fewer, fewest)) tt came))) in
+    subst (λ p. Executes g (on g (base ++ held) place s) held p (effect.looped round tt) s1) e
+    (loops g always hold place end held round ((goes_around g).repeats (bare ss) head.condition)
+    (λ start. exact_repeat_round (around g) (exact_around g) (bare ss) head.condition)
+    (λ start base2 t fits based2.
+    turned g always hold place end held t.turns t _ (λ _. rest) refl (λ left is.
+    let t' = record t { turns = left } in
+    subst (λ n. RoundsBehind g always hold place end held 0 n n (on g (base2 ++ held) place t) rest t') (sym is)
+    (rounds_from_reset g (g.slack - 1) g.scope.next always hold place end held left _ rest t' (omega arith) refl
+    (inside left base2 t' refl (later g left t base2 (omega (arith, is)) based2))))) tt base s1 tt based)
 
 -- ---- a for statement
 
 -- the bounds that are held are compared as the direction says, and a jump is taken where they leave no value
-ordered : (g : Setting) (s : effect.State) (base held : List Cell) (n l : ℤ) (output : List ℕ) (way : Direction) (place out : ℕ) → Based g s base
-    → length held ≡ g.scope.height → g.below + length held + 4 ≤ g.limit → Here g place (instr.Load 0 (held_offset g.scope 0))
+ordered : (g : Setting) (s : effect.State) (base held : List Cell) (n l : ℤ) (way : Direction) (place out : ℕ) → Based g s base
+    → AllHeld g held → g.below + length held + 4 ≤ g.limit → Here g place (instr.Load 0 (held_offset g.scope 0))
     → Here g (place + 1) (instr.Load 0 (held_offset g.scope 1))
     → StandsAt g.target (place + 1 + 1) (order_instr way) (stays g.target.is_open (order_instr way))
     → StandsAt g.target (place + 1 + 1 + 1) (instr.JumpIfFalse out) true
-    → Comes g.target 4 (on g (base ++ (held ++ Number n ∷ Number l ∷ [])) place output)
-    (on g (base ++ (held ++ Number n ∷ Number l ∷ [])) (if has_values way n l then place + 4 else out) output)
-ordered g s base held n l output direction.To place out based high room at1 at2 at3 at4 =
-    decides g s base held n l output based high room instr.LessOrEqual (frames.of_two dyadic.LessOrEqual) (int_le n l) place out at1 at2 at3 at4
+    → Comes g.target 4 (on g (base ++ (held ++ Number n ∷ Number l ∷ [])) place s)
+    (on g (base ++ (held ++ Number n ∷ Number l ∷ [])) (if has_values way n l then place + 4 else out) s)
+ordered g s base held n l direction.To place out based high room at1 at2 at3 at4 =
+    decides g s base held n l based high room instr.LessOrEqual (frames.of_two dyadic.LessOrEqual) (int_le n l) place out at1 at2 at3 at4
     refl refl
-ordered g s base held n l output direction.DownTo place out based high room at1 at2 at3 at4 =
-    decides g s base held n l output based high room instr.GreaterOrEqual (frames.of_two dyadic.GreaterOrEqual) (int_le l n) place out at1 at2 at3 at4
+ordered g s base held n l direction.DownTo place out based high room at1 at2 at3 at4 =
+    decides g s base held n l based high room instr.GreaterOrEqual (frames.of_two dyadic.GreaterOrEqual) (int_le l n) place out at1 at2 at3 at4
     refl refl
 
 -- the next value is held, and the next round begins
-stepped : (g : Setting) (s : effect.State) (base held : List Cell) (n l : ℤ) (output : List ℕ) (way : Direction) (place head : ℕ) → Based g s base
-    → length held ≡ g.scope.height → g.below + length held + 4 ≤ g.limit → Fits n → Fits (next_value way n)
+stepped : (g : Setting) (s : effect.State) (base held : List Cell) (n l : ℤ) (way : Direction) (place head : ℕ) → Based g s base
+    → AllHeld g held → g.below + length held + 4 ≤ g.limit → Fits n → Fits (next_value way n)
     → Here g place (instr.Load 0 (held_offset g.scope 0)) → Here g (place + 1) (instr.LoadConstant (pos 1))
     → StandsAt g.target (place + 1 + 1) (next_instr way) (stays g.target.is_open (next_instr way))
     → Here g (place + 1 + 1 + 1) (instr.Store 0 (held_offset g.scope 0)) → StandsAt g.target (place + 1 + 1 + 1 + 1) (instr.Jump head) true
-    → Comes g.target 1 (on g (base ++ (held ++ Number n ∷ Number l ∷ [])) place output)
-    (on g (base ++ (held ++ Number (next_value way n) ∷ Number l ∷ [])) head output)
-stepped g s base held n l output direction.To place head based high room fit fit' at1 at2 at3 at4 at5 =
-    steps g s base held n l output based high room instr.Add (frames.of_two dyadic.Add) (n +ℤ pos 1) place head at1 at2 at3 at4 at5 refl
+    → Comes g.target 1 (on g (base ++ (held ++ Number n ∷ Number l ∷ [])) place s)
+    (on g (base ++ (held ++ Number (next_value way n) ∷ Number l ∷ [])) head s)
+stepped g s base held n l direction.To place head based high room fit fit' at1 at2 at3 at4 at5 =
+    steps g s base held n l based high room instr.Add (frames.of_two dyadic.Add) (n +ℤ pos 1) place head at1 at2 at3 at4 at5 refl
     (sum_is n (pos 1) fit one_fits fit')
-stepped g s base held n l output direction.DownTo place head based high room fit fit' at1 at2 at3 at4 at5 =
-    steps g s base held n l output based high room instr.Subtract (frames.of_two dyadic.Subtract) (n -ℤ pos 1) place head at1 at2 at3 at4 at5 refl
+stepped g s base held n l direction.DownTo place head based high room fit fit' at1 at2 at3 at4 at5 =
+    steps g s base held n l based high room instr.Subtract (frames.of_two dyadic.Subtract) (n -ℤ pos 1) place head at1 at2 at3 at4 at5 refl
     (difference_is n (pos 1) fit one_fits fit')
+
+-- a statement inside another one, above the cells that this one holds
+above_held : (g : Setting) (known : CallsRun g.depth) (body : (s : Stmt) × StmtRuns s) → repeats body.0 ≤ g.slack
+    → is_well_formed_stmt (outline g) g.number body.0 ≡ true → (held row : List Cell) → AllHeld g held
+    → g.below + length held + (stmt_depth body.0 + length row) ≤ g.limit → (place : ℕ) (base : List Cell) (s : effect.State)
+    → Stands g.target place (stmt_code body.0 (holding (length row) g.scope) place) → Based g s base
+    → Executes g (on g (base ++ (held ++ row)) place s) (held ++ row) (place + length (stmt_code body.0 (holding (length row) g.scope) place))
+    (effect_of body.0 (around g)) s
+above_held g known body few good held row high room place base s stands based =
+    let next = count (g.scope.next + length row) in
+    let long = length-append held row in
+    let reach = limit_far g in
+    body.1 (reset g g.slack next) known few place base (held ++ row) s stands good based (omega (arith, long, high, reach, room))
+    (omega (arith, long, room))
 
 module _ (g : Setting) (known : CallsRun g.depth) (head : ForHead) (scalar : IsScalar g head.control) (body : (s : Stmt) × StmtRuns s)
     (few : repeats body.0 ≤ g.slack)
-    (good : is_well_formed_stmt (outline g) g.number body.0 ≡ true) (start : ℕ) (held : List Cell)
-    (high : length held ≡ g.scope.height) (room : g.below + length held + max 4 (stmt_depth body.0 + 2) ≤ g.limit) (l : ℤ) (fit_last : Fits l) where
-  abbrev inner : Setting
-  inner = reset g g.slack (count (g.scope.height + 2))
+    (good : is_well_formed_stmt (outline g) g.number body.0 ≡ true) (place : ℕ) (held : List Cell)
+    (high : AllHeld g held) (room : g.below + length held + max 4 (stmt_depth body.0 + 2) ≤ g.limit) (l : ℤ) (fit_last : Fits l) where
+  -- where a round begins, where its body is over, and where the loop is
+  abbrev start : ℕ
+  start = place + 8
 
   abbrev body_code : List Instr
   body_code = stmt_code body.0 (holding 2 g.scope) (start + 2)
@@ -559,6 +558,18 @@ module _ (g : Setting) (known : CallsRun g.depth) (head : ForHead) (scalar : IsS
 
   abbrev out : ℕ
   out = behind + 9
+
+  abbrev entry : List Instr
+  entry = for_entry g.scope head out
+
+  abbrev next_code : List Instr
+  next_code = for_next g.scope head.direction start out
+
+  abbrev end_code : List Instr
+  end_code = for_end g.scope head.control
+
+  abbrev loop : List Instr
+  loop = for_begin g.scope head.control ++ (body_code ++ (next_code ++ end_code))
 
   abbrev hold : ℤ → List Cell
   hold n = held ++ Number n ∷ Number l ∷ []
@@ -572,63 +583,6 @@ module _ (g : Setting) (known : CallsRun g.depth) (head : ForHead) (scalar : IsS
   enough : g.below + length held + 4 ≤ g.limit
   enough = omega arith
 
-  -- behind the body
-  turns_back : (n : ℤ) (base : List Cell) (s : effect.State) (bound : ℕ) (same : Bool) → int_eq n l ≡ same → fit n → s.turns < bound → Based g s base
-      → Stands g.target behind (for_next g.scope head.direction start out)
-      → Comes g.target 4 (on g (base ++ hold n) behind s.output) (on g (base ++ hold n) (if not same then behind + 4 else out) s.output)
-      → Rounds g fit hold start out (hold l) 0 bound (on g (base ++ hold n) behind s.output)
-      (give (if same then None else Some (next_value head.direction n))) s
-  turns_back n base s bound true is fits fewer based stands came = inr (
-    (base, based),
-    comes_less g.target (s.turns - s.turns + 0) 4 _ _ (omega arith)
-        (subst (λ m. Comes g.target 4 (on g (base ++ hold n) behind s.output) (on g (base ++ hold m) out s.output)) (last_is n l is) came),
-    omega arith,
-  )
-  turns_back n base s bound false is fits fewer based stands came =
-      let next = next_fits head.direction n l fits.0 fit_last fits.1 is in
-      let p : behind + 1 + 1 + 1 + 1 ≡ behind + 4 = omega arith in
-      let rest = stands.1.1.1.1 in
-      let again = stepped g s base held n l s.output head.direction (behind + 1 + 1 + 1 + 1) start based high enough fits.0 next.fits rest.0 rest.1.0 rest.1.1.0
-      rest.1.1.1.0 rest.1.1.1.1.0 in
-      let from = subst (λ q. Comes g.target 1 (on g (base ++ hold n) q s.output) (on g (base ++ hold (next_value head.direction n)) start s.output)) p again in
-      inr (
-        (base, based, fewer, (next.fits, next.has)),
-        comes_less g.target (s.turns - s.turns + 0) 5 _ _ (omega arith) (comes_on g.target 4 1 _ _ _ came from),
-        omega arith,
-      )
-
-  for_round_runs : Stands g.target start (for_begin g.scope head.control) → Stands g.target (start + 2) body_code
-      → Stands g.target behind (for_next g.scope head.direction start out) → RoundRuns g fit hold start out (hold l) round
-  for_round_runs beginning inside next n base s fits based =
-      let s1 : effect.State = record s { store = kept s.store (g.environment.variables head.control) (value.Number n) } in
-      let base1 = slice_set base (slot g head.control scalar) (Number n) in
-      let based1 = variable_kept g head.control scalar s base n based fits.0 in
-      let came = begins g s base held n l s.output based high enough head.control start scalar fits.0 beginning.0 beginning.1.0 in
-      let long : length (hold n) ≡ length held + 2 = length-append held (Number n ∷ Number l ∷ []) in
-      let reach = limit_far g in
-      let body_action = effect_of body.0 (around g) in
-      turned g fit hold start out (hold l) s.turns s1 _ (λ _. body_action >>= λ _. give (value_behind head.direction l n)) refl (λ left is.
-      rounds_later g fit hold start out (hold l) 0 s.turns s.turns _ (on g (base1 ++ hold n) (start + 2) s.output)
-      (body_action >>= λ _. give (value_behind head.direction l n)) (record s1 { turns = left }) (omega (arith, is))
-      (comes_less g.target (s.turns - left) 2 _ _ (omega (arith, is)) came)
-      (then_runs g (kept_on g (hold n) behind) (round_on g fit hold start out (hold l) 0 s.turns) _ body_action (λ _. give (value_behind head.direction l n))
-      (record s1 { turns = left })
-      ((exact_around g).statements body.0)
-      (executes_from_reset g g.slack (count (g.scope.height + 2)) _ (hold n) behind body_action (record s1 { turns = left }) refl
-      (body.1 inner known few (start + 2) base1 (hold n) (record s1 { turns = left }) inside good
-      (to_reset g g.slack (count (g.scope.height + 2)) (record s1 { turns = left }) base1 (later g left s1 base1 (omega (arith, is)) based1))
-      (omega (arith, long, high, reach, room)) (omega (arith, long, room))))
-      (λ _ u x fewer.
-      turns_back n x.0 u s.turns (int_eq n l) refl fits (omega (arith, is, fewer)) x.1 next
-      (decides g u x.0 held n l u.output x.1 high enough instr.NotEqual (frames.of_two dyadic.NotEqual) (not (int_eq n l)) behind out
-      next.0 next.1.0 next.1.1.0 next.1.1.1.0 refl refl))))
-
-  goes : GoesRoundByRound round
-  goes = (goes_around g).fors head l body.0
-
-  exact_rounds : (n : ℤ) → UsesTurnsExactly (round n)
-  exact_rounds n = exact_for_round (around g) (exact_around g) head l body.0 n
-
   -- all rounds from a value on, and what comes behind them
   abbrev rounds : ℤ → Action (Unit {0})
   rounds n = for_rounds head (effect_of body.0) (around g) n l
@@ -636,56 +590,98 @@ module _ (g : Setting) (known : CallsRun g.depth) (head : ForHead) (scalar : IsS
   abbrev undefined : Action (Unit {0})
   undefined = effect.undefine (g.environment.variables head.control)
 
-  -- behind the loop
-  module _ (ending : Stands g.target out (for_end g.scope head.control)) where
-    leaves_it : (n : ℤ) (base : List Cell) (s : effect.State) → Fits n → Based g s base
-        → Executes g (on g (base ++ hold n) out s.output) held (out + 4) undefined s
-    leaves_it n base s fits based =
-        let c = slot g head.control scalar in
-        let based' = variable_forgotten g head.control scalar s base based in
-        inr (done g 4 _ (slice_set base c Undefined) held (out + 4) (record s { store = forgotten s.store (g.environment.variables head.control) })
-        based'
-        (leaves g s base held n l s.output based high enough head.control out scalar fits fit_last ending.0 ending.1.0 ending.1.1.0 ending.1.1.1.0))
+  module _ (stands : Stands g.target place (entry ++ loop)) where
+    from_begin : Stands g.target start loop
+    from_begin = stands_back g.target place entry loop stands
 
-    module _ (site_first : head.first.fits.site < length g.tree.sites.items) (site_last : head.last.fits.site < length g.tree.sites.items) (place : ℕ)
-        (at : place + 8 ≡ start) (entry : Stands g.target place (for_entry g.scope head out))
-        (beginning : Stands g.target start (for_begin g.scope head.control))
-        (inside : Stands g.target (start + 2) body_code) (next : Stands g.target behind (for_next g.scope head.direction start out)) where
+    from_inside : Stands g.target (start + 2) (body_code ++ (next_code ++ end_code))
+    from_inside = stands_back g.target start (for_begin g.scope head.control) (body_code ++ (next_code ++ end_code)) from_begin
+
+    from_next : Stands g.target behind (next_code ++ end_code)
+    from_next = stands_back g.target (start + 2) body_code (next_code ++ end_code) from_inside
+
+    from_end : Stands g.target out end_code
+    from_end = stands_back g.target behind next_code end_code from_next
+
+    -- behind the body
+    turns_back : (n : ℤ) (base : List Cell) (s : effect.State) (bound : ℕ) (same : Bool) → int_eq n l ≡ same → fit n → s.turns < bound → Based g s base
+        → Comes g.target 4 (on g (base ++ hold n) behind s) (on g (base ++ hold n) (if not same then behind + 4 else out) s)
+        → Rounds g fit hold start out (hold l) 0 bound (on g (base ++ hold n) behind s) (give (if same then None else Some (next_value head.direction n))) s
+    turns_back n base s bound true is fits fewer based came =
+        round_over g fit hold start out (hold l) 0 bound 4 _ base s based (omega arith)
+        (subst (λ m. Comes g.target 4 (on g (base ++ hold n) behind s) (on g (base ++ hold m) out s)) (last_is n l is) came)
+    turns_back n base s bound false is fits fewer based came =
+        let next = next_fits head.direction n l fits.0 fit_last fits.1 is in
+        let p : behind + 1 + 1 + 1 + 1 ≡ behind + 4 = omega arith in
+        let rest = from_next.1.1.1.1 in
+        let again = stepped g s base held n l head.direction (behind + 1 + 1 + 1 + 1) start based high enough fits.0 next.fits rest.0 rest.1.0 rest.1.1.0
+        rest.1.1.1.0 rest.1.1.1.1.0 in
+        round_again g fit hold start out (hold l) 0 bound 5 _ (next_value head.direction n) base s based (omega arith) fewer (next.fits, next.has)
+        (comes_on g.target 4 1 _ _ _ came
+        (subst (λ q. Comes g.target 1 (on g (base ++ hold n) q s) (on g (base ++ hold (next_value head.direction n)) start s)) p again))
+
+    for_round_runs : RoundRuns g fit hold start out (hold l) round
+    for_round_runs n base s fits based =
+        let s1 : effect.State = record s { store = kept s.store (g.environment.variables head.control) (value.Number n) } in
+        let base1 = slice_set base (slot g head.control scalar) (Number n) in
+        let based1 = variable_kept g head.control scalar s base n based fits.0 in
+        turn_then g fit hold start out (hold l) s.turns body_code (next_code ++ end_code) (start + 2) _ (on g (base1 ++ hold n) (start + 2) s) (hold n)
+        (effect_of body.0 (around g)) (value_behind head.direction l n) s1 refl
+        (comes_less g.target 1 2 _ _ (omega arith)
+        (begins g s base held n l based high enough head.control start scalar fits.0 from_begin.0 from_begin.1.0)) (omega arith)
+        ((exact_around g).statements body.0) from_inside
+        (λ left fewer inside.
+        above_held g known body few good held (Number n ∷ Number l ∷ []) high (omega arith) (start + 2) base1 (record s1 { turns = left }) inside
+        (later g left s1 base1 fewer based1))
+        (λ base2 u rest based2 fewer.
+        turns_back n base2 u s.turns (int_eq n l) refl fits fewer based2
+        (decides g u base2 held n l based2 high enough instr.NotEqual (frames.of_two dyadic.NotEqual) (not (int_eq n l)) behind out
+        rest.0 rest.1.0 rest.1.1.0 rest.1.1.1.0 refl refl))
+
+    -- behind the loop
+    leaves_it : (n : ℤ) (base : List Cell) (s : effect.State) → Fits n → Based g s base
+        → Executes g (on g (base ++ hold n) out s) held (out + 4) undefined s
+    leaves_it n base s fits based =
+        inr (done g 4 _ (slice_set base (slot g head.control scalar) Undefined) held (out + 4)
+        (record s { store = forgotten s.store (g.environment.variables head.control) }) (variable_forgotten g head.control scalar s base based)
+        (leaves g s base held n l based high enough head.control out scalar fits fit_last from_end.0 from_end.1.0 from_end.1.1.0 from_end.1.1.1.0))
+
+    module _ (site_first : head.first.fits.site < length g.tree.sites.items) (site_last : head.last.fits.site < length g.tree.sites.items) where
       -- the tests of the bounds, and the rounds
       tested : (n : ℤ) (base : List Cell) (s : effect.State) → Fits n → has_values head.direction n l ≡ true → Based g s base
-          → Executes g (on g (base ++ hold n) (place + 4) s.output) (hold l) out (rounds n) s
+          → Executes g (on g (base ++ hold n) (place + 4) s) (hold l) out (rounds n) s
       tested n base s fits has based =
           let here = base ++ hold n in
           let one = held ++ Number n ∷ [] in
-          let rest = entry.1.1.1.1 in
-          let in_frame = linked g s base (hold n) based in
+          let rest = stands.1.1.1.1 in
           let full = based.full in
           let long : length here ≡ g.below + length held + 2 = omega (arith, length-append base (hold n), length-append held (Number n ∷ Number l ∷ [])) in
-          let p : place + 1 + 1 + 1 + 1 ≡ place + 4 = omega arith in
-          let q : place + 1 + 1 + 1 + 1 + 1 + 1 + 1 + 1 ≡ start = omega (arith, at) in
-          let a = loads_held g s base held (Number n ∷ Number l ∷ []) [] here 0 (Number n) (place + 1 + 1 + 1 + 1) s.output based high
-          (sym (append-nil here)) refl (omega arith) rest.0 in
-          let b = stores_held g s base held (Number n ∷ Number l ∷ []) (here ++ Number n ∷ []) 0 (Number n) (place + 1 + 1 + 1 + 1 + 1 + 1) s.output based
-          high refl (omega arith) (omega arith) rest.1.1.0 in
+          let four = place + 1 + 1 + 1 + 1 in
+          let six = four + 1 + 1 in
+          let p : four ≡ place + 4 = omega arith in
+          let q : six + 1 + 1 ≡ start = omega arith in
           let split : here ≡ (base ++ one) ++ Number l ∷ [] = ap (λ cs. base ++ cs) (sym (append_assoc held (Number n ∷ []) (Number l ∷ [])))
           ∙ sym (append_assoc base one (Number l ∷ [])) in
-          let in_frame' = linked g s base one based in
-          let loop = subst (λ m. Executes g (on g here m s.output) (hold l) out (effect.looped round n) s) (sym q)
-          (loops g fit hold start out (hold l) round goes exact_rounds (for_round_runs beginning inside next) n base s (fits, has) based) in
+          let a = loads_held g s base held (Number n ∷ Number l ∷ []) [] here 0 (Number n) four based high (sym (append-nil here)) refl (omega arith) rest.0 in
+          let b = stores_held g s base held (Number n ∷ Number l ∷ []) (here ++ Number n ∷ []) 0 (Number n) six based high refl (omega arith) (omega arith)
+          rest.1.1.0 in
+          let looping = subst (λ m. Executes g (on g here m s) (hold l) out (effect.looped round n) s) (sym q)
+          (loops g fit hold start out (hold l) round ((goes_around g).fors head l body.0)
+          (λ m. exact_for_round (around g) (exact_around g) head l body.0 m) for_round_runs n base s (fits, has) based) in
           let last_test : Action (Unit {0}) = require (effect.is_in head.last.fits.range (value.Number l)) head.last.fits.site >>= λ _. effect.looped round n in
-          let six = place + 1 + 1 + 1 + 1 + 1 + 1 in
-          let last_here = subst (λ cs. Executes g (on g cs (six + 1) s.output) (hold l) out last_test s) (sym split)
+          let last_here = subst (λ cs. Executes g (on g cs (six + 1) s) (hold l) out last_test s) (sym split)
           (range_then g (kept_on g (hold l) out) head.last.fits (value.Number l) (base ++ one) (six + 1) s (effect.looped round n) rest.1.1.1.0 site_last
-          in_frame' fit_last (λ _. subst (λ cs. Executes g (on g cs (six + 1 + 1) s.output) (hold l) out (effect.looped round n) s) split loop)) in
-          subst (λ m. Executes g (on g here m s.output) (hold l) out (rounds n) s) p
+          (linked g s base one based) fit_last
+          (λ _. subst (λ cs. Executes g (on g cs (six + 1 + 1) s) (hold l) out (effect.looped round n) s) split looping)) in
+          subst (λ m. Executes g (on g here m s) (hold l) out (rounds n) s) p
           (runs_from g (kept_on g (hold l) out) 1 _ _ (rounds n) s a
-          (range_then g (kept_on g (hold l) out) head.first.fits (value.Number n) here (place + 1 + 1 + 1 + 1 + 1) s last_test rest.1.0 site_first in_frame fits
-          (λ _. runs_from g (kept_on g (hold l) out) 1 _ _ last_test s b last_here)))
+          (range_then g (kept_on g (hold l) out) head.first.fits (value.Number n) here (four + 1) s last_test rest.1.0 site_first
+          (linked g s base (hold n) based) fits (λ _. runs_from g (kept_on g (hold l) out) 1 _ _ last_test s b last_here)))
 
       -- from the values of the bounds on
       from_bounds : (n : ℤ) (base : List Cell) (s : effect.State) (has : Bool) → has_values head.direction n l ≡ has → Fits n → Based g s base
-          → Comes g.target 4 (on g (base ++ hold n) place s.output) (on g (base ++ hold n) (if has then place + 4 else out) s.output)
-          → Executes g (on g (base ++ hold n) place s.output) held (out + 4) ((if has then rounds n else give tt) >>= λ _. undefined) s
+          → Comes g.target 4 (on g (base ++ hold n) place s) (on g (base ++ hold n) (if has then place + 4 else out) s)
+          → Executes g (on g (base ++ hold n) place s) held (out + 4) ((if has then rounds n else give tt) >>= λ _. undefined) s
       from_bounds n base s true has fits based came =
           runs_from g (kept_on g held (out + 4)) 4 _ _ (rounds n >>= λ _. undefined) s came
           (then_runs g (kept_on g (hold l) out) (kept_on g held (out + 4)) _ (rounds n) (λ _. undefined) s ((exact_around g).counted head body.0 n l)
@@ -693,10 +689,10 @@ module _ (g : Setting) (known : CallsRun g.depth) (head : ForHead) (scalar : IsS
       from_bounds n base s false has fits based came = runs_from g (kept_on g held (out + 4)) 4 _ _ undefined s came (leaves_it n base s fits based)
 
       for_between_runs : (n : ℤ) (base : List Cell) (s : effect.State) → Fits n → Based g s base
-          → Executes g (on g (base ++ hold n) place s.output) held (out + 4) (for_between head (effect_of body.0) (around g) n l >>= λ _. undefined) s
+          → Executes g (on g (base ++ hold n) place s) held (out + 4) (for_between head (effect_of body.0) (around g) n l >>= λ _. undefined) s
       for_between_runs n base s fits based =
           from_bounds n base s (has_values head.direction n l) refl fits based
-          (ordered g s base held n l s.output head.direction place out based high enough entry.0 entry.1.0 entry.1.1.0 entry.1.1.1.0)
+          (ordered g s base held n l head.direction place out based high enough stands.0 stands.1.0 stands.1.1.0 stands.1.1.1.0)
 
 for_runs : (g : Setting) (known : CallsRun g.depth) (head : ForHead) (body : (s : Stmt) × StmtRuns s) → repeats body.0 ≤ g.slack
     → ExecutesAs g (for_code head (stmt_code body.0))
@@ -712,16 +708,10 @@ for_runs g known head body few place base held s stands good based high deep =
     let last = head.last.value in
     let a = expr_code g.scope first in
     let b = expr_code g.scope last in
-    let start = place + length a + length b + 8 in
-    let inside = stmt_code body.0 (holding 2 g.scope) (start + 2) in
-    let out' = start + 2 + length inside + 9 in
-    let entry = for_entry g.scope head out' in
-    let begin = for_begin g.scope head.control in
-    let next = for_next g.scope head.direction start out' in
-    let end = for_end g.scope head.control in
     let test = place + length a + length b in
-    let loop = begin ++ (inside ++ (next ++ end)) in
-    let e : out' + 4 ≡ place + length (for_code head (stmt_code body.0) g.scope place) =
+    let inside = test + 8 + 2 in
+    let end = inside + length (stmt_code body.0 (holding 2 g.scope) inside) + 9 + 4 in
+    let e : end ≡ place + length (for_code head (stmt_code body.0) g.scope place) =
     omega (arith, length-For head (stmt_code body.0) g.scope place) in
     let p1 = and_parts (is_control (outline g) g.number head.control) _ good in
     let p2 = and_parts (is_well_formed_expr (outline g) g.number first) _ p1.1 in
@@ -734,86 +724,54 @@ for_runs g known head body few place base held s stands good based high deep =
     let scalar = is_scalar g head.control p1.0 in
     let rest : Value → Value → Action (Unit {0}) =
     λ v w. for_between head (effect_of body.0) (around g) (number_of v) (number_of w) >>= λ _. effect.undefine (g.environment.variables head.control) in
-    let there : ℕ → Aim (Unit {0}) = λ _. kept_on g held (out' + 4) in
-    subst (λ q. Executes g (on g (base ++ held) place s.output) held q (value_of first (around g) >>= (λ v. value_of last (around g) >>= λ w. rest v w)) s1) e
-    (expr_then g (known g refl) there first (b ++ (entry ++ loop)) place base held (λ v. value_of last (around g) >>= λ w. rest v w) s1 stands p2.0 based
-    (omega arith)
-    (λ base2 v t from_b based2 fit room2.
+    let there : ℕ → Aim (Unit {0}) = λ _. kept_on g held end in
+    subst (λ q. Executes g (on g (base ++ held) place s) held q (value_of first (around g) >>= (λ v. value_of last (around g) >>= λ w. rest v w)) s1) e
+    (expr_then g (known g refl) there first _ place base held (λ v. value_of last (around g) >>= λ w. rest v w) s1 stands p2.0 based (omega arith)
+    (λ base2 v t from_last based2 fit room2 le.
     let n = number_of v in
     let more : length (held ++ Number n ∷ []) ≡ length held + 1 = length_one held (Number n) in
-    subst (λ cells. Executes g (on g cells (place + length a) t.output) held (out' + 4) (value_of last (around g) >>= (rest v)) t)
-    (one_held g base2 held n)
-    (expr_then g (known g refl) there last (entry ++ loop) (place + length a) base2 (held ++ Number n ∷ []) (rest v) t from_b p4.0 based2
-    (omega (arith, more))
-    (λ base3 w u from_entry based3 fit' room3.
+    subst (λ cells. Executes g (on g cells (place + length a) t) held end (value_of last (around g) >>= (rest v)) t) (one_held g base2 held n)
+    (expr_then g (known g refl) there last _ (place + length a) base2 (held ++ Number n ∷ []) (rest v) t from_last p4.0 based2 (omega (arith, more))
+    (λ base3 w u from_entry based3 fit' room3 fewer.
     let l = number_of w in
-    let from_begin = stands_back g.target test entry loop from_entry in
-    let from_inside = stands_back g.target start begin (inside ++ (next ++ end)) from_begin in
-    let from_next = stands_back g.target (start + 2) inside (next ++ end) from_inside in
     let two : (base3 ++ (held ++ Number n ∷ [])) ++ Number l ∷ [] ≡ base3 ++ (held ++ Number n ∷ Number l ∷ []) =
     append_assoc base3 (held ++ Number n ∷ []) (Number l ∷ []) ∙ ap (λ cs. base3 ++ cs) (append_assoc held (Number n ∷ []) (Number l ∷ [])) in
-    subst (λ cells. Executes g (on g cells test u.output) held (out' + 4) (rest v w) u) (sym two)
-    (for_between_runs g known head scalar body few p5.1 start held high (omega arith) l fit'
-    (stands_back g.target (start + 2 + length inside) next end from_next) (site_of head.first.fits p3.0) (site_of head.last.fits p5.0) test refl
-    (stands_front g.target test entry loop from_entry) (stands_front g.target start begin (inside ++ (next ++ end)) from_begin)
-    (stands_front g.target (start + 2) inside (next ++ end) from_inside) (stands_front g.target (start + 2 + length inside) next end from_next) n base3 u fit
-    based3)))))
+    subst (λ cells. Executes g (on g cells test u) held end (rest v w) u) (sym two)
+    (for_between_runs g known head scalar body few p5.1 test held high (omega arith) l fit' from_entry (site_of head.first.fits p3.0)
+    (site_of head.last.fits p5.0) n base3 u fit based3)))))
 
 -- ---- a case statement
 
 -- a conditional jump to the next instruction takes a number away
-popped_there : (g : Setting) (below : List Cell) (n : ℤ) (place : ℕ) (output : List ℕ) → StandsAt g.target place (instr.JumpIfFalse (place + 1)) true
-    → g.frame + 4 ≤ length below → Comes g.target 0 (on g (below ++ Number n ∷ []) place output) (on g below (place + 1) output)
-popped_there g below n place output stands in_frame =
+popped_there : (g : Setting) (below : List Cell) (n : ℤ) (place : ℕ) (s : effect.State) → StandsAt g.target place (instr.JumpIfFalse (place + 1)) true
+    → g.frame + 4 ≤ length below → Comes g.target 0 (on g (below ++ Number n ∷ []) place s) (on g below (place + 1) s)
+popped_there g below n place s stands in_frame =
     comes_less g.target 0 1 _ _ (omega arith)
-    (branched g (λ _. Comes g.target 1 (on g (below ++ Number n ∷ []) place output) (on g below (place + 1) output)) (place + 1) below n place output stands
+    (branched g (λ _. Comes g.target 1 (on g (below ++ Number n ∷ []) place s) (on g below (place + 1) s)) (place + 1) below n place s stands
     in_frame (λ came. came) (λ came. came))
 
--- where the jumps out go changes no length
-length-arms : (scope : Scope) (rows : List (Vec ℤ)) (arms : List Placed) (out out' place : ℕ)
-    → length (arms_code scope out rows arms place) ≡ length (arms_code scope out' rows arms place)
-length-arms scope [] arms out out' place = refl
-length-arms scope (row ∷ rows) [] out out' place = refl
-length-arms scope (row ∷ rows) (arm ∷ arms) out out' place =
-    let inside = place + length (row_code scope 0 row.items) + 1 in
-    let code = arm (holding 1 scope) inside in
-    let next = inside + length code + 1 in
-    let compared = row_code scope inside row.items in
-    let rest = arms_code scope out rows arms next in
-    let rest' = arms_code scope out' rows arms next in
-    let same = length-arms scope rows arms out out' next in
-    omega (
-      arith,
-      same,
-      length-append compared (instr.Jump next ∷ (code ++ (instr.Jump out ∷ rest))),
-      length-append compared (instr.Jump next ∷ (code ++ (instr.Jump out' ∷ rest'))),
-      length-append code (instr.Jump out ∷ rest),
-      length-append code (instr.Jump out' ∷ rest'),
-    )
-
--- nor does the place of the arm that of its constants
-length-row : (scope : Scope) (arm arm' : ℕ) (row : List ℤ) → length (row_code scope arm row) ≡ length (row_code scope arm' row)
-length-row scope arm arm' [] = refl
-length-row scope arm arm' (constant ∷ row) = let e = length-row scope arm arm' row in omega arith
-
-module _ (g : Setting) (known : CallsRun g.depth) (site : ℕ) (within : site < length g.tree.sites.items) (out : ℕ) (behind : List Instr) (held : List Cell)
-    (high : length held ≡ g.scope.height) (n : ℤ) where
+module _ (g : Setting) (known : CallsRun g.depth) (site : ℕ) (within : site < length g.tree.sites.items) (out : ℕ) (held : List Cell)
+    (high : AllHeld g held) (n : ℤ) (fail : ℕ) (failing : StandsAt g.target fail (instr.Fail site) (g.target.is_open site)) where
   abbrev index : List Cell
   index = held ++ Number n ∷ []
 
-  no_arm : (place : ℕ) (base : List Cell) (s : effect.State) → Stands g.target place (instr.Fail site ∷ behind)
-      → Executes g (on g (base ++ index) place s.output) index out (effect.stop (ending.Error site)) s
-  no_arm place base s stands = inr (fails g (instr.Fail site) (base ++ index) place site s.output _ refl refl s.turns stands.0 within refl)
+  no_arm : (place : ℕ) (base : List Cell) (s : effect.State) → place + 0 ≡ fail
+      → Executes g (on g (base ++ index) place s) index out (effect.stop (ending.Error site)) s
+  no_arm place base s at =
+      let e : fail ≡ place = omega (arith, at) in
+      inr (fails g (instr.Fail site) (base ++ index) place site s _ refl refl s.turns
+      (subst (λ p. StandsAt g.target p (instr.Fail site) (g.target.is_open site)) e failing) within refl)
 
   arms_run : (rows : List (Vec ℤ)) (arms : List ((s : Stmt) × StmtRuns s)) (before place : ℕ) (base : List Cell) (s : effect.State)
       → fold max before (map repeats (bare arms)) ≤ g.slack
       → all_hold (map (is_well_formed_stmt (outline g) g.number) (bare arms)) ≡ true
       → g.below + length held + max 3 (arms_depth rows (map stmt_depth (bare arms)) + 1) ≤ g.limit → Based g s base
-      → Stands g.target place (arms_code g.scope out rows (map stmt_code (bare arms)) place ++ (instr.Fail site ∷ behind))
-      → Executes g (on g (base ++ index) place s.output) index out (arm_of site rows (map effect_of (bare arms)) n (around g)) s
-  arms_run [] arms before place base s few good deep based stands = no_arm place base s stands
-  arms_run (row ∷ rows) [] before place base s few good deep based stands = no_arm place base s stands
-  arms_run (row ∷ rows) (arm ∷ arms) before place base s few good deep based stands =
+      → Stands g.target place (arms_code g.scope out rows (map stmt_code (bare arms)) place)
+      → place + length (arms_code g.scope out rows (map stmt_code (bare arms)) place) ≡ fail
+      → Executes g (on g (base ++ index) place s) index out (arm_of site rows (map effect_of (bare arms)) n (around g)) s
+  arms_run [] arms before place base s few good deep based stands at = no_arm place base s at
+  arms_run (row ∷ rows) [] before place base s few good deep based stands at = no_arm place base s at
+  arms_run (row ∷ rows) (arm ∷ arms) before place base s few good deep based stands at =
       let others = bare arms in
       let least = start_within (max before (repeats arm.0)) (map repeats others) in
       let inside = place + length (row_code g.scope 0 row.items) + 1 in
@@ -821,38 +779,28 @@ module _ (g : Setting) (known : CallsRun g.depth) (site : ℕ) (within : site < 
       let next = inside + length code + 1 in
       let compared = row_code g.scope inside row.items in
       let rest = arms_code g.scope out rows (map stmt_code others) next in
-      let tail = instr.Fail site ∷ behind in
-      let split : (compared ++ (instr.Jump next ∷ (code ++ (instr.Jump out ∷ rest)))) ++ tail ≡ compared ++
-      (instr.Jump next ∷ (code ++ (instr.Jump out ∷ (rest ++ tail)))) =
-      append_assoc compared (instr.Jump next ∷ (code ++ (instr.Jump out ∷ rest))) tail
-      ∙ ap (λ r. compared ++ (instr.Jump next ∷ r)) (append_assoc code (instr.Jump out ∷ rest) tail) in
-      let whole = subst (Stands g.target place) split stands in
-      let jump = stands_back g.target place compared (instr.Jump next ∷ (code ++ (instr.Jump out ∷ (rest ++ tail)))) whole in
-      let at : place + length compared + 1 ≡ inside = ap (λ m. place + m + 1) (length-row g.scope inside 0 row.items) in
-      let from_arm = subst (λ p. Stands g.target p (code ++ (instr.Jump out ∷ (rest ++ tail)))) at jump.1 in
-      let from_jump = stands_back g.target inside code (instr.Jump out ∷ (rest ++ tail)) from_arm in
-      let came = compares_row g s base held n s.output based high (omega arith) row.items inside place
-      (stands_front g.target place compared (instr.Jump next ∷ (code ++ (instr.Jump out ∷ (rest ++ tail)))) whole) in
+      let same = length-row g.scope inside 0 row.items in
+      let e : place + length compared + 1 ≡ inside = omega (arith, same) in
+      let end : next + length rest ≡ fail =
+      omega (arith, at, same, length-append compared (instr.Jump next ∷ (code ++ (instr.Jump out ∷ rest))), length-append code (instr.Jump out ∷ rest)) in
+      let jump = stands_back g.target place compared (instr.Jump next ∷ (code ++ (instr.Jump out ∷ rest))) stands in
+      let from_arm = subst (λ p. Stands g.target p (code ++ (instr.Jump out ∷ rest))) e jump.1 in
       let parts = and_parts (is_well_formed_stmt (outline g) g.number arm.0) _ good in
-      let long : length index ≡ length held + 1 = length_one held (Number n) in
-      let reach = limit_far g in
-      let inner = reset g g.slack (count (g.scope.height + 1)) in
       let result : Bool → Action (Unit {0}) = λ b. if b then effect_of arm.0 (around g) else arm_of site rows (map effect_of others) n (around g) in
-      (elim (is_among row.items n) as (λ b. Comes g.target 0 (on g (base ++ index) place s.output)
-      (on g (base ++ index) (if b then inside else place + length compared) s.output)
-      → Executes g (on g (base ++ index) place s.output) index out (result b) s) [
+      (elim (is_among row.items n) as (λ b. Comes g.target 0 (on g (base ++ index) place s)
+      (on g (base ++ index) (if b then inside else place + length compared) s)
+      → Executes g (on g (base ++ index) place s) index out (result b) s) [
         | true ↦ λ there.
             runs_from g (kept_on g index out) 0 _ _ (effect_of arm.0 (around g)) s there
-            (behind_executes g _ index index (inside + length code) out (effect_of arm.0 (around g)) s
-            (executes_from_reset g g.slack (count (g.scope.height + 1)) _ index (inside + length code) (effect_of arm.0 (around g)) s refl
-            (arm.1 inner known (omega arith) inside base index s (stands_front g.target inside code (instr.Jump out ∷ (rest ++ tail)) from_arm) parts.0
-            (to_reset g g.slack (count (g.scope.height + 1)) s base based) (omega (arith, long, high, reach, deep)) (omega (arith, long))))
-            (λ base2 t based2. comes_less g.target 0 1 _ _ (omega arith) (jumps g out (base2 ++ index) (inside + length code) t.output from_jump.0)))
+            (done_jumps g code rest inside out _ index (effect_of arm.0 (around g)) s from_arm
+            (λ front. above_held g known arm (omega arith) parts.0 held (Number n ∷ []) high (omega (arith, deep)) inside base s front based))
         | false ↦ λ there.
             runs_from g (kept_on g index out) 1 _ _ (arm_of site rows (map effect_of others) n (around g)) s
-            (comes_on g.target 0 1 _ _ _ there (jumps g next (base ++ index) (place + length compared) s.output jump.0))
-            (arms_run rows arms (max before (repeats arm.0)) next base s few parts.1 (omega arith) based from_jump.1)
-      ]) came
+            (comes_on g.target 0 1 _ _ _ there (jumps g next (base ++ index) (place + length compared) s jump.0))
+            (arms_run rows arms (max before (repeats arm.0)) next base s few parts.1 (omega arith) based
+            (stands_back g.target inside code (instr.Jump out ∷ rest) from_arm).1 end)
+      ]) (compares_row g s base held n based high (omega arith) row.items inside place
+      (stands_front g.target place compared (instr.Jump next ∷ (code ++ (instr.Jump out ∷ rest))) stands))
 
 case_runs : (g : Setting) (known : CallsRun g.depth) (head : CaseHead) (arms : List ((s : Stmt) × StmtRuns s)) → greatest (map repeats (bare arms)) ≤ g.slack
     → ExecutesAs g (case_code head (map stmt_code (bare arms)))
@@ -877,20 +825,21 @@ case_runs g known head arms few place base held s stands good based high deep =
     let within = ltb-true head.site (sites g) p1.0 in
     let next : Value → Action (Unit {0}) = λ v. arm_of head.site rows (map effect_of (bare arms)) (number_of v) (around g) in
     expr_then g (known g refl) (kept_on g held) head.index (all ++ (instr.Fail head.site ∷ pop)) place base held next s1 stands p2.0 based (omega arith)
-    (λ base2 v t from_arms based2 fit room2.
+    (λ base2 v t from_arms based2 fit room2 le.
     let n = number_of v in
     let here = held ++ Number n ∷ [] in
     let end = first + length (all ++ (instr.Fail head.site ∷ pop)) in
     let at_end = stands_back g.target first all (instr.Fail head.site ∷ pop) from_arms in
     let popping = subst (λ p. StandsAt g.target p (instr.JumpIfFalse (out + 1)) true) same at_end.1.0 in
     let e : out + 1 ≡ end = omega (arith, same, length-append all (instr.Fail head.site ∷ pop)) in
-    subst (λ cells. Executes g (on g cells first t.output) held end (next v) t) (one_held g base2 held n)
-    (subst (λ q. Executes g (on g (base2 ++ here) first t.output) held q (next v) t) e
+    subst (λ cells. Executes g (on g cells first t) held end (next v) t) (one_held g base2 held n)
+    (subst (λ q. Executes g (on g (base2 ++ here) first t) held q (next v) t) e
     (behind_executes g _ here held out (out + 1) (next v) t
-    (arms_run g known head.site within out pop held high n rows arms 0 first base2 t few p3.1 (omega arith) based2 from_arms)
+    (arms_run g known head.site within out held high n (first + length all) at_end.0 rows arms 0 first base2 t few p3.1 (omega arith) based2
+    (stands_front g.target first all (instr.Fail head.site ∷ pop) from_arms) refl)
     (λ base3 u based3.
-    subst (λ cells. Comes g.target 0 (on g cells out u.output) (on g (base3 ++ held) (out + 1) u.output)) (sym (one_held g base3 held n))
-    (popped_there g (base3 ++ held) n out u.output popping (linked g u base3 held based3))))))
+    subst (λ cells. Comes g.target 0 (on g cells out u) (on g (base3 ++ held) (out + 1) u)) (sym (one_held g base3 held n))
+    (popped_there g (base3 ++ held) n out u popping (linked g u base3 held based3))))))
 
 module _ (x : Stmt-F Stmt) where
   abbrev is_step : Setting → Stmt-F Bool → Bool

@@ -203,7 +203,7 @@ module _ (g : Setting) where
 
   -- a row that is there after some instructions
   pub pushes_row : (least : ℕ) (m : State) (base held : List Cell) (place count : ℕ) (vs : List Value) (s : effect.State) → Based g s base
-      → Comes g.target least m (on g ((base ++ held) ++ value_cells vs) place s.output) → length vs ≡ count → AllFit vs
+      → Comes g.target least m (on g ((base ++ held) ++ value_cells vs) place s) → length vs ≡ count → AllFit vs
       → Arrives g (row_on held count place) s.turns m (Gives vs s)
   pushes_row least m base held place count vs s based l long fit =
       ((base, based, (long, fit)), comes_less g.target (s.turns - s.turns + 0) least m _ (omega arith) l, omega arith)
@@ -213,34 +213,34 @@ module _ (g : Setting) where
       (next : List Value → Action A) (s : effect.State) → UsesTurnsExactly first → Stands g.target place (c ++ c')
       → (Stands g.target place c → Pushes m held (place + length c) count first s)
       → ((base : List Cell) (vs : List Value) (u : effect.State) → Stands g.target (place + length c) c' → Based g u base → length vs ≡ count → AllFit vs
-      → Runs g (aim (place + length c + length c')) (on g ((base ++ held) ++ value_cells vs) (place + length c) u.output) (next vs) u)
+      → Runs g (aim (place + length c + length c')) (on g ((base ++ held) ++ value_cells vs) (place + length c) u) (next vs) u)
       → Runs g (aim (place + length (c ++ c'))) m (first >>= next) s
   row_then aim c c' place m held count first next s exact stands runs h =
-      then_code g (row_on held count) aim c c' place m first next s exact stands runs (λ vs u x rest. h x.0 vs u rest x.1 x.2.0 x.2.1)
+      then_code g (row_on held count) aim c c' place m first next s exact stands runs (λ vs u x rest le. h x.0 vs u rest x.1 x.2.0 x.2.1)
 
   -- characters as values
   abbrev characters_of : List ℕ → List Value
   characters_of = map (λ c. value.Number (pos c))
 
   -- characters are pushed, the first one first
-  pub characters_come : (characters : List ℕ) (place : ℕ) (cells : List Cell) (output : List ℕ)
+  pub characters_come : (characters : List ℕ) (place : ℕ) (cells : List Cell) (s : effect.State)
       → Stands g.target place (map (λ c. instr.LoadConstant (pos c)) characters) → length cells + length characters ≤ g.limit
-      → Comes g.target 0 (on g cells place output) (on g (cells ++ value_cells (characters_of characters)) (place + length characters) output)
-  characters_come [] place cells output stands room =
+      → Comes g.target 0 (on g cells place s) (on g (cells ++ value_cells (characters_of characters)) (place + length characters) s)
+  characters_come [] place cells s stands room =
       let e : place ≡ place + 0 = omega arith in
-      subst (λ p. Comes g.target 0 (on g cells place output) (on g (cells ++ []) p output)) e
-      (subst (λ cs. Comes g.target 0 (on g cells place output) (on g cs place output)) (sym (append-nil cells)) (stays_here g.target _))
-  characters_come (c ∷ characters) place cells output stands room =
+      subst (λ p. Comes g.target 0 (on g cells place s) (on g (cells ++ []) p s)) e
+      (subst (λ cs. Comes g.target 0 (on g cells place s) (on g cs place s)) (sym (append-nil cells)) (stays_here g.target _))
+  characters_come (c ∷ characters) place cells s stands room =
       let one = cells ++ Number (pos c) ∷ [] in
       let long = length_one cells (Number (pos c)) in
       let rest = value_cells (characters_of characters) in
       let e : place + 1 + length characters ≡ place + length (c ∷ characters) = omega arith in
-      let first = pushes_number g cells (pos c) place output stands.0 (omega arith) in
-      let others = characters_come characters (place + 1) one output stands.1 (omega arith) in
+      let first = pushes_number g cells (pos c) place s stands.0 (omega arith) in
+      let others = characters_come characters (place + 1) one s stands.1 (omega arith) in
       let all = comes_less g.target 0 (1 + 0) _ _ (omega arith) (comes_on g.target 1 0 _ _ _ first others) in
-      subst (λ cs. Comes g.target 0 (on g cells place output) (on g cs (place + length (c ∷ characters)) output))
+      subst (λ cs. Comes g.target 0 (on g cells place s) (on g cs (place + length (c ∷ characters)) s))
       (append_assoc cells (Number (pos c) ∷ []) rest)
-      (subst (λ p. Comes g.target 0 (on g cells place output) (on g (one ++ rest) p output)) e all)
+      (subst (λ p. Comes g.target 0 (on g cells place s) (on g (one ++ rest) p s)) e all)
 
   characters_fit : (characters : List ℕ) → list_all is_character characters ≡ true → AllFit (characters_of characters)
   characters_fit [] well = tt
@@ -274,7 +274,7 @@ module _ (g : Setting) where
       → Fetched s.store p (components_of g.tree.types type_id) defined
       → StandsAt g.target place (instr.CheckDefined defined count) (g.target.is_open defined) → defined < sites g
       → length (components_of g.tree.types type_id) ≡ count → Based g s base
-      → Pushes (on g ((base ++ held) ++ map (cell_at s.store p) (components_of g.tree.types type_id)) place s.output) held (place + 1) count
+      → Pushes (on g ((base ++ held) ++ map (cell_at s.store p) (components_of g.tree.types type_id)) place s) held (place + 1) count
       (fetch_all (Some p) (components_of g.tree.types type_id) defined) s
   checked_row p type_id count d defined place base held s (inl all) stands within long based =
       let components = components_of g.tree.types type_id in
@@ -283,25 +283,25 @@ module _ (g : Setting) where
       let as_long : length row ≡ count = length-map components (cell_at s.store p) ∙ long in
       let many : length all.values ≡ count = sym (length-cells_of all.values) ∙ ap length (sym all.cells) ∙ as_long in
       let defined_all : list_all is_defined row ≡ true = ap (list_all is_defined) all.cells ∙ all_are_defined all.values in
-      let passed = passes g (instr.CheckDefined defined count) (cells ++ row) place defined s.output _ refl refl stands
+      let passed = passes g (instr.CheckDefined defined count) (cells ++ row) place defined s _ refl refl stands
       (all_defined g.frame g.limit g.size cells (linked g s base held based) row count as_long ∙ ap Ok defined_all) in
-      inr (subst (Arrives g (row_on held count (place + 1)) s.turns (on g (cells ++ row) place s.output)) (sym (all.gives s refl))
+      inr (subst (Arrives g (row_on held count (place + 1)) s.turns (on g (cells ++ row) place s)) (sym (all.gives s refl))
       (pushes_row 0 _ base held (place + 1) count all.values s based
-      (subst (λ cs. Comes g.target 0 (on g (cells ++ row) place s.output) (on g (cells ++ cs) (place + 1) s.output)) all.cells passed) many all.fit))
+      (subst (λ cs. Comes g.target 0 (on g (cells ++ row) place s) (on g (cells ++ cs) (place + 1) s)) all.cells passed) many all.fit))
   checked_row p type_id count d defined place base held s (inr one) stands within long based =
       let components = components_of g.tree.types type_id in
       let cells = base ++ held in
       let row = map (cell_at s.store p) components in
       let as_long : length row ≡ count = length-map components (cell_at s.store p) ∙ long in
-      inr (subst (Arrives g (row_on held count (place + 1)) s.turns (on g (cells ++ row) place s.output)) (sym (one.stops s refl))
-      (fails g (instr.CheckDefined defined count) (cells ++ row) place defined s.output _ refl refl s.turns stands within
+      inr (subst (Arrives g (row_on held count (place + 1)) s.turns (on g (cells ++ row) place s)) (sym (one.stops s refl))
+      (fails g (instr.CheckDefined defined count) (cells ++ row) place defined s _ refl refl s.turns stands within
       (all_defined g.frame g.limit g.size cells (linked g s base held based) row count as_long ∙ ap Ok one.cells)))
 
   -- an address gives way to the row there, which is checked
   loaded_row : (p : Place) (type_id : TypeId) (count d defined place : ℕ) (base held : List Cell) (s : effect.State) → PartAt g p type_id d
       → Stands g.target place (instr.LoadMany count ∷ instr.CheckDefined defined count ∷ []) → defined < sites g → cells_of g.tree.types type_id ≡ count
       → Based g s base → g.below + length held + count ≤ g.limit
-      → Pushes (on g ((base ++ held) ++ Number (pos d) ∷ []) place s.output) held (place + 1 + 1) count
+      → Pushes (on g ((base ++ held) ++ Number (pos d) ∷ []) place s) held (place + 1 + 1) count
       (fetch_all (Some p) (components_of g.tree.types type_id) defined) s
   loaded_row p type_id count d defined place base held s part stands within many based deep =
       let components = components_of g.tree.types type_id in
@@ -316,9 +316,9 @@ module _ (g : Setting) where
       let full = based.full in
       let long = length-append base held in
       let inside = part.within in
-      let loaded = acts g (instr.LoadMany count) (cells ++ Number (pos d) ∷ []) (cells ++ take count (drop d cells)) place s.output _ stands.0 refl
+      let loaded = acts g (instr.LoadMany count) (cells ++ Number (pos d) ∷ []) (cells ++ take count (drop d cells)) place s _ stands.0 refl
       (loads_many g.frame g.limit g.size cells (linked g s base held based) count d (omega arith) (omega arith)) in
-      let there = subst (λ cs. Comes g.target 1 (on g (cells ++ Number (pos d) ∷ []) place s.output) (on g (cells ++ cs) (place + 1) s.output)) row loaded in
+      let there = subst (λ cs. Comes g.target 1 (on g (cells ++ Number (pos d) ∷ []) place s) (on g (cells ++ cs) (place + 1) s)) row loaded in
       runs_from g (row_on held count (place + 1 + 1)) 1 _ _ (fetch_all (Some p) components defined) s there
       (checked_row p type_id count d defined (place + 1) base held s (row_fetched s.store p components defined fits) stands.1.0 within all based)
 
@@ -342,15 +342,15 @@ module _ (g : Setting) where
       → all_hold (whole_indexes v (wells g indexes)) ≡ true
       → is_well_formed_whole (outline g) g.number v (length (expressions g indexes)) ≡ true → Based g s base
       → g.below + length held + whole_depth v (depths g indexes) ≤ g.limit
-      → Pushes (on g (base ++ held) place s.output) held (place + length (whole_code g.scope v (codes g indexes))) (length_of v)
+      → Pushes (on g (base ++ held) place s) held (place + length (whole_code g.scope v (codes g indexes))) (length_of v)
       (whole_of v (map value_of (expressions g indexes)) (around g)) s
   whole_runs (Text number characters) indexes place base held s stands good well based deep =
       let codes_long = length-map characters.items (λ x. instr.LoadConstant (pos x)) in
       let e : place + length characters.items ≡ place + length (map (λ x. instr.LoadConstant (pos x)) characters.items) = omega arith in
       let full = based.full in
-      let pushed = characters_come characters.items place (base ++ held) s.output stands (omega (arith, length-append base held)) in
+      let pushed = characters_come characters.items place (base ++ held) s stands (omega (arith, length-append base held)) in
       let vs = characters_of characters.items in
-      subst (λ q. Pushes (on g (base ++ held) place s.output) held q (length characters.items) (effect.give vs) (entered g number s)) e
+      subst (λ q. Pushes (on g (base ++ held) place s) held q (length characters.items) (effect.give vs) (entered g number s)) e
       (inr (pushes_row 0 _ base held (place + length characters.items) (length characters.items) vs (entered g number s)
       based pushed (length-map characters.items (λ c. value.Number (pos c)))
       (characters_fit characters.items (and_parts (nat_le (length characters.items) 65536) (list_all is_character characters.items) well).1)))
@@ -371,9 +371,9 @@ module _ (g : Setting) where
       let load = instr.LoadMany (row_length cells) ∷ instr.CheckDefined defined (row_length cells) ∷ [] in
       let next : List Form → Option Place → Action (List Value) = λ types q. fetch_all q (components_of types type_id) defined in
       let from = place_found g access indexes led_to.last start good counts in
-      subst (λ action. Pushes (on g (base ++ held) place s.output) held (place + length (c ++ load)) cells (action >>= next g.environment.types) s)
+      subst (λ action. Pushes (on g (base ++ held) place s) held (place + length (c ++ load)) cells (action >>= next g.environment.types) s)
       (sym (start.meant (map value_of (expressions g indexes))))
-      (subst (λ types. Pushes (on g (base ++ held) place s.output) held (place + length (c ++ load)) cells (from >>= next types) (entered g access.number s))
+      (subst (λ types. Pushes (on g (base ++ held) place s) held (place + length (c ++ load)) cells (from >>= next types) (entered g access.number s))
       (sym g.types_are)
       (address_then g (row_on held cells) c load place _ held led_to.last from (next g.tree.types) (entered g access.number s)
       (exact_found g access indexes led_to.last start good counts) stands
@@ -381,7 +381,7 @@ module _ (g : Setting) where
       (λ base2 d p s2 rest based2 part2 room2.
       let there = place + length c in
       let e : there + 1 + 1 ≡ there + 2 = omega arith in
-      subst (λ q. Pushes (on g ((base2 ++ held) ++ Number (pos d) ∷ []) there s2.output) held q cells (next g.tree.types (Some p)) s2) e
+      subst (λ q. Pushes (on g ((base2 ++ held) ++ Number (pos d) ∷ []) there s2) held q cells (next g.tree.types (Some p)) s2) e
       (loaded_row p type_id cells d defined there base2 held s2 (subst (λ t. PartAt g p t d) its part2)
       (subst (λ n. Stands g.target there (instr.LoadMany n ∷ instr.CheckDefined defined n ∷ [])) same rest)
       (ltb-true defined (sites g) parts'.1) (sym many) based2 (omega arith)))))

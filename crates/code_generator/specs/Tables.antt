@@ -4,6 +4,9 @@ use Rattle.pcode_assembler.specs.declared.code.Site.{Site as Plain}
 use Rattle.pcode_assembler.specs.declared.code.Point.{Point as PlainPoint}
 use Rattle.typed_tree.specs.declared.site.Site.{Site}
 use Rattle.typed_tree.specs.declared.site.Point.{Point}
+use Rattle.pcode_assembler.specs.Writable.{AreNumbered}
+use Rattle.typed_tree.specs.declared.tree.Tree.{Tree}
+use Rattle.typed_tree.specs.Ids.{AreInOrder}
 use Rattle.typed_tree.specs.Sites.{number_of}
 
 -- a site in plain numbers
@@ -22,3 +25,8 @@ site_table sites = map in_plain_numbers sites
 -- the table of the points
 abbrev pub point_table : List Point → List PlainPoint
 point_table points = map point_in_plain_numbers points
+
+-- the sites and the points of a tree are numbered from 0 on, in the order of its tables
+pub record IsNumbered (tree : Tree) : Type 0 where
+  pub sites : AreInOrder tree.sites.items
+  pub points : AreNumbered (map (λ (point : Point). point.id) tree.points.items)

@@ -1,10 +1,11 @@
 ghost use Rattle.std.specs.Prelude.{◌≡◌, ◌↔◌, true, IfOk};
 ghost use Rattle.std.specs.List.{list_all};
 ghost use Rattle.pcode_assembler.specs.Bounds.{in_bounds};
+ghost use Rattle.pcode_assembler.specs.Writable.{EndsInNoCheck, IsWritable};
 ghost use Rattle.code_scheme.specs.Code.{program_code};
 ghost use Rattle.code_generator.specs.Follows.{Follows};
 ghost use Rattle.code_generator.specs.Large.{is_too_large};
-ghost use Rattle.code_generator.specs.Tables.{point_table, site_table};
+ghost use Rattle.code_generator.specs.Tables.{IsNumbered, point_table, site_table};
 ghost use Rattle.typed_tree.specs.WellFormed.{IsWellFormed};
 
 use crate::fault::GenFault;
@@ -17,14 +18,16 @@ use std::alloc::Global;
 use typed_tree::tree::Tree;
 
 /// The code of the program: its instructions, and the tables of the tree's sites and points. Each check has its site,
-/// and the text of a code has room for each operand. For every input and every number of cells the code follows the
-/// program, if the tree is well formed.
+/// and the text of a code has room for each operand. If the tree is well formed, the code follows the program, for
+/// every input and every number of cells; and it can be written, if the tree's sites and points are numbered.
 pub fn generate(alloc: Global, tree: &Tree) -> Result<Code, GenFault>
     ensures instructions { IfOk result (λ code. code.instructions.items ≡ program_code tree.now) }
     ensures too_large { (result ≡ Err GenFault.TooLarge) ↔ (is_too_large tree.now ≡ true) }
     ensures in_bounds { IfOk result (λ code. list_all in_bounds code.instructions.items ≡ true) }
     ensures sites { IfOk result (λ code. code.sites.items ≡ site_table tree.now.sites.items) }
     ensures points { IfOk result (λ code. code.points.items ≡ point_table tree.now.points.items) }
+    ensures last { IfOk result (λ code. EndsInNoCheck code.instructions.items) }
+    ensures writable { IfOk result (λ code. IsWellFormed tree.now → IsNumbered tree.now → IsWritable code) }
     ensures follows { IfOk result (λ code. IsWellFormed tree.now → Follows code tree.now) }
 {
     known();

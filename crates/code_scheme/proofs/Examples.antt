@@ -352,8 +352,7 @@ module _ (heap : Vec ℕ Global) (some_call : Call) where
     homes = record { level = 0; start = 4; refers = false } ∷ record { level = 0; start = 5; refers = false } ∷ [];
     routines = [];
     level = 0;
-    above = 12;
-    height = 2;
+    next = 14;
   }
 
   abbrev inner : Scope
@@ -361,8 +360,7 @@ module _ (heap : Vec ℕ Global) (some_call : Call) where
     homes = record { level = 0; start = 4; refers = false } ∷ record { level = 1; start = 5; refers = true } ∷ [];
     routines = [];
     level = 2;
-    above = 12;
-    height = 2;
+    next = 14;
   }
 
   part_code : expr_code own part ≡ instr.LoadAddress 0 7 ∷ instr.LoadConstant (pos 7) ∷ instr.CheckRange 3 (pos 5) (pos 9) ∷ instr.IndexAddress (pos 5) 4

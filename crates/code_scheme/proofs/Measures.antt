@@ -266,7 +266,7 @@ abbrev plain_homes : List Variable → List Home
 plain_homes = map (λ variable. record { level = 0; start = 0; refers = is_variable_kind variable.kind })
 
 abbrev pub plain_scope : List Variable → Scope
-plain_scope variables = record { homes = plain_homes variables; routines = []; level = 0; above = 0; height = 0 }
+plain_scope variables = record { homes = plain_homes variables; routines = []; level = 0; next = 0 }
 
 pub plainly : (variables : List Variable) → IsScopeOf variables (plain_scope variables)
 plainly [] root = refl

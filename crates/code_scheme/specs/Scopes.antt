@@ -31,14 +31,13 @@ row_length n = min n 65536
 abbrev pub links : ℕ → ℕ
 links n = min n 15
 
--- where code runs: the variables by root, and the routines by the number of their block; the level of its own block;
--- where in the frame the cells begin that are held above the variables, and how many are held while it runs
+-- where code runs: the variables by root, and the routines by the number of their block; the level of its own block; and
+-- where in the frame the next cell lies that is held above the variables and above those that are held already
 pub record Scope : Type 0 where
   pub homes : List Home
   pub routines : List Routine
   pub level : ℕ
-  pub above : ℕ
-  pub height : ℕ
+  pub next : ℕ
 
 -- how many cells a variable takes in a frame
 abbrev pub slot_cells : List Form → Variable → ℕ
@@ -142,11 +141,11 @@ access_offset scope access =
 
 -- where the n-th cell lies in the frame that is held above the variables and above those that are held already
 abbrev pub held_offset : Scope → ℕ → ℕ
-held_offset scope n = offset (scope.above + scope.height + n)
+held_offset scope n = offset (scope.next + n)
 
 -- the scope of code that runs while so many cells more are held
 abbrev pub holding : ℕ → Scope → Scope
-holding cells scope = record scope { height = count (scope.height + cells) }
+holding cells scope = record scope { next = count (scope.next + cells) }
 
 -- the scope of a block of a number, at whose level it runs: nothing is held above its variables
 abbrev pub block_scope : Tree → List Routine → ℕ → Scope
@@ -154,6 +153,5 @@ block_scope tree routines number = record {
   homes = homes_of tree;
   routines = routines;
   level = block_level tree number;
-  above = 4 + count (parameter_cells tree number) + count (other_cells tree number);
-  height = 0;
+  next = count (4 + parameter_cells tree number + other_cells tree number);
 }

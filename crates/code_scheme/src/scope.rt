@@ -1,4 +1,4 @@
-ghost use Rattle.std.specs.Prelude.{◌≡◌, ◌≤◌, ◌+◌};
+ghost use Rattle.std.specs.Prelude.{◌≡◌};
 ghost use Rattle.code_scheme.specs.Scopes.{behind_fields as behind, fields_offset as offset_of_fields};
 ghost use Rattle.code_scheme.specs.Scopes.{selectors_from as from};
 ghost use Rattle.code_scheme.specs.Sizes.{capped};
@@ -29,10 +29,8 @@ pub struct Scope<'s> {
     routines: &'s [Routine],
     // The level of the block.
     level: usize,
-    // Where in its frame the cells begin that are held above its variables.
-    above: u32,
-    // How many cells are held above them while it runs.
-    height: u32,
+    // Where in its frame the next cell lies that is held above its variables.
+    next: u32,
 }
 
 impl<'s> Model for Scope<'s> {
@@ -44,8 +42,7 @@ impl<'s> Model for Scope<'s> {
       homes = s.homes.now;
       routines = s.routines.now;
       level = s.level;
-      above = s.above;
-      height = s.height;
+      next = s.next;
     } };
 }
 
@@ -53,28 +50,25 @@ impl<'s> Scope<'s> {
     ghost use Rattle.code_scheme.specs.Scopes.{access_offset, called_routine, held_offset, holding, links_to};
     ghost use Rattle.code_scheme.specs.Scopes.{variable_home};
 
-    /// The scope of a block at a level, whose variables take so many cells together.
+    /// The scope of a block at a level, behind whose variables the next cell lies here.
     pub fn of_block(
         homes: &'s [Home],
         routines: &'s [Routine],
         level: usize,
-        cells: u32,
+        next: u32,
     ) -> Scope<'s>
-        requires { cells ≤ 33554432 }
         ensures { result ≡ record {
           homes = homes.now;
           routines = routines.now;
           level = level;
-          above = 4 + cells;
-          height = 0;
+          next = next;
         } }
     {
         Scope {
             homes,
             routines,
             level,
-            above: LINKS + cells,
-            height: 0,
+            next,
         }
     }
 
@@ -130,7 +124,7 @@ impl<'s> Scope<'s> {
     pub fn held_offset(&self, n: u32) -> u32
         ensures { result ≡ held_offset self.now n }
     {
-        let offset = self.above.saturating_add(self.height).saturating_add(n);
+        let offset = self.next.saturating_add(n);
         offset.min(GREATEST_OFFSET)
     }
 
@@ -142,8 +136,7 @@ impl<'s> Scope<'s> {
             homes: self.homes,
             routines: self.routines,
             level: self.level,
-            above: self.above,
-            height: self.height.saturating_add(cells).min(MOST_CELLS),
+            next: self.next.saturating_add(cells).min(MOST_CELLS),
         }
     }
 }

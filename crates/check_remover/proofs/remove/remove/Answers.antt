@@ -1,6 +1,8 @@
 use Rattle.std.proofs.Common.{subst, sym, ◌∙◌}
-use Rattle.check_remover.specs.Strip.{KeepsInstructions}
+use Rattle.pcode_assembler.specs.Writable.{EndsInNoCheck}
+use Rattle.check_remover.specs.Strip.{KeepsInstructions, is_among}
 use Rattle.check_remover.proofs.Kept.{strip-keeps}
+use Rattle.check_remover.proofs.Written.{ends_still, still_writable}
 use Rattle.check_remover.proofs.remove.remove.Goals as goal
 
 pub returns-clause-kept : goal.returns-clause-kept
@@ -13,3 +15,11 @@ returns-clause-sites c = c.in_ok-from_slice.ensures.items ∙ c.as_slice.ensures
 
 pub returns-clause-points : goal.returns-clause-points
 returns-clause-points c = c.in_ok-from_slice-2.ensures.items ∙ c.as_slice-2.ensures.value
+
+pub returns-clause-last : goal.returns-clause-last
+returns-clause-last c ends =
+    subst EndsInNoCheck (sym c.in_ok-stripped.ensures) (ends_still (is_among c.args.open_sites.now) c.args.code.now.instructions.items ends)
+
+pub returns-clause-writable : goal.returns-clause-writable
+returns-clause-writable c =
+    still_writable c.args.open_sites.now c.args.code.now _ c.in_ok-stripped.ensures (returns-clause-sites c) (returns-clause-points c)

@@ -1,0 +1,65 @@
+-- The code of a well formed tree can be written.
+use Rattle.code_generator.proofs.Words.{◌≡◌, ◌&&◌, true, List, [], ◌∷◌, length, map, refl, sym, ap, ◌∙◌, subst, length-map, Tree, IsWellFormed}
+use Rattle.std.specs.List.{list_all, range_with_len}
+use Rattle.pcode_assembler.specs.declared.code.Code.{Code}
+use Rattle.pcode_assembler.specs.declared.code.Site.{Site as Plain}
+use Rattle.pcode_assembler.specs.declared.code.Point.{Point as PlainPoint}
+use Rattle.pcode_assembler.specs.Bounds.{in_bounds}
+use Rattle.pcode_assembler.specs.Writable.{AreNumbered, IsWritable, is_kind, names_what_is_there}
+use Rattle.typed_tree.specs.declared.site.Point.{Point}
+use Rattle.typed_tree.specs.declared.site.Site.{Site}
+use Rattle.typed_tree.specs.declared.site.SiteKind.{SiteKind}
+use Rattle.typed_tree.specs.declared.site.SiteKind.TheVariants as kind
+use Rattle.typed_tree.specs.Sites.{number_of}
+use Rattle.code_scheme.specs.Code.{program_code}
+use Rattle.code_scheme.proofs.Bounds.{program_in_bounds, program_names}
+use Rattle.code_generator.specs.Tables.{IsNumbered, in_plain_numbers, point_table, site_table}
+
+kind_is : (k : SiteKind) → is_kind (number_of k) ≡ true
+kind_is kind.Index = refl
+kind_is kind.Subrange = refl
+kind_is kind.UndefinedVariable = refl
+kind_is kind.UndefinedResult = refl
+kind_is kind.DivisionByZero = refl
+kind_is kind.ModByZeroOrLess = refl
+kind_is kind.Case = refl
+kind_is kind.Chr = refl
+kind_is kind.Succ = refl
+kind_is kind.Pred = refl
+kind_is kind.Overflow = refl
+kind_is kind.Width = refl
+kind_is kind.SetMember = refl
+
+kinds_are : (sites : List Site) → list_all (λ (site : Plain). is_kind site.kind) (site_table sites) ≡ true
+kinds_are [] = refl
+kinds_are (site ∷ sites) = ap (λ b. b && list_all (λ (s : Plain). is_kind s.kind) (site_table sites)) (kind_is site.kind) ∙ kinds_are sites
+
+-- plain numbers keep the ids
+same_ids : (sites : List Site) → map (λ (site : Plain). site.id) (site_table sites) ≡ map (λ (site : Site). site.id) sites
+same_ids [] = refl
+same_ids (site ∷ sites) = ap (λ ids. site.id ∷ ids) (same_ids sites)
+
+same_point_ids : (points : List Point) → map (λ (point : PlainPoint). point.id) (point_table points) ≡ map (λ (point : Point). point.id) points
+same_point_ids [] = refl
+same_point_ids (point ∷ points) = ap (λ ids. point.id ∷ ids) (same_point_ids points)
+
+pub writable : (tree : Tree) (code : Code) → code.instructions.items ≡ program_code tree → code.sites.items ≡ site_table tree.sites.items
+    → code.points.items ≡ point_table tree.points.items → IsWellFormed tree → IsNumbered tree → IsWritable code
+writable tree code is sites_are points_are well numbered =
+    let sites = tree.sites.items in
+    let points = tree.points.items in
+    let as_many = ap length sites_are ∙ length-map sites in_plain_numbers in
+    let ids = λ (ss : List Site). map (λ (site : Site). site.id) ss in
+    record {
+      operands = ap (list_all in_bounds) is ∙ program_in_bounds tree;
+      names = subst (λ n. list_all (names_what_is_there n (length code.points.items) (length code.instructions.items)) code.instructions.items ≡ true)
+          (sym as_many)
+          (subst (λ c. list_all (names_what_is_there (length sites) (length code.points.items) (length c)) c ≡ true) (sym is)
+          (program_names tree (length code.points.items) well.blocks));
+      sites = subst (λ (ss : List Plain). AreNumbered (map (λ (site : Plain). site.id) ss)) (sym sites_are)
+          (subst AreNumbered (sym (same_ids sites))
+          (numbered.sites ∙ ap (range_with_len 0) (sym (length-map sites (λ (site : Site). site.id)))));
+      points = subst (λ (ps : List PlainPoint). AreNumbered (map (λ (point : PlainPoint). point.id) ps)) (sym points_are)
+          (subst AreNumbered (sym (same_point_ids points)) numbered.points);
+      kinds = ap (list_all (λ (site : Plain). is_kind site.kind)) sites_are ∙ kinds_are sites;
+    }
