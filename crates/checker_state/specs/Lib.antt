@@ -9,3 +9,4 @@ pub mod Stores
 pub mod Holds
 pub mod View
 pub mod Trail
+pub mod Meets
