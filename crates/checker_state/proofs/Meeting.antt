@@ -173,13 +173,15 @@ module _ (table : Table) (one there : Core) (rows : List ℕ) (told : Told) (are
       ≡ map (λ (row : ℕ). let pair : ℕ × RowState = (row, state row) in pair) numbers
   pairs-are [] = refl
   pairs-are (row ∷ numbers) =
-      ap₂ (λ (s : RowState) (rest : List (ℕ × RowState)). let pair : ℕ × RowState =
-      (row, record {
-        range = joined (row_at (viewed one) row).range s.range;
-        is_defined =
-            ((row_at (viewed one) row).is_defined && is_whole table (viewed there) row)
-            || (s.is_defined && is_whole table (viewed one) row);
-      }) in pair ∷ rest)
+      ap₂ (λ (s : RowState) (rest : List (ℕ × RowState)). let pair : ℕ × RowState = (
+        row,
+        record {
+          range = joined (row_at (viewed one) row).range s.range;
+          is_defined =
+              ((row_at (viewed one) row).is_defined && is_whole table (viewed there) row)
+              || (s.is_defined && is_whole table (viewed one) row);
+        },
+      ) in pair ∷ rest)
       (sym (get_or-map said_row there.rows row none)) (pairs-are numbers)
 
   known-are : (held : List Held)

@@ -47,12 +47,15 @@ said_at one = (one.0, said_row one.1)
 
 -- what is known of a row here and at the end of another way
 abbrev pub joined_at : Table → Facts → Arrival → ℕ × RowState
-joined_at table one other = (other.row, record {
-  range = joined (row_at one other.row).range other.known.range;
-  is_defined =
-      ((row_at one other.row).is_defined && other.is_whole)
-      || (other.known.is_defined && is_whole table one other.row);
-})
+joined_at table one other = (
+  other.row,
+  record {
+    range = joined (row_at one other.row).range other.known.range;
+    is_defined =
+        ((row_at one other.row).is_defined && other.is_whole)
+        || (other.known.is_defined && is_whole table one other.row);
+  },
+)
 
 -- this is known of rows from here on
 abbrev pub with_rows : List (ℕ × Row) → State → State

@@ -160,12 +160,7 @@ impl Known {
     }
 
     // Those of what is held elsewhere that are given.
-    fn given(
-        &self,
-        alloc: Global,
-        table: &Rows,
-        asked: &[Held],
-    ) -> Result<Vec<Held>, AllocError>
+    fn given(&self, alloc: Global, table: &Rows, asked: &[Held]) -> Result<Vec<Held>, AllocError>
         ensures { IfOk result (λ found. map said_held found.items
             ≡ filter (gives (table_of table.now) (viewed (core self.now))) (map said_held asked.now)) }
     {
