@@ -22,3 +22,5 @@ pub mod Tests
 pub mod ConditionsOf
 pub mod Turns
 pub mod Elements
+pub mod Arrivals
+pub mod Meeting

@@ -11,3 +11,4 @@ pub mod Knows
 pub mod Laws
 pub mod View
 pub mod Trail
+pub mod Meets

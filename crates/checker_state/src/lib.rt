@@ -7,6 +7,7 @@ mod conditions;
 mod forms;
 mod gives;
 mod held;
+mod joins;
 mod known;
 pub mod laws;
 mod loops;

@@ -1,4 +1,4 @@
-ghost use Rattle.std.specs.Prelude.{◌≡◌, length};
+ghost use Rattle.std.specs.Prelude.{◌≡◌, false, length, true};
 ghost use Rattle.checker_state.specs.declared.state.State.{State as Kept};
 ghost use Rattle.checker_state.specs.State.{Dead, State as Seen, is_dead, is_defined, range_of, unless_empty, with_defined, with_range};
 ghost use Rattle.checker_state.specs.Trail.{Comes, Core, EndsAt, Goes, IsCut, Leaves, Makes, Moves, TakesBack, core, seen};
@@ -117,7 +117,8 @@ impl<'a> State<'a> {
 impl<'a> State<'a> {
     /// Memory ran out.
     pub(crate) fn run_short(&mut self)
-        ensures { (step : Seen → Seen) → Moves step self.old self.new }
+        ensures short { self.new.is_short ≡ true }
+        ensures moves { (step : Seen → Seen) → Moves step self.old self.new }
     {
         self.is_short = true;
     }
@@ -146,7 +147,8 @@ impl<'a> State<'a> {
 
     /// Takes back what was done since a mark, and gives how the way from there ended.
     pub fn leave(&mut self, mark: Mark) -> Branch
-        ensures { (start : Kept) → mark.length ≡ length start.trail.items → Goes start self.old
+        ensures long { self.new.is_short ≡ false → self.old.is_short ≡ false }
+        ensures back { (start : Kept) → mark.length ≡ length start.trail.items → Goes start self.old
             → Leaves start self.old self.new result }
     {
         let is_dead = self.known.is_dead;
@@ -182,7 +184,8 @@ impl<'a> State<'a> {
 
     /// Goes on as a branch from here ended.
     pub fn go(&mut self, branch: &Branch)
-        ensures { (end : Core) → EndsAt (core self.old.known) branch.now end → Comes end self.old self.new }
+        ensures long { self.new.is_short ≡ false → self.old.is_short ≡ false }
+        ensures comes { (end : Core) → EndsAt (core self.old.known) branch.now end → Comes end self.old self.new }
     {
         for change in &branch.changes {
             self.make(change);

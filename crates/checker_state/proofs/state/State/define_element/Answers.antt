@@ -6,7 +6,7 @@ use Rattle.checker_state.proofs.Elements.{alone-moves, longer-moves}
 use Rattle.checker_state.proofs.state.State.define_element.Goals as goal
 
 pub returns-in_default : goal.returns-in_default
-returns-in_default c = c.run_short.ensures (with_element c.args.row (said_bound c.args.index))
+returns-in_default c = c.run_short.ensures.moves (with_element c.args.row (said_bound c.args.index))
 
 pub returns-then-is_empty : goal.returns-then-is_empty
 returns-then-is_empty c =
