@@ -11,7 +11,8 @@ use Rattle.typed_tree.specs.declared.tree.Expr.TheVariants as expr
 use Rattle.checker_state.specs.declared.state.State.{State as Kept}
 use Rattle.checker_state.specs.State.{State}
 use Rattle.checker_state.specs.Forms.{Form, bound_of}
-use Rattle.checker_state.specs.Conditions.{Condition, Conjunct, all_refined, bound_form, chain_refined, condition_of, conjunct_of, operation_refined, single_refined}
+use Rattle.checker_state.specs.Conditions.{Condition, Conjunct, all_refined, bound_form}
+use Rattle.checker_state.specs.Conditions.{chain_refined, condition_of, conjunct_of, operation_refined, single_refined}
 use Rattle.checker_state.specs.Conditions.{takes_both}
 use Rattle.checker_state.specs.Trail.{Moves, seen}
 use Rattle.checker_state.proofs.FormsOf.{condition-Chain, conjunct-is}

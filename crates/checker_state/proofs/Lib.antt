@@ -3,7 +3,7 @@ pub mod Ranged
 pub mod Rows
 pub mod Bounds
 pub mod Given
-pub mod Joins
+pub mod Joined
 pub mod Changed
 pub mod Assigned
 pub mod Looped

@@ -26,7 +26,7 @@ use Rattle.checker_expressions.proofs.Sound.{good-weaker, here-behind, kept-rule
 use Rattle.checker_expressions.proofs.Sound.{unbroken-left, unbroken-right, variables_in}
 use Rattle.checker_state.specs.State.{State}
 use Rattle.checker_state.specs.Joins.{joined_states}
-use Rattle.checker_state.proofs.Joins.{join-holds}
+use Rattle.checker_state.proofs.Joined.{join-holds}
 use Rattle.checker_state.proofs.Refined.{conditions-tell}
 use Rattle.checker_loops.specs.Loops.{Round, claims_at, controls_inside, gives_claims, head_of, round_of, table_of, touched, with_own}
 use Rattle.checker_loops.proofs.Tabled.{are-rows}
