@@ -35,7 +35,8 @@ pub beside-more : {known : Facts} {row : ℕ} {index : Bound} {kept new_kept : L
     → BesideUpTo known row index kept more (take i held) → new_kept ≡ kept ++ is_none found ∷ []
     → said_all new_more ≡ said_all more ++ cons_option found []
     → BesideUpTo known row index new_kept new_more (take (i + 1) held)
-beside-more {known = known} {row = row} {index = index} {kept = kept} {new_kept = new_kept} {more = more} {new_more = new_more} held i one found inside is found_is so_far kept_is more_is =
+beside-more {known = known} {row = row} {index = index} {kept = kept} {new_kept = new_kept} {more = more} {new_more = new_more}
+    held i one found inside is found_is so_far kept_is more_is =
     let change = longer known row index in
     let test : Held → Bool = λ h. is_none (change h) in
     let said : said_all (take (i + 1) held) ≡ said_all (take i held) ++ said_held one ∷ [] =
