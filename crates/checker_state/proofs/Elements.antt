@@ -1,5 +1,6 @@
 -- A first index of a row becomes defined, and values are stored to rows.
-use Rattle.std.proofs.Common.{arith, ◌≡◌, ◌∙◌, sym, ap, ap₂, refl, subst, ℕ, zero, suc, ◌+◌, ◌<◌, ◌≤◌, Bool, true, false, cond, List, [], ◌∷◌, ◌++◌, get_or, length, map, take}
+use Rattle.std.proofs.Common.{arith, ◌≡◌, ◌∙◌, sym, ap, ap₂, refl, subst, ℕ, zero, suc, ◌+◌, ◌<◌, ◌≤◌, Bool, true, false, cond, List, [], ◌∷◌, ◌++◌, get_or}
+use Rattle.std.proofs.Common.{length, map, take}
 use Rattle.std.proofs.Common.{Option, None, Some, filter}
 use Rattle.std.specs.List.{cons_option, filter_map}
 use Rattle.std.proofs.Math.ListN.{get_or-map}
