@@ -132,7 +132,8 @@ module _ (change : Held → Option Held) where
 
   pub none-there : (held : List Held) (place : ℕ) → length held ≤ place → changed_at change place held ≡ held
   none-there held place past =
-      ap₂ (λ (first rest : List Held). (first ++ filter_map change (take 1 rest)) ++ drop (suc place) held) (take_all place held past) (drop_all place held past)
+      ap₂ (λ (first rest : List Held). (first ++ filter_map change (take 1 rest)) ++ drop (suc place) held) (take_all place held past)
+      (drop_all place held past)
       ∙ ap (λ (rest : List Held). (held ++ []) ++ rest) (drop_all (suc place) held (omega arith)) ∙ append-nil (held ++ []) ∙ append-nil held
 
   -- those from a place on are changed

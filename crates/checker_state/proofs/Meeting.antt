@@ -1,5 +1,6 @@
 -- Where two ways meet: what is known row by row, and what is held, is what is known behind both.
-use Rattle.std.proofs.Common.{arith, ◌≡◌, ◌⊎◌, ⊎_elim, inl, inr, ◌∙◌, sym, ap, ap₂, refl, subst, ℕ, ℤ, zero, suc, ◌<◌, Bool, true, false, cond, ◌&&◌, ◌||◌, int_lt}
+use Rattle.std.proofs.Common.{arith, ◌≡◌, ◌⊎◌, ⊎_elim, inl, inr, ◌∙◌, sym, ap, ap₂, refl, subst, ℕ, ℤ, zero, suc, ◌<◌, Bool, true, false, cond, ◌&&◌, ◌||◌}
+use Rattle.std.proofs.Common.{int_lt}
 use Rattle.std.proofs.Common.{List, [], ◌∷◌, ◌++◌, filter, get_or, length, map, max, set}
 use Rattle.std.specs.List.{Contains, range_with_len}
 use Rattle.std.proofs.Math.ListN.{get_or-map}
@@ -231,13 +232,15 @@ pub settle-moves : {a b c d : Kept} (there : Core) (rows : List ℕ) (told : Tol
     → flags ≡ told.kept.items → there_more ≡ more → there_found ≡ found
     → Moves (over_held (kept_by flags)) a b → Moves (over_held (with_more (said_all there_more))) b c → Moves (with_rows there_found) c d
     → Moves (λ state. joined_states (table_of a.table.now) state (seen_core there)) a d
-settle-moves {a = a} there rows told flags more there_more found there_found live there_live are_told alike more_are found_are flags_are same_more same_found retained held set =
+settle-moves {a = a} there rows told flags more there_more found there_found live there_live are_told alike more_are
+    found_are flags_are same_more same_found retained held set =
     let table = table_of a.table.now in
     let one = core a.known in
     moves-as (λ state. joined_states table state (seen_core there)) (moves-then (moves-then retained held) set)
     (ap (λ (state : State). with_rows there_found (over_held (with_more (said_all there_more)) (over_held (kept_by flags) state))) (seen-live a live)
     ∙ ap (λ (some : List Bool). with_rows there_found (over_held (with_more (said_all there_more)) (over_held (kept_by some) (Live (viewed one))))) flags_are
-    ∙ ap₂ (λ (all : List KeptHeld) (pairs : List (ℕ × Row)). with_rows pairs (over_held (with_more (said_all all)) (over_held (kept_by told.kept.items) (Live (viewed one)))))
+    ∙ ap₂ (λ (all : List KeptHeld) (pairs : List (ℕ × Row)). with_rows pairs
+    (over_held (with_more (said_all all)) (over_held (kept_by told.kept.items) (Live (viewed one)))))
     same_more same_found
     ∙ both-known table one there rows told are_told alike more found more_are found_are
     ∙ ap₂ (λ (first second : State). joined_states table first second) (sym (seen-live a live)) (sym (core-live there there_live)))

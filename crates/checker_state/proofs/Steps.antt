@@ -4,7 +4,8 @@ use Rattle.std.proofs.Common.{get_or, set, take, drop, drop-cons, length, map, O
 use Rattle.std.proofs.Math.ListN.{get_or-map}
 use Rattle.std.specs.List.{insert, remove}
 use Rattle.std.proofs.lemmas.Bool.{cond_both, ne_eqb}
-use Rattle.std.proofs.lemmas.List.{drop_at, length-map, length-take-le, length_push, map-append, map-set, set-set, set-get_or, take-append-drop, take_all, take_at, take_more}
+use Rattle.std.proofs.lemmas.List.{drop_at, length-map, length-take-le, length_push, map-append, map-set, set-set, set-get_or, take-append-drop, take_all}
+use Rattle.std.proofs.lemmas.List.{take_at, take_more}
 use Rattle.domain.specs.Interval.{vacant}
 use Rattle.checker_state.specs.declared.held.Held.{Held as KeptHeld}
 use Rattle.checker_state.specs.declared.known.Row.{Row}

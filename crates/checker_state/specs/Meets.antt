@@ -1,6 +1,7 @@
 -- Where two ways of the state of the program meet, row by row, and what the end of one tells of the other. It does not
 -- say what is known behind both: that is said of states.
-use Rattle.std.specs.Prelude.{◌≡◌, ◌⊎◌, ◌&&◌, ◌||◌, Bool, ℕ, List, [], ◌∷◌, ◌++◌, false, flat_map, length, map, slice_index_or}
+use Rattle.std.specs.Prelude.{◌≡◌, ◌⊎◌, ◌&&◌, ◌||◌, Bool, ℕ, List, [], ◌∷◌, ◌++◌, false, flat_map, length, map}
+use Rattle.std.specs.Prelude.{slice_index_or}
 use Rattle.std.specs.Prelude.{Contains}
 use Rattle.domain.specs.Interval.{joined, vacant}
 use Rattle.checker_state.specs.declared.held.Held.{Held as KeptHeld}

@@ -1,6 +1,7 @@
 -- How the state of the program changes: each change can be taken back, and stands on a trail until it is. It does not
 -- say which changes are made.
-use Rattle.std.specs.Prelude.{◌≡◌, true, false, Bool, List, [], ◌∷◌, ◌++◌, if◌then◌else◌, length, map, slice_set, ℕ, suc, ◌≤◌, take, drop}
+use Rattle.std.specs.Prelude.{◌≡◌, true, false, Bool, List, [], ◌∷◌, ◌++◌, if◌then◌else◌, length, map, slice_set, ℕ}
+use Rattle.std.specs.Prelude.{suc, ◌≤◌, take, drop}
 use Rattle.std.specs.Prelude.{Option, Some, None}
 use Rattle.std.specs.List.{filter_map, insert, remove}
 use Rattle.typed_tree.specs.declared.tree.Tree.{Tree}
@@ -144,7 +145,8 @@ over_held change (Live facts) = Live (record facts { held = change facts.held })
 
 -- the one at a place became another, or went
 abbrev pub changed_at : (Held → Option Held) → ℕ → List Held → List Held
-changed_at change place held = (take place held ++ filter_map change (take 1 (drop place held))) ++ drop (suc place) held
+changed_at change place held =
+    (take place held ++ filter_map change (take 1 (drop place held))) ++ drop (suc place) held
 
 -- those that stand where this says so, and those behind
 abbrev pub kept_by : List Bool → List Held → List Held

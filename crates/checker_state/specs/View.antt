@@ -20,7 +20,8 @@ use Rattle.checker_state.specs.declared.held.Held.TheVariants as kept
 use Rattle.checker_state.specs.declared.stores.Index.{Index as KeptIndex}
 use Rattle.checker_state.specs.declared.stores.Reach.{Reach as KeptReach}
 use Rattle.checker_state.specs.Bounds.{Bound, raised_bound}
-use Rattle.checker_state.specs.State.{Claim, Defined, Held, Holds, Ordered, Range, RowState, Span, Stretch, Stretched, Table}
+use Rattle.checker_state.specs.State.{Claim, Defined, Held, Holds, Ordered, Range, RowState, Span, Stretch, Stretched}
+use Rattle.checker_state.specs.State.{Table}
 use Rattle.checker_state.specs.Stores.{Index, Reach}
 use Rattle.checker_state.specs.Changes.{bound_in_place, changed, changed_bound, in_place}
 

@@ -2,10 +2,12 @@ ghost use Rattle.std.specs.Prelude.{◌≡◌, map, pos};
 ghost use Rattle.std.specs.List.{list_any};
 ghost use Rattle.checker_state.specs.Bounds.{raised_bound};
 ghost use Rattle.checker_state.specs.State.{Live, bound_range, covers, gives, gives_claim, gives_stretch, has_number};
-ghost use Rattle.checker_state.specs.State.{has_span, has_value, has_values, have_spans, have_values, is_empty, is_next};
+ghost use Rattle.checker_state.specs.State.{has_span, has_value, has_values, have_spans, have_values, is_empty};
+ghost use Rattle.checker_state.specs.State.{is_next};
 ghost use Rattle.checker_state.specs.State.{is_spanned, is_whole, le, lies_below, says_at_most};
 ghost use Rattle.checker_state.specs.Trail.{core, viewed};
-ghost use Rattle.checker_state.specs.View.{AreEnds, inner_spans, said_bound, said_claim, said_held, said_order, said_span};
+ghost use Rattle.checker_state.specs.View.{AreEnds, inner_spans, said_bound, said_claim, said_held, said_order};
+ghost use Rattle.checker_state.specs.View.{said_span};
 ghost use Rattle.checker_state.specs.View.{said_spans, said_stretch, said_term, table_of};
 
 use crate::bound::Bound;

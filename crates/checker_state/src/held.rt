@@ -23,7 +23,8 @@ pub struct Span {
     pub last: Bound,
 }
 
-/// Components of a row: those whose first index lies in a span, and whose second lies in the inner one, if there is one.
+/// Components of a row: those whose first index lies in a span, and whose second lies in the inner one, if there is
+/// one.
 #[derive(Clone, Copy)]
 pub struct Stretch {
     pub row: usize,
@@ -225,7 +226,8 @@ impl Order {
         Some(self)
     }
 
-    // The order with a bound in the place of a variable; it goes, if it rests on the variable and the bound is a number.
+    // The order with a bound in the place of a variable; it goes, if it rests on the variable and the bound is a
+    // number.
     fn in_place(self, root: u32, own: Bound) -> Option<Order>
         ensures { said_ordered result ≡ in_place root (said_bound own) (Ordered self.root self.other self.number) }
     {

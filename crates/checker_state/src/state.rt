@@ -1,7 +1,9 @@
 ghost use Rattle.std.specs.Prelude.{◌≡◌, false, length, true};
 ghost use Rattle.checker_state.specs.declared.state.State.{State as Kept};
-ghost use Rattle.checker_state.specs.State.{Dead, State as Seen, is_dead, is_defined, range_of, unless_empty, with_defined, with_range};
-ghost use Rattle.checker_state.specs.Trail.{Comes, Core, EndsAt, Goes, IsCut, Leaves, Makes, Moves, TakesBack, core, seen};
+ghost use Rattle.checker_state.specs.State.{Dead, State as Seen, is_dead, is_defined, range_of, unless_empty};
+ghost use Rattle.checker_state.specs.State.{with_defined, with_range};
+ghost use Rattle.checker_state.specs.Trail.{Comes, Core, EndsAt, Goes, IsCut, Leaves, Makes, Moves, TakesBack, core};
+ghost use Rattle.checker_state.specs.Trail.{seen};
 ghost use Rattle.checker_state.specs.Trail.{with_state};
 ghost use Rattle.checker_state.specs.View.{said_row};
 

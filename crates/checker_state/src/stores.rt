@@ -1,10 +1,12 @@
 ghost use Rattle.std.specs.Prelude.{◌≡◌, ◌++◌, [], IfOk, map};
 ghost use Rattle.std.specs.List.{cons_option};
-ghost use Rattle.checker_state.specs.Stores.{all_of_row, all_stored, gives_form, gives_index, gives_reached, gives_some};
+ghost use Rattle.checker_state.specs.Stores.{all_of_row, all_stored, gives_form, gives_index, gives_reached};
+ghost use Rattle.checker_state.specs.Stores.{gives_some};
 ghost use Rattle.checker_state.specs.Stores.{is_none, longer, longer_span, range_stretch, stored, with_element};
 ghost use Rattle.checker_state.specs.Stores.{with_joined, with_some_element};
 ghost use Rattle.checker_state.specs.Trail.{IsBeside, Moves, core, seen, viewed};
-ghost use Rattle.checker_state.specs.View.{said_bound, said_claim, said_form, said_held, said_index, said_more, said_reach};
+ghost use Rattle.checker_state.specs.View.{said_bound, said_claim, said_form, said_held, said_index, said_more};
+ghost use Rattle.checker_state.specs.View.{said_reach};
 ghost use Rattle.checker_state.specs.View.{said_span, said_span_form, said_stretch_form, table_of};
 
 use crate::bound::Bound;

@@ -1,6 +1,6 @@
 -- What a verdict by the walk promises of the runs of each program (ISO 7185:1990, 3.1): an error comes only at an open
--- site, the states that are linked hold, calls change what is listed, and each entry has its state. It does not say that
--- a certificate is valid.
+-- site, the states that are linked hold, calls change what is listed, and each entry has its state. It does not say
+-- that a certificate is valid.
 use Rattle.std.specs.Prelude.{List}
 use Rattle.certificate.specs.declared.Certificate.{Certificate}
 use Rattle.typed_tree.specs.declared.site.Site.{Site}

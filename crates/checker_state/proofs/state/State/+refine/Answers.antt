@@ -28,7 +28,8 @@ loop-link-init t c = λ end more.
     let rest = c.in-Chain.rest in
     let all : list_all (λ link. takes_both truth link.operation) rest.items ≡ true = search rules in
     chain-moves c.args.condition.now first rest truth c.in-Chain.is all
-    (subst (λ (e : Expr). Moves ((condition_of e).refined truth) c.args.self.now c.refine-in-Chain.new.self) c.deref-in-Chain-2.ensures c.refine-in-Chain.ensures)
+    (subst (λ (e : Expr). Moves
+    ((condition_of e).refined truth) c.args.self.now c.refine-in-Chain.new.self) c.deref-in-Chain-2.ensures c.refine-in-Chain.ensures)
     (subst (λ (links : List Link). Moves (all_refined truth (map conjunct_of links)) c.refine-in-Chain.new.self end) c.deref-link-items.ensures.value more)
 
 pub loop-link-preserved : goal.loop-link-preserved

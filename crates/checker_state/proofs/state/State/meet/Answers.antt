@@ -18,7 +18,8 @@ returns-clause-meets c = λ start end marks way ends live end_live. record {
       let been = been-there end here c.leave-there.result other way ends (c.leave-here.ensures.back start marks way) c.go.ensures.comes
       (c.leave-there.ensures.back start marks) c.go-2.ensures.comes long1 long2 long3 long4 in
       let told = subst (λ (held : List KeptHeld).
-      AreTold (table_of c.go.new.self.table.now) (core c.go.new.self.known) held (rows_changed here.changes.items ++ rows_changed other.changes.items) c.in-Ok-tell.told)
+      AreTold (table_of c.go.new.self.table.now) (core c.go.new.self.known) held
+      (rows_changed here.changes.items ++ rows_changed other.changes.items) c.in-Ok-tell.told)
       c.deref-2.ensures.value c.in-Ok-tell.ensures in
       meet-joins end here other c.in-Ok.held.items c.in-Ok-tell.told been (c.leave-here.ensures.long long1) live end_live ends
       (c.in-Ok.ensures.items ∙ c.deref.ensures.value) told c.settle.ensures.meets long5;
