@@ -3,12 +3,12 @@ use Rattle.std.proofs.Common.{arith, ◌≡◌, ◌∙◌, sym, ap, refl, subst,
 use Rattle.std.proofs.Common.{length, Option, Some, None}
 use Rattle.std.specs.List.{Contains}
 use Rattle.std.specs.Option.{option_and_then}
-use Rattle.std.specs.Prelude.{is_some, slice_get, slice_index_or}
+use Rattle.std.specs.Prelude.{is_some, option_map, slice_get, slice_index_or}
 use Rattle.std.proofs.lemmas.Bool.{false≢true}
 use Rattle.std.proofs.lemmas.Option.{none-some, same_Some, slice_get_within}
 use Rattle.types.specs.Components.{components_of}
 use Rattle.types.specs.Forms.{Array, Form, Record}
-use Rattle.types.specs.Types.{form_at, has_components, is_ordinal, is_structured}
+use Rattle.types.specs.Types.{form_at, form_kind, form_range, is_ordinal, is_structured, is_structured_kind}
 use Rattle.types.specs.declared.form.Step.{Step}
 use Rattle.types.specs.declared.form.Step.TheVariants as step
 use Rattle.types.specs.declared.form.TypeId.{TypeId}
@@ -78,7 +78,7 @@ first-behind_fields (Field position offset ∷ selectors) (step.Field place ∷ 
 
 -- ---- types
 
-ordinal-plain : (form : Option Form) → is_some (option_and_then Rattle.types.specs.Types.form_range form) ≡ true → has_components form ≡ true → ⊥
+ordinal-plain : (form : Option Form) → is_some (option_and_then form_range form) ≡ true → is_structured_kind (option_map form_kind form) ≡ true → ⊥
 ordinal-plain (Some (Array packed index element)) ordinal structured = false≢true ordinal
 ordinal-plain (Some (Record packed fields)) ordinal structured = false≢true ordinal
 ordinal-plain form ordinal structured = false≢true structured

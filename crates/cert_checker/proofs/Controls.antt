@@ -1,15 +1,14 @@
 -- The control variables of the for statements in a program are ones of ordinal types, so none of them has rows of components.
 use Rattle.std.proofs.Common.{arith, ◌≡◌, ⊎_elim, ◌∙◌, sym, ap, subst, ℕ, ◌+◌, Bool, true, ◌&&◌, nat_eq, nat_lt, List, [], ◌∷◌, ◌++◌, length, map}
 use Rattle.std.proofs.Common.{Option, Some, None}
-use Rattle.std.specs.Prelude.{flat_map, is_some, slice_get, slice_index_or}
+use Rattle.std.specs.Prelude.{flat_map, slice_get, slice_index_or}
 use Rattle.std.specs.List.{list_all}
 use Rattle.std.specs.Option.{option_and_then}
 use Rattle.std.proofs.lemmas.Bool.{and_parts, eqb-true, false≢true, false_from_ne_true, or_cases}
 use Rattle.std.proofs.lemmas.List.{length-map}
 use Rattle.std.proofs.lemmas.List.Folds.{list_any-append}
 use Rattle.types.specs.Forms.{Form}
-use Rattle.types.specs.Forms.{Array, Record}
-use Rattle.types.specs.Types.{form_range, has_components, is_ordinal}
+use Rattle.types.specs.Types.{is_ordinal}
 use Rattle.typed_tree.specs.Accesses.{is_type, led}
 use Rattle.typed_tree.specs.Loops.{AreLoops, Inside, IsLoop, all_inside, inside_of, statement_inside}
 use Rattle.typed_tree.specs.WellFormed.{all_hold, are_whole, is_control, is_declared, is_local_kind, is_visible, is_well_formed_expr, is_well_formed_stmt}
@@ -29,6 +28,7 @@ use Rattle.leaf_rows.specs.Rows.{Parts, all_parts, no_parts, parts_of, rows_of}
 use Rattle.leaf_rows.proofs.Accessed.{leaf-of, parts-at}
 use Rattle.component_states.specs.Laws.{AreEntire}
 use Rattle.structured_states.specs.Loops.{controls_inside, controls_of, has_ordinals, is_ordinal_variable}
+use Rattle.call_states.proofs.FormalRows.{not-both}
 use Rattle.call_states.proofs.Headings.{one-there}
 use Rattle.expression_checker.proofs.Fitting.{some-at}
 use Rattle.expression_checker.proofs.SoundAccesses.{leads-seen, leads-type}
@@ -120,10 +120,10 @@ module _ (tree : Tree) (block : ℕ) where
 
   layer : (y : Stmt-F Proved) → Layer (map-Stmt Proved Stmt (λ s. s.0) y)
   layer (Empty number) well = none-ordinal tree
-  layer (Assign number becomes target indexes fits value) well = none-ordinal tree
-  layer (Copy number becomes target indexes type_id value value_indexes) well = none-ordinal tree
-  layer (Write number name parameters ends_line) well = none-ordinal tree
-  layer (Call call actuals) well = none-ordinal tree
+  layer (Assign assignment) well = none-ordinal tree
+  layer (Copy copying) well = none-ordinal tree
+  layer (Write writing) well = none-ordinal tree
+  layer (Call calling) well = none-ordinal tree
   layer (Compound number statements) well = all-proved statements.items well
   layer (If number condition consequence None) well =
       let parts = and_parts (well_expr condition) (well_stmt consequence.value.0 && true) well in
@@ -134,25 +134,26 @@ module _ (tree : Tree) (block : ℕ) where
       let each = and_parts (well_stmt consequence.value.0) (well_stmt alternative.value.0) parts.1 in
       both-ordinal tree (inside_of consequence.value.0).controls (inside_of alternative.value.0).controls (consequence.value.1 each.0)
       (alternative.value.1 each.1)
-  layer (While number loop_number place condition body) well = body.value.1 (and_parts (well_expr condition) (well_stmt body.value.0) well).1
-  layer (Repeat number loop_number place statements condition) well =
+  layer (While head body) well = body.value.1 (and_parts (well_expr head.condition) (well_stmt body.value.0) well).1
+  layer (Repeat head statements) well =
       all-proved statements.items
-      (and_parts (all_hold (map well_stmt (map (λ (s : Proved). s.0) statements.items))) (well_expr condition) well).0
-  layer (For number loop_number place control first first_fits direction last last_fits body) well =
-      let is_test = λ (fits : RangeTest). fits_target (outline_of tree) block fits control [] in
-      let one = and_parts (is_control (outline_of tree) block control)
-      (well_expr first && (is_test first_fits && (well_expr last && (is_test last_fits && well_stmt body.value.0)))) well in
-      let two = and_parts (well_expr first) (is_test first_fits && (well_expr last && (is_test last_fits && well_stmt body.value.0))) one.1 in
-      let three = and_parts (is_test first_fits) (well_expr last && (is_test last_fits && well_stmt body.value.0)) two.1 in
-      let four = and_parts (well_expr last) (is_test last_fits && well_stmt body.value.0) three.1 in
-      let five = and_parts (is_test last_fits) (well_stmt body.value.0) four.1 in
-      one-ordinal tree control (inside_of body.value.0).controls (control-ordinal tree block control one.0) (body.value.1 five.1)
-  layer (Case number site index constants arms) well =
+      (and_parts (all_hold (map well_stmt (map (λ (s : Proved). s.0) statements.items))) (well_expr head.condition) well).0
+  layer (For head body) well =
+      let is_test = λ (fits : RangeTest). fits_target (outline_of tree) block fits head.control [] in
+      let one = and_parts (is_control (outline_of tree) block head.control)
+      (well_expr head.first.value && (is_test head.first.fits && (well_expr head.last.value && (is_test head.last.fits && well_stmt body.value.0)))) well in
+      let two = and_parts (well_expr head.first.value)
+      (is_test head.first.fits && (well_expr head.last.value && (is_test head.last.fits && well_stmt body.value.0))) one.1 in
+      let three = and_parts (is_test head.first.fits) (well_expr head.last.value && (is_test head.last.fits && well_stmt body.value.0)) two.1 in
+      let four = and_parts (well_expr head.last.value) (is_test head.last.fits && well_stmt body.value.0) three.1 in
+      let five = and_parts (is_test head.last.fits) (well_stmt body.value.0) four.1 in
+      one-ordinal tree head.control (inside_of body.value.0).controls (control-ordinal tree block head.control one.0) (body.value.1 five.1)
+  layer (Case head arms) well =
       let inner = map (λ (s : Proved). s.0) arms.items in
-      let one = and_parts (nat_lt site (length tree.sites.items))
-      (well_expr index && (list_all are_whole constants.items && all_hold (map well_stmt inner))) well in
-      let two = and_parts (well_expr index) (list_all are_whole constants.items && all_hold (map well_stmt inner)) one.1 in
-      all-proved arms.items (and_parts (list_all are_whole constants.items) (all_hold (map well_stmt inner)) two.1).1
+      let one = and_parts (nat_lt head.site (length tree.sites.items))
+      (well_expr head.index && (list_all are_whole head.constants.items && all_hold (map well_stmt inner))) well in
+      let two = and_parts (well_expr head.index) (list_all are_whole head.constants.items && all_hold (map well_stmt inner)) one.1 in
+      all-proved arms.items (and_parts (list_all are_whole head.constants.items) (all_hold (map well_stmt inner)) two.1).1
 
   along : {a b : Bool} {inside other : Inside} → a ≡ b → inside ≡ other → HasOrdinals b other → HasOrdinals a inside
   along {a} {b} {inside} {other} zero one has =
@@ -176,11 +177,6 @@ module _ (tree : Tree) (block : ℕ) where
 
 -- ---- they have no rows
 
-ordinal-scalar : (form : Option Form) → is_some (option_and_then form_range form) ≡ true → has_components form ≡ true → ⊥
-ordinal-scalar (Some (Array packed index element)) is structured = false≢true is
-ordinal-scalar (Some (Record packed fields)) is structured = false≢true is
-ordinal-scalar form is structured = false≢true structured
-
 pub ordinal-entire : (tree : Tree) (controls : List ℕ) → AreOrdinal tree controls → AreEntire (all_parts tree) controls
 ordinal-entire tree controls ordinal k within =
     false_from_ne_true (is_among (slice_index_or (all_parts tree) k no_parts).root controls) (λ among.
@@ -192,8 +188,7 @@ ordinal-entire tree controls ordinal k within =
     ap (λ (p : Parts). p.root) (parts-at tree k at.0 at.1) ∙ leaf.root_is ∙ zero_root in
     let of_type : has_ordinals tree.types (slice_get tree.variables.items leaf.root) ≡ true =
     subst (λ (r : ℕ). is_ordinal_variable tree r ≡ true) root (ordinal (slice_index_or (all_parts tree) k no_parts).root among) in
-    ordinal-scalar (slice_get tree.types leaf.variable.type_id.index)
-    (sym (ap (has_ordinals tree.types) leaf.variable_is) ∙ of_type) leaf.structured)
+    not-both tree.types leaf.variable.type_id (sym (ap (has_ordinals tree.types) leaf.variable_is) ∙ of_type) leaf.structured)
 
 -- inside a loop of the table
 pub inside-ordinal : (tree : Tree) (block number : ℕ) (controls : List ℕ) → AreOrdinal tree controls → IsLoop tree.loops.items block (number, controls)

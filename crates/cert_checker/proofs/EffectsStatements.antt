@@ -8,14 +8,15 @@ use Rattle.std.proofs.Common.{refl, sym, ap, ◌∙◌, subst}
 use Rattle.std.proofs.lemmas.Bool.{and_from, and_parts}
 use Rattle.place.specs.declared.Place.{Place as SourcePlace}
 use Rattle.types.specs.Components.{components_of}
-use Rattle.types.specs.declared.form.TypeId.{TypeId}
 use Rattle.typed_tree.specs.declared.tree.Tree.{Tree}
 use Rattle.typed_tree.specs.declared.tree.Access.{Access}
-use Rattle.typed_tree.specs.declared.tree.Direction.{Direction}
+use Rattle.typed_tree.specs.declared.tree.Assignment.{Assignment}
+use Rattle.typed_tree.specs.declared.tree.CaseHead.{CaseHead}
+use Rattle.typed_tree.specs.declared.tree.Copying.{Copying}
+use Rattle.typed_tree.specs.declared.tree.ForHead.{ForHead}
 use Rattle.typed_tree.specs.declared.tree.RangeTest.{RangeTest}
 use Rattle.typed_tree.specs.declared.tree.Selector.{Selector}
 use Rattle.typed_tree.specs.declared.tree.Variable.{Variable as DeclaredVariable}
-use Rattle.typed_tree.specs.declared.tree.Whole.{Whole}
 use Rattle.typed_tree.specs.declared.tree.WriteParameter.{WriteParameter}
 use Rattle.typed_tree.specs.declared.tree.Expr.{Expr}
 use Rattle.typed_tree.specs.declared.tree.Stmt.{Stmt}
@@ -27,7 +28,6 @@ use Rattle.typed_tree.specs.Calls.{holds_call, whole_holds_call}
 use Rattle.typed_tree.specs.WellFormed.{all_hold, are_whole, is_control, is_local_kind, is_result_kind, is_well_formed_expr, is_well_formed_stmt}
 use Rattle.typed_tree.specs.WellFormed.{fits_target, leads_to_ordinal, of_one, outline_of, stmt_is_well_formed}
 use Rattle.meaning.specs.declared.outcome.Ending.TheVariants as ending
-use Rattle.meaning.specs.declared.store.Value.{Value}
 use Rattle.meaning.specs.declared.store.Value.TheVariants.{Number}
 use Rattle.meaning.specs.Store.{Place}
 use Rattle.meaning.specs.Counting.{has_values, value_behind}
@@ -183,39 +183,47 @@ module _ (tree : Tree) (blocks : List BlockClaims) (declares : DeclareTheirs tre
       keeps-then at _ _ (parameter-kept tree blocks declares block at grounds calls leave parameter context stands one.1)
       (λ _. keeps-parameters parameters context stands one.2)
 
-  keeps-assignment : (becomes : SourcePlace) (target : Access) (indexes : List Expr) (fits : RangeTest) (value : Expr) (context : Context)
-      → In context → Yields context (walk.assignment becomes target (flow.index_pieces indexes) fits value) tt
-      → Keeps at (effect.◌>>=◌ (accessed target (values_of indexes) here) (λ place. effect.◌>>=◌ (value_of value here)
-      (λ v. effect.◌>>=◌ (effect.require (is_in fits.range v) fits.site) (λ _. effect.store place v))))
-  keeps-assignment becomes target indexes fits value context stands yields =
+  keeps-assignment : (assignment : Assignment) (context : Context) → In context → Yields context (walk.assignment_walk assignment) tt
+      → Keeps at (effect.◌>>=◌ (accessed assignment.target (values_of assignment.indexes.items) here)
+      (λ place. effect.◌>>=◌ (value_of assignment.value here)
+      (λ v. effect.◌>>=◌ (effect.require (is_in assignment.fits.range v) assignment.fits.site) (λ _. effect.store place v))))
+  keeps-assignment assignment context stands yields =
+      let target = assignment.target in
+      let indexes = assignment.indexes.items in
+      let fits = assignment.fits in
+      let value = assignment.value in
       let held = walk.reach_stored target.selectors.items (holds_call value) in
       let assigned = λ (reach : Reach) (passed : Known).
-      assign_to becomes target.root target.selectors.items (held reach) (bound_form value) passed in
+      assign_to assignment.becomes target.root target.selectors.items (held reach) (bound_form value) passed in
       let one = yields-then context (flow.access_walk target (flow.index_pieces indexes))
       (λ reach. flow.◌>>=◌ (value_walk value) (λ known. flow.◌>>=◌ (flow.fitting fits known) (assigned reach))) tt yields in
       let two = yields-then context (value_walk value) (λ known. flow.◌>>=◌ (flow.fitting fits known) (assigned one.0)) tt one.2 in
       let three = yields-then context (flow.fitting fits two.0) (assigned one.0) tt two.2 in
-      let may = may-assign context becomes target.root target.selectors.items (held one.0) (bound_form value) three.0 three.2 in
+      let may = may-assign context assignment.becomes target.root target.selectors.items (held one.0) (bound_form value) three.0 three.2 in
       keeps-when at _ _ (access-kept tree blocks declares block at grounds calls leave target indexes context one.0 stands one.1)
       (λ place given. keeps-then at _ _ (keeps-value value context two.0 stands two.1)
       (λ v. keeps-then at _ _ (keeps-require at (is_in fits.range v) fits.site)
       (λ _. keeps-store at place v (write-accessed target indexes context stands may place given))))
 
-  keeps-copying : (becomes : SourcePlace) (target : Access) (indexes : List Expr) (type_id : TypeId) (value : Whole) (value_indexes : List Expr)
-      (context : Context) → In context → Yields context (walk.copying becomes target (flow.index_pieces indexes) value value_indexes) tt
-      → Keeps at (effect.◌>>=◌ (accessed target (values_of indexes) here) (λ place. effect.◌>>=◌ (whole_of value (values_of value_indexes) here)
-      (λ values. effect.store_all place (components_of at.visible.types type_id) values)))
-  keeps-copying becomes target indexes type_id value value_indexes context stands yields =
+  keeps-copying : (copying : Copying) (context : Context) → In context → Yields context (walk.copying_walk copying) tt
+      → Keeps at (effect.◌>>=◌ (accessed copying.target (values_of copying.indexes.items) here)
+      (λ place. effect.◌>>=◌ (whole_of copying.value (values_of copying.value_indexes.items) here)
+      (λ values. effect.store_all place (components_of at.visible.types copying.type_id) values)))
+  keeps-copying copying context stands yields =
+      let target = copying.target in
+      let indexes = copying.indexes.items in
+      let value = copying.value in
+      let value_indexes = copying.value_indexes.items in
       let held = walk.reach_stored target.selectors.items (whole_holds_call value value_indexes) in
       let copied = λ (reach : Reach) (ranges : List Interval).
-      walk.copy_to becomes target.root target.selectors.items (held reach) ranges in
+      walk.copy_to copying.becomes target.root target.selectors.items (held reach) ranges in
       let one = yields-then context (flow.access_walk target (flow.index_pieces indexes))
       (λ reach. flow.◌>>=◌ (flow.whole_walk value (flow.index_pieces value_indexes)) (copied reach)) tt yields in
       let two = yields-then context (flow.whole_walk value (flow.index_pieces value_indexes)) (copied one.0) tt one.2 in
-      let may = may-copy context becomes target.root target.selectors.items (held one.0) two.0 two.2 in
+      let may = may-copy context copying.becomes target.root target.selectors.items (held one.0) two.0 two.2 in
       keeps-when at _ _ (access-kept tree blocks declares block at grounds calls leave target indexes context one.0 stands one.1)
       (λ place given. keeps-then at _ _ (whole-kept tree blocks declares block at grounds calls leave value value_indexes context two.0 stands two.1)
-      (λ values. keeps-store_all at place (components_of at.visible.types type_id) values
+      (λ values. keeps-store_all at place (components_of at.visible.types copying.type_id) values
       (write-accessed target indexes context stands may place given)))
 
   -- ---- loops
@@ -284,37 +292,38 @@ module _ (tree : Tree) (blocks : List BlockClaims) (declares : DeclareTheirs tre
       let (variable, found, own) = declared-local (slice_get tree.variables.items control) local in
       grounds.own control variable place found own seen
 
-  keeps-between : (control : ℕ) (first_fits : RangeTest) (direction : Direction) (last_fits : RangeTest) (execution : Execution)
-      → IsOwn at (at.visible.variables control) → Keeps at (execution here) → (first last : ℤ)
-      → Keeps at (meaning.for_between control first_fits direction last_fits execution here first last)
-  keeps-between control first_fits direction last_fits execution own kept first last =
-      let found = at.visible.variables control in
+  keeps-between : (head : ForHead) (execution : Execution) → IsOwn at (at.visible.variables head.control) → Keeps at (execution here) → (first last : ℤ)
+      → Keeps at (meaning.for_between head execution here first last)
+  keeps-between head execution own kept first last =
+      let found = at.visible.variables head.control in
+      let first_fits = head.first.fits in
+      let last_fits = head.last.fits in
+      let behind = value_behind head.direction last in
       let round = λ (n : ℤ). keeps-then at (effect.store found (Number n))
-      (λ _. effect.◌>>=◌ effect.use_turn (λ _. effect.◌>>=◌ (execution here) (λ _. give (value_behind direction last n))))
+      (λ _. effect.◌>>=◌ effect.use_turn (λ _. effect.◌>>=◌ (execution here) (λ _. give (behind n))))
       (keeps-store at found (Number n) (own-write at found own))
-      (λ _. keeps-then at _ _ (keeps-turn at) (λ _. keeps-then at _ _ kept (λ _. keeps-give at (value_behind direction last n)))) in
-      let rounds : Keeps at (meaning.for_rounds control first_fits direction last_fits execution here first last) =
+      (λ _. keeps-then at _ _ (keeps-turn at) (λ _. keeps-then at _ _ kept (λ _. keeps-give at (behind n)))) in
+      let rounds : Keeps at (meaning.for_rounds head execution here first last) =
       keeps-then at _ _ (keeps-require at (is_in first_fits.range (Number first)) first_fits.site)
       (λ _. keeps-then at _ _ (keeps-require at (is_in last_fits.range (Number last)) last_fits.site)
-      (λ _. keeps-looped at (meaning.for_round control direction last execution here) round first)) in
-      keeps-chosen (has_values direction first last) (meaning.for_rounds control first_fits direction last_fits execution here first last) (give tt)
-      rounds (keeps-give at tt)
+      (λ _. keeps-looped at (meaning.for_round head last execution here) round first)) in
+      keeps-chosen (has_values head.direction first last) (meaning.for_rounds head execution here first last) (give tt) rounds (keeps-give at tt)
 
-  kept-turns : (number : ℕ) (place : SourcePlace) (way : Way) (execution : Execution) (walking : Walking (Unit {0}))
+  kept-turns : (head : ForHead) (way : Way) (execution : Execution) (walking : Walking (Unit {0}))
       → ((context : Context) → In context → Yields context walking tt → Keeps at (execution here)) → (context : Context) → In context
-      → Yields context (walk.for_walk number place walking way) tt → Keeps at (execution here)
-  kept-turns number place way execution walking kept context stands yields =
+      → Yields context (walk.for_walk head walking way) tt → Keeps at (execution here)
+  kept-turns head way execution walking kept context stands yields =
       let ways = walk.parted (over_variables (where_counts true way)) (over_variables (where_counts false way))
-      (walk.for_turns number place walking way) (flow.give tt) in
+      (walk.for_turns head walking way) (flow.give tt) in
       let one = yields-then context ways (λ _. flow.changed_by (over_change way.control None (with_undefined way.control))) tt yields in
       let turns = (yields-parted context (over_variables (where_counts true way)) (over_variables (where_counts false way))
-      (walk.for_turns number place walking way) (flow.give tt) one.1).0 in
+      (walk.for_turns head walking way) (flow.give tt) one.1).0 in
       let begun = walk.begin_way in
       let two = yields-then context (walk.tested_way way)
-      (λ tested. flow.◌>>=◌ (begun tested) (λ _. walk.rounds_of number place walking tested)) tt turns in
-      let three = yields-then context (begun two.0) (λ _. walk.rounds_of number place walking two.0) tt two.2 in
-      let steady = walk.steady_in context number two.0 in
-      let round = yields-round tree blocks block context stands number place (Some two.0.control) (walk.for_round steady walking)
+      (λ tested. flow.◌>>=◌ (begun tested) (λ _. walk.rounds_of head walking tested)) tt turns in
+      let three = yields-then context (begun two.0) (λ _. walk.rounds_of head walking two.0) tt two.2 in
+      let steady = walk.steady_in context head.loop_number two.0 in
+      let round = yields-round tree blocks block context stands head.loop_number head.place (Some two.0.control) (walk.for_round steady walking)
       (record { state = three.2.state; unbroken = three.2.unbroken; value_is = three.2.value_is }) in
       let end = λ (ended : State). flow.◌>>=◌ (flow.with_state (over_change steady.control (next steady) (turn_ended steady) ended))
       (λ _. flow.give (over_bound steady.control steady.last.form (way_out steady) ended)) in
@@ -323,25 +332,25 @@ module _ (tree : Tree) (blocks : List BlockClaims) (declares : DeclareTheirs tre
       let five = yields-then round.inner walking (λ _. flow.◌>>=◌ walk.here end) round.behind four.2 in
       kept round.inner round.stands five.1
 
-  keeps-for : (number : ℕ) (place : SourcePlace) (control : ℕ) (first : Expr) (first_fits : RangeTest) (direction : Direction) (last : Expr)
-      (last_fits : RangeTest) (execution : Execution) (walking : Walking (Unit {0}))
-      → ((context : Context) → In context → Yields context walking tt → Keeps at (execution here)) → IsOwn at (at.visible.variables control)
+  keeps-for : (head : ForHead) (execution : Execution) (walking : Walking (Unit {0}))
+      → ((context : Context) → In context → Yields context walking tt → Keeps at (execution here)) → IsOwn at (at.visible.variables head.control)
       → (context : Context) → In context
-      → Yields context (flow.◌>>=◌ (value_walk first) (λ from. flow.◌>>=◌ (value_walk last) (λ to.
-      walk.for_walk number place walking (way_of control direction first first_fits last last_fits from to)))) tt
-      → Keeps at (effect.◌>>=◌ (value_of first here) (λ a. effect.◌>>=◌ (value_of last here)
-      (λ b. effect.◌>>=◌ (meaning.for_between control first_fits direction last_fits execution here (number_of a) (number_of b))
-      (λ _. effect.undefine (at.visible.variables control)))))
-  keeps-for number place control first first_fits direction last last_fits execution walking kept own context stands yields =
-      let whole = λ (from to : Known). walk.for_walk number place walking (way_of control direction first first_fits last last_fits from to) in
+      → Yields context (flow.◌>>=◌ (value_walk head.first.value) (λ from. flow.◌>>=◌ (value_walk head.last.value) (λ to.
+      walk.for_walk head walking (way_of head from to)))) tt
+      → Keeps at (effect.◌>>=◌ (value_of head.first.value here) (λ a. effect.◌>>=◌ (value_of head.last.value here)
+      (λ b. effect.◌>>=◌ (meaning.for_between head execution here (number_of a) (number_of b))
+      (λ _. effect.undefine (at.visible.variables head.control)))))
+  keeps-for head execution walking kept own context stands yields =
+      let first = head.first.value in
+      let last = head.last.value in
+      let whole = λ (from to : Known). walk.for_walk head walking (way_of head from to) in
       let one = yields-then context (value_walk first) (λ from. flow.◌>>=◌ (value_walk last) (whole from)) tt yields in
       let two = yields-then context (value_walk last) (whole one.0) tt one.2 in
-      let way = way_of control direction first first_fits last last_fits one.0 two.0 in
-      let body = kept-turns number place way execution walking kept context stands two.2 in
+      let body = kept-turns head (way_of head one.0 two.0) execution walking kept context stands two.2 in
       keeps-then at _ _ (keeps-value first context one.0 stands one.1)
       (λ a. keeps-then at _ _ (keeps-value last context two.0 stands two.1)
-      (λ b. keeps-then at _ _ (keeps-between control first_fits direction last_fits execution own body (number_of a) (number_of b))
-      (λ _. keeps-undefine at (at.visible.variables control) own)))
+      (λ b. keeps-then at _ _ (keeps-between head execution own body (number_of a) (number_of b))
+      (λ _. keeps-undefine at (at.visible.variables head.control) own)))
 
   -- ---- case statements
 
@@ -360,15 +369,16 @@ module _ (tree : Tree) (blocks : List BlockClaims) (declares : DeclareTheirs tre
       keeps-chosen (meaning.is_among row.items n) (effect_of arm.0 here) (meaning.arm_of site rows (map effect_of (bodies arms)) n here) first
       (keeps-arm site base index (drop 1 walk_rows) rows arms n parts.1 context stands one.2)
 
-  keeps-case : (site : ℕ) (index : Expr) (rows : List (Vec ℤ Global)) (arms : List KeptStmt) → all_hold (map well_stmt (bodies arms)) ≡ true
-      → (context : Context) → In context → (known : Known) → Yields context (walk.case_walk site index rows (map statement_walk (bodies arms)) known) tt
-      → (n : ℤ) → Keeps at (meaning.arm_of site rows (map effect_of (bodies arms)) n here)
-  keeps-case site index rows arms well context stands (Ordinal range) yields n =
+  keeps-case : (head : CaseHead) (arms : List KeptStmt) → all_hold (map well_stmt (bodies arms)) ≡ true
+      → (context : Context) → In context → (known : Known) → Yields context (walk.case_walk head (map statement_walk (bodies arms)) known) tt
+      → (n : ℤ) → Keeps at (meaning.arm_of head.site head.constants.items (map effect_of (bodies arms)) n here)
+  keeps-case head arms well context stands (Ordinal range) yields n =
+      let rows = head.constants.items in
       let walked = map statement_walk (bodies arms) in
-      let root = root_of (condition_of index).form in
-      let one = yields-then context (walk.index_test site (constants_before (length walked) rows) range) (λ base. walk.arms_walk base root rows walked)
-      tt yields in
-      keeps-arm site one.0 root rows rows arms n well context stands one.2
+      let root = root_of (condition_of head.index).form in
+      let one = yields-then context (walk.index_test head.site (constants_before (length walked) rows) range)
+      (λ base. walk.arms_walk base root rows walked) tt yields in
+      keeps-arm head.site one.0 root rows rows arms n well context stands one.2
 
   -- ---- the forms
 
@@ -383,20 +393,19 @@ module _ (tree : Tree) (blocks : List BlockClaims) (declares : DeclareTheirs tre
 
   layer : (y : Stmt-F KeptStmt) → IsKeptLayer (bare y)
   layer (Empty number) well context stands yields = keeps-enter at number at.visible
-  layer (Assign number becomes target indexes fits value) well context stands yields =
-      let one = yields-then context (flow.enter number) (λ _. walk.assignment becomes target (flow.index_pieces indexes.items) fits value) tt yields in
-      keeps-then at _ _ (keeps-enter at number at.visible) (λ _. keeps-assignment becomes target indexes.items fits value context stands one.2)
-  layer (Copy number becomes target indexes type_id value value_indexes) well context stands yields =
-      let one = yields-then context (flow.enter number)
-      (λ _. walk.copying becomes target (flow.index_pieces indexes.items) value value_indexes.items) tt yields in
-      keeps-then at _ _ (keeps-enter at number at.visible)
-      (λ _. keeps-copying becomes target indexes.items type_id value value_indexes.items context stands one.2)
-  layer (Write number name parameters ends_line) well context stands yields =
-      let one = yields-then context (flow.enter number) (λ _. walk.all_of (map flow.parameter_walk parameters.items)) tt yields in
-      keeps-then at _ _ (keeps-enter at number at.visible)
-      (λ _. keeps-then at _ _ (keeps-parameters parameters.items context stands one.2) (λ _. keeps-line_ended at ends_line))
-  layer (Calling call actuals) well context stands yields =
-      keeps-then at _ _ (call-kept tree blocks declares block at grounds calls leave call actuals.items context stands yields) (λ _. keeps-give at tt)
+  layer (Assign assignment) well context stands yields =
+      let one = yields-then context (flow.enter assignment.number) (λ _. walk.assignment_walk assignment) tt yields in
+      keeps-then at _ _ (keeps-enter at assignment.number at.visible) (λ _. keeps-assignment assignment context stands one.2)
+  layer (Copy copying) well context stands yields =
+      let one = yields-then context (flow.enter copying.number) (λ _. walk.copying_walk copying) tt yields in
+      keeps-then at _ _ (keeps-enter at copying.number at.visible) (λ _. keeps-copying copying context stands one.2)
+  layer (Write writing) well context stands yields =
+      let one = yields-then context (flow.enter writing.number) (λ _. walk.all_of (map flow.parameter_walk writing.parameters.items)) tt yields in
+      keeps-then at _ _ (keeps-enter at writing.number at.visible)
+      (λ _. keeps-then at _ _ (keeps-parameters writing.parameters.items context stands one.2) (λ _. keeps-line_ended at writing.ends_line))
+  layer (Calling calling) well context stands yields =
+      keeps-then at _ _ (call-kept tree blocks declares block at grounds calls leave calling.call calling.actuals.items context stands yields)
+      (λ _. keeps-give at tt)
   layer (Compound number statements) well context stands yields =
       let one = yields-then context (flow.enter number) (λ _. walk.all_of (map statement_walk (bodies statements.items))) tt yields in
       keeps-then at _ _ (keeps-enter at number at.visible) (λ _. keeps-all statements.items well context stands one.2)
@@ -423,47 +432,52 @@ module _ (tree : Tree) (blocks : List BlockClaims) (declares : DeclareTheirs tre
       (λ _. keeps-then at _ _ (keeps-value condition context two.0 stands two.1)
       (λ v. keeps-chosen (meaning.is_so v) (effect_of consequence.value.0 here) (effect_of alternative.value.0 here)
       (consequence.value.1 each.0 context stands both.0) (alternative.value.1 each.1 context stands both.1)))
-  layer (While number loop_number place condition body) well context stands yields =
-      let parts = and_parts (well_expr condition) (well_stmt body.value.0) well in
+  layer (While head body) well context stands yields =
+      let parts = and_parts (well_expr head.condition) (well_stmt body.value.0) well in
       let walking = statement_walk body.value.0 in
-      let one = yields-then context (flow.enter number) (λ _. walk.loop_walk loop_number place None (walk.while_round condition walking)) tt yields in
-      keeps-then at _ _ (keeps-enter at number at.visible)
-      (λ _. keeps-while condition (effect_of body.value.0) walking (body.value.1 parts.1) loop_number place context stands one.2)
-  layer (Repeat number loop_number place statements condition) well context stands yields =
+      let one = yields-then context (flow.enter head.number)
+      (λ _. walk.loop_walk head.loop_number head.place None (walk.while_round head.condition walking)) tt yields in
+      keeps-then at _ _ (keeps-enter at head.number at.visible)
+      (λ _. keeps-while head.condition (effect_of body.value.0) walking (body.value.1 parts.1) head.loop_number head.place context stands one.2)
+  layer (Repeat head statements) well context stands yields =
       let inner = bodies statements.items in
-      let parts = and_parts (all_hold (map well_stmt inner)) (well_expr condition) well in
+      let parts = and_parts (all_hold (map well_stmt inner)) (well_expr head.condition) well in
       let walking = walk.all_of (map statement_walk inner) in
-      let one = yields-then context (flow.enter number) (λ _. walk.loop_walk loop_number place None (walk.repeat_round walking condition)) tt yields in
-      keeps-then at _ _ (keeps-enter at number at.visible)
-      (λ _. keeps-repeat condition (meaning.all_of (map effect_of inner)) walking (keeps-all statements.items parts.0) loop_number place context stands one.2)
-  layer (For number loop_number place control first first_fits direction last last_fits body) well context stands yields =
-      let is_test = λ (fits : RangeTest). fits_target (outline_of tree) block fits control [] in
+      let one = yields-then context (flow.enter head.number)
+      (λ _. walk.loop_walk head.loop_number head.place None (walk.repeat_round walking head.condition)) tt yields in
+      keeps-then at _ _ (keeps-enter at head.number at.visible)
+      (λ _. keeps-repeat head.condition (meaning.all_of (map effect_of inner)) walking
+      (keeps-all statements.items parts.0) head.loop_number head.place context stands one.2)
+  layer (For head body) well context stands yields =
+      let first = head.first in
+      let last = head.last in
+      let is_test = λ (fits : RangeTest). fits_target (outline_of tree) block fits head.control [] in
       let is_body = well_stmt body.value.0 in
-      let controls = and_parts (is_control (outline_of tree) block control)
-      (well_expr first && (is_test first_fits && (well_expr last && (is_test last_fits && is_body)))) well in
-      let two = and_parts (well_expr first) (is_test first_fits && (well_expr last && (is_test last_fits && is_body))) controls.1 in
-      let three = and_parts (is_test first_fits) (well_expr last && (is_test last_fits && is_body)) two.1 in
-      let four = and_parts (well_expr last) (is_test last_fits && is_body) three.1 in
-      let five = and_parts (is_test last_fits) is_body four.1 in
+      let controls = and_parts (is_control (outline_of tree) block head.control)
+      (well_expr first.value && (is_test first.fits && (well_expr last.value && (is_test last.fits && is_body)))) well in
+      let two = and_parts (well_expr first.value) (is_test first.fits && (well_expr last.value && (is_test last.fits && is_body))) controls.1 in
+      let three = and_parts (is_test first.fits) (well_expr last.value && (is_test last.fits && is_body)) two.1 in
+      let four = and_parts (well_expr last.value) (is_test last.fits && is_body) three.1 in
+      let five = and_parts (is_test last.fits) is_body four.1 in
       let walking = statement_walk body.value.0 in
-      let whole = λ (from to : Known). walk.for_walk loop_number place walking (way_of control direction first first_fits last last_fits from to) in
-      let one = yields-then context (flow.enter number) (λ _. flow.◌>>=◌ (value_walk first) (λ from. flow.◌>>=◌ (value_walk last) (whole from)))
-      tt yields in
-      keeps-then at _ _ (keeps-enter at number at.visible)
-      (λ _. keeps-for loop_number place control first first_fits direction last last_fits (effect_of body.value.0) walking (body.value.1 five.1)
-      (control-own control controls.0) context stands one.2)
-  layer (Case number site index constants arms) well context stands yields =
+      let whole = λ (from to : Known). walk.for_walk head walking (way_of head from to) in
+      let one = yields-then context (flow.enter head.number)
+      (λ _. flow.◌>>=◌ (value_walk first.value) (λ from. flow.◌>>=◌ (value_walk last.value) (whole from))) tt yields in
+      keeps-then at _ _ (keeps-enter at head.number at.visible)
+      (λ _. keeps-for head (effect_of body.value.0) walking (body.value.1 five.1) (control-own head.control controls.0) context stands one.2)
+  layer (Case head arms) well context stands yields =
       let inner = bodies arms.items in
+      let constants = head.constants.items in
       let sites = (outline_of tree).sites in
-      let one = and_parts (nat_lt site sites) (well_expr index && (list_all are_whole constants.items && all_hold (map well_stmt inner))) well in
-      let two = and_parts (well_expr index) (list_all are_whole constants.items && all_hold (map well_stmt inner)) one.1 in
-      let three = and_parts (list_all are_whole constants.items) (all_hold (map well_stmt inner)) two.1 in
-      let chosen = walk.case_walk site index constants.items (map statement_walk inner) in
-      let entered = yields-then context (flow.enter number) (λ _. flow.◌>>=◌ (value_walk index) chosen) tt yields in
-      let valued = yields-then context (value_walk index) chosen tt entered.2 in
-      keeps-then at _ _ (keeps-enter at number at.visible)
-      (λ _. keeps-then at _ _ (keeps-value index context valued.0 stands valued.1)
-      (λ v. keeps-case site index constants.items arms.items three.1 context stands valued.0 valued.2 (number_of v)))
+      let one = and_parts (nat_lt head.site sites) (well_expr head.index && (list_all are_whole constants && all_hold (map well_stmt inner))) well in
+      let two = and_parts (well_expr head.index) (list_all are_whole constants && all_hold (map well_stmt inner)) one.1 in
+      let three = and_parts (list_all are_whole constants) (all_hold (map well_stmt inner)) two.1 in
+      let chosen = walk.case_walk head (map statement_walk inner) in
+      let entered = yields-then context (flow.enter head.number) (λ _. flow.◌>>=◌ (value_walk head.index) chosen) tt yields in
+      let valued = yields-then context (value_walk head.index) chosen tt entered.2 in
+      keeps-then at _ _ (keeps-enter at head.number at.visible)
+      (λ _. keeps-then at _ _ (keeps-value head.index context valued.0 stands valued.1)
+      (λ v. keeps-case head arms.items three.1 context stands valued.0 valued.2 (number_of v)))
 
   rolled : (x : Stmt-F Stmt) → IsKeptLayer x → IsKeptStmt (roll-Stmt x)
   rolled x kept well context stands yields =

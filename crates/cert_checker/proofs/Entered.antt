@@ -1,9 +1,10 @@
 -- The walk over a program links a state to each of its entries, once and in their order.
 use Rattle.std.proofs.Common.{◌≡◌, ◌∙◌, sym, ap, refl, ℕ, suc, ℤ, true, false, List, [], ◌∷◌, ◌++◌, Option, Some, None, length, map}
 use Rattle.std.specs.Prelude.{flat_map, drop, slice_get}
-use Rattle.typed_tree.specs.declared.tree.Access.{Access}
+use Rattle.typed_tree.specs.declared.tree.Assignment.{Assignment}
+use Rattle.typed_tree.specs.declared.tree.CaseHead.{CaseHead}
+use Rattle.typed_tree.specs.declared.tree.ForHead.{ForHead}
 use Rattle.typed_tree.specs.declared.tree.Selector.{Selector}
-use Rattle.typed_tree.specs.declared.tree.RangeTest.{RangeTest}
 use Rattle.domain.specs.Facts.{Bound}
 use Rattle.typed_tree.specs.declared.tree.Expr.{Expr}
 use Rattle.typed_tree.specs.declared.tree.Stmt.{Stmt}
@@ -40,22 +41,25 @@ use Rattle.cert_checker.specs.Walk.{begin_way, program_walk, reach_stored, resul
 use Rattle.expression_checker.proofs.Entered.{Enters, access-entered, and_no_more, and_then, call-entered, parameter-entered, value-entered}
 use Rattle.expression_checker.proofs.Entered.{whole-entered}
 
-abbrev stores : Place → Access → RangeTest → Expr → Reach → Known → Walking (Unit {0})
-stores becomes target fits value reach known =
-    fitting fits known
-    >>= assign_to becomes target.root target.selectors.items (reach_stored target.selectors.items (holds_call value) reach) (bound_form value)
+-- what comes behind the value of an assignment
+abbrev stores : Assignment → Reach → Known → Walking (Unit {0})
+stores assignment reach known =
+    let target = assignment.target in
+    fitting assignment.fits known
+    >>= assign_to assignment.becomes target.root target.selectors.items (reach_stored target.selectors.items (holds_call assignment.value) reach)
+    (bound_form assignment.value)
 
 assigned-silent : (becomes : Place) (root : ℕ) (selectors : List Selector) (reach : Reach) (form : Option Bound) (known : Known)
     → Enters (assign_to becomes root selectors reach form known) []
 assigned-silent becomes root [] reach form (Ordinal range) context state = refl
 assigned-silent becomes root (selector ∷ selectors) reach form (Ordinal range) context state = refl
 
-stores-silent : (becomes : Place) (target : Access) (fits : RangeTest) (value : Expr) (reach : Reach) (known : Known)
-    → Enters (stores becomes target fits value reach known) []
-stores-silent becomes target fits value reach (Ordinal range) context state =
-    let passed = fitting fits (Ordinal range) context state in
-    assigned-silent becomes target.root target.selectors.items (reach_stored target.selectors.items (holds_call value) reach) (bound_form value)
-    passed.value context passed.after
+stores-silent : (assignment : Assignment) (reach : Reach) (known : Known) → Enters (stores assignment reach known) []
+stores-silent assignment reach (Ordinal range) context state =
+    let target = assignment.target in
+    let passed = fitting assignment.fits (Ordinal range) context state in
+    assigned-silent assignment.becomes target.root target.selectors.items (reach_stored target.selectors.items (holds_call assignment.value) reach)
+    (bound_form assignment.value) passed.value context passed.after
 
 -- walks one after another enter what each enters
 all-entered : {X : Type 0} (walk : X → Walking (Unit {0})) (numbers : X → List ℕ) → ((x : X) → Enters (walk x) (numbers x)) → (xs : List X)
@@ -88,24 +92,24 @@ loop-entered number place control round numbers each context state =
     let start = head_of context.tree context.limits own claims.facts state in
     and_no_more (round within start).linked [] numbers (each within start) refl
 
-module _ (number : ℕ) (place : Place) (body : Walking (Unit {0})) (numbers : List ℕ) (each : Enters body numbers) where
+module _ (head : ForHead) (body : Walking (Unit {0})) (numbers : List ℕ) (each : Enters body numbers) where
   -- a for enters what its body does
   for_round-entered : (way : Way) → Enters (for_round way body) numbers
   for_round-entered way context state =
       let begun = over_variables (turn_begun way) state in
       and_no_more (body context begun).linked [] numbers (each context begun) refl
 
-  turns_of-entered : (way : Way) → Enters (for_turns number place body way) numbers
+  turns_of-entered : (way : Way) → Enters (for_turns head body way) numbers
   turns_of-entered way context state =
       let tested = tested_way way context state in
       let begun = begin_way tested.value context tested.after in
-      loop-entered number place (Some tested.value.control) (for_round (steady_in context number tested.value) body) numbers
-      (for_round-entered (steady_in context number tested.value)) context begun.after
+      let steady = steady_in context head.loop_number tested.value in
+      loop-entered head.loop_number head.place (Some tested.value.control) (for_round steady body) numbers (for_round-entered steady) context begun.after
 
-  for-entered : (way : Way) → Enters (for_walk number place body way) numbers
+  for-entered : (way : Way) → Enters (for_walk head body way) numbers
   for-entered way context state =
       let start = over_variables (where_counts true way) state in
-      let turns = for_turns number place body way context start in
+      let turns = for_turns head body way context start in
       and_no_more (turns.linked ++ []) [] numbers
       (and_no_more turns.linked [] numbers (turns_of-entered way context start) refl) refl
 
@@ -119,12 +123,13 @@ arms-entered base index rows (arm ∷ arms) context state =
     let rest = arms_walk base index (drop 1 rows) (map statement_walk (map (λ s. s.0) arms)) context (joined_states state first.after) in
     and_then first.linked rest.linked _ _ (arm.1 context start) (arms-entered base index (drop 1 rows) arms context (joined_states state first.after))
 
-case-entered : (site : ℕ) (index : Expr) (rows : List (Vec ℤ Global)) (arms : List EnteredStmt) (known : Known)
-    → Enters (case_walk site index rows (map statement_walk (map (λ s. s.0) arms)) known) (joined (map entries_of_statement (map (λ s. s.0) arms)))
-case-entered site index rows arms (Ordinal range) context state =
+case-entered : (head : CaseHead) (arms : List EnteredStmt) (known : Known)
+    → Enters (case_walk head (map statement_walk (map (λ s. s.0) arms)) known) (joined (map entries_of_statement (map (λ s. s.0) arms)))
+case-entered head arms (Ordinal range) context state =
+    let rows = head.constants.items in
     let inner = map statement_walk (map (λ (s : EnteredStmt). s.0) arms) in
-    let base = index_test site (constants_before (length inner) rows) range context state in
-    arms-entered base.value (root_of (condition_of index).form) rows arms context base.after
+    let base = index_test head.site (constants_before (length inner) rows) range context state in
+    arms-entered base.value (root_of (condition_of head.index).form) rows arms context base.after
 
 while-entered : (condition : Expr) (body : Walking (Unit {0})) (numbers : List ℕ) → Enters body numbers
     → Enters (while_round condition body) (entries_of_expression condition ++ numbers)
@@ -146,23 +151,23 @@ statement-parts : (y : Stmt-F EnteredStmt)
     → Enters (statement_step (map-Stmt Stmt (Walking (Unit {0})) statement_walk (map-Stmt EnteredStmt Stmt (λ s. s.0) y)))
     (statement_entries (map-Stmt Stmt (List ℕ) entries_of_statement (map-Stmt EnteredStmt Stmt (λ s. s.0) y)))
 statement-parts (Empty number) context state = refl
-statement-parts (Assign number becomes target indexes fits value) context state =
-    let reached = access_walk target (index_pieces indexes.items) context state in
-    let first = value_walk value context reached.after in
-    let rest = stores becomes target fits value reached.value first.value context first.after in
-    ap (λ numbers. number ∷ numbers)
-    (and_then reached.linked (first.linked ++ rest.linked) _ _ (access-entered target indexes.items context state)
-    (and_no_more first.linked rest.linked _ (value-entered value context reached.after)
-    (stores-silent becomes target fits value reached.value first.value context first.after)))
-statement-parts (Copy number becomes target indexes type_id value value_indexes) context state =
-    let reached = access_walk target (index_pieces indexes.items) context state in
-    let first = whole_walk value (index_pieces value_indexes.items) context reached.after in
-    ap (λ numbers. number ∷ numbers)
-    (and_then reached.linked (first.linked ++ []) _ _ (access-entered target indexes.items context state)
-    (and_no_more first.linked [] _ (whole-entered value value_indexes.items context reached.after) refl))
-statement-parts (Write number name parameters ends_line) context state =
-    ap (λ numbers. number ∷ numbers) (all-entered parameter_walk entries_of_parameter parameter-entered parameters.items context state)
-statement-parts (Calling call actuals) context state = call-entered call actuals.items context state
+statement-parts (Assign assignment) context state =
+    let reached = access_walk assignment.target (index_pieces assignment.indexes.items) context state in
+    let first = value_walk assignment.value context reached.after in
+    let rest = stores assignment reached.value first.value context first.after in
+    ap (λ numbers. assignment.number ∷ numbers)
+    (and_then reached.linked (first.linked ++ rest.linked) _ _ (access-entered assignment.target assignment.indexes.items context state)
+    (and_no_more first.linked rest.linked _ (value-entered assignment.value context reached.after)
+    (stores-silent assignment reached.value first.value context first.after)))
+statement-parts (Copy copying) context state =
+    let reached = access_walk copying.target (index_pieces copying.indexes.items) context state in
+    let first = whole_walk copying.value (index_pieces copying.value_indexes.items) context reached.after in
+    ap (λ numbers. copying.number ∷ numbers)
+    (and_then reached.linked (first.linked ++ []) _ _ (access-entered copying.target copying.indexes.items context state)
+    (and_no_more first.linked [] _ (whole-entered copying.value copying.value_indexes.items context reached.after) refl))
+statement-parts (Write writing) context state =
+    ap (λ numbers. writing.number ∷ numbers) (all-entered parameter_walk entries_of_parameter parameter-entered writing.parameters.items context state)
+statement-parts (Calling calling) context state = call-entered calling.call calling.actuals.items context state
 statement-parts (Compound number statements) context state = ap (λ numbers. number ∷ numbers) (statements-entered statements.items context state)
 statement-parts (If number condition consequence None) context state =
     let first = value_walk condition context state in
@@ -178,31 +183,32 @@ statement-parts (If number condition consequence (Some alternative)) context sta
     (and_then first.linked (yes.linked ++ no.linked) _ _ (value-entered condition context state)
     (and_then yes.linked no.linked _ _ (consequence.value.1 context (where_so true condition first.value first.after))
     (alternative.value.1 context (where_so false condition first.value first.after))))
-statement-parts (While number loop_number place condition body) context state =
-    ap (λ numbers. number ∷ numbers) (loop-entered loop_number place None (while_round condition (statement_walk body.value.0))
-    (entries_of_expression condition ++ entries_of_statement body.value.0)
-    (while-entered condition (statement_walk body.value.0) (entries_of_statement body.value.0) body.value.1) context state)
-statement-parts (Repeat number loop_number place statements condition) context state =
+statement-parts (While head body) context state =
+    ap (λ numbers. head.number ∷ numbers) (loop-entered head.loop_number head.place None (while_round head.condition (statement_walk body.value.0))
+    (entries_of_expression head.condition ++ entries_of_statement body.value.0)
+    (while-entered head.condition (statement_walk body.value.0) (entries_of_statement body.value.0) body.value.1) context state)
+statement-parts (Repeat head statements) context state =
     let inner = map statement_walk (map (λ (s : EnteredStmt). s.0) statements.items) in
     let numbers = joined (map entries_of_statement (map (λ (s : EnteredStmt). s.0) statements.items)) in
-    ap (λ numbers. number ∷ numbers) (loop-entered loop_number place None (repeat_round (all_of inner) condition) (numbers ++ entries_of_expression condition)
-    (repeat-entered (all_of inner) condition numbers (statements-entered statements.items)) context state)
-statement-parts (For number loop_number place control first first_fits direction last last_fits body) context state =
-    let from = value_walk first context state in
-    let to = value_walk last context from.after in
-    let way = way_of control direction first first_fits last last_fits from.value to.value in
-    let rest = for_walk loop_number place (statement_walk body.value.0) way context to.after in
-    ap (λ numbers. number ∷ numbers)
-    (and_then from.linked (to.linked ++ rest.linked) _ _ (value-entered first context state)
-    (and_then to.linked rest.linked _ _ (value-entered last context from.after)
-    (for-entered loop_number place (statement_walk body.value.0) (entries_of_statement body.value.0) body.value.1 way context to.after)))
-statement-parts (Case number site index constants arms) context state =
+    ap (λ numbers. head.number ∷ numbers)
+    (loop-entered head.loop_number head.place None (repeat_round (all_of inner) head.condition) (numbers ++ entries_of_expression head.condition)
+    (repeat-entered (all_of inner) head.condition numbers (statements-entered statements.items)) context state)
+statement-parts (For head body) context state =
+    let from = value_walk head.first.value context state in
+    let to = value_walk head.last.value context from.after in
+    let way = way_of head from.value to.value in
+    let rest = for_walk head (statement_walk body.value.0) way context to.after in
+    ap (λ numbers. head.number ∷ numbers)
+    (and_then from.linked (to.linked ++ rest.linked) _ _ (value-entered head.first.value context state)
+    (and_then to.linked rest.linked _ _ (value-entered head.last.value context from.after)
+    (for-entered head (statement_walk body.value.0) (entries_of_statement body.value.0) body.value.1 way context to.after)))
+statement-parts (Case head arms) context state =
     let inner = map statement_walk (map (λ (s : EnteredStmt). s.0) arms.items) in
-    let first = value_walk index context state in
-    let rest = case_walk site index constants.items inner first.value context first.after in
-    ap (λ numbers. number ∷ numbers)
-    (and_then first.linked rest.linked _ _ (value-entered index context state)
-    (case-entered site index constants.items arms.items first.value context first.after))
+    let first = value_walk head.index context state in
+    let rest = case_walk head inner first.value context first.after in
+    ap (λ numbers. head.number ∷ numbers)
+    (and_then first.linked rest.linked _ _ (value-entered head.index context state)
+    (case-entered head arms.items first.value context first.after))
 
 -- the use of a result enters nothing
 result-silent : (result : Option FunctionResult) → Enters (result_use result) []

@@ -1,14 +1,13 @@
 -- No alias of a control variable is visible where its for statement stands: a pair names a variable parameter of a block, and the other variable is one
 -- too or stands round that block.
-use Rattle.std.proofs.Common.{arith, ◌≡◌, ◌⊎◌, ⊎_elim, inl, inr, ◌∙◌, sym, ap, refl, subst, ℕ, zero, suc, ◌<◌, ◌≤◌, Bool, true, false, not, ◌&&◌, ◌||◌}
-use Rattle.std.proofs.Common.{nat_eq, List, [], Some}
+use Rattle.std.proofs.Common.{arith, ◌≡◌, ◌⊎◌, ⊎_elim, ◌∙◌, sym, ap, subst, ℕ, zero, suc, ◌<◌, ◌≤◌, Bool, true, false, not, ◌&&◌, ◌||◌}
+use Rattle.std.proofs.Common.{nat_eq, List, []}
 use Rattle.std.specs.Prelude.{slice_get}
 use Rattle.std.specs.List.{Contains}
-use Rattle.std.proofs.lemmas.Bool.{and_parts, eq-eqb, eqb-true, false≢true, false_from_ne_true, or_cases, or_parts}
+use Rattle.std.proofs.lemmas.Bool.{and_parts, eqb-true, false≢true, false_from_ne_true, or_cases}
 use Rattle.std.proofs.lemmas.Option.{same_Some}
-use Rattle.typed_tree.specs.WellFormed.{IsWellFormed, Outline, encloses, is_control, is_declared, is_local_kind, is_one_of, is_placed, is_result_kind, is_round}
-use Rattle.typed_tree.specs.WellFormed.{is_value_kind, is_variable_kind, is_visible, leads_to_ordinal, of_one, outline_of}
-use Rattle.typed_tree.specs.declared.tree.Heading.{Heading}
+use Rattle.typed_tree.specs.WellFormed.{IsWellFormed, Outline, encloses, is_control, is_declared, is_local_kind, is_one_of, is_result_kind, is_round}
+use Rattle.typed_tree.specs.WellFormed.{is_variable_kind, is_visible, leads_to_ordinal, outline_of}
 use Rattle.typed_tree.specs.declared.tree.Tree.{Tree}
 use Rattle.typed_tree.specs.declared.tree.Variable.{Variable}
 use Rattle.typed_tree.specs.declared.tree.VariableKind.{VariableKind}

@@ -1,5 +1,5 @@
 -- Assignments are sound: the target is accessed, the value is evaluated and tested, and then it is stored.
-use Rattle.std.proofs.Common.{arith, ◌≡◌, ◌∙◌, sym, ap, refl, subst, ℕ, zero, suc, ◌<◌, ℤ, Bool, true, false, cond, ◌&&◌, nat_lt, length, List, [], ◌∷◌}
+use Rattle.std.proofs.Common.{arith, ◌≡◌, ◌∙◌, sym, ap, refl, subst, ℕ, zero, suc, ◌<◌, Bool, true, false, cond, ◌&&◌, nat_lt, length, List, [], ◌∷◌}
 use Rattle.std.proofs.Common.{Option, Some, None}
 use Rattle.std.specs.List.{Contains, list_all}
 use Rattle.std.specs.Option.{option_and_then}
@@ -17,15 +17,16 @@ use Rattle.typed_tree.specs.Accesses as accesses
 use Rattle.typed_tree.specs.Accesses.{is_type, led}
 use Rattle.typed_tree.specs.Calls.{holds_call}
 use Rattle.typed_tree.specs.WellFormed.{Outline, are_well_formed, fits_target, is_range_of, is_well_formed_expr, is_well_formed_selector, is_well_formed_test}
-use Rattle.typed_tree.specs.WellFormed.{is_whole, leads_to_ordinal, outline_of}
-use Rattle.typed_tree.specs.declared.tree.Access.{Access}
+use Rattle.typed_tree.specs.WellFormed.{is_whole, leads_to_ordinal, outline_of, stmt_is_well_formed}
+use Rattle.typed_tree.specs.declared.tree.Assignment.{Assignment}
 use Rattle.typed_tree.specs.declared.tree.Expr.{Expr}
 use Rattle.typed_tree.specs.declared.tree.RangeTest.{RangeTest}
 use Rattle.typed_tree.specs.declared.tree.Selector.{Selector}
+use Rattle.typed_tree.specs.declared.tree.Stmt.TheOpen.Stmt-F.{Assign}
 use Rattle.typed_tree.specs.declared.tree.Tree.{Tree}
 use Rattle.typed_tree.specs.declared.tree.Variable.{Variable}
 use Rattle.domain.specs.Facts.{Bound}
-use Rattle.domain.specs.Interval.{HasMember, Interval}
+use Rattle.domain.specs.Interval.{Interval}
 use Rattle.meaning.specs.declared.store.Value.{Value}
 use Rattle.meaning.specs.declared.store.Value.TheVariants.{Number}
 use Rattle.meaning.specs.Store.{Environment, Place as StorePlace, Store, part}
@@ -242,80 +243,90 @@ module _ (world : World) (limits_are : world.limits ≡ all_limits world.tree) (
   abbrev tested-store : Option StorePlace → RangeTest → Value → effect.Action (Unit {0})
   tested-store place fits v = effect.◌>>=◌ (effect.require (is_in fits.range v) fits.site) (λ tested. effect.store place v)
 
-  -- what the walk does with a value that is tested and stored
-  abbrev walked-store : Place → Access → RangeTest → Expr → Reach → Known → Walking (Unit {0})
-  walked-store becomes target fits value reach known =
-      flow.◌>>=◌ (flow.fitting fits known)
-      (λ passed.
-      walk.assign_to becomes target.root target.selectors.items (reach_stored target.selectors.items (holds_call value) reach) (bound_form value) passed)
-
   -- the target is accessed, and then comes the value
-  abbrev pub assigned : Access → List Expr → RangeTest → Expr → effect.Action (Unit {0})
-  assigned target indexes fits value =
-      effect.◌>>=◌ (accessed target (values_of indexes) env) (λ place. effect.◌>>=◌ (value_of value env) (tested-store place fits))
+  abbrev pub assigned : Assignment → effect.Action (Unit {0})
+  assigned assignment =
+      effect.◌>>=◌ (accessed assignment.target (values_of assignment.indexes.items) env)
+      (λ place. effect.◌>>=◌ (value_of assignment.value env) (tested-store place assignment.fits))
 
-  module _ (becomes : Place) (target : Access) (fits : RangeTest) (value : Expr) (value_well : well_expr value ≡ true)
-      (typed : has_type world fits target.root target.selectors.items ≡ true)
-      (tests : list_all (is_well_formed_selector outline block) target.selectors.items ≡ true)
-      (seen : is_seen world block target.root ≡ true) (below : fits.site < sites_in world) (reach : Reach) (place : Option StorePlace) where
-    abbrev held : Reach
-    held = reach_stored target.selectors.items (holds_call value) reach
+  module _ (assignment : Assignment) (value_well : well_expr assignment.value ≡ true)
+      (typed : has_type world assignment.fits assignment.target.root assignment.target.selectors.items ≡ true)
+      (tests : list_all (is_well_formed_selector outline block) assignment.target.selectors.items ≡ true)
+      (seen : is_seen world block assignment.target.root ≡ true) (below : assignment.fits.site < sites_in world) where
+    abbrev root : ℕ
+    root = assignment.target.root
 
-    test-sound : (store : Store) → Leads visible target.root target.selectors.items store held place → (known : Known) (v : Value) → IsKnown known v
-        → IsOfForm (moment visible store) (bound_form value) v
-        → SoundFrom {A = Unit {0}} {B = Unit {0}} world block visible store Any_value (tested-store place fits v)
-        (walked-store becomes target fits value reach known)
-    test-sound store leads known v inside of_form =
-        let root = target.root in
-        let selectors = target.selectors.items in
-        let test = effect.require (is_in fits.range v) fits.site in
-        from-then world block visible store (IsKnownOf v) Any_value test (λ tested. effect.store place v) (flow.fitting fits known)
-        (λ passed. walk.assign_to becomes root selectors held (bound_form value) passed)
-        (sound-here world block visible store (IsKnownOf v) test (flow.fitting fits known) (fitting-sound world block visible fits known v below inside))
-        (λ passed done s t is from told.
-        let stays : t.store ≡ store = required-leaves (is_in fits.range v) fits.site s t done is ∙ from in
-        value-stored becomes root selectors fits (bound_form value) typed seen held place passed v
-        (required-true (is_in fits.range v) fits.site s t done is) told t.store
-        (subst (λ (x : Store). IsOfForm (moment visible x) (bound_form value) v) (sym stays) of_form)
-        (subst (λ (x : Store). Leads visible root selectors x held place) (sym stays) leads))
+    abbrev selectors : List Selector
+    selectors = assignment.target.selectors.items
 
-    from-value : (store : Store) → Leads visible target.root target.selectors.items store reach place
-        → SoundFrom {A = Unit {0}} {B = Unit {0}} world block visible store Any_value (effect.◌>>=◌ (value_of value env) (tested-store place fits))
-        (flow.◌>>=◌ (value_walk value) (walked-store becomes target fits value reach))
-    from-value store leads =
-        from-then world block visible store IsValue Any_value (value_of value env) (tested-store place fits) (value_walk value)
-        (walked-store becomes target fits value reach)
-        (sound-here world block visible store IsValue (value_of value env) (value_walk value) (value-sound world block env laws calls value value_well))
-        (λ known v s t is from inside.
-        test-sound t.store
-        (reached-then outline block world.tree visible store t.store target.root target.selectors.items reach place (holds_call value) tests
-        (λ quiet. expression-kept value quiet env s t v is ∙ from) leads) known v inside (form-known value env s t v is))
+    abbrev held : Reach → Reach
+    held = reach_stored selectors (holds_call assignment.value)
 
-  pub assignment-sound : (becomes : Place) (target : Access) (indexes : List Expr) (fits : RangeTest) (value : Expr)
-      → (are_well_formed outline block indexes
-      && (leads_to_ordinal outline block target.root target.selectors.items (length indexes)
-      && (well_expr value && fits_target outline block fits target.root target.selectors.items))) ≡ true
-      → SoundAction world block visible (assigned target indexes fits value) (walk.assignment becomes target (flow.index_pieces indexes) fits value)
-  assignment-sound becomes target indexes fits value well =
-      let root = target.root in
-      let selectors = target.selectors.items in
-      let is_test = fits_target outline block fits root selectors in
-      let there = leads_to_ordinal outline block root selectors (length indexes) in
-      let one = and_parts (are_well_formed outline block indexes) (there && (well_expr value && is_test)) well in
+    -- what the walk does with the value
+    abbrev walked-store : Reach → Known → Walking (Unit {0})
+    walked-store reach known =
+        flow.◌>>=◌ (flow.fitting assignment.fits known)
+        (walk.assign_to assignment.becomes root selectors (held reach) (bound_form assignment.value))
+
+    abbrev walked-value : Reach → Walking (Unit {0})
+    walked-value reach = flow.◌>>=◌ (value_walk assignment.value) (walked-store reach)
+
+    module _ (reach : Reach) (place : Option StorePlace) where
+      test-sound : (store : Store) → Leads visible root selectors store (held reach) place → (known : Known) (v : Value) → IsKnown known v
+          → IsOfForm (moment visible store) (bound_form assignment.value) v
+          → SoundFrom {A = Unit {0}} {B = Unit {0}} world block visible store Any_value (tested-store place assignment.fits v) (walked-store reach known)
+      test-sound store leads known v inside of_form =
+          let fits = assignment.fits in
+          let form = bound_form assignment.value in
+          let test = effect.require (is_in fits.range v) fits.site in
+          from-then world block visible store (IsKnownOf v) Any_value test (λ tested. effect.store place v) (flow.fitting fits known)
+          (walk.assign_to assignment.becomes root selectors (held reach) form)
+          (sound-here world block visible store (IsKnownOf v) test (flow.fitting fits known) (fitting-sound world block visible fits known v below inside))
+          (λ passed done s t is from told.
+          let stays : t.store ≡ store = required-leaves (is_in fits.range v) fits.site s t done is ∙ from in
+          value-stored assignment.becomes root selectors fits form typed seen (held reach) place passed v
+          (required-true (is_in fits.range v) fits.site s t done is) told t.store
+          (subst (λ (x : Store). IsOfForm (moment visible x) form v) (sym stays) of_form)
+          (subst (λ (x : Store). Leads visible root selectors x (held reach) place) (sym stays) leads))
+
+      from-value : (store : Store) → Leads visible root selectors store reach place
+          → SoundFrom {A = Unit {0}} {B = Unit {0}} world block visible store Any_value
+          (effect.◌>>=◌ (value_of assignment.value env) (tested-store place assignment.fits)) (walked-value reach)
+      from-value store leads =
+          let value = assignment.value in
+          from-then world block visible store IsValue Any_value (value_of value env) (tested-store place assignment.fits) (value_walk value)
+          (walked-store reach)
+          (sound-here world block visible store IsValue (value_of value env) (value_walk value) (value-sound world block env laws calls value value_well))
+          (λ known v s t is from inside.
+          test-sound t.store
+          (reached-then outline block world.tree visible store t.store root selectors reach place (holds_call value) tests
+          (λ quiet. expression-kept value quiet env s t v is ∙ from) leads) known v inside (form-known value env s t v is))
+
+  pub assignment-sound : (assignment : Assignment) → stmt_is_well_formed outline block (Assign assignment) ≡ true
+      → SoundAction world block visible (assigned assignment) (walk.assignment_walk assignment)
+  assignment-sound assignment well =
+      let target = assignment.target in
+      let fits = assignment.fits in
+      let value = assignment.value in
+      let n = length assignment.indexes.items in
+      let is_test = fits_target outline block fits target.root target.selectors.items in
+      let there = leads_to_ordinal outline block target.root target.selectors.items n in
+      let one = and_parts (are_well_formed outline block assignment.indexes.items) (there && (well_expr value && is_test)) well in
       let two = and_parts there (well_expr value && is_test) one.1 in
       let three = and_parts (well_expr value) is_test two.1 in
-      let four = and_parts (is_well_formed_test outline block fits) (has_type world fits root selectors) three.1 in
+      let four = and_parts (is_well_formed_test outline block fits) (has_type world fits target.root target.selectors.items) three.1 in
       let wanted = is_ordinal (types_in world) in
-      let tests = leads-tests outline block wanted root selectors (length indexes) two.0 in
-      let seen = leads-seen outline block wanted root selectors (length indexes) two.0 in
-      let action = accessed target (values_of indexes) env in
+      let tests = leads-tests outline block wanted target.root target.selectors.items n two.0 in
+      let seen = leads-seen outline block wanted target.root target.selectors.items n two.0 in
+      let below = site-within fits four.0 in
+      let leads = LeadsTo world block env target.root target.selectors.items in
+      let action = accessed target (values_of assignment.indexes.items) env in
       let next = λ (place : Option StorePlace). effect.◌>>=◌ (value_of value env) (tested-store place fits) in
-      let walking = flow.access_walk target (flow.index_pieces indexes) in
-      let walk_next = λ (reach : Reach). flow.◌>>=◌ (value_walk value) (walked-store becomes target fits value reach) in
+      let walking = flow.access_walk target (flow.index_pieces assignment.indexes.items) in
+      let walk_next = walked-value assignment three.0 four.1 tests seen below in
       sound-anywhere {A = Unit {0}} {B = Unit {0}} world block visible Any_value (effect.◌>>=◌ action next) (flow.◌>>=◌ walking walk_next)
       (λ store.
-      from-then {C = Unit {0}} {D = Unit {0}} world block visible store (LeadsTo world block env root selectors) Any_value action next walking walk_next
-      (sound-here world block visible store (LeadsTo world block env root selectors) action walking
-      (access-sound world block env laws calls target indexes wanted one.0 two.0))
-      (λ reach place s t is from leads.
-      from-value becomes target fits value three.0 four.1 tests seen (site-within fits four.0) reach place t.store leads))
+      from-then {C = Unit {0}} {D = Unit {0}} world block visible store leads Any_value action next walking walk_next
+      (sound-here world block visible store leads action walking
+      (access-sound world block env laws calls target assignment.indexes.items wanted one.0 two.0))
+      (λ reach place s t is from led. from-value assignment three.0 four.1 tests seen below reach place t.store led))

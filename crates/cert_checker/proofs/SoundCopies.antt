@@ -1,18 +1,19 @@
 -- Copies of whole values are sound: the target is accessed, and then come the components, which are stored side by side.
-use Rattle.std.proofs.Common.{◌≡◌, ◌∙◌, sym, ap, subst, ℕ, Bool, true, not, ◌&&◌, length, List, Option, Some}
+use Rattle.std.proofs.Common.{◌≡◌, ◌∙◌, sym, ap, subst, ℕ, Bool, true, ◌&&◌, length, List, Option, Some}
 use Rattle.std.proofs.lemmas.Bool.{and_parts}
 use Rattle.types.specs.Components.{components_of}
 use Rattle.types.specs.Forms.{Form}
-use Rattle.types.specs.Types.{is_ordinal, is_same}
+use Rattle.types.specs.Types.{is_same, is_structured}
 use Rattle.types.specs.declared.form.TypeId.{TypeId}
 use Rattle.place.specs.declared.Place.{Place}
 use Rattle.typed_tree.specs.Accesses as accesses
 use Rattle.typed_tree.specs.Calls.{whole_holds_call}
 use Rattle.typed_tree.specs.WellFormed.{Outline, are_well_formed, is_well_formed_value, is_well_formed_whole, leads_to_whole, length_of}
-use Rattle.typed_tree.specs.WellFormed.{may_copy, outline_of, source_of}
-use Rattle.typed_tree.specs.declared.tree.Access.{Access}
+use Rattle.typed_tree.specs.WellFormed.{may_copy, outline_of, source_of, stmt_is_well_formed}
+use Rattle.typed_tree.specs.declared.tree.Copying.{Copying}
 use Rattle.typed_tree.specs.declared.tree.Expr.{Expr}
 use Rattle.typed_tree.specs.declared.tree.Selector.{Selector}
+use Rattle.typed_tree.specs.declared.tree.Stmt.TheOpen.Stmt-F.{Copy}
 use Rattle.typed_tree.specs.declared.tree.Tree.{Tree}
 use Rattle.typed_tree.specs.declared.tree.Whole.{Whole}
 use Rattle.domain.specs.Interval.{Interval}
@@ -58,10 +59,10 @@ module _ (world : World) (limits_are : world.limits ≡ all_limits world.tree) (
   leads-there : (type_id : TypeId) (root : ℕ) (selectors : List Selector) (n : ℕ) → leads_whole type_id root selectors n ≡ true
       → access_type root selectors ≡ Some type_id
   leads-there type_id root selectors n leads =
-      let wanted = λ (id : TypeId). is_same id type_id && not (is_ordinal (types_in world) id) in
+      let wanted = λ (id : TypeId). is_same id type_id && is_structured (types_in world) id in
       let found = type-of wanted (access_type root selectors) (leads-type outline block wanted root selectors n leads) in
       found.1 ∙ ap (λ (id : TypeId). Some id)
-      (same-type found.0 type_id (and_parts (is_same found.0 type_id) (not (is_ordinal (types_in world) found.0)) found.2).0)
+      (same-type found.0 type_id (and_parts (is_same found.0 type_id) (is_structured (types_in world) found.0) found.2).0)
 
   module _ (root : ℕ) (selectors : List Selector) (target : TypeId) (leads : access_type root selectors ≡ Some target) where
     abbrev under : List ℕ
@@ -101,55 +102,57 @@ module _ (world : World) (limits_are : world.limits ≡ all_limits world.tree) (
         (stores context.tree) fit context state s reached unbroken here place leads_place.place_is)
 
   -- the target is accessed, and then comes the value
-  abbrev pub copied : Access → List Expr → TypeId → Whole → List Expr → effect.Action (Unit {0})
-  copied target indexes type_id value value_indexes =
-      effect.◌>>=◌ (accessed target (values_of indexes) env)
-      (λ place. effect.◌>>=◌ (meaning.whole_of value (values_of value_indexes) env) (effect.store_all place (components_of visible.types type_id)))
+  abbrev pub copied : Copying → effect.Action (Unit {0})
+  copied copying =
+      effect.◌>>=◌ (accessed copying.target (values_of copying.indexes.items) env)
+      (λ place. effect.◌>>=◌ (meaning.whole_of copying.value (values_of copying.value_indexes.items) env)
+      (effect.store_all place (components_of visible.types copying.type_id)))
 
   well-whole : (value : Whole) (indexes : List Expr) → is_well_formed_value outline block value indexes ≡ true
       → is_well_formed_whole outline block value (length indexes) ≡ true
   well-whole value indexes well = (and_parts _ (is_well_formed_whole outline block value (length indexes)) well).1
 
-  pub copying-sound : (becomes : Place) (target : Access) (indexes : List Expr) (type_id : TypeId) (value : Whole) (value_indexes : List Expr)
-      → (are_well_formed outline block indexes
-      && (leads_to_whole outline block type_id target.root target.selectors.items (length indexes)
-      && (is_well_formed_value outline block value value_indexes && may_copy outline block type_id (source_of value) (length_of value)))) ≡ true
-      → SoundAction world block visible (copied target indexes type_id value value_indexes)
-      (walk.copying becomes target (flow.index_pieces indexes) value value_indexes)
-  copying-sound becomes target indexes type_id value value_indexes well =
-      let root = target.root in
-      let selectors = target.selectors.items in
-      let there = leads_whole type_id root selectors (length indexes) in
+  pub copying-sound : (copying : Copying) → stmt_is_well_formed outline block (Copy copying) ≡ true
+      → SoundAction world block visible (copied copying) (walk.copying_walk copying)
+  copying-sound copying well =
+      let type_id = copying.type_id in
+      let root = copying.target.root in
+      let selectors = copying.target.selectors.items in
+      let n = length copying.indexes.items in
+      let value = copying.value in
+      let value_indexes = copying.value_indexes.items in
+      let there = leads_whole type_id root selectors n in
       let is_value = is_well_formed_value outline block value value_indexes in
       let may = may_copy outline block type_id (source_of value) (length_of value) in
-      let one = and_parts (are_well_formed outline block indexes) (there && (is_value && may)) well in
+      let one = and_parts (are_well_formed outline block copying.indexes.items) (there && (is_value && may)) well in
       let two = and_parts there (is_value && may) one.1 in
       let three = and_parts is_value may two.1 in
-      let wanted = λ (id : TypeId). is_same id type_id && not (is_ordinal (types_in world) id) in
-      let seen = leads-seen outline block wanted root selectors (length indexes) two.0 in
-      let tests = leads-tests outline block wanted root selectors (length indexes) two.0 in
-      let leads_is = leads-there type_id root selectors (length indexes) two.0 in
-      let action = accessed target (values_of indexes) env in
+      let wanted = λ (id : TypeId). is_same id type_id && is_structured (types_in world) id in
+      let seen = leads-seen outline block wanted root selectors n two.0 in
+      let tests = leads-tests outline block wanted root selectors n two.0 in
+      let leads_is = leads-there type_id root selectors n two.0 in
+      let leads = LeadsTo world block env root selectors in
+      let action = accessed copying.target (values_of copying.indexes.items) env in
       let whole = meaning.whole_of value (values_of value_indexes) env in
       let stored = λ (place : Option StorePlace). effect.store_all place (components_of visible.types type_id) in
       let next = λ (place : Option StorePlace). effect.◌>>=◌ whole (stored place) in
-      let walking = flow.access_walk target (flow.index_pieces indexes) in
+      let walking = flow.access_walk copying.target (flow.index_pieces copying.indexes.items) in
       let whole_walking = flow.whole_walk value (flow.index_pieces value_indexes) in
       let hold = whole_holds_call value value_indexes in
-      let copy = λ (reach : Reach). walk.copy_to becomes root selectors (reach_stored selectors hold reach) in
+      let copy = λ (reach : Reach). walk.copy_to copying.becomes root selectors (reach_stored selectors hold reach) in
       let walk_next = λ (reach : Reach). flow.◌>>=◌ whole_walking (copy reach) in
       sound-anywhere {A = Unit {0}} {B = Unit {0}} world block visible Any_value (effect.◌>>=◌ action next) (flow.◌>>=◌ walking walk_next)
       (λ store.
-      from-then {C = Unit {0}} {D = Unit {0}} world block visible store (LeadsTo world block env root selectors) Any_value action next walking walk_next
-      (sound-here world block visible store (LeadsTo world block env root selectors) action walking
-      (access-sound world block env laws calls target indexes wanted one.0 two.0))
-      (λ reach place s t is from leads.
+      from-then {C = Unit {0}} {D = Unit {0}} world block visible store leads Any_value action next walking walk_next
+      (sound-here world block visible store leads action walking
+      (access-sound world block env laws calls copying.target copying.indexes.items wanted one.0 two.0))
+      (λ reach place s t is from led.
       from-then {C = Unit {0}} {D = Unit {0}} world block visible t.store (IsWholeIn world block env value) Any_value whole (stored place) whole_walking
       (copy reach)
       (sound-here world block visible t.store (IsWholeIn world block env value) whole whole_walking
       (whole_value-sound world block env laws calls value value_indexes three.0))
       (λ ranges values s2 u gives same told.
-      copy-stored root selectors type_id leads_is becomes seen value (length value_indexes) (well-whole value value_indexes three.0) three.1
+      copy-stored root selectors type_id leads_is copying.becomes seen value (length value_indexes) (well-whole value value_indexes three.0) three.1
       (reach_stored selectors hold reach) place ranges values told u.store
       (reached-then outline block world.tree visible t.store u.store root selectors reach place hold tests
-      (λ quiet. whole-kept value value_indexes quiet env s2 u values gives ∙ same) leads))))
+      (λ quiet. whole-kept value value_indexes quiet env s2 u values gives ∙ same) led))))

@@ -8,10 +8,10 @@ use Rattle.std.proofs.lemmas.Bool.{and_from, both_ways, cases_eq, eq-eqb, eqb-tr
 use Rattle.std.proofs.lemmas.List.Folds.{list_any-append}
 use Rattle.std.proofs.lemmas.List.Elements.{Contains-push_cases}
 use Rattle.std.proofs.lemmas.Option.{slice_get_within}
-use Rattle.place.specs.declared.Place.{Place as SourcePlace}
 use Rattle.typed_tree.specs.declared.tree.Tree.{Tree}
 use Rattle.typed_tree.specs.declared.tree.Direction.{Direction}
 use Rattle.typed_tree.specs.declared.tree.Direction.TheVariants.{To, DownTo}
+use Rattle.typed_tree.specs.declared.tree.ForHead.{ForHead}
 use Rattle.typed_tree.specs.declared.tree.RangeTest.{RangeTest}
 use Rattle.domain.specs.Interval.{Interval, HasMember}
 use Rattle.domain.specs.Facts.{Bound}
@@ -23,6 +23,7 @@ use Rattle.meaning.specs.Meaning as meaning
 use Rattle.meaning.specs.Meaning.{Surroundings}
 use Rattle.meaning.specs.Laws.{state_after}
 use Rattle.meaning.specs.Store.{Environment, Place as StorePlace, Store, is_beginning, overlap, stored as stored_at, undefined, written}
+use Rattle.abstract_state.specs.declared.known.Known.TheVariants.{Ordinal}
 use Rattle.abstract_state.specs.State.{limits_of}
 use Rattle.abstract_state.specs.Loops.{is_among, with_undefined}
 use Rattle.abstract_state.specs.Holds.{HasNumber, IsIn}
@@ -37,7 +38,7 @@ use Rattle.structured_states.specs.Loops.{Round, controls_inside, round_of, touc
 use Rattle.structured_states.proofs.Touched.{all_control}
 use Rattle.structured_states.specs.Pairs.{aliases_of, aliases_in}
 use Rattle.structured_states.specs.Ways as ways
-use Rattle.structured_states.specs.Ways.{Way, entered, met, step, turn_begun, turn_ended, way_out, where_counts, with_values}
+use Rattle.structured_states.specs.Ways.{End, Way, entered, met, step, turn_begun, turn_ended, way_of, way_out, where_counts, with_values}
 use Rattle.structured_states.proofs.OnWay.{Between, MayBe, begun-known, counts-known, counts-ordered, entered-known, kept-may, met-in, next-between}
 use Rattle.structured_states.proofs.OnWay.{ordered-itself, untouched-form}
 use Rattle.structured_states.proofs.Touched.{inside-uncontrolled, inside-untouched, own-controls}
@@ -126,9 +127,9 @@ pub record IsTestFor (world : World) (root : ℕ) (fits : RangeTest) : Type 0 wh
   pub below : fits.site < sites_in world
   pub typed : (n : ℤ) → is_in fits.range (Number n) ≡ true → HasMember (typed_values world root) n
 
--- the control variable of a loop and those inside it
-abbrev all_in : World → ℕ → ℕ → List ℕ
-all_in world number control = control ∷ controls_inside world.tree number
+-- the control variable of a for statement and those inside it
+abbrev all_in : World → ForHead → List ℕ
+all_in world head = head.control ∷ controls_inside world.tree head.loop_number
 
 -- a control variable that is visible in a block, where none of its aliases is
 pub record IsOwn (world : World) (block : ℕ) (env : Environment) (few : ℕ) (control : ℕ) : Type 0 where
@@ -218,89 +219,93 @@ module _ (world : World) (block : ℕ) (env : Environment) (few : ℕ) (control 
       })
 
 module _ (world : World) (ranges : world.limits ≡ all_limits world.tree) (block : ℕ) (env : Surroundings)
-    (number : ℕ) (in_table : StandsIn world block number) (execution : meaning.Execution) (body : Walking (Unit {0}))
-    (among : List ℕ) (inside_are : controls_inside world.tree number ≡ among)
+    (head : ForHead) (in_table : StandsIn world block head.loop_number) (execution : meaning.Execution) (body : Walking (Unit {0}))
+    (among : List ℕ) (inside_are : controls_inside world.tree head.loop_number ≡ among)
     (one : SoundAmong {A = Unit {0}} {B = Unit {0}} among world block env.visible Any_value (execution env) body) where
   abbrev visible : Environment
   visible = env.visible
 
   -- ---- the rounds
 
-  module _ (context : Context) (way : Way) (x y : ℤ) (few : ℕ) (is_own : IsOwn world block visible few way.control) (block_is : context.block ≡ block)
-      (in_first : HasMember way.first.values x)
-      (in_last : HasMember way.last.values y) (first_typed : HasMember (typed_values world way.control) x)
-      (last_typed : HasMember (typed_values world way.control) y) (controls : all_control way.control context.rounds ≡ true)
-      (held : AreControlled among (inner context number))
-      (left : KeepsAt (watching (home world block visible few way.control is_own) visible) (execution env)) where
+  -- the way of the statement between these bounds
+  abbrev way_between : End → End → Way
+  way_between first last = record { control = head.control; direction = head.direction; first = first; last = last }
+
+  module _ (context : Context) (first last : End) (x y : ℤ) (few : ℕ) (is_own : IsOwn world block visible few head.control)
+      (block_is : context.block ≡ block) (in_first : HasMember first.values x)
+      (in_last : HasMember last.values y) (first_typed : HasMember (typed_values world head.control) x)
+      (last_typed : HasMember (typed_values world head.control) y) (controls : all_control head.control context.rounds ≡ true)
+      (held : AreControlled among (inner context head.loop_number))
+      (left : KeepsAt (watching (home world block visible few head.control is_own) visible) (execution env)) where
     abbrev own_home : StorePlace
-    own_home = home world block visible few way.control is_own
+    own_home = home world block visible few head.control is_own
 
     abbrev loop : Round
-    loop = round_of context.tree context.pairs context.claims number
+    loop = round_of context.tree context.pairs context.claims head.loop_number
 
     abbrev own : Round
-    own = with_own (Some way.control) loop
+    own = with_own (Some head.control) loop
 
     abbrev within : Context
-    within = inner context number
+    within = inner context head.loop_number
 
     abbrev rounds : List Round
-    rounds = with_head context number (Some way.control)
+    rounds = with_head context head.loop_number (Some head.control)
 
     abbrev steady : Way
-    steady = steady_in context number way
+    steady = steady_in context head.loop_number (way_between first last)
 
     -- a turn begins where the control variable got a value
     abbrev at : ℤ → Store → Store
-    at n store = numbered world block visible few way.control is_own n store
+    at n store = numbered world block visible few head.control is_own n store
 
     -- which lies on the way, whose bounds are what they were
     abbrev Fits : ℤ → Store → Type 0
-    Fits n store = Between way.direction x y n × MayBe visible store steady.first.form x × MayBe visible store steady.last.form y
+    Fits n store = Between head.direction x y n × MayBe visible store steady.first.form x × MayBe visible store steady.last.form y
 
-    at-number : (n : ℤ) (store : Store) → HasNumber (moment visible (at n store)) way.control n
-    at-number n store = has-number world block visible few way.control is_own n store
+    at-number : (n : ℤ) (store : Store) → HasNumber (moment visible (at n store)) head.control n
+    at-number n store = has-number world block visible few head.control is_own n store
 
     at-kept : (n : ℤ) (store : Store) → Keeps visible rounds store (at n store)
     at-kept n store =
-        control-keeps visible way.control rounds store (at n store) (number-kept world block visible few way.control is_own n store)
-        (all-controls way.control context.rounds own controls (own-controls way.control loop))
+        control-keeps visible head.control rounds store (at n store) (number-kept world block visible few head.control is_own n store)
+        (all-controls head.control context.rounds own controls (own-controls head.control loop))
 
-    on-way : (n : ℤ) → Between way.direction x y n → HasMember (typed_values world way.control) n
-    on-way n between = between-in way.direction (typed_values world way.control) x y n first_typed last_typed between
+    on-way : (n : ℤ) → Between head.direction x y n → HasMember (typed_values world head.control) n
+    on-way n between = between-in head.direction (typed_values world head.control) x y n first_typed last_typed between
 
     at-fine : AreFine world few at Fits
-    at-fine n t grown fine fits = number-fine world block visible few way.control is_own n t grown fine (on-way n fits.0)
+    at-fine n t grown fine fits = number-fine world block visible few head.control is_own n t grown fine (on-way n fits.0)
 
     -- so they are at a later store
     later-forms : (before after : Store) → Keeps visible rounds before after
         → MayBe visible before steady.first.form x × MayBe visible before steady.last.form y
         → MayBe visible after steady.first.form x × MayBe visible after steady.last.form y
-    later-forms before after kept (first, last) =
+    later-forms before after kept (one_may, other_may) =
         let own_kept = rounds-own visible context.rounds own before after kept in (
-          kept-may visible (touched own) own.controls before after way.first.form x own_kept first,
-          kept-may visible (touched own) own.controls before after way.last.form y own_kept last,
+          kept-may visible (touched own) own.controls before after first.form x own_kept one_may,
+          kept-may visible (touched own) own.controls before after last.form y own_kept other_may,
         )
 
     module _ (n : ℤ) (start later : Store) (ended : State) (fits : Fits n start) (stands : Stands world visible within ended later)
-        (kept : Keeps visible within.rounds start later) (number_is : HasNumber (moment visible start) way.control n)
+        (kept : Keeps visible within.rounds start later) (number_is : HasNumber (moment visible start) head.control n)
         (same_there : stored_at later own_home ≡ stored_at start own_home) where
       -- the body leaves the control variable as it is
-      still : HasNumber (moment visible later) way.control n
+      still : HasNumber (moment visible later) head.control n
       still =
-          let at_own = at_home world block visible few way.control is_own in
-          entire-value visible later way.control own_home at_own ∙ same_there ∙ sym (entire-value visible start way.control own_home at_own) ∙ number_is
+          let at_own = at_home world block visible few head.control is_own in
+          entire-value visible later head.control own_home at_own ∙ same_there ∙ sym (entire-value visible start head.control own_home at_own) ∙ number_is
 
       body-kept : Keeps visible rounds start later
       body-kept =
           last-kept visible context.rounds own start later (rounds-outer visible context.rounds loop start later kept)
-          (inside-kept visible way.control loop start later (rounds-own visible context.rounds loop start later kept))
+          (inside-kept visible head.control loop start later (rounds-own visible context.rounds loop start later kept))
 
       abbrev again_state : State
-      again_state = over_change way.control (ways.next steady) (turn_ended steady) ended
+      again_state = over_change head.control (ways.next steady) (turn_ended steady) ended
 
       abbrev out_state : State
-      out_state = over_bound way.control steady.last.form (way_out steady) ended
+      out_state = over_bound head.control steady.last.form (way_out steady) ended
 
       abbrev Ends : Option ℤ → Type 0
       Ends more = RoundEnds world visible within rounds at Fits again_state out_state start more later
@@ -310,29 +315,30 @@ module _ (world : World) (ranges : world.limits ≡ all_limits world.tree) (bloc
       round-out same =
           let forms = later-forms start later body-kept (fits.1, fits.2) in (
             stands-as world visible within ended out_state later stands
-                (bound-knows (parts_in world) (variables_in world) visible ended later way.control steady.last.form y
-                (subst (λ (m : ℤ). HasNumber (moment visible later) way.control m) same still) forms.1 stands.known),
+                (bound-knows (parts_in world) (variables_in world) visible ended later head.control steady.last.form y
+                (subst (λ (m : ℤ). HasNumber (moment visible later) head.control m) same still) forms.1 stands.known),
             body-kept,
           )
 
       -- another turn follows
-      round-again : int_eq n y ≡ false → Ends (Some (next_value way.direction n))
+      round-again : int_eq n y ≡ false → Ends (Some (next_value head.direction n))
       round-again apart =
-          let m = next_value way.direction n in
+          let m = next_value head.direction n in
           let next_kept = at-kept m later in
           let forms = later-forms later (at m later) next_kept (later-forms start later body-kept (fits.1, fits.2)) in
-          let between = next-between way.direction x y n fits.0 apart in (
+          let between = next-between head.direction x y n fits.0 apart in (
             record {
               goes = stands.goes;
               known = ended-knows world.tree visible steady ended later (at m later) x y n
-                  (is-variable world block visible few way.control is_own) (one-number world block visible few way.control is_own m later) still in_last fits.0
+                  (is-variable world block visible few head.control is_own)
+                  (one-number world block visible few head.control is_own m later) still in_last fits.0
                   apart forms.1 stands.known;
             },
             keeps-then visible rounds start later (at m later) body-kept next_kept,
             (between, forms.0, forms.1),
           )
 
-      round-ends : (b : Bool) → int_eq n y ≡ b → Ends (cond b None (Some (next_value way.direction n)))
+      round-ends : (b : Bool) → int_eq n y ≡ b → Ends (cond b None (Some (next_value head.direction n)))
       round-ends true is = round-out (int_eq-same n y is)
       round-ends false is = round-again is
 
@@ -340,7 +346,7 @@ module _ (world : World) (ranges : world.limits ≡ all_limits world.tree) (bloc
     left-there : (v w : effect.State) (done : Unit {0}) → execution env v ≡ effect.Gives done w → few ≤ v.activations
         → stored_at w.store own_home ≡ stored_at v.store own_home
     left-there v w done is grown =
-        let young = is_own.proper.begun way.control own_home (at_home world block visible few way.control is_own) in
+        let young = is_own.proper.begun head.control own_home (at_home world block visible few head.control is_own) in
         let leaving = left.left v (omega (arith, young, grown)) in
         sym (ap (λ (reply : effect.Reply (Unit {0})). stored_at (state_after reply).store own_home) is)
         ∙ ⊎_elim (λ over. absurd (over (lies-itself own_home))) (λ same. same) (leaving.leaves.values own_home (omega arith))
@@ -350,25 +356,25 @@ module _ (world : World) (ranges : world.limits ≡ all_limits world.tree) (bloc
         → (walk.for_round steady body within state).broken ≡ []
         → IsPartOf world (walk.for_round steady body within state) → Stands world visible within state (at n s.store) → Fits n (at n s.store)
         → Good world (RoundEnds world visible within rounds at Fits (walk.for_round steady body within state).after
-        (walk.for_round steady body within state).value (at n s.store)) s (meaning.for_round way.control way.direction y execution env n s)
+        (walk.for_round steady body within state).value (at n s.store)) s (meaning.for_round head y execution env n s)
     round-good state n s grown fine unbroken part stands fits =
         let start = at n s.store in
         let begun = over_variables (turn_begun steady) state in
-        let first : Walked (Unit {0}) = body within begun in
-        let ended = first.after in
-        let again = over_change way.control (ways.next steady) (turn_ended steady) ended in
-        let out = over_bound way.control steady.last.form (way_out steady) ended in
+        let turn : Walked (Unit {0}) = body within begun in
+        let ended = turn.after in
+        let again = over_change head.control (ways.next steady) (turn_ended steady) ended in
+        let out = over_bound head.control steady.last.form (way_out steady) ended in
         let rest : Walked State = followed (flow.with_state again within ended) (flow.give out within again) in
         let P = RoundEnds world visible within rounds at Fits again out start in
-        let more = value_behind way.direction y n in
+        let more = value_behind head.direction y n in
         let next = λ (used : Unit {0}). effect.◌>>=◌ (execution env) (λ done. effect.give more) in
         let begun_stands = stands-as world visible within state begun start stands
         (over-known (parts_in world) (variables_in world) visible state (turn_begun steady) start stands.known
         (begun-known (variables_in world) visible start steady state.variables x y n (at-number n s.store) in_first in_last fits.0 fits.1 fits.2
         stands.known.variables)) in
-        good-then world (λ (done : Unit {0}) store. store ≡ start) P s (effect.store (visible.variables way.control) (Number n) s)
+        good-then world (λ (done : Unit {0}) store. store ≡ start) P s (effect.store (visible.variables head.control) (Number n) s)
         (λ written. effect.◌>>=◌ effect.use_turn next)
-        (number-stored world block visible few way.control is_own n s grown fine (on-way n fits.0))
+        (number-stored world block visible few head.control is_own n s grown fine (on-way n fits.0))
         (λ written u is stored.
         turn-then world P next u stored.fine
         (λ used v same now later.
@@ -379,8 +385,8 @@ module _ (world : World) (ranges : world.limits ≡ all_limits world.tree) (bloc
           proper = proper-grown world block few v.activations visible (let behind = stored.grown in omega (arith, grown, behind, later)) is_own.proper;
           stands = subst (Stands world visible within begun) (sym store_is) begun_stands;
         } in
-        good-then world (Foretold world visible within first v.store) P v (execution env v) (λ done. effect.give more)
-        (one within begun v held (unbroken-left first.broken [] unbroken) (part-left world first rest part) here)
+        good-then world (Foretold world visible within turn v.store) P v (execution env v) (λ done. effect.give more)
+        (one within begun v held (unbroken-left turn.broken [] unbroken) (part-left world turn rest part) here)
         (λ done w is told.
         good-give world P more w told.fine
         (round-ends n start w.store ended fits told.so.stands (subst (λ (store : Store). Keeps visible within.rounds store w.store) store_is told.so.kept)
@@ -399,290 +405,299 @@ module _ (world : World) (ranges : world.limits ≡ all_limits world.tree) (bloc
   own-of context state s control text here =
       record { proper = here.proper; seen = text.seen; ordinal = text.ordinal; hidden = text.hidden }
 
-  goes-in : (context : Context) (state : State) (s : effect.State) → Here world block visible context state s → Goes world (inner context number)
+  goes-in : (context : Context) (state : State) (s : effect.State) → Here world block visible context state s → Goes world (inner context head.loop_number)
   goes-in context state s here =
-      goes-inside world context (round_of context.tree context.pairs context.claims number)
-      (loop-closed world context.block context number here.stands.goes.tree_is here.stands.goes.pairs_are
+      goes-inside world context (round_of context.tree context.pairs context.claims head.loop_number)
+      (loop-closed world context.block context head.loop_number here.stands.goes.tree_is here.stands.goes.pairs_are
       (in_table.0, in_table.1, in_table.2 ∙ sym here.block_is)) here.stands.goes
 
-  module _ (place : SourcePlace) (context : Context) (state : State) (way : Way) (x y : ℤ)
-      (text : IsControl world block env execution context way.control) (held : AreControlled among context)
-      (controls_are : AreEntire (parts_in world) (all_in world number way.control))
-      (first_tested : IsTestFor world way.control way.first.fits) (last_tested : IsTestFor world way.control way.last.fits)
-      (counts : has_values way.direction x y ≡ true) where
-    abbrev first : Walked Interval
-    first = walk.tested_end state way.first context state
+  -- the values of the bounds lie in these ranges
+  module _ (from to : Interval) where
+    abbrev way : Way
+    way = way_of head (Ordinal from) (Ordinal to)
 
-    abbrev last : Walked Interval
-    last = walk.tested_end state way.last context first.after
+    module _ (context : Context) (state : State) (x y : ℤ)
+        (text : IsControl world block env execution context head.control) (held : AreControlled among context)
+        (controls_are : AreEntire (parts_in world) (all_in world head))
+        (first_tested : IsTestFor world head.control head.first.fits) (last_tested : IsTestFor world head.control head.last.fits)
+        (counts : has_values head.direction x y ≡ true) where
+      abbrev first : Walked Interval
+      first = walk.tested_end state way.first context state
 
-    abbrev tested : Way
-    tested = with_values first.value last.value way
+      abbrev last : Walked Interval
+      last = walk.tested_end state way.last context first.after
 
-    abbrev begun : Walked (Unit {0})
-    begun = walk.begin_way tested context last.after
+      abbrev tested : Way
+      tested = with_values first.value last.value way
 
-    abbrev turns : Walked (Unit {0})
-    turns = walk.rounds_of number place body tested context begun.after
+      abbrev begun : Walked (Unit {0})
+      begun = walk.begin_way tested context last.after
 
-    abbrev from_begun : Walked (Unit {0})
-    from_begun = followed begun turns
+      abbrev turns : Walked (Unit {0})
+      turns = walk.rounds_of head body tested context begun.after
 
-    abbrev given : Walked Way
-    given = flow.give tested context last.after
+      abbrev from_begun : Walked (Unit {0})
+      from_begun = followed begun turns
 
-    abbrev from_last : Walked Way
-    from_last = followed last given
+      abbrev given : Walked Way
+      given = flow.give tested context last.after
 
-    abbrev tests : Walked Way
-    tests = walk.tested_way way context state
+      abbrev from_last : Walked Way
+      from_last = followed last given
 
-    abbrev whole_walked : Walked (Unit {0})
-    whole_walked = walk.for_turns number place body way context state
+      abbrev tests : Walked Way
+      tests = walk.tested_way way context state
 
-    abbrev Forms : Store → Type 0
-    Forms store = MayBe visible store way.first.form x × MayBe visible store way.last.form y
+      abbrev whole_walked : Walked (Unit {0})
+      whole_walked = walk.for_turns head body way context state
 
-    abbrev rounds_action : Action (Unit {0})
-    rounds_action = effect.looped (meaning.for_round way.control way.direction y execution env) x
+      abbrev Forms : Store → Type 0
+      Forms store = MayBe visible store way.first.form x × MayBe visible store way.last.form y
 
-    -- the control variable gets its first value, and the rounds follow
-    module _ (unbroken : turns.broken ≡ []) (part : IsPartOf world turns) (v : effect.State)
-        (here : Here world block visible context last.after v) (forms : Forms v.store) (in_first : IsIn first.value (Number x))
-        (in_last : IsIn last.value (Number y)) (x_fits : is_in way.first.fits.range (Number x) ≡ true)
-        (y_fits : is_in way.last.fits.range (Number y) ≡ true) where
-      x_typed : HasMember (typed_values world way.control) x
-      x_typed = first_tested.typed x x_fits
+      abbrev rounds_action : Action (Unit {0})
+      rounds_action = effect.looped (meaning.for_round head y execution env) x
 
-      y_typed : HasMember (typed_values world way.control) y
-      y_typed = last_tested.typed y y_fits
+      -- the control variable gets its first value, and the rounds follow
+      module _ (unbroken : turns.broken ≡ []) (part : IsPartOf world turns) (v : effect.State)
+          (here : Here world block visible context last.after v) (forms : Forms v.store) (in_first : IsIn first.value (Number x))
+          (in_last : IsIn last.value (Number y)) (x_fits : is_in head.first.fits.range (Number x) ≡ true)
+          (y_fits : is_in head.last.fits.range (Number y) ≡ true) where
+        x_typed : HasMember (typed_values world head.control) x
+        x_typed = first_tested.typed x x_fits
 
-      is_own : IsOwn world block visible v.activations way.control
-      is_own = own-of context last.after v way.control text here
+        y_typed : HasMember (typed_values world head.control) y
+        y_typed = last_tested.typed y y_fits
 
-      abbrev start : Store
-      start = numbered world block visible v.activations way.control is_own x v.store
+        is_own : IsOwn world block visible v.activations head.control
+        is_own = own-of context last.after v head.control text here
 
-      -- what is known where it has its first value
-      start-known : Knows (parts_in world) (variables_in world) visible begun.after start
-      start-known =
-          let tree = world.tree in
-          let pairs = world.pairs in
-          let few = v.activations in
-          let aliases = aliases_in (listed_pairs tree pairs) block way.control in
-          let place = home world block visible few way.control is_own in
-          let at_place = at_home world block visible few way.control is_own in
-          let are = whole-written visible aliases way.control place at_place
-          (apart-seen tree pairs block few visible here.proper way.control place at_place) v.store x in
-          let typed = whole-typed tree pairs block few visible here.proper way.control place at_place x text.ordinal x_typed in
-          by-world world context
-          (λ (other : Context).
-          Knows (parts_in world) (variables_in world) visible (walk.begin_way tested other last.after).after start)
-          here.stands.goes
-          (subst
-          (λ (b : ℕ).
-          Knows (parts_in world) (variables_in world) visible
-          (walk.begin_way tested (record (in_world world context) { block = b }) last.after).after start)
-          (sym here.block_is)
-          (assigned-knows tree pairs block few visible here.proper way.control place at_place x v.store start are typed first.value way.first.form
-          (over_variables (entered tested) last.after) in_first (may-of_form v.store way.first.form x forms.0)
-          (over-known (parts_in world) (variables_in world) visible last.after (entered tested) v.store here.stands.known
-          (entered-known (variables_in world) visible v.store tested last.after.variables x y in_first in_last counts here.stands.known.variables))))
+        abbrev start : Store
+        start = numbered world block visible v.activations head.control is_own x v.store
 
-      rounds-good : Good world (Foretold world visible context turns v.store) v (rounds_action v)
-      rounds-good =
-          let few = v.activations in
-          let controls = text.controls in
-          let lies_at = home world block visible few way.control is_own in
-          let left = text.left lies_at (alone-apart visible way.control lies_at (apart world block visible few way.control is_own)) in
-          let within = inner-controlled world context number among here.stands.goes.tree_is inside_are held in
-          let own = touched (with_own (Some way.control) (round_of context.tree context.pairs context.claims number)) in
-          let begun_kept = at-kept context tested x y few is_own here.block_is in_first in_last x_typed y_typed controls within left x v.store in
-          let later = later-forms context tested x y few is_own here.block_is in_first in_last x_typed y_typed controls within left v.store start begun_kept
-          (untouched-form visible v.store own way.first.form x forms.0, untouched-form visible v.store own way.last.form y forms.1) in
-          let start_stands : Stands world visible context begun.after start = record { goes = here.stands.goes; known = start-known } in
-          good-weaker world (Foretold world visible context turns start) (Foretold world visible context turns v.store) v (rounds_action v)
-          (λ done w is told. record {
-            tie = tt;
-            stands = told.so.stands;
-            kept = keeps-then visible context.rounds v.store start w.store
-                (rounds-outer visible context.rounds (with_own (Some way.control) (round_of context.tree context.pairs context.claims number)) v.store start
-                begun_kept)
-                told.so.kept;
-          })
-          (loop-good world ranges block visible number place (Some way.control) (meaning.for_round way.control way.direction y execution env)
-          (walk.for_round (steady_in context number tested) body)
-          (at context tested x y few is_own here.block_is in_first in_last x_typed y_typed controls within left)
-          (Fits context tested x y few is_own here.block_is in_first in_last x_typed y_typed controls within left) context begun.after x v
-          (at-fine context tested x y few is_own here.block_is in_first in_last x_typed y_typed controls within left)
-          (goes-in context last.after v here)
-          (subst (λ (tree : Tree). AreEntire (parts_in world) (way.control ∷ controls_inside tree number)) (sym here.stands.goes.tree_is) controls_are)
-          (λ n t grown fine unbroken part stands fits.
-          round-good context tested x y few is_own here.block_is in_first in_last x_typed y_typed controls within left
-          (loop_begun context number (Some way.control) begun.after) n t grown fine unbroken part stands fits)
-          unbroken part here.fine here.proper start_stands ((ordered-itself way.direction x, counts-ordered way.direction x y counts), later.0, later.1))
+        -- what is known where it has its first value
+        start-known : Knows (parts_in world) (variables_in world) visible begun.after start
+        start-known =
+            let tree = world.tree in
+            let pairs = world.pairs in
+            let few = v.activations in
+            let aliases = aliases_in (listed_pairs tree pairs) block head.control in
+            let place = home world block visible few head.control is_own in
+            let at_place = at_home world block visible few head.control is_own in
+            let are = whole-written visible aliases head.control place at_place
+            (apart-seen tree pairs block few visible here.proper head.control place at_place) v.store x in
+            let typed = whole-typed tree pairs block few visible here.proper head.control place at_place x text.ordinal x_typed in
+            by-world world context
+            (λ (other : Context).
+            Knows (parts_in world) (variables_in world) visible (walk.begin_way tested other last.after).after start)
+            here.stands.goes
+            (subst
+            (λ (b : ℕ).
+            Knows (parts_in world) (variables_in world) visible
+            (walk.begin_way tested (record (in_world world context) { block = b }) last.after).after start)
+            (sym here.block_is)
+            (assigned-knows tree pairs block few visible here.proper head.control place at_place x v.store start are typed first.value way.first.form
+            (over_variables (entered tested) last.after) in_first (may-of_form v.store way.first.form x forms.0)
+            (over-known (parts_in world) (variables_in world) visible last.after (entered tested) v.store here.stands.known
+            (entered-known (variables_in world) visible v.store tested last.after.variables x y in_first in_last counts here.stands.known.variables))))
 
-    required-same : (test : Bool) (site : ℕ) (s t : effect.State) (done : Unit {0}) → effect.require test site s ≡ effect.Gives done t
-        → (test ≡ true) × (s ≡ t)
-    required-same true site s t done is = (refl, cc)
-    required-same false site s t done is = absurd (cc)
-
-    abbrev first_test : Bool
-    first_test = is_in way.first.fits.range (Number x)
-
-    abbrev last_test : Bool
-    last_test = is_in way.last.fits.range (Number y)
-
-    module _ (unbroken : whole_walked.broken ≡ []) (part : IsPartOf world whole_walked) where
-      tests_unbroken : tests.broken ≡ []
-      tests_unbroken = unbroken-left tests.broken from_begun.broken unbroken
-
-      tests_part : IsPartOf world tests
-      tests_part = part-left world tests from_begun part
-
-      from-first : IsPartOf world (followed first from_last)
-      from-first = part-right world (flow.give state context state) (followed first from_last) tests_part
-
-      turns_part : IsPartOf world turns
-      turns_part = part-right world begun turns (part-right world tests from_begun part)
-
-      -- the test of the last bound, and then the rounds
-      last-good : (start : Store) (u : effect.State) → Keeps visible context.rounds start u.store → Here world block visible context first.after u
-          → entire.Knows (variables_in world) visible state.variables u.store
-          → Forms u.store → HasMember way.last.values y → IsIn first.value (Number x) → first_test ≡ true
-          → Good world (Foretold world visible context whole_walked start) u
-          (effect.◌>>=◌ (effect.require last_test way.last.fits.site) (λ done. rounds_action) u)
-      last-good start u kept here known forms inside in_first x_fits =
-          good-then world (IsForetold world visible (Passes last_test (Number y)) context last u.store) (Foretold world visible context whole_walked start) u
-          (effect.require last_test way.last.fits.site u) (λ done. rounds_action)
-          (within-sound world block visible (limits_of way.last.fits.range) way.last.fits.site (met way.last.form state.variables way.last.values)
-          (Number y) last_test last_tested.below
-          (is_in-limits way.last.fits.range (Number y)) (limits-is_in way.last.fits.range (Number y))
-          (met-in (variables_in world) visible u.store way.last.form state.variables way.last.values y forms.1 known inside) context first.after u
-          (unbroken-left last.broken given.broken (unbroken-right first.broken from_last.broken tests_unbroken))
-          (part-left world last given (part-right world first from_last from-first)) here)
-          (λ done v is told.
-          let same = required-same last_test way.last.fits.site u v done is in
-          let forms_here : Forms v.store = subst (λ (s : effect.State). Forms s.store) same.1 forms in
-          let here_behind = here-behind world block visible (Passes last_test (Number y)) context first.after last u v done here told in
-          good-weaker world (Foretold world visible context turns v.store) (Foretold world visible context whole_walked start) v (rounds_action v)
-          (λ done w is then. record {
-            tie = tt;
-            stands = then.so.stands;
-            kept = keeps-then visible context.rounds start u.store w.store kept
-                (keeps-then visible context.rounds u.store v.store w.store told.so.kept then.so.kept);
-          })
-          (rounds-good (unbroken-right begun.broken turns.broken (unbroken-right tests.broken from_begun.broken unbroken)) turns_part v here_behind
-          forms_here in_first told.so.tie.0 x_fits same.0))
-
-      -- the tests of both, and then the rounds
-      turns-good : (t : effect.State) → Here world block visible context state t → Forms t.store → HasMember way.first.values x → HasMember way.last.values y
-          → Good world (Foretold world visible context whole_walked t.store) t
-          (meaning.for_rounds way.control way.first.fits way.direction way.last.fits execution env x y t)
-      turns-good t here forms in_first in_last =
-          good-then world (IsForetold world visible (Passes first_test (Number x)) context first t.store)
-          (Foretold world visible context whole_walked t.store) t (effect.require first_test way.first.fits.site t)
-          (λ done. effect.◌>>=◌ (effect.require last_test way.last.fits.site) (λ done. rounds_action))
-          (within-sound world block visible (limits_of way.first.fits.range) way.first.fits.site (met way.first.form state.variables way.first.values)
-          (Number x) first_test first_tested.below
-          (is_in-limits way.first.fits.range (Number x)) (limits-is_in way.first.fits.range (Number x))
-          (met-in (variables_in world) visible t.store way.first.form state.variables way.first.values x forms.0 here.stands.known.variables in_first) context
-          state t
-          (unbroken-left first.broken from_last.broken tests_unbroken) (part-left world first from_last from-first) here)
-          (λ done u is told.
-          let same = required-same first_test way.first.fits.site t u done is in
-          last-good t.store u told.so.kept (here-behind world block visible (Passes first_test (Number x)) context state first t u done here told)
-          (subst (λ (s : effect.State). entire.Knows (variables_in world) visible state.variables s.store) same.1 here.stands.known.variables)
-          (subst (λ (s : effect.State). Forms s.store) same.1 forms) in_last told.so.tie.0 same.0)
-
-  -- ---- the whole statement, from the values of its bounds
-
-  module _ (place : SourcePlace) (context : Context) (state : State) (way : Way) (x y : ℤ)
-      (text : IsControl world block env execution context way.control) (held : AreControlled among context)
-      (controls_are : AreEntire (parts_in world) (all_in world number way.control))
-      (first_tested : IsTestFor world way.control way.first.fits) (last_tested : IsTestFor world way.control way.last.fits) where
-    abbrev where_so : Bool → State
-    where_so b = over_variables (where_counts b way) state
-
-    abbrev taken : Walked (Unit {0})
-    taken = walk.for_turns number place body way context (where_so true)
-
-    abbrev never : Walked (Unit {0})
-    never = flow.give tt context (where_so false)
-
-    abbrev both : Walked (Unit {0})
-    both = walk.either_of taken never
-
-    abbrev behind : Walked (Unit {0})
-    behind = flow.changed_by (over_change way.control None (with_undefined way.control)) context both.after
-
-    abbrev statement : Walked (Unit {0})
-    statement = walk.for_walk number place body way context state
-
-    -- the control variable becomes undefined
-    undefined-good : (start : Store) (u : effect.State)
-        → Keeps visible context.rounds start u.store → Here world block visible context both.after u
-        → Good world (Foretold world visible context statement start) u (effect.undefine (visible.variables way.control) u)
-    undefined-good start u kept here =
-        let few = u.activations in
-        let is_own = own-of context both.after u way.control text here in
-        let own_home = home world block visible few way.control is_own in
-        let own_at = at_home world block visible few way.control is_own in
-        let own_apart = apart world block visible few way.control is_own in
-        let gone = undefined u.store own_home in
-        subst (λ (place : Option StorePlace). Good world (Foretold world visible context statement start) u (effect.undefine place u))
-        (sym own_at)
-        (record {
-          errs = tt;
-          new = nothing-new world u.visited;
-          gives = record {
-            so = record {
+        rounds-good : Good world (Foretold world visible context turns v.store) v (rounds_action v)
+        rounds-good =
+            let few = v.activations in
+            let controls = text.controls in
+            let lies_at = home world block visible few head.control is_own in
+            let left = text.left lies_at (alone-apart visible head.control lies_at (apart world block visible few head.control is_own)) in
+            let within = inner-controlled world context head.loop_number among here.stands.goes.tree_is inside_are held in
+            let own = touched (with_own (Some head.control) (round_of context.tree context.pairs context.claims head.loop_number)) in
+            let begun_kept = at-kept context tested.first tested.last x y few is_own here.block_is in_first in_last x_typed y_typed controls within left x
+            v.store in
+            let later = later-forms context tested.first tested.last x y few is_own here.block_is in_first in_last x_typed y_typed controls within left
+            v.store start begun_kept
+            (untouched-form visible v.store own way.first.form x forms.0, untouched-form visible v.store own way.last.form y forms.1) in
+            let start_stands : Stands world visible context begun.after start = record { goes = here.stands.goes; known = start-known } in
+            good-weaker world (Foretold world visible context turns start) (Foretold world visible context turns v.store) v (rounds_action v)
+            (λ done w is told. record {
               tie = tt;
-              stands = record {
-                goes = here.stands.goes;
-                known = gone-knows world.tree visible (shows world.tree world.pairs block few visible here.proper) way.control both.after u.store gone
-                    (gone-alone visible u.store way.control own_home own_at own_apart) (gone-changes visible u.store way.control own_home own_at own_apart)
-                    (gone-none visible u.store way.control own_home own_at own_apart) here.stands.known;
-              };
-              kept = keeps-then visible context.rounds start u.store gone kept
-                  (gone-keeps visible u.store way.control own_home own_at own_apart context.rounds text.controls);
-            };
-            fine = record {
-              typed = gone-typed world.tree u.store own_home here.fine.typed;
-              begun = gone-begun few u.store own_home here.fine.begun;
-            };
-            grown = omega arith;
-          };
-        })
+              stands = told.so.stands;
+              kept = keeps-then visible context.rounds v.store start w.store
+                  (rounds-outer visible context.rounds
+                  (with_own (Some head.control) (round_of context.tree context.pairs context.claims head.loop_number)) v.store start
+                  begun_kept)
+                  told.so.kept;
+            })
+            (loop-good world ranges block visible head.loop_number head.place (Some head.control) (meaning.for_round head y execution env)
+            (walk.for_round (steady_in context head.loop_number tested) body)
+            (at context tested.first tested.last x y few is_own here.block_is in_first in_last x_typed y_typed controls within left)
+            (Fits context tested.first tested.last x y few is_own here.block_is in_first in_last x_typed y_typed controls within left) context begun.after x v
+            (at-fine context tested.first tested.last x y few is_own here.block_is in_first in_last x_typed y_typed controls within left)
+            (goes-in context last.after v here)
+            (subst (λ (tree : Tree). AreEntire (parts_in world) (head.control ∷ controls_inside tree head.loop_number))
+            (sym here.stands.goes.tree_is) controls_are)
+            (λ n t grown fine unbroken part stands fits.
+            round-good context tested.first tested.last x y few is_own here.block_is in_first in_last x_typed y_typed controls within left
+            (loop_begun context head.loop_number (Some head.control) begun.after) n t grown fine unbroken part stands fits)
+            unbroken part here.fine here.proper start_stands ((ordered-itself head.direction x, counts-ordered head.direction x y counts), later.0, later.1))
 
-    pub for-good : (t : effect.State) → statement.broken ≡ [] → IsPartOf world statement → Here world block visible context state t
-        → MayBe visible t.store way.first.form x → MayBe visible t.store way.last.form y → HasMember way.first.values x → HasMember way.last.values y
-        → Good world (Foretold world visible context statement t.store) t
-        (effect.◌>>=◌ (meaning.for_between way.control way.first.fits way.direction way.last.fits execution env x y)
-        (λ done. effect.undefine (visible.variables way.control)) t)
-    for-good t unbroken part here one other in_first in_last =
-        let both_unbroken = unbroken-left both.broken behind.broken unbroken in
-        let turns = meaning.for_rounds way.control way.first.fits way.direction way.last.fits execution env x y in
-        let counts = has_values way.direction x y in
-        let here_so : (b : Bool) → counts ≡ b → Here world block visible context (where_so b) t =
-        λ b is. here-as world block visible context state (where_so b) t here
-        (over-known (parts_in world) (variables_in world) visible state (where_counts b way) t.store here.stands.known
-        (counts-known (variables_in world) visible t.store way b state.variables x y is one other here.stands.known.variables)) in
-        good-then world (Foretold world visible context both t.store) (Foretold world visible context statement t.store) t
-        (cond counts turns (effect.give tt) t) (λ done. effect.undefine (visible.variables way.control))
-        (ways-good world visible turns (effect.give tt) taken never counts context t
-        (λ is unbroken part.
-        turns-good place context (where_so true) way x y text held controls_are first_tested last_tested is unbroken part t (here_so true is)
-        (one, other) in_first in_last)
-        (λ is unbroken part.
-        good-give world (Foretold world visible context never t.store) tt t here.fine
-        (record { tie = tt; stands = (here_so false is).stands; kept = keeps-itself visible context.rounds t.store }))
-        both_unbroken (part-left world both behind part))
-        (λ done u is told.
-        undefined-good t.store u told.so.kept
-        (record {
-          block_is = here.block_is;
-          fine = told.fine;
-          proper = proper-grown world block t.activations u.activations visible told.grown here.proper;
-          stands = told.so.stands;
-        }))
+      required-same : (test : Bool) (site : ℕ) (s t : effect.State) (done : Unit {0}) → effect.require test site s ≡ effect.Gives done t
+          → (test ≡ true) × (s ≡ t)
+      required-same true site s t done is = (refl, cc)
+      required-same false site s t done is = absurd (cc)
+
+      abbrev first_test : Bool
+      first_test = is_in head.first.fits.range (Number x)
+
+      abbrev last_test : Bool
+      last_test = is_in head.last.fits.range (Number y)
+
+      module _ (unbroken : whole_walked.broken ≡ []) (part : IsPartOf world whole_walked) where
+        tests_unbroken : tests.broken ≡ []
+        tests_unbroken = unbroken-left tests.broken from_begun.broken unbroken
+
+        tests_part : IsPartOf world tests
+        tests_part = part-left world tests from_begun part
+
+        from-first : IsPartOf world (followed first from_last)
+        from-first = part-right world (flow.give state context state) (followed first from_last) tests_part
+
+        turns_part : IsPartOf world turns
+        turns_part = part-right world begun turns (part-right world tests from_begun part)
+
+        -- the test of the last bound, and then the rounds
+        last-good : (start : Store) (u : effect.State) → Keeps visible context.rounds start u.store → Here world block visible context first.after u
+            → entire.Knows (variables_in world) visible state.variables u.store
+            → Forms u.store → HasMember way.last.values y → IsIn first.value (Number x) → first_test ≡ true
+            → Good world (Foretold world visible context whole_walked start) u
+            (effect.◌>>=◌ (effect.require last_test head.last.fits.site) (λ done. rounds_action) u)
+        last-good start u kept here known forms inside in_first x_fits =
+            good-then world (IsForetold world visible (Passes last_test (Number y)) context last u.store) (Foretold world visible context whole_walked start) u
+            (effect.require last_test head.last.fits.site u) (λ done. rounds_action)
+            (within-sound world block visible (limits_of head.last.fits.range) head.last.fits.site (met way.last.form state.variables way.last.values)
+            (Number y) last_test last_tested.below
+            (is_in-limits head.last.fits.range (Number y)) (limits-is_in head.last.fits.range (Number y))
+            (met-in (variables_in world) visible u.store way.last.form state.variables way.last.values y forms.1 known inside) context first.after u
+            (unbroken-left last.broken given.broken (unbroken-right first.broken from_last.broken tests_unbroken))
+            (part-left world last given (part-right world first from_last from-first)) here)
+            (λ done v is told.
+            let same = required-same last_test head.last.fits.site u v done is in
+            let forms_here : Forms v.store = subst (λ (s : effect.State). Forms s.store) same.1 forms in
+            let here_behind = here-behind world block visible (Passes last_test (Number y)) context first.after last u v done here told in
+            good-weaker world (Foretold world visible context turns v.store) (Foretold world visible context whole_walked start) v (rounds_action v)
+            (λ done w is then. record {
+              tie = tt;
+              stands = then.so.stands;
+              kept = keeps-then visible context.rounds start u.store w.store kept
+                  (keeps-then visible context.rounds u.store v.store w.store told.so.kept then.so.kept);
+            })
+            (rounds-good (unbroken-right begun.broken turns.broken (unbroken-right tests.broken from_begun.broken unbroken)) turns_part v here_behind
+            forms_here in_first told.so.tie.0 x_fits same.0))
+
+        -- the tests of both, and then the rounds
+        turns-good : (t : effect.State) → Here world block visible context state t → Forms t.store → HasMember way.first.values x → HasMember way.last.values y
+            → Good world (Foretold world visible context whole_walked t.store) t
+            (meaning.for_rounds head execution env x y t)
+        turns-good t here forms in_first in_last =
+            good-then world (IsForetold world visible (Passes first_test (Number x)) context first t.store)
+            (Foretold world visible context whole_walked t.store) t (effect.require first_test head.first.fits.site t)
+            (λ done. effect.◌>>=◌ (effect.require last_test head.last.fits.site) (λ done. rounds_action))
+            (within-sound world block visible (limits_of head.first.fits.range) head.first.fits.site (met way.first.form state.variables way.first.values)
+            (Number x) first_test first_tested.below
+            (is_in-limits head.first.fits.range (Number x)) (limits-is_in head.first.fits.range (Number x))
+            (met-in (variables_in world) visible t.store way.first.form state.variables way.first.values x forms.0 here.stands.known.variables in_first) context
+            state t
+            (unbroken-left first.broken from_last.broken tests_unbroken) (part-left world first from_last from-first) here)
+            (λ done u is told.
+            let same = required-same first_test head.first.fits.site t u done is in
+            last-good t.store u told.so.kept (here-behind world block visible (Passes first_test (Number x)) context state first t u done here told)
+            (subst (λ (s : effect.State). entire.Knows (variables_in world) visible state.variables s.store) same.1 here.stands.known.variables)
+            (subst (λ (s : effect.State). Forms s.store) same.1 forms) in_last told.so.tie.0 same.0)
+
+    -- ---- the whole statement, from the values of its bounds
+
+    module _ (context : Context) (state : State) (x y : ℤ)
+        (text : IsControl world block env execution context head.control) (held : AreControlled among context)
+        (controls_are : AreEntire (parts_in world) (all_in world head))
+        (first_tested : IsTestFor world head.control head.first.fits) (last_tested : IsTestFor world head.control head.last.fits) where
+      abbrev where_so : Bool → State
+      where_so b = over_variables (where_counts b way) state
+
+      abbrev taken : Walked (Unit {0})
+      taken = walk.for_turns head body way context (where_so true)
+
+      abbrev never : Walked (Unit {0})
+      never = flow.give tt context (where_so false)
+
+      abbrev both : Walked (Unit {0})
+      both = walk.either_of taken never
+
+      abbrev behind : Walked (Unit {0})
+      behind = flow.changed_by (over_change head.control None (with_undefined head.control)) context both.after
+
+      abbrev statement : Walked (Unit {0})
+      statement = walk.for_walk head body way context state
+
+      -- the control variable becomes undefined
+      undefined-good : (start : Store) (u : effect.State)
+          → Keeps visible context.rounds start u.store → Here world block visible context both.after u
+          → Good world (Foretold world visible context statement start) u (effect.undefine (visible.variables head.control) u)
+      undefined-good start u kept here =
+          let few = u.activations in
+          let is_own = own-of context both.after u head.control text here in
+          let own_home = home world block visible few head.control is_own in
+          let own_at = at_home world block visible few head.control is_own in
+          let own_apart = apart world block visible few head.control is_own in
+          let gone = undefined u.store own_home in
+          subst (λ (place : Option StorePlace). Good world (Foretold world visible context statement start) u (effect.undefine place u))
+          (sym own_at)
+          (record {
+            errs = tt;
+            new = nothing-new world u.visited;
+            gives = record {
+              so = record {
+                tie = tt;
+                stands = record {
+                  goes = here.stands.goes;
+                  known = gone-knows world.tree visible (shows world.tree world.pairs block few visible here.proper) head.control both.after u.store gone
+                      (gone-alone visible u.store head.control own_home own_at own_apart) (gone-changes visible u.store head.control own_home own_at own_apart)
+                      (gone-none visible u.store head.control own_home own_at own_apart) here.stands.known;
+                };
+                kept = keeps-then visible context.rounds start u.store gone kept
+                    (gone-keeps visible u.store head.control own_home own_at own_apart context.rounds text.controls);
+              };
+              fine = record {
+                typed = gone-typed world.tree u.store own_home here.fine.typed;
+                begun = gone-begun few u.store own_home here.fine.begun;
+              };
+              grown = omega arith;
+            };
+          })
+
+      pub for-good : (t : effect.State) → statement.broken ≡ [] → IsPartOf world statement → Here world block visible context state t
+          → MayBe visible t.store way.first.form x → MayBe visible t.store way.last.form y → HasMember way.first.values x → HasMember way.last.values y
+          → Good world (Foretold world visible context statement t.store) t
+          (effect.◌>>=◌ (meaning.for_between head execution env x y)
+          (λ done. effect.undefine (visible.variables head.control)) t)
+      for-good t unbroken part here one other in_first in_last =
+          let both_unbroken = unbroken-left both.broken behind.broken unbroken in
+          let turns = meaning.for_rounds head execution env x y in
+          let counts = has_values head.direction x y in
+          let here_so : (b : Bool) → counts ≡ b → Here world block visible context (where_so b) t =
+          λ b is. here-as world block visible context state (where_so b) t here
+          (over-known (parts_in world) (variables_in world) visible state (where_counts b way) t.store here.stands.known
+          (counts-known (variables_in world) visible t.store way b state.variables x y is one other here.stands.known.variables)) in
+          good-then world (Foretold world visible context both t.store) (Foretold world visible context statement t.store) t
+          (cond counts turns (effect.give tt) t) (λ done. effect.undefine (visible.variables head.control))
+          (ways-good world visible turns (effect.give tt) taken never counts context t
+          (λ is unbroken part.
+          turns-good context (where_so true) x y text held controls_are first_tested last_tested is unbroken part t (here_so true is)
+          (one, other) in_first in_last)
+          (λ is unbroken part.
+          good-give world (Foretold world visible context never t.store) tt t here.fine
+          (record { tie = tt; stands = (here_so false is).stands; kept = keeps-itself visible context.rounds t.store }))
+          both_unbroken (part-left world both behind part))
+          (λ done u is told.
+          undefined-good t.store u told.so.kept
+          (record {
+            block_is = here.block_is;
+            fine = told.fine;
+            proper = proper-grown world block t.activations u.activations visible told.grown here.proper;
+            stands = told.so.stands;
+          }))

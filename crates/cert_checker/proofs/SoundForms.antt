@@ -10,8 +10,8 @@ use Rattle.std.proofs.lemmas.List.Folds.{list_any-append}
 use Rattle.std.proofs.lemmas.List.{length-map}
 use Rattle.std.proofs.lemmas.List.Elements.{Contains-append_left}
 use Rattle.types.specs.Types.{is_ordinal}
-use Rattle.place.specs.declared.Place.{Place}
-use Rattle.typed_tree.specs.declared.tree.Direction.{Direction}
+use Rattle.typed_tree.specs.declared.tree.CaseHead.{CaseHead}
+use Rattle.typed_tree.specs.declared.tree.ForHead.{ForHead}
 use Rattle.typed_tree.specs.declared.tree.RangeTest.{RangeTest}
 use Rattle.typed_tree.specs.declared.tree.WriteParameter.{WriteParameter}
 use Rattle.typed_tree.specs.declared.tree.Expr.{Expr}
@@ -296,29 +296,32 @@ module _ (world : World) (limits_are : world.limits ≡ all_limits world.tree) (
         typed = λ n passes. (entire-lies world control fits (Number n) parts.1 passes).1;
       }
 
-  -- a for, from the values of its bounds
-  bounds-good : (number : ℕ) (place : Place) (control : ℕ) (first : Expr) (first_fits : RangeTest) (direction : Direction) (last : Expr) (last_fits : RangeTest)
-      (execution : Execution) (walking : Walking (Unit {0})) (among : List ℕ) → controls_inside world.tree number ≡ among
+  -- a for from the values of its bounds
+  abbrev from_bounds : ForHead → Execution → Value → Value → effect.Action (Unit {0})
+  from_bounds head execution a b =
+      effect.◌>>=◌ (meaning.for_between head execution env (effect.number_of a) (effect.number_of b))
+      (λ done. effect.undefine (visible.variables head.control))
+
+  abbrev walked_bounds : ForHead → Walking (Unit {0}) → Known → Known → Walking (Unit {0})
+  walked_bounds head walking from to = walk.for_walk head walking (way_of head from to)
+
+  bounds-good : (head : ForHead) (execution : Execution) (walking : Walking (Unit {0})) (among : List ℕ)
+      → controls_inside world.tree head.loop_number ≡ among
       → SoundAmong {A = Unit {0}} {B = Unit {0}} among world block visible Any_value (execution env) walking
-      → AreEntire (parts_in world) (control ∷ controls_inside world.tree number) → StandsIn world block number → IsTestFor world control first_fits
-      → IsTestFor world control last_fits → (from to : Known) (a b : Value) (context : Context) (state : State) (t : effect.State)
-      → IsControl world block env execution context control → AreControlled among context
-      → (walk.for_walk number place walking (way_of control direction first first_fits last last_fits from to) context state).broken ≡ []
-      → IsPartOf world (walk.for_walk number place walking (way_of control direction first first_fits last last_fits from to) context state)
-      → Here world block visible context state t → IsOfForm (moment visible t.store) (form_before first last) a
-      → IsOfForm (moment visible t.store) (bound_form last) b
-      → IsKnown from a → IsKnown to b
-      → Good world (Foretold world visible context
-      (walk.for_walk number place walking (way_of control direction first first_fits last last_fits from to) context state) t.store) t
-      (effect.◌>>=◌ (meaning.for_between control first_fits direction last_fits execution env (effect.number_of a) (effect.number_of b))
-      (λ done. effect.undefine (visible.variables control)) t)
-  bounds-good number place control first first_fits direction last last_fits execution walking among inside_are one controls_are stands first_tested last_tested
-      (Ordinal from) (Ordinal to)
+      → AreEntire (parts_in world) (head.control ∷ controls_inside world.tree head.loop_number) → StandsIn world block head.loop_number
+      → IsTestFor world head.control head.first.fits → IsTestFor world head.control head.last.fits
+      → (from to : Known) (a b : Value) (context : Context) (state : State) (t : effect.State)
+      → IsControl world block env execution context head.control → AreControlled among context
+      → (walked_bounds head walking from to context state).broken ≡ [] → IsPartOf world (walked_bounds head walking from to context state)
+      → Here world block visible context state t → IsOfForm (moment visible t.store) (form_before head.first.value head.last.value) a
+      → IsOfForm (moment visible t.store) (bound_form head.last.value) b → IsKnown from a → IsKnown to b
+      → Good world (Foretold world visible context (walked_bounds head walking from to context state) t.store) t (from_bounds head execution a b t)
+  bounds-good head execution walking among inside_are one controls_are stands first_tested last_tested (Ordinal from) (Ordinal to)
       (Number x) (Number y) context state t text held unbroken part here first_form last_form in_first in_last =
-      for-good world limits_are block env number stands execution walking among inside_are one place context state
-      (way_of control direction first first_fits last last_fits (Ordinal from) (Ordinal to))
-      x y text held controls_are first_tested last_tested t unbroken part here (of-form_may visible t.store (form_before first last) x first_form)
-      (of-form_may visible t.store (bound_form last) y last_form) in_first in_last
+      for-good world limits_are block env head stands execution walking among inside_are one from to context state
+      x y text held controls_are first_tested last_tested t unbroken part here
+      (of-form_may visible t.store (form_before head.first.value head.last.value) x first_form)
+      (of-form_may visible t.store (bound_form head.last.value) y last_form) in_first in_last
 
   -- the form of the first bound behind the last
   form-behind : (first last : Expr) (before after : Store) (a : Value) → (holds_call last ≡ false → after ≡ before)
@@ -329,31 +332,29 @@ module _ (world : World) (limits_are : world.limits ≡ all_limits world.tree) (
       by true is = tt
       by false is = subst (λ (store : Store). IsOfForm (moment visible store) (bound_form first) a) (sym (stays is)) of_form
 
-  for-sound : (number : ℕ) (place : Place) (control : ℕ) (first : Expr) (first_fits : RangeTest) (direction : Direction) (last : Expr) (last_fits : RangeTest)
-      (execution : Execution) (walking : Walking (Unit {0})) (among : List ℕ) → controls_inside world.tree number ≡ among
+  for-sound : (head : ForHead) (execution : Execution) (walking : Walking (Unit {0})) (among : List ℕ)
+      → controls_inside world.tree head.loop_number ≡ among
       → SoundAmong {A = Unit {0}} {B = Unit {0}} among world block visible Any_value (execution env) walking
-      → ((context : Context) → all_control control context.rounds ≡ true → IsControl world block env execution context control)
-      → AreEntire (parts_in world) (control ∷ controls_inside world.tree number) → StandsIn world block number → well_expr first ≡ true
-      → IsTestFor world control first_fits
-      → well_expr last ≡ true → IsTestFor world control last_fits
-      → SoundAmong {A = Unit {0}} {B = Unit {0}} (control ∷ among) world block visible Any_value
-      (effect.◌>>=◌ (value_of first env) (λ a. effect.◌>>=◌ (value_of last env) (λ b.
-      effect.◌>>=◌ (meaning.for_between control first_fits direction last_fits execution env (effect.number_of a) (effect.number_of b))
-      (λ done. effect.undefine (visible.variables control)))))
-      (flow.◌>>=◌ (value_walk first) (λ from. flow.◌>>=◌ (value_walk last) (λ to.
-      walk.for_walk number place walking (way_of control direction first first_fits last last_fits from to))))
-  for-sound number place control first first_fits direction last last_fits execution walking among inside_are one text controls_are stands first_well
-      first_tested last_well last_tested context state s held unbroken part here =
+      → ((context : Context) → all_control head.control context.rounds ≡ true → IsControl world block env execution context head.control)
+      → AreEntire (parts_in world) (head.control ∷ controls_inside world.tree head.loop_number) → StandsIn world block head.loop_number
+      → well_expr head.first.value ≡ true → IsTestFor world head.control head.first.fits
+      → well_expr head.last.value ≡ true → IsTestFor world head.control head.last.fits
+      → SoundAmong {A = Unit {0}} {B = Unit {0}} (head.control ∷ among) world block visible Any_value
+      (effect.◌>>=◌ (value_of head.first.value env) (λ a. effect.◌>>=◌ (value_of head.last.value env) (from_bounds head execution a)))
+      (flow.◌>>=◌ (value_walk head.first.value) (λ from. flow.◌>>=◌ (value_walk head.last.value) (walked_bounds head walking from)))
+  for-sound head execution walking among inside_are one text controls_are stands first_well first_tested last_well last_tested context state s held
+      unbroken part here =
+      let control = head.control in
+      let first = head.first.value in
+      let last = head.last.value in
       let own_held = held control (or_left (nat_eq control control) (is_among control among) (eq-eqb control control refl)) in
       let inside_held : AreControlled among context = λ root is. held root (or_right (nat_eq control root) (is_among root among) is) in
       let from = value_walk first context state in
       let to = value_walk last context from.after in
-      let rest = walk.for_walk number place walking (way_of control direction first first_fits last last_fits from.value to.value) context to.after in
+      let rest = walked_bounds head walking from.value to.value context to.after in
       let more = followed to rest in
       let Q = Foretold world visible context (followed from more) s.store in
-      let finish = λ (a b : Value).
-      effect.◌>>=◌ (meaning.for_between control first_fits direction last_fits execution env (effect.number_of a) (effect.number_of b))
-      (λ done. effect.undefine (visible.variables control)) in
+      let finish = from_bounds head execution in
       let more_unbroken = unbroken-right from.broken more.broken unbroken in
       let more_part = part-right world from more part in
       good-then world (IsForetold world visible IsValue context from s.store) Q s (value_of first env s) (λ a. effect.◌>>=◌ (value_of last env) (finish a))
@@ -374,9 +375,8 @@ module _ (world : World) (limits_are : world.limits ≡ all_limits world.tree) (
         kept = keeps-then visible context.rounds s.store t.store w.store first_told.so.kept
             (keeps-then visible context.rounds t.store u.store w.store last_told.so.kept then.so.kept);
       })
-      (bounds-good number place control first first_fits direction last last_fits execution walking among inside_are one controls_are stands first_tested
-      last_tested from.value to.value a b context to.after u (text context own_held) inside_held
-      (unbroken-right to.broken rest.broken more_unbroken) (part-right world to rest more_part) here_last form
+      (bounds-good head execution walking among inside_are one controls_are stands first_tested last_tested from.value to.value a b context to.after u
+      (text context own_held) inside_held (unbroken-right to.broken rest.broken more_unbroken) (part-right world to rest more_part) here_last form
       (form-known last env t u b last_is) first_told.so.tie last_told.so.tie)))
 
   -- ---- case statements
@@ -437,26 +437,32 @@ module _ (world : World) (limits_are : world.limits ≡ all_limits world.tree) (
       (only-other (meaning.is_among row.items n) (meaning.is_among (constants_before (length (bodies arms)) rows) n) isnt
       (sym (first-constants row rows (length (bodies arms)) n) ∙ among))))
 
-  -- from the value of the index on
-  case-good : (site : ℕ) (index : Expr) (rows : List (Vec ℤ Global)) (arms : List ProvedStmt) (known : Known) (v : Value) (context : Context) (state : State)
-      (t : effect.State) → site < sites_in world → all_hold (map well_stmt (bodies arms)) ≡ true
+  -- the arms of a case from the value of its index
+  abbrev from_index : CaseHead → List ProvedStmt → Value → effect.Action (Unit {0})
+  from_index head arms v = meaning.arm_of head.site head.constants.items (map effect_of (bodies arms)) (effect.number_of v) env
+
+  abbrev walked_index : CaseHead → List ProvedStmt → Known → Walking (Unit {0})
+  walked_index head arms = walk.case_walk head (map statement_walk (bodies arms))
+
+  case-good : (head : CaseHead) (arms : List ProvedStmt) (known : Known) (v : Value) (context : Context) (state : State)
+      (t : effect.State) → head.site < sites_in world → all_hold (map well_stmt (bodies arms)) ≡ true
       → Text (all_inside (map inside_of (bodies arms))) (all_spare (map spares (bodies arms)))
-      → AreControlled (all_inside (map inside_of (bodies arms))).controls context
-      → (walk.case_walk site index rows (map statement_walk (bodies arms)) known context state).broken ≡ []
-      → IsPartOf world (walk.case_walk site index rows (map statement_walk (bodies arms)) known context state) → Here world block visible context state t
-      → IsOfForm (moment visible t.store) (bound_form index) v → IsKnown known v
-      → Good world (Foretold world visible context (walk.case_walk site index rows (map statement_walk (bodies arms)) known context state) t.store) t
-      (meaning.arm_of site rows (map effect_of (bodies arms)) (effect.number_of v) env t)
-  case-good site index rows arms (Ordinal range) (Number n) context state t below well text held unbroken part here form inside =
+      → AreControlled (all_inside (map inside_of (bodies arms))).controls context → (walked_index head arms known context state).broken ≡ []
+      → IsPartOf world (walked_index head arms known context state) → Here world block visible context state t
+      → IsOfForm (moment visible t.store) (bound_form head.index) v → IsKnown known v
+      → Good world (Foretold world visible context (walked_index head arms known context state) t.store) t (from_index head arms v t)
+  case-good head arms (Ordinal range) (Number n) context state t below well text held unbroken part here form inside =
+      let site = head.site in
+      let rows = head.constants.items in
       let walks = map statement_walk (bodies arms) in
       let constants = constants_before (length walks) rows in
       let closed = is_covered range constants in
       let passed = common range (hull constants) in
       let test = flow.tested closed site passed context state in
       let tested = walk.index_test site constants range context state in
-      let root = root_of (condition_of index).form in
+      let root = root_of (condition_of head.index).form in
       let rest = walk.arms_walk test.after root rows walks context (dead context.tree) in
-      let whole = walk.case_walk site index rows walks (Ordinal range) context state in
+      let whole = walked_index head arms (Ordinal range) context state in
       let same_length = length-map (bodies arms) statement_walk in
       either-way (meaning.is_among constants n)
       (λ among.
@@ -465,10 +471,10 @@ module _ (world : World) (limits_are : world.limits ≡ all_limits world.tree) (
       (nonempty-known (variables_in world) visible passed state.variables t.store (Number n)
       (common-in range (hull constants) (Number n) inside (among-hull constants n among)) here.stands.known.variables)) in
       good-weaker world (Foretold world visible context rest t.store) (Foretold world visible context whole t.store) t
-      (meaning.arm_of site rows (map effect_of (bodies arms)) n env t)
+      (from_index head arms (Number n) t)
       (λ done u gives told. record { tie = tt; stands = told.so.stands; kept = told.so.kept })
-      (arms-good site test.after root n context t base_here (λ r is. entire-number (condition_of index).form (moment visible t.store) n r form is) rows arms
-      (dead context.tree) well text held (unbroken-right tested.broken rest.broken unbroken) (part-right world tested rest part)
+      (arms-good site test.after root n context t base_here (λ r is. entire-number (condition_of head.index).form (moment visible t.store) n r form is) rows
+      arms (dead context.tree) well text held (unbroken-right tested.broken rest.broken unbroken) (part-right world tested rest part)
       (subst (λ k. meaning.is_among (constants_before k rows) n ≡ true) same_length among)))
       (λ missing.
       let unclosed : (is_dead state || closed) ≡ true → ⊥ = λ is.
@@ -485,15 +491,15 @@ module _ (world : World) (limits_are : world.limits ≡ all_limits world.tree) (
         gives = tt;
       }))
 
-  case-sound : (site : ℕ) (index : Expr) (rows : List (Vec ℤ Global)) (arms : List ProvedStmt) → site < sites_in world → well_expr index ≡ true
+  case-sound : (head : CaseHead) (arms : List ProvedStmt) → head.site < sites_in world → well_expr head.index ≡ true
       → all_hold (map well_stmt (bodies arms)) ≡ true → Text (all_inside (map inside_of (bodies arms))) (all_spare (map spares (bodies arms)))
       → SoundAmong {A = Unit {0}} {B = Unit {0}} (all_inside (map inside_of (bodies arms))).controls world block visible Any_value
-      (effect.◌>>=◌ (value_of index env) (λ v. meaning.arm_of site rows (map effect_of (bodies arms)) (effect.number_of v) env))
-      (flow.◌>>=◌ (value_walk index) (walk.case_walk site index rows (map statement_walk (bodies arms))))
-  case-sound site index rows arms below index_well well text context state s held unbroken part here =
+      (effect.◌>>=◌ (value_of head.index env) (from_index head arms)) (flow.◌>>=◌ (value_walk head.index) (walked_index head arms))
+  case-sound head arms below index_well well text context state s held unbroken part here =
+      let index = head.index in
       let first = value_walk index context state in
-      let rest = walk.case_walk site index rows (map statement_walk (bodies arms)) first.value context first.after in
-      let finish = λ (v : Value). meaning.arm_of site rows (map effect_of (bodies arms)) (effect.number_of v) env in
+      let rest = walked_index head arms first.value context first.after in
+      let finish = from_index head arms in
       good-then world (IsForetold world visible IsValue context first s.store) (Foretold world visible context (followed first rest) s.store) s
       (value_of index env s) finish
       (value-sound world block env laws calls index index_well context state s (unbroken-left first.broken rest.broken unbroken)
@@ -505,7 +511,7 @@ module _ (world : World) (limits_are : world.limits ≡ all_limits world.tree) (
         stands = then.so.stands;
         kept = keeps-then visible context.rounds s.store t.store u.store told.so.kept then.so.kept;
       })
-      (case-good site index rows arms first.value v context first.after t below well text held (unbroken-right first.broken rest.broken unbroken)
+      (case-good head arms first.value v context first.after t below well text held (unbroken-right first.broken rest.broken unbroken)
       (part-right world first rest part) (here-behind world block visible IsValue context state first s t v here told) (form-known index env s t v is)
       told.so.tie))
 
@@ -519,27 +525,24 @@ module _ (world : World) (limits_are : world.limits ≡ all_limits world.tree) (
   statement-layer : (y : Stmt-F ProvedStmt) → StmtLayer (map-Stmt ProvedStmt Stmt (λ s. s.0) y)
   statement-layer (Empty number) well text =
       plainly [] world block visible (effect.enter number visible) (flow.enter number) (sound-enter world block visible number)
-  statement-layer (Assign number becomes target indexes fits value) well text =
-      let does = assigned world limits_are block env laws calls target indexes.items fits value in
-      let walked = walk.assignment becomes target (flow.index_pieces indexes.items) fits value in
-      entered-among [] number does walked
-      (plainly [] world block visible does walked (assignment-sound world limits_are block env laws calls becomes target indexes.items fits value well))
-  statement-layer (Copy number becomes target indexes type_id value value_indexes) well text =
-      let does = copied world limits_are block env laws calls target indexes.items type_id value value_indexes.items in
-      let walked = walk.copying becomes target (flow.index_pieces indexes.items) value value_indexes.items in
-      entered-among [] number does walked
-      (plainly [] world block visible does walked
-      (copying-sound world limits_are block env laws calls becomes target indexes.items type_id value value_indexes.items well))
-  statement-layer (Write number name parameters ends_line) well text =
-      let written = meaning.all_of (map parameter_of parameters.items) env in
-      let walked = walk.all_of (map parameter_walk parameters.items) in
-      let does = effect.◌>>=◌ written (λ done. meaning.line_ended ends_line) in
-      entered-among [] number does walked
-      (plainly [] world block visible does walked (ended-sound ends_line written walked (parameters-sound parameters.items well)))
-  statement-layer (Calling call actuals) well text =
-      plainly [] world block visible (meaning.effect_step (map-Stmt Stmt Execution effect_of (Calling call actuals)) env)
-      (walk.statement_step (map-Stmt Stmt (Walking (Unit {0})) statement_walk (Calling call actuals)))
-      (procedure-sound world block env laws calls call actuals.items well)
+  statement-layer (Assign assignment) well text =
+      let does = assigned world limits_are block env laws calls assignment in
+      entered-among [] assignment.number does (walk.assignment_walk assignment)
+      (plainly [] world block visible does (walk.assignment_walk assignment) (assignment-sound world limits_are block env laws calls assignment well))
+  statement-layer (Copy copying) well text =
+      let does = copied world limits_are block env laws calls copying in
+      entered-among [] copying.number does (walk.copying_walk copying)
+      (plainly [] world block visible does (walk.copying_walk copying) (copying-sound world limits_are block env laws calls copying well))
+  statement-layer (Write writing) well text =
+      let written = meaning.all_of (map parameter_of writing.parameters.items) env in
+      let walked = walk.all_of (map parameter_walk writing.parameters.items) in
+      let does = effect.◌>>=◌ written (λ done. meaning.line_ended writing.ends_line) in
+      entered-among [] writing.number does walked
+      (plainly [] world block visible does walked (ended-sound writing.ends_line written walked (parameters-sound writing.parameters.items well)))
+  statement-layer (Calling calling) well text =
+      plainly [] world block visible (meaning.effect_step (map-Stmt Stmt Execution effect_of (Calling calling)) env)
+      (walk.statement_step (map-Stmt Stmt (Walking (Unit {0})) statement_walk (Calling calling)))
+      (procedure-sound world block env laws calls calling.call calling.actuals.items well)
   statement-layer (Compound number statements) well text =
       let inner = map (λ (s : ProvedStmt). s.0) statements.items in
       entered-among (all_inside (map inside_of inner)).controls number (meaning.all_of (map effect_of inner) env) (walk.all_of (map statement_walk inner))
@@ -574,64 +577,67 @@ module _ (world : World) (limits_are : world.limits ≡ all_limits world.tree) (
       (λ root. among-left root first.controls second.controls) (consequence.value.1 each.0 own.0))
       (among-more second.controls controls world block visible (effect_of alternative.value.0 env) (statement_walk alternative.value.0)
       (λ root. among-right root first.controls second.controls) (alternative.value.1 each.1 own.1))
-  statement-layer (While number loop_number place condition body) well text =
-      let parts = and_parts (well_expr condition) (well_stmt body.value.0) well in
-      let round = meaning.while_round (value_of condition) (effect_of body.value.0) env in
-      let walked = walk.while_round condition (statement_walk body.value.0) in
+  statement-layer (While head body) well text =
+      let parts = and_parts (well_expr head.condition) (well_stmt body.value.0) well in
+      let round = meaning.while_round (value_of head.condition) (effect_of body.value.0) env in
+      let walked = walk.while_round head.condition (statement_walk body.value.0) in
       let inside = inside_of body.value.0 in
       let loop = text.loops.0 in
       let own : Text inside (spares body.value.0) = record {
         roots = text.roots;
-        spared = (and_parts (spares_in_expr text.roots condition) (spares body.value.0 text.roots) text.spared).1;
+        spared = (and_parts (spares_in_expr text.roots head.condition) (spares body.value.0 text.roots) text.spared).1;
         loops = text.loops.1;
         controls = text.controls;
       } in
-      entered-among inside.controls number (effect.looped round tt) (walk.loop_walk loop_number place None walked)
-      (sound-loop inside.controls world limits_are block visible loop_number place round tt walked
-      (inside-entire loop_number inside.controls (controls-ordinal world.tree block body.value.0 parts.1) loop)
+      entered-among inside.controls head.number (effect.looped round tt) (walk.loop_walk head.loop_number head.place None walked)
+      (sound-loop inside.controls world limits_are block visible head.loop_number head.place round tt walked
+      (inside-entire head.loop_number inside.controls (controls-ordinal world.tree block body.value.0 parts.1) loop)
       (loop.0, loop.1, loop.2) (ap controls_of loop.1 ∙ loop.3)
-      (λ a. sound-while inside.controls world block env condition (effect_of body.value.0) (statement_walk body.value.0)
-      (value-sound world block env laws calls condition parts.0) (body.value.1 parts.1 own)))
-  statement-layer (Repeat number loop_number place statements condition) well text =
+      (λ a. sound-while inside.controls world block env head.condition (effect_of body.value.0) (statement_walk body.value.0)
+      (value-sound world block env laws calls head.condition parts.0) (body.value.1 parts.1 own)))
+  statement-layer (Repeat head statements) well text =
       let inner = map (λ (s : ProvedStmt). s.0) statements.items in
-      let parts = and_parts (all_hold (map well_stmt inner)) (well_expr condition) well in
+      let parts = and_parts (all_hold (map well_stmt inner)) (well_expr head.condition) well in
       let body = meaning.all_of (map effect_of inner) in
       let bodies = walk.all_of (map statement_walk inner) in
-      let round = meaning.repeat_round body (value_of condition) env in
-      let walked = walk.repeat_round bodies condition in
+      let round = meaning.repeat_round body (value_of head.condition) env in
+      let walked = walk.repeat_round bodies head.condition in
       let inside = all_inside (map inside_of inner) in
       let loop = text.loops.0 in
       let own : Text inside (all_spare (map spares inner)) = record {
         roots = text.roots;
-        spared = (and_parts (all_spare (map spares inner) text.roots) (spares_in_expr text.roots condition) text.spared).0;
+        spared = (and_parts (all_spare (map spares inner) text.roots) (spares_in_expr text.roots head.condition) text.spared).0;
         loops = text.loops.1;
         controls = text.controls;
       } in
-      entered-among inside.controls number (effect.looped round tt) (walk.loop_walk loop_number place None walked)
-      (sound-loop inside.controls world limits_are block visible loop_number place round tt walked
-      (inside-entire loop_number inside.controls (all-ordinal world.tree block inner parts.0) loop)
+      entered-among inside.controls head.number (effect.looped round tt) (walk.loop_walk head.loop_number head.place None walked)
+      (sound-loop inside.controls world limits_are block visible head.loop_number head.place round tt walked
+      (inside-entire head.loop_number inside.controls (all-ordinal world.tree block inner parts.0) loop)
       (loop.0, loop.1, loop.2) (ap controls_of loop.1 ∙ loop.3)
-      (λ a. sound-repeat inside.controls world block env condition body bodies (all-sound statements.items parts.0 own)
-      (value-sound world block env laws calls condition parts.1)))
-  statement-layer (For number loop_number place control first first_fits direction last last_fits body) well text =
+      (λ a. sound-repeat inside.controls world block env head.condition body bodies (all-sound statements.items parts.0 own)
+      (value-sound world block env laws calls head.condition parts.1)))
+  statement-layer (For head body) well text =
+      let control = head.control in
+      let first = head.first in
+      let last = head.last in
       let is_test = λ (fits : RangeTest). fits_target outline block fits control [] in
-      let controls = is_control outline block control in
+      let is_body = well_stmt body.value.0 in
       let leads = leads_to_ordinal outline block control [] 0 in
-      let one = and_parts controls
-      (well_expr first && (is_test first_fits && (well_expr last && (is_test last_fits && well_stmt body.value.0)))) well in
-      let two = and_parts (well_expr first) (is_test first_fits && (well_expr last && (is_test last_fits && well_stmt body.value.0))) one.1 in
-      let three = and_parts (is_test first_fits) (well_expr last && (is_test last_fits && well_stmt body.value.0)) two.1 in
-      let four = and_parts (well_expr last) (is_test last_fits && well_stmt body.value.0) three.1 in
-      let five = and_parts (is_test last_fits) (well_stmt body.value.0) four.1 in
+      let one = and_parts (is_control outline block control)
+      (well_expr first.value && (is_test first.fits && (well_expr last.value && (is_test last.fits && is_body)))) well in
+      let two = and_parts (well_expr first.value) (is_test first.fits && (well_expr last.value && (is_test last.fits && is_body))) one.1 in
+      let three = and_parts (is_test first.fits) (well_expr last.value && (is_test last.fits && is_body)) two.1 in
+      let four = and_parts (well_expr last.value) (is_test last.fits && is_body) three.1 in
+      let five = and_parts (is_test last.fits) is_body four.1 in
       let leads_there = (and_parts (is_declared outline block is_local_kind control) leads one.0).1 in
       let execution = effect_of body.value.0 in
       let inside = inside_of body.value.0 in
       let loop = text.loops.0 in
       let so = λ (roots : List ℕ). spares body.value.0 (control ∷ roots) in
       let so_one = and_parts (is_none_of text.roots control)
-      (spares_in_expr text.roots first && (spares_in_expr text.roots last && so text.roots)) text.spared in
-      let so_two = and_parts (spares_in_expr text.roots first) (spares_in_expr text.roots last && so text.roots) so_one.1 in
-      let so_three = and_parts (spares_in_expr text.roots last) (so text.roots) so_two.1 in
+      (spares_in_expr text.roots first.value && (spares_in_expr text.roots last.value && so text.roots)) text.spared in
+      let so_two = and_parts (spares_in_expr text.roots first.value) (spares_in_expr text.roots last.value && so text.roots) so_one.1 in
+      let so_three = and_parts (spares_in_expr text.roots last.value) (so text.roots) so_two.1 in
       let own : Text inside (spares body.value.0) = record {
         roots = control ∷ text.roots;
         spared = so_three.1;
@@ -657,32 +663,26 @@ module _ (world : World) (limits_are : world.limits ≡ all_limits world.tree) (
             text-kept (watching place visible) env.calls (spared_by block control controls place visible alone) refl body.value.0 (control ∷ text.roots)
             (others-alone place control text.roots visible alone) so_three.1;
       } in
-      let finish = λ (a b : Value).
-      effect.◌>>=◌ (meaning.for_between control first_fits direction last_fits execution env (effect.number_of a) (effect.number_of b))
-      (λ done. effect.undefine (visible.variables control)) in
-      entered-among (control ∷ inside.controls) number
-      (effect.◌>>=◌ (value_of first env) (λ a. effect.◌>>=◌ (value_of last env) (finish a)))
-      (flow.◌>>=◌ (value_walk first) (λ from. flow.◌>>=◌ (value_walk last) (λ to.
-      walk.for_walk loop_number place (statement_walk body.value.0) (way_of control direction first first_fits last last_fits from to))))
-      (for-sound loop_number place control first first_fits direction last last_fits execution (statement_walk body.value.0) inside.controls
-      (ap controls_of loop.1 ∙ loop.3) (body.value.1 five.1 own) of_text
-      (ordinal-entire world.tree (control ∷ controls_inside world.tree loop_number)
-      (one-ordinal world.tree control (controls_inside world.tree loop_number) (control-ordinal world.tree block control one.0)
-      (inside-ordinal world.tree block loop_number inside.controls (controls-ordinal world.tree block body.value.0 five.1) loop)))
-      (loop.0, loop.1, loop.2) two.0
-      (control-tested control first_fits three.0) four.0 (control-tested control last_fits five.0))
-  statement-layer (Case number site index constants arms) well text =
+      entered-among (control ∷ inside.controls) head.number
+      (effect.◌>>=◌ (value_of first.value env) (λ a. effect.◌>>=◌ (value_of last.value env) (from_bounds head execution a)))
+      (flow.◌>>=◌ (value_walk first.value) (λ from. flow.◌>>=◌ (value_walk last.value) (walked_bounds head (statement_walk body.value.0) from)))
+      (for-sound head execution (statement_walk body.value.0) inside.controls (ap controls_of loop.1 ∙ loop.3) (body.value.1 five.1 own) of_text
+      (ordinal-entire world.tree (control ∷ controls_inside world.tree head.loop_number)
+      (one-ordinal world.tree control (controls_inside world.tree head.loop_number) (control-ordinal world.tree block control one.0)
+      (inside-ordinal world.tree block head.loop_number inside.controls (controls-ordinal world.tree block body.value.0 five.1) loop)))
+      (loop.0, loop.1, loop.2) two.0 (control-tested control first.fits three.0) four.0 (control-tested control last.fits five.0))
+  statement-layer (Case head arms) well text =
       let inner = bodies arms.items in
-      let one = and_parts (nat_lt site (sites_in world)) (well_expr index && (list_all are_whole constants.items && all_hold (map well_stmt inner))) well in
-      let two = and_parts (well_expr index) (list_all are_whole constants.items && all_hold (map well_stmt inner)) one.1 in
-      let three = and_parts (list_all are_whole constants.items) (all_hold (map well_stmt inner)) two.1 in
+      let constants = head.constants.items in
+      let one = and_parts (nat_lt head.site (sites_in world)) (well_expr head.index && (list_all are_whole constants && all_hold (map well_stmt inner))) well in
+      let two = and_parts (well_expr head.index) (list_all are_whole constants && all_hold (map well_stmt inner)) one.1 in
+      let three = and_parts (list_all are_whole constants) (all_hold (map well_stmt inner)) two.1 in
       let so = all_spare (map spares inner) in
-      let own = text-with (all_inside (map inside_of inner)) (λ roots. spares_in_expr roots index && so roots) so
-      (λ roots is. (and_parts (spares_in_expr roots index) (so roots) is).1) text in
-      entered-among (all_inside (map inside_of inner)).controls number
-      (effect.◌>>=◌ (value_of index env) (λ v. meaning.arm_of site constants.items (map effect_of inner) (effect.number_of v) env))
-      (flow.◌>>=◌ (value_walk index) (walk.case_walk site index constants.items (map statement_walk inner)))
-      (case-sound site index constants.items arms.items (ltb-true site (sites_in world) one.0) two.0 three.1 own)
+      let own = text-with (all_inside (map inside_of inner)) (λ roots. spares_in_expr roots head.index && so roots) so
+      (λ roots is. (and_parts (spares_in_expr roots head.index) (so roots) is).1) text in
+      entered-among (all_inside (map inside_of inner)).controls head.number (effect.◌>>=◌ (value_of head.index env) (from_index head arms.items))
+      (flow.◌>>=◌ (value_walk head.index) (walked_index head arms.items))
+      (case-sound head arms.items (ltb-true head.site (sites_in world) one.0) two.0 three.1 own)
 
   along-statement : {a b : Bool} {inside other : Inside} {so also : Spares} {execution executed : Execution} {walking walked : Walking (Unit {0})} → a ≡ b
       → inside ≡ other → so ≡ also → execution ≡ executed → walking ≡ walked → SoundStatement b other also executed walked

@@ -9,7 +9,7 @@ use Rattle.typed_tree.specs.declared.tree.Selector.{Selector}
 use Rattle.typed_tree.specs.declared.tree.Tree.{Tree}
 use Rattle.domain.specs.Facts as fact
 use Rattle.domain.specs.Facts.{Bound, Plus}
-use Rattle.domain.specs.Interval.{HasMember, Interval}
+use Rattle.domain.specs.Interval.{Interval}
 use Rattle.meaning.specs.declared.store.Value.{Value}
 use Rattle.meaning.specs.declared.store.Value.TheVariants.{Number}
 use Rattle.meaning.specs.Store.{Environment, Place, Store}

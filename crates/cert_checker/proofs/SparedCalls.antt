@@ -2,25 +2,24 @@
 -- of activations in one another, from the text of each block, which spares the control variables of the others.
 use Rattle.std.specs.Prelude.{if◌then◌else◌, not, slice_get}
 use Rattle.std.specs.List.{list_any}
-use Rattle.std.proofs.Common.{arith, ◌≡◌, ◌⊎◌, inl, inr, ⊎_elim, ℕ, zero, suc, ◌+◌, ◌<◌, ◌≤◌, zero-add, List, [], ◌∷◌, ◌++◌, Bool, true, false, ◌&&◌, ◌||◌}
-use Rattle.std.proofs.Common.{Option, Some, None, nat_eq, refl, sym, ap, ◌∙◌, subst}
-use Rattle.std.proofs.lemmas.Bool.{and_parts, eqb-true, false≢true, or_left, or_right}
+use Rattle.std.proofs.Common.{arith, ◌≡◌, ⊎_elim, ℕ, zero, suc, ◌+◌, ◌<◌, ◌≤◌, zero-add, List, [], ◌∷◌, Bool, true, false}
+use Rattle.std.proofs.Common.{Option, Some, None, nat_eq, refl, sym, ap, ◌∙◌}
+use Rattle.std.proofs.lemmas.Bool.{false≢true, or_left, or_right}
 use Rattle.std.proofs.lemmas.List.Folds.{list_any-append}
 use Rattle.std.proofs.lemmas.Option.{none-some, same_Some}
 use Rattle.typed_tree.specs.declared.tree.Block.{Block}
-use Rattle.typed_tree.specs.declared.tree.FunctionResult.{FunctionResult}
 use Rattle.typed_tree.specs.declared.tree.Tree.{Tree}
 use Rattle.typed_tree.specs.declared.tree.Variable.{Variable}
 use Rattle.typed_tree.specs.Loops.{controls_of}
-use Rattle.typed_tree.specs.Threats.{controls_but, is_none_of, spares}
+use Rattle.typed_tree.specs.Threats.{controls_but, is_none_of}
 use Rattle.typed_tree.specs.WellFormed.{IsWellFormed}
 use Rattle.meaning.specs.declared.outcome.Ending.TheVariants as ending
 use Rattle.meaning.specs.declared.store.Value.{Value}
 use Rattle.meaning.specs.Effect.{Action, State, and_then, begin_with, end_with, give}
 use Rattle.meaning.specs.Effect as effect
 use Rattle.meaning.specs.Laws.{state_after}
-use Rattle.meaning.specs.Meaning.{Activation, Argument, Calls, OfPlace, OfRow, OfValue, activated, calls_of, effect_of, environment_of, executed, own_place}
-use Rattle.meaning.specs.Meaning.{place_for, place_passed, result_of}
+use Rattle.meaning.specs.Meaning.{Activation, Argument, Calls, OfPlace, OfRow, OfValue, activated, calls_of, environment_of, executed, own_place}
+use Rattle.meaning.specs.Meaning.{place_for, place_passed}
 use Rattle.meaning.specs.Store.{Environment, Place}
 use Rattle.call_states.specs.Environments.{LiesUnder}
 use Rattle.call_states.proofs.Callee.{Outer, Own, PassedTo, Seen, either-cond, seen-as}

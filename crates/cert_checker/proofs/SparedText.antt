@@ -1,16 +1,14 @@
 -- What a statement does itself, and the calls in it, leave as it was by its text: it changes no variables that it spares.
 use Rattle.std.specs.Prelude.{if◌then◌else◌, not}
-use Rattle.std.specs.List.{list_all, list_any}
-use Rattle.std.proofs.Common.{cond, ◌≡◌, ℕ, ℤ, pos, List, [], ◌∷◌, Bool, true, false, ◌&&◌, ◌||◌, Option, Some, None, Vec, Global, map, nat_eq, arith}
+use Rattle.std.specs.List.{list_any}
+use Rattle.std.proofs.Common.{◌≡◌, ℕ, ℤ, pos, List, [], ◌∷◌, Bool, true, false, ◌&&◌, ◌||◌, Option, Some, None, Vec, Global, map, nat_eq, arith}
 use Rattle.std.proofs.Common.{refl, sym, ap, subst}
 use Rattle.std.proofs.lemmas.Bool.{and_parts}
 use Rattle.types.specs.Components.{components_of}
 use Rattle.types.specs.declared.form.Step.TheVariants as step
-use Rattle.types.specs.declared.form.TypeId.{TypeId}
 use Rattle.typed_tree.specs.declared.tree.Access.{Access}
 use Rattle.typed_tree.specs.declared.tree.Call.{Call}
-use Rattle.typed_tree.specs.declared.tree.Direction.{Direction}
-use Rattle.typed_tree.specs.declared.tree.RangeTest.{RangeTest}
+use Rattle.typed_tree.specs.declared.tree.ForHead.{ForHead}
 use Rattle.typed_tree.specs.declared.tree.Selector.{Selector}
 use Rattle.typed_tree.specs.declared.tree.Selector.TheVariants.{Element, Field}
 use Rattle.typed_tree.specs.declared.tree.Whole.{Whole}
@@ -35,7 +33,7 @@ use Rattle.typed_tree.specs.declared.tree.Stmt.TheFolds.{map-Stmt, fold-roll-Stm
 use Rattle.typed_tree.specs.declared.tree.Stmt.TheViews.{roll-Stmt}
 use Rattle.typed_tree.specs.Threats.{Spares, all_so, all_spare, expr_spares, indexes_so, is_none_of, link_spares, passed_spares, spares, spares_in_expr}
 use Rattle.typed_tree.specs.Threats.{spares_in_indexes, spares_in_link, spares_in_parameter, spares_in_passed, spares_in_whole, spares_in_width}
-use Rattle.typed_tree.specs.Threats.{spares_in_written, statement_spares, alternative_spares}
+use Rattle.typed_tree.specs.Threats.{spares_in_written, statement_spares}
 use Rattle.typed_tree.specs.WellFormed.{length_of}
 use Rattle.meaning.specs.declared.outcome.Ending.TheVariants as ending
 use Rattle.meaning.specs.declared.store.Value.{Value}
@@ -367,21 +365,22 @@ module _ (at : Standing) (calls : Calls) (called : CallsKeep at calls) where
   keeps-turn_if false body kept = keeps-give at None
   keeps-turn_if true body kept = keeps-then at _ _ (keeps-turn at) (λ _. keeps-then at _ _ kept (λ _. keeps-give at (Some tt)))
 
-  keeps-between : (control : ℕ) (first_fits : RangeTest) (direction : Direction) (last_fits : RangeTest) (execution : Execution)
-      → MayWriteTo at (at.visible.variables control) → Keeps at (execution here) → (first last : ℤ)
-      → Keeps at (meaning.for_between control first_fits direction last_fits execution here first last)
-  keeps-between control first_fits direction last_fits execution may kept first last =
-      let found = at.visible.variables control in
+  keeps-between : (head : ForHead) (execution : Execution) → MayWriteTo at (at.visible.variables head.control) → Keeps at (execution here)
+      → (first last : ℤ) → Keeps at (meaning.for_between head execution here first last)
+  keeps-between head execution may kept first last =
+      let found = at.visible.variables head.control in
+      let first_fits = head.first.fits in
+      let last_fits = head.last.fits in
+      let behind = value_behind head.direction last in
       let round = λ (n : ℤ). keeps-then at (effect.store found (Number n))
-      (λ _. effect.◌>>=◌ effect.use_turn (λ _. effect.◌>>=◌ (execution here) (λ _. give (value_behind direction last n))))
+      (λ _. effect.◌>>=◌ effect.use_turn (λ _. effect.◌>>=◌ (execution here) (λ _. give (behind n))))
       (keeps-store at found (Number n) may)
-      (λ _. keeps-then at _ _ (keeps-turn at) (λ _. keeps-then at _ _ kept (λ _. keeps-give at (value_behind direction last n)))) in
-      let rounds : Keeps at (meaning.for_rounds control first_fits direction last_fits execution here first last) =
+      (λ _. keeps-then at _ _ (keeps-turn at) (λ _. keeps-then at _ _ kept (λ _. keeps-give at (behind n)))) in
+      let rounds : Keeps at (meaning.for_rounds head execution here first last) =
       keeps-then at _ _ (keeps-require at (is_in first_fits.range (Number first)) first_fits.site)
       (λ _. keeps-then at _ _ (keeps-require at (is_in last_fits.range (Number last)) last_fits.site)
-      (λ _. keeps-looped at (meaning.for_round control direction last execution here) round first)) in
-      keeps-chosen (has_values direction first last) (meaning.for_rounds control first_fits direction last_fits execution here first last) (give tt)
-      rounds (keeps-give at tt)
+      (λ _. keeps-looped at (meaning.for_round head last execution here) round first)) in
+      keeps-chosen (has_values head.direction first last) (meaning.for_rounds head execution here first last) (give tt) rounds (keeps-give at tt)
 
   keeps-arm : (site : ℕ) (rows : List (Vec ℤ Global)) (arms : List KeptStmt) (n : ℤ) (roots : List ℕ) → MayChangeOthers at roots
       → all_spare (map spares (bodies arms)) roots ≡ true → Keeps at (meaning.arm_of site rows (map effect_of (bodies arms)) n here)
@@ -410,28 +409,29 @@ module _ (at : Standing) (calls : Calls) (called : CallsKeep at calls) where
 
   stmt-layer : (settled : at.settled ≡ 0) (y : Stmt-F KeptStmt) → IsKeptStmtLayer (bare_stmt y)
   stmt-layer settled (Empty number) roots others so = keeps-enter at number at.visible
-  stmt-layer settled (Assign number becomes target indexes fits value) roots others so =
-      let one = and_parts (spares_in_indexes roots indexes.items) (is_none_of roots target.root && spares_in_expr roots value) so in
-      let two = and_parts (is_none_of roots target.root) (spares_in_expr roots value) one.1 in
-      keeps-then at _ _ (keeps-enter at number at.visible)
-      (λ _. keeps-when at _ _ (access-kept roots others target indexes.items one.0)
-      (λ place given. keeps-then at _ _ (keeps-value roots others value two.1)
-      (λ v. keeps-then at _ _ (keeps-require at (is_in fits.range v) fits.site)
-      (λ _. keeps-store at place v (write-accessed roots others target (values_of indexes.items) two.0 place given)))))
-  stmt-layer settled (Copy number becomes target indexes type_id value value_indexes) roots others so =
-      let rest = spares_in_whole roots value value_indexes.items in
-      let one = and_parts (spares_in_indexes roots indexes.items) (is_none_of roots target.root && rest) so in
-      let two = and_parts (is_none_of roots target.root) rest one.1 in
-      keeps-then at _ _ (keeps-enter at number at.visible)
-      (λ _. keeps-when at _ _ (access-kept roots others target indexes.items one.0)
-      (λ place given. keeps-then at _ _ (whole-kept roots others value value_indexes.items two.1)
-      (λ values. keeps-store_all at place (components_of at.visible.types type_id) values
-      (write-accessed roots others target (values_of indexes.items) two.0 place given))))
-  stmt-layer settled (Write number name parameters ends_line) roots others so =
-      keeps-then at _ _ (keeps-enter at number at.visible)
-      (λ _. keeps-then at _ _ (parameters-kept roots others parameters.items so) (λ _. keeps-line_ended at ends_line))
-  stmt-layer settled (Calling call actuals) roots others so =
-      keeps-then at _ _ (call-kept roots others call actuals.items so) (λ _. keeps-give at tt)
+  stmt-layer settled (Assign assignment) roots others so =
+      let one = and_parts (spares_in_indexes roots assignment.indexes.items)
+      (is_none_of roots assignment.target.root && spares_in_expr roots assignment.value) so in
+      let two = and_parts (is_none_of roots assignment.target.root) (spares_in_expr roots assignment.value) one.1 in
+      keeps-then at _ _ (keeps-enter at assignment.number at.visible)
+      (λ _. keeps-when at _ _ (access-kept roots others assignment.target assignment.indexes.items one.0)
+      (λ place given. keeps-then at _ _ (keeps-value roots others assignment.value two.1)
+      (λ v. keeps-then at _ _ (keeps-require at (is_in assignment.fits.range v) assignment.fits.site)
+      (λ _. keeps-store at place v (write-accessed roots others assignment.target (values_of assignment.indexes.items) two.0 place given)))))
+  stmt-layer settled (Copy copying) roots others so =
+      let rest = spares_in_whole roots copying.value copying.value_indexes.items in
+      let one = and_parts (spares_in_indexes roots copying.indexes.items) (is_none_of roots copying.target.root && rest) so in
+      let two = and_parts (is_none_of roots copying.target.root) rest one.1 in
+      keeps-then at _ _ (keeps-enter at copying.number at.visible)
+      (λ _. keeps-when at _ _ (access-kept roots others copying.target copying.indexes.items one.0)
+      (λ place given. keeps-then at _ _ (whole-kept roots others copying.value copying.value_indexes.items two.1)
+      (λ values. keeps-store_all at place (components_of at.visible.types copying.type_id) values
+      (write-accessed roots others copying.target (values_of copying.indexes.items) two.0 place given))))
+  stmt-layer settled (Write writing) roots others so =
+      keeps-then at _ _ (keeps-enter at writing.number at.visible)
+      (λ _. keeps-then at _ _ (parameters-kept roots others writing.parameters.items so) (λ _. keeps-line_ended at writing.ends_line))
+  stmt-layer settled (Calling calling) roots others so =
+      keeps-then at _ _ (call-kept roots others calling.call calling.actuals.items so) (λ _. keeps-give at tt)
   stmt-layer settled (Compound number statements) roots others so =
       keeps-then at _ _ (keeps-enter at number at.visible) (λ _. keeps-all statements.items roots others so)
   stmt-layer settled (If number condition consequence None) roots others so =
@@ -447,38 +447,38 @@ module _ (at : Standing) (calls : Calls) (called : CallsKeep at calls) where
       (λ _. keeps-then at _ _ (keeps-value roots others condition one.0)
       (λ v. keeps-chosen (meaning.is_so v) (effect_of consequence.value.0 here) (effect_of alternative.value.0 here)
       (consequence.value.1 roots others two.0) (alternative.value.1 roots others two.1)))
-  stmt-layer settled (While number loop_number place condition body) roots others so =
-      let one = and_parts (spares_in_expr roots condition) (spares body.value.0 roots) so in
-      keeps-then at _ _ (keeps-enter at number at.visible)
-      (λ _. keeps-looped at (meaning.while_round (value_of condition) (effect_of body.value.0) here)
-      (λ start. keeps-then at _ _ (keeps-value roots others condition one.0)
+  stmt-layer settled (While head body) roots others so =
+      let one = and_parts (spares_in_expr roots head.condition) (spares body.value.0 roots) so in
+      keeps-then at _ _ (keeps-enter at head.number at.visible)
+      (λ _. keeps-looped at (meaning.while_round (value_of head.condition) (effect_of body.value.0) here)
+      (λ start. keeps-then at _ _ (keeps-value roots others head.condition one.0)
       (λ v. keeps-turn_if (meaning.is_so v) (effect_of body.value.0 here) (body.value.1 roots others one.1))) tt)
-  stmt-layer settled (Repeat number loop_number place statements condition) roots others so =
-      let one = and_parts (all_spare (map spares (bodies statements.items)) roots) (spares_in_expr roots condition) so in
-      keeps-then at _ _ (keeps-enter at number at.visible)
-      (λ _. keeps-looped at (meaning.repeat_round (meaning.all_of (map effect_of (bodies statements.items))) (value_of condition) here)
+  stmt-layer settled (Repeat head statements) roots others so =
+      let one = and_parts (all_spare (map spares (bodies statements.items)) roots) (spares_in_expr roots head.condition) so in
+      keeps-then at _ _ (keeps-enter at head.number at.visible)
+      (λ _. keeps-looped at (meaning.repeat_round (meaning.all_of (map effect_of (bodies statements.items))) (value_of head.condition) here)
       (λ start. keeps-then at _ _ (keeps-turn at)
       (λ _. keeps-then at _ _ (keeps-all statements.items roots others one.0)
-      (λ _. keeps-then at _ _ (keeps-value roots others condition one.1)
+      (λ _. keeps-then at _ _ (keeps-value roots others head.condition one.1)
       (λ v. keeps-give at (if meaning.is_so v then None else Some tt))))) tt)
-  stmt-layer settled (For number loop_number place control first first_fits direction last last_fits body) roots others so =
-      let inner = spares body.value.0 (control ∷ roots) in
-      let one = and_parts (is_none_of roots control) (spares_in_expr roots first && (spares_in_expr roots last && inner)) so in
-      let two = and_parts (spares_in_expr roots first) (spares_in_expr roots last && inner) one.1 in
-      let three = and_parts (spares_in_expr roots last) inner two.1 in
-      let found = at.visible.variables control in
-      let own : IsOwn at found = λ place seen. (omega (arith, settled), others control one.0 place seen) in
-      keeps-then at _ _ (keeps-enter at number at.visible)
-      (λ _. keeps-then at _ _ (keeps-value roots others first two.0)
-      (λ a. keeps-then at _ _ (keeps-value roots others last three.0)
-      (λ b. keeps-then at _ _ (keeps-between control first_fits direction last_fits (effect_of body.value.0) (own-write at found own)
-      (body.value.1 (control ∷ roots) (others-but control roots others) three.1) (number_of a) (number_of b))
+  stmt-layer settled (For head body) roots others so =
+      let inner = spares body.value.0 (head.control ∷ roots) in
+      let one = and_parts (is_none_of roots head.control) (spares_in_expr roots head.first.value && (spares_in_expr roots head.last.value && inner)) so in
+      let two = and_parts (spares_in_expr roots head.first.value) (spares_in_expr roots head.last.value && inner) one.1 in
+      let three = and_parts (spares_in_expr roots head.last.value) inner two.1 in
+      let found = at.visible.variables head.control in
+      let own : IsOwn at found = λ place seen. (omega (arith, settled), others head.control one.0 place seen) in
+      keeps-then at _ _ (keeps-enter at head.number at.visible)
+      (λ _. keeps-then at _ _ (keeps-value roots others head.first.value two.0)
+      (λ a. keeps-then at _ _ (keeps-value roots others head.last.value three.0)
+      (λ b. keeps-then at _ _ (keeps-between head (effect_of body.value.0) (own-write at found own)
+      (body.value.1 (head.control ∷ roots) (others-but head.control roots others) three.1) (number_of a) (number_of b))
       (λ _. keeps-undefine at found own))))
-  stmt-layer settled (Case number site index constants arms) roots others so =
-      let one = and_parts (spares_in_expr roots index) (all_spare (map spares (bodies arms.items)) roots) so in
-      keeps-then at _ _ (keeps-enter at number at.visible)
-      (λ _. keeps-then at _ _ (keeps-value roots others index one.0)
-      (λ v. keeps-arm site constants.items arms.items (number_of v) roots others one.1))
+  stmt-layer settled (Case head arms) roots others so =
+      let one = and_parts (spares_in_expr roots head.index) (all_spare (map spares (bodies arms.items)) roots) so in
+      keeps-then at _ _ (keeps-enter at head.number at.visible)
+      (λ _. keeps-then at _ _ (keeps-value roots others head.index one.0)
+      (λ v. keeps-arm head.site head.constants.items arms.items (number_of v) roots others one.1))
 
   rolled-stmt : at.settled ≡ 0 → (x : Stmt-F Stmt) (y : Stmt-F KeptStmt) → bare_stmt y ≡ x → IsKeptStmt (roll-Stmt x)
   rolled-stmt settled x y is roots others so =

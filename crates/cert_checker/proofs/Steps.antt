@@ -23,7 +23,7 @@ use Rattle.component_states.specs.States.{State, dead, joined_states}
 use Rattle.expression_checker.specs.Walk.{Context, Walked, Walking, ◌>>=◌, give}
 use Rattle.expression_checker.specs.Walk.{asked, breach_unless, enter, value_walk, followed, numbers_of, with_state}
 use Rattle.expression_checker.specs.Walk.{IsBreachOf}
-use Rattle.cert_checker.specs.Walk.{statement_walk, all_of, branches, enter_head, facts_given}
+use Rattle.cert_checker.specs.Walk.{all_of, branches, choice_walk, enter_head, facts_given, from_entry, statement_walk}
 use Rattle.cert_checker.specs.Walk.{blocks_walk, first_context}
 use Rattle.cert_checker.specs.Walk.{program_walk, here, inside, loop_walk, parted, repeat_round, while_round, where_so}
 use Rattle.cert_checker.specs.View.{at_state, claims_in, context_of, else_walk, AtHead, EntersLoop, IsBehind, IsMoved, LeavesLoop, loop_in, Meets}
@@ -45,24 +45,6 @@ use Rattle.expression_checker.specs.declared.grounds.Grounds.{Grounds}
 use Rattle.expression_checker.specs.View as expressions
 use Rattle.expression_checker.proofs.Steps.{breach-same, counted-both, left-at_once, left-behind, left-first, left-same, left-stays}
 use Rattle.expression_checker.specs.View.{IsLeft, state_of}
-
--- ---- the walk, form by form
-
-pub statement-If : (number : ℕ) (condition : Expr) (consequence : Box Stmt Global) (alternative : Option (Box Stmt Global))
-    → statement_walk (stmt.If number condition consequence alternative)
-    ≡ (enter number >>= λ _. (value_walk condition >>= branches condition (statement_walk consequence.value) (else_walk alternative)))
-statement-If number condition consequence None = search (rules, stmt_lemmas)
-statement-If number condition consequence (Some statement) = search (rules, stmt_lemmas)
-
-pub statement-While : (number loop_number : ℕ) (place : SourcePlace) (condition : Expr) (body : Box Stmt Global)
-    → statement_walk (stmt.While number loop_number place condition body)
-    ≡ (enter number >>= λ _. loop_walk loop_number place None (while_round condition (statement_walk body.value)))
-statement-While number loop_number place condition body = search (rules, stmt_lemmas)
-
-pub statement-Repeat : (number loop_number : ℕ) (place : SourcePlace) (statements : Vec Stmt Global) (condition : Expr)
-    → statement_walk (stmt.Repeat number loop_number place statements condition)
-    ≡ (enter number >>= λ _. loop_walk loop_number place None (repeat_round (all_of (map statement_walk statements.items)) condition))
-statement-Repeat number loop_number place statements condition = search (rules, stmt_lemmas)
 
 -- ---- what the checker did where it has the aliases of the loops
 
@@ -185,7 +167,7 @@ goes-nowhere walk old new visits fault is = λ ready.
     left-at_once walked visits fault (subst (IsBreachOf walked) (sym is) tt)
 
 -- an entry
-pub goes-entered : (number : ℕ) (old : Walk) (before after : Visits) → after ≡ counted number before → Goes (enter number) old before (Ok tt) old after
+goes-entered : (number : ℕ) (old : Walk) (before after : Visits) → after ≡ counted number before → Goes (enter number) old before (Ok tt) old after
 goes-entered number old before after is = λ ready. record {
   context_is = refl;
   aliases_are = refl;
@@ -195,6 +177,12 @@ goes-entered number old before after is = λ ready. record {
   visits_are = is;
   unbroken = refl;
 }
+
+-- a piece from its entry on
+pub goes-from_entry : (number : ℕ) (walk : Walking (Unit {0})) (old new : Walk) (before between after : Visits) (result : Result (Unit {0}) CheckFault)
+    → between ≡ counted number before → Goes walk old between result new after → Goes (from_entry number walk) old before result new after
+goes-from_entry number walk old new before between after result is goes =
+    goes-then (enter number) (λ _. walk) old old new before between after tt result (goes-entered number old before between is) goes
 
 -- by what a walk is
 pub goes-as : {A : Type 0} (walk form : Walking A) (old new : Walk) (before after : Visits) (result : Result A CheckFault) → walk ≡ form
@@ -438,33 +426,38 @@ branches-half one_state other_state one_walk other_walk old taken mid start new 
     (ap (λ w. w.linked) second_same) (is (moved-loops (other_state (state_of old.flow)) mid start to_no mid_ready)))
 
 -- a conditional statement from its entry on
-pub if-begun : (statement : Stmt) (number : ℕ) (condition : Expr) (consequence : Box Stmt Global) (alternative : Option (Box Stmt Global)) (inner : Stmt)
-    (old entered valued new : Walk) (before between after end : Visits) (known : Known) (result : Result (Unit {0}) CheckFault)
-    → statement ≡ stmt.If number condition consequence alternative → inner ≡ consequence.value
-    → Does (enter number) old before entered between tt → Does (value_walk condition) entered between valued after known
-    → Goes (branches condition (statement_walk inner) (else_walk alternative) known) valued after result new end
-    → Goes (statement_walk statement) old before result new end
-if-begun statement number condition consequence alternative inner old entered valued new before between after end known result is inner_is one two three =
-    let chosen = branches condition (statement_walk consequence.value) (else_walk alternative) in
-    goes-as (statement_walk statement) (enter number >>= λ _. (value_walk condition >>= chosen)) old new before end result
-    (ap statement_walk is ∙ statement-If number condition consequence alternative)
-    (goes-then (enter number) (λ _. value_walk condition >>= chosen) old entered new before between end tt result one
-    (goes-then (value_walk condition) chosen entered valued new between after end known result two
-    (goes-as (chosen known) (branches condition (statement_walk inner) (else_walk alternative) known) valued new after end result
-    (ap (λ s. branches condition (statement_walk s) (else_walk alternative) known) (sym inner_is)) three)))
+statement-If : (number : ℕ) (condition : Expr) (consequence : Box Stmt Global) (alternative : Option (Box Stmt Global))
+    → statement_walk (stmt.If number condition consequence alternative)
+    ≡ from_entry number (choice_walk condition (statement_walk consequence.value) (else_walk alternative))
+statement-If number condition consequence None = search (rules, stmt_lemmas)
+statement-If number condition consequence (Some statement) = search (rules, stmt_lemmas)
 
--- the checker gave up in the condition
-pub if-stopped : (statement : Stmt) (number : ℕ) (condition : Expr) (consequence : Box Stmt Global) (alternative : Option (Box Stmt Global))
-    (old entered new : Walk) (before between after : Visits) (fault : CheckFault)
-    → statement ≡ stmt.If number condition consequence alternative → Does (enter number) old before entered between tt
-    → Stops (value_walk condition) entered between after fault
-    → Goes (statement_walk statement) old before (Err fault) new after
-if-stopped statement number condition consequence alternative old entered new before between after fault is one stopped =
-    let chosen = branches condition (statement_walk consequence.value) (else_walk alternative) in
-    goes-as (statement_walk statement) (enter number >>= λ _. (value_walk condition >>= chosen)) old new before after (Err fault)
-    (ap statement_walk is ∙ statement-If number condition consequence alternative)
-    (goes-then (enter number) (λ _. value_walk condition >>= chosen) old entered new before between after tt (Err fault) one
-    (goes-stopped (value_walk condition) chosen entered new between after fault stopped))
+module _ (statement inner : Stmt) (number : ℕ) (condition : Expr) (consequence : Box Stmt Global) (alternative : Option (Box Stmt Global))
+    (is : statement ≡ stmt.If number condition consequence alternative) (inner_is : inner ≡ consequence.value) (old : Walk) (before between : Visits)
+    (ticked : between ≡ counted number before) where
+  abbrev chosen : Known → Walking (Unit {0})
+  chosen = branches condition (statement_walk inner) (else_walk alternative)
+
+  if-begun : (new : Walk) (after : Visits) (result : Result (Unit {0}) CheckFault)
+      → Goes (value_walk condition >>= chosen) old between result new after → Goes (statement_walk statement) old before result new after
+  if-begun new after result goes =
+      let choice = λ (s : Stmt). from_entry number (choice_walk condition (statement_walk s) (else_walk alternative)) in
+      goes-as (statement_walk statement) (choice inner) old new before after result
+      (ap statement_walk is ∙ statement-If number condition consequence alternative ∙ ap choice (sym inner_is))
+      (goes-from_entry number (value_walk condition >>= chosen) old new before between after result ticked goes)
+
+  -- the checker gave up in the condition
+  pub if-stopped : (new : Walk) (after : Visits) (fault : CheckFault) → Stops (value_walk condition) old between after fault
+      → Goes (statement_walk statement) old before (Err fault) new after
+  if-stopped new after fault stopped =
+      if-begun new after (Err fault) (goes-stopped (value_walk condition) chosen old new between after fault stopped)
+
+  -- the condition has a value
+  pub if-valued : (known : Known) (valued new : Walk) (middle after : Visits) (result : Result (Unit {0}) CheckFault)
+      → Does (value_walk condition) old between valued middle known → Goes (chosen known) valued middle result new after
+      → Goes (statement_walk statement) old before result new after
+  if-valued known valued new middle after result one two =
+      if-begun new after result (goes-then (value_walk condition) chosen old valued new between middle after known result one two)
 
 -- ---- loops
 
@@ -625,33 +618,6 @@ loop-found number control walk round tree claims tree_is claims_is own found loo
       loop_is = loop pairs (ready ∙ sym (ap₂ (λ (t : Tree) (kept : List Claims). all_loop_aliases t pairs kept) tree_is same))
           ∙ ap₂ (λ (t : Tree) (kept : List Claims). round_of t pairs kept number) tree_is same;
     }
-
--- a loop from its entry on
-pub while-begun : (statement : Stmt) (number loop_number : ℕ) (place : SourcePlace) (condition : Expr) (body : Box Stmt Global) (inner : Stmt)
-    (old entered new : Walk) (before between end : Visits) (result : Result (Unit {0}) CheckFault)
-    → statement ≡ stmt.While number loop_number place condition body → inner ≡ body.value → Does (enter number) old before entered between tt
-    → Goes (loop_walk loop_number place None (while_round condition (statement_walk inner))) entered between result new end
-    → Goes (statement_walk statement) old before result new end
-while-begun statement number loop_number place condition body inner old entered new before between end result is inner_is one two =
-    let looped = loop_walk loop_number place None (while_round condition (statement_walk body.value)) in
-    goes-as (statement_walk statement) (enter number >>= λ _. looped) old new before end result
-    (ap statement_walk is ∙ statement-While number loop_number place condition body)
-    (goes-then (enter number) (λ _. looped) old entered new before between end tt result one
-    (goes-as looped (loop_walk loop_number place None (while_round condition (statement_walk inner))) entered new between end result
-    (ap (λ s. loop_walk loop_number place None (while_round condition (statement_walk s))) (sym inner_is)) two))
-
-pub repeat-begun : (statement : Stmt) (number loop_number : ℕ) (place : SourcePlace) (statements : Vec Stmt Global) (condition : Expr) (items : List Stmt)
-    (old entered new : Walk) (before between end : Visits) (result : Result (Unit {0}) CheckFault)
-    → statement ≡ stmt.Repeat number loop_number place statements condition → items ≡ statements.items → Does (enter number) old before entered between tt
-    → Goes (loop_walk loop_number place None (repeat_round (all_of (map statement_walk items)) condition)) entered between result new end
-    → Goes (statement_walk statement) old before result new end
-repeat-begun statement number loop_number place statements condition items old entered new before between end result is items_are one two =
-    let looped = loop_walk loop_number place None (repeat_round (all_of (map statement_walk statements.items)) condition) in
-    goes-as (statement_walk statement) (enter number >>= λ _. looped) old new before end result
-    (ap statement_walk is ∙ statement-Repeat number loop_number place statements condition)
-    (goes-then (enter number) (λ _. looped) old entered new before between end tt result one
-    (goes-as looped (loop_walk loop_number place None (repeat_round (all_of (map statement_walk items)) condition)) entered new between end result
-    (ap (λ l. loop_walk loop_number place None (repeat_round (all_of (map statement_walk l)) condition)) (sym items_are)) two))
 
 -- ---- rounds
 

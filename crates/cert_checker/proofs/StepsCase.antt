@@ -6,7 +6,7 @@ use Rattle.std.specs.Result.{IsErr, IsErrAnd}
 use Rattle.std.specs.declared.vec.Vec.{Vec}
 use Rattle.std.specs.declared.alloc.Global.{Global}
 use Rattle.std.proofs.lemmas.List.{length-map}
-use Rattle.typed_tree.specs.declared.tree.Expr.{Expr}
+use Rattle.typed_tree.specs.declared.tree.CaseHead.{CaseHead}
 use Rattle.typed_tree.specs.declared.tree.Stmt.{Stmt}
 use Rattle.typed_tree.specs.declared.tree.Stmt.TheVariants as stmt
 use Rattle.typed_tree.specs.declared.tree.Stmt.TheFolds.{the_lemmas as stmt_lemmas}
@@ -15,7 +15,6 @@ use Rattle.domain.specs.Numbers.{hull, is_covered}
 use Rattle.expression_checker.specs.declared.fault.CheckFault.{CheckFault}
 use Rattle.expression_checker.specs.Visits.{Visits, all_counted}
 use Rattle.cert_checker.specs.declared.walk.Walk.{Walk}
-use Rattle.abstract_state.specs.declared.known.Known.{Known}
 use Rattle.abstract_state.specs.declared.known.Known.TheVariants.{Ordinal}
 use Rattle.component_states.specs.declared.state.State.{State as Kept}
 use Rattle.component_states.specs.States.{State, dead, joined_states, over_variables}
@@ -23,76 +22,55 @@ use Rattle.abstract_state.specs.Conditions.{condition_of}
 use Rattle.abstract_state.specs.Forms.{root_of}
 use Rattle.structured_states.specs.Cases.{arm_start, constants_before}
 use Rattle.structured_states.proofs.Claims.{item-cut, drop-past}
-use Rattle.expression_checker.specs.Walk.{IsBreachOf, Walked, Walking, ◌>>=◌, enter, give, numbers_of, tested, value_walk}
-use Rattle.cert_checker.specs.Walk.{arm_walk, arms_walk, case_walk, here, index_test, no_more, statement_walk}
+use Rattle.expression_checker.specs.Walk.{IsBreachOf, Walked, Walking, ◌>>=◌, give, numbers_of, tested}
+use Rattle.cert_checker.specs.Walk.{arm_walk, arms_walk, case_walk, from_entry, here, index_test, index_walk, no_more, statement_walk}
 use Rattle.cert_checker.specs.View.{Goes, IsMoved, Meets, at_state, context_of, said_state, viewed_in}
 use Rattle.expression_checker.proofs.Begun.{begun-all}
 use Rattle.expression_checker.proofs.Steps.{left-same}
 use Rattle.cert_checker.proofs.Steps.{Does, Stops, goes-as, goes-stopped, goes-then, moved-loops, moved-same, viewed-moved, viewed-same, walks-give}
 use Rattle.expression_checker.specs.View.{state_of}
 
-pub statement-Case : (number site : ℕ) (index : Expr) (constants : Vec (Vec ℤ Global) Global) (arms : Vec Stmt Global)
-    → statement_walk (stmt.Case number site index constants arms)
-    ≡ (enter number >>= λ _. (value_walk index >>= case_walk site index constants.items (map statement_walk arms.items)))
-statement-Case number site index constants arms = search (rules, stmt_lemmas)
+pub statement-Case : (head : CaseHead) (arms : Vec Stmt Global)
+    → statement_walk (stmt.Case head arms) ≡ from_entry head.number (index_walk head (map statement_walk arms.items))
+statement-Case head arms = search (rules, stmt_lemmas)
 
--- a case from its entry on
-pub case-begun : (statement : Stmt) (number site : ℕ) (index : Expr) (constants : Vec (Vec ℤ Global) Global) (arms : Vec Stmt Global)
-    (rows : List (Vec ℤ Global)) (items : List Stmt) (known : Known) (range : Interval) (old entered valued new : Walk) (before between after end : Visits)
-    (result : Result (Unit {0}) CheckFault)
-    → statement ≡ stmt.Case number site index constants arms → rows ≡ constants.items → items ≡ arms.items → known ≡ Ordinal range
-    → Does (enter number) old before entered between tt → Does (value_walk index) entered between valued after known
-    → Goes (case_walk site index rows (map statement_walk items) (Ordinal range)) valued after result new end
-    → Goes (statement_walk statement) old before result new end
-case-begun statement number site index constants arms rows items known range old entered valued new before between after end result is rows_are items_are
-    known_is one two three =
-    let rest = case_walk site index constants.items (map statement_walk arms.items) in
-    goes-as (statement_walk statement) (enter number >>= λ _. (value_walk index >>= rest)) old new before end result
-    (ap statement_walk is ∙ statement-Case number site index constants arms)
-    (goes-then (enter number) (λ _. value_walk index >>= rest) old entered new before between end tt result one
-    (goes-then (value_walk index) rest entered valued new between after end known result two
-    (goes-as (rest known) (case_walk site index rows (map statement_walk items) (Ordinal range)) valued new after end result
-    (ap rest known_is ∙ ap (λ r. case_walk site index r (map statement_walk arms.items) (Ordinal range)) (sym rows_are)
-    ∙ ap (λ l. case_walk site index rows (map statement_walk l) (Ordinal range)) (sym items_are)) three)))
+-- the index has a value
+module _ (head : CaseHead) (arms : List Stmt) (range : Interval) (count : ℕ) (count_is : count ≡ length arms) (old : Walk) (before : Visits) where
+  abbrev inner : List (Walking (Unit {0}))
+  inner = map statement_walk arms
 
--- the checker gave up in the index
-pub case-not_valued : (statement : Stmt) (number site : ℕ) (index : Expr) (constants : Vec (Vec ℤ Global) Global) (arms : Vec Stmt Global)
-    (old entered new : Walk) (before between after : Visits) (fault : CheckFault)
-    → statement ≡ stmt.Case number site index constants arms → Does (enter number) old before entered between tt
-    → Stops (value_walk index) entered between after fault → Goes (statement_walk statement) old before (Err fault) new after
-case-not_valued statement number site index constants arms old entered new before between after fault is one stopped =
-    let rest = case_walk site index constants.items (map statement_walk arms.items) in
-    goes-as (statement_walk statement) (enter number >>= λ _. (value_walk index >>= rest)) old new before after (Err fault)
-    (ap statement_walk is ∙ statement-Case number site index constants arms)
-    (goes-then (enter number) (λ _. value_walk index >>= rest) old entered new before between after tt (Err fault) one
-    (goes-stopped (value_walk index) rest entered new between after fault stopped))
+  abbrev rows : List (Vec ℤ Global)
+  rows = head.constants.items
 
--- the index was tested: what is known then, and the arms
-pub case-tested : (site : ℕ) (index : Expr) (rows : List (Vec ℤ Global)) (arms : List Stmt) (range : Interval) (count : ℕ) (root : Option ℕ) (base : Kept)
-    (old tested new : Walk) (before after : Visits) (result : Result (Unit {0}) CheckFault)
-    → count ≡ length arms → root ≡ root_of (condition_of index).form
-    → Does (index_test site (constants_before count rows) range) old before tested before (viewed_in old base)
-    → Goes (arms_walk (viewed_in tested base) root rows (map statement_walk arms)) tested before result new after
-    → Goes (case_walk site index rows (map statement_walk arms) (Ordinal range)) old before result new after
-case-tested site index rows arms range count root base old tested new before after result count_is root_is one two = λ ready.
-    let inner = map statement_walk arms in
-    let many : count ≡ length inner = count_is ∙ sym (length-map arms statement_walk) in
-    let rest = λ (base : State). arms_walk base (root_of (condition_of index).form) rows inner in
-    goes-then (index_test site (constants_before (length inner) rows) range) rest old tested new before before after (viewed_in old base) result
-    (subst (λ n. Does (index_test site (constants_before n rows) range) old before tested before (viewed_in old base)) many one)
-    (subst (λ r. Goes (arms_walk (viewed_in old base) r rows inner) tested before result new after) root_is
-    (subst (λ s. Goes (arms_walk s root rows inner) tested before result new after) (viewed-same old tested base (one ready).context_is) two)) ready
+  abbrev index_root : Option ℕ
+  index_root = root_of (condition_of head.index).form
 
-pub case-not_tested : (site : ℕ) (index : Expr) (rows : List (Vec ℤ Global)) (arms : List Stmt) (range : Interval) (count : ℕ) (old new : Walk)
-    (before after : Visits) (fault : CheckFault)
-    → count ≡ length arms → Stops (index_test site (constants_before count rows) range) old before after fault
-    → Goes (case_walk site index rows (map statement_walk arms) (Ordinal range)) old before (Err fault) new after
-case-not_tested site index rows arms range count old new before after fault count_is is =
-    let inner = map statement_walk arms in
-    let many : count ≡ length inner = count_is ∙ sym (length-map arms statement_walk) in
-    let rest = λ (base : State). arms_walk base (root_of (condition_of index).form) rows inner in
-    goes-stopped (index_test site (constants_before (length inner) rows) range) rest old new before after fault
-    (subst (λ n. Stops (index_test site (constants_before n rows) range) old before after fault) many is)
+  abbrev from_test : State → Walking (Unit {0})
+  from_test base = arms_walk base index_root rows inner
+
+  abbrev test : ℕ → Walking State
+  test n = index_test head.site (constants_before n rows) range
+
+  many : count ≡ length inner
+  many = count_is ∙ sym (length-map arms statement_walk)
+
+  -- the index was tested: what is known then, and the arms
+  pub case-tested : (root : Option ℕ) (constants : List (Vec ℤ Global)) (base : Kept) (tested new : Walk) (after : Visits)
+      (result : Result (Unit {0}) CheckFault)
+      → root ≡ index_root → constants ≡ rows → Does (test count) old before tested before (viewed_in old base)
+      → Goes (arms_walk (viewed_in tested base) root constants inner) tested before result new after
+      → Goes (case_walk head inner (Ordinal range)) old before result new after
+  case-tested root constants base tested new after result root_is constants_are one two = λ ready.
+      goes-then (test (length inner)) from_test old tested new before before after (viewed_in old base) result
+      (subst (λ n. Does (test n) old before tested before (viewed_in old base)) many one)
+      (subst (λ r. Goes (arms_walk (viewed_in old base) r rows inner) tested before result new after) root_is
+      (subst (λ l. Goes (arms_walk (viewed_in old base) root l inner) tested before result new after) constants_are
+      (subst (λ s. Goes (arms_walk s root constants inner) tested before result new after) (viewed-same old tested base (one ready).context_is) two))) ready
+
+  pub case-not_tested : (new : Walk) (after : Visits) (fault : CheckFault) → Stops (test count) old before after fault
+      → Goes (case_walk head inner (Ordinal range)) old before (Err fault) new after
+  case-not_tested new after fault is =
+      goes-stopped (test (length inner)) from_test old new before after fault (subst (λ n. Stops (test n) old before after fault) many is)
 
 -- ---- the test of an index
 

@@ -1,103 +1,29 @@
 -- What the checker did over a for statement, from what it did over the parts of it.
-use Rattle.std.proofs.Common.{rules, ◌≡◌, refl, sym, subst, ap, ◌∙◌, ℕ, Bool, true, false, [], ◌++◌, append-nil, None, Some, Result, Ok, Err}
-use Rattle.std.specs.declared.boxed.Box.{Box}
-use Rattle.std.specs.declared.alloc.Global.{Global}
-use Rattle.place.specs.declared.Place.{Place as SourcePlace}
-use Rattle.typed_tree.specs.declared.tree.Direction.{Direction}
-use Rattle.typed_tree.specs.declared.tree.Expr.{Expr}
-use Rattle.typed_tree.specs.declared.tree.RangeTest.{RangeTest}
-use Rattle.typed_tree.specs.declared.tree.Stmt.{Stmt}
-use Rattle.typed_tree.specs.declared.tree.Stmt.TheVariants as stmt
-use Rattle.typed_tree.specs.declared.tree.Stmt.TheFolds.{the_lemmas as stmt_lemmas}
+use Rattle.std.proofs.Common.{◌≡◌, refl, sym, subst, ap, ◌∙◌, Bool, true, false, [], ◌++◌, append-nil, None, Some, Result, Ok, Err}
+use Rattle.typed_tree.specs.declared.tree.ForHead.{ForHead}
 use Rattle.expression_checker.specs.declared.fault.CheckFault.{CheckFault}
 use Rattle.expression_checker.specs.declared.fault.CheckFault.TheVariants.{Memory}
 use Rattle.expression_checker.specs.Visits.{Visits, all_counted}
 use Rattle.cert_checker.specs.declared.walk.Walk.{Walk}
-use Rattle.abstract_state.specs.declared.known.Known.{Known}
 use Rattle.abstract_state.specs.State.{limits_of}
 use Rattle.component_states.specs.declared.state.State.{State as Kept}
 use Rattle.component_states.specs.States.{State, joined_states, over_bound, over_change, over_variables}
 use Rattle.abstract_state.specs.Loops.{with_undefined}
-use Rattle.expression_checker.specs.Walk.{IsBreachOf, Walked, Walking, ◌>>=◌, enter, give, numbers_of, value_walk, within}
+use Rattle.expression_checker.specs.Walk.{IsBreachOf, Walked, Walking, ◌>>=◌, give, numbers_of, within}
 use Rattle.std.specs.Result.{IsErr, IsErrAnd}
 use Rattle.domain.specs.Interval.{Interval}
 use Rattle.abstract_state.specs.declared.known.Known.TheVariants.{Ordinal}
 use Rattle.structured_states.specs.declared.ways.Way.{Way as KeptWay}
-use Rattle.structured_states.specs.Ways.{End, Way, end_of, entered, form_before, met, next, turn_begun, turn_ended, way_of, way_out, where_counts, with_values}
+use Rattle.structured_states.specs.Ways.{Way, entered, met, next, turn_begun, turn_ended, way_out, where_counts, with_values}
 use Rattle.expression_checker.specs.Walk.{changed_by}
-use Rattle.cert_checker.specs.Walk.{assign, begin_way, for_round, for_turns, for_walk, loop_walk, parted, rounds_of, statement_walk, steady_in}
+use Rattle.cert_checker.specs.Walk.{assign, begin_way, for_round, for_turns, for_walk, loop_walk, parted, rounds_of, steady_in}
 use Rattle.cert_checker.specs.Walk.{tested_end, tested_way}
 use Rattle.cert_checker.specs.View.{AreLoops, Goes, IsMoved, Moves, Parts, Walks, Went, context_of, said_state, said_tested, viewed_in}
-use Rattle.cert_checker.proofs.Steps.{Does, Stops, branches-stopped, goes-as, goes-here, goes-stopped, goes-then, moved-loops, moved-same, viewed-same}
+use Rattle.cert_checker.proofs.Steps.{Does, Stops, branches-stopped, goes-here, goes-stopped, goes-then, moved-loops, moved-same, viewed-same}
 use Rattle.cert_checker.proofs.Steps.{walks-give}
 use Rattle.expression_checker.proofs.Begun.{begun-all}
 use Rattle.expression_checker.proofs.Steps.{left-same, left-stays}
 use Rattle.expression_checker.specs.View.{IsLeft, state_of}
-
-pub statement-For : (number loop_number : ℕ) (place : SourcePlace) (control : ℕ) (first : Expr) (first_fits : RangeTest) (direction : Direction) (last : Expr)
-    (last_fits : RangeTest) (body : Box Stmt Global)
-    → statement_walk (stmt.For number loop_number place control first first_fits direction last last_fits body)
-    ≡ (enter number >>= λ _. (value_walk first >>= λ from. (value_walk last >>= λ to.
-    for_walk loop_number place (statement_walk body.value) (way_of control direction first first_fits last last_fits from to))))
-statement-For number loop_number place control first first_fits direction last last_fits body = search (rules, stmt_lemmas)
-
--- a for from its entry on
-pub for-begun : (statement : Stmt) (number loop_number : ℕ) (place : SourcePlace) (control : ℕ) (first : Expr) (first_fits : RangeTest) (direction : Direction)
-    (last : Expr) (last_fits : RangeTest) (body : Box Stmt Global) (inner : Stmt) (way : Way) (from to : Known) (old entered begun valued new : Walk)
-    (before between middle after end : Visits) (result : Result (Unit {0}) CheckFault)
-    → statement ≡ stmt.For number loop_number place control first first_fits direction last last_fits body → inner ≡ body.value
-    → way ≡ way_of control direction first first_fits last last_fits from to
-    → Does (enter number) old before entered between tt → Does (value_walk first) entered between begun middle from
-    → Does (value_walk last) begun middle valued after to
-    → Goes (for_walk loop_number place (statement_walk inner) way) valued after result new end
-    → Goes (statement_walk statement) old before result new end
-for-begun statement number loop_number place control first first_fits direction last last_fits body inner way from to old entered begun valued new before
-    between middle after end result is inner_is way_is one two three four =
-    let walked = λ (from to : Known). for_walk loop_number place (statement_walk body.value)
-    (way_of control direction first first_fits last last_fits from to) in
-    let rest = λ (from : Known). value_walk last >>= walked from in
-    goes-as (statement_walk statement) (enter number >>= λ _. (value_walk first >>= rest)) old new before end result
-    (ap statement_walk is ∙ statement-For number loop_number place control first first_fits direction last last_fits body)
-    (goes-then (enter number) (λ _. value_walk first >>= rest) old entered new before between end tt result one
-    (goes-then (value_walk first) rest entered begun new between middle end from result two
-    (goes-then (value_walk last) (walked from) begun valued new middle after end to result three
-    (goes-as (walked from to) (for_walk loop_number place (statement_walk inner) way) valued new after end result
-    (ap (λ s. for_walk loop_number place (statement_walk s) (way_of control direction first first_fits last last_fits from to)) (sym inner_is)
-    ∙ ap (for_walk loop_number place (statement_walk inner)) (sym way_is)) four))))
-
--- the checker gave up in the first bound
-pub for-first_stopped : (statement : Stmt) (number loop_number : ℕ) (place : SourcePlace) (control : ℕ) (first : Expr) (first_fits : RangeTest)
-    (direction : Direction) (last : Expr) (last_fits : RangeTest) (body : Box Stmt Global) (old entered new : Walk) (before between after : Visits)
-    (fault : CheckFault)
-    → statement ≡ stmt.For number loop_number place control first first_fits direction last last_fits body
-    → Does (enter number) old before entered between tt → Stops (value_walk first) entered between after fault
-    → Goes (statement_walk statement) old before (Err fault) new after
-for-first_stopped statement number loop_number place control first first_fits direction last last_fits body old entered new before between after fault is
-    one stopped =
-    let rest = λ (from : Known). value_walk last >>= λ to.
-    for_walk loop_number place (statement_walk body.value) (way_of control direction first first_fits last last_fits from to) in
-    goes-as (statement_walk statement) (enter number >>= λ _. (value_walk first >>= rest)) old new before after (Err fault)
-    (ap statement_walk is ∙ statement-For number loop_number place control first first_fits direction last last_fits body)
-    (goes-then (enter number) (λ _. value_walk first >>= rest) old entered new before between after tt (Err fault) one
-    (goes-stopped (value_walk first) rest entered new between after fault stopped))
-
--- the checker gave up in the last bound
-pub for-last_stopped : (statement : Stmt) (number loop_number : ℕ) (place : SourcePlace) (control : ℕ) (first : Expr) (first_fits : RangeTest)
-    (direction : Direction) (last : Expr) (last_fits : RangeTest) (body : Box Stmt Global) (from : Known) (old entered begun new : Walk)
-    (before between middle after : Visits) (fault : CheckFault)
-    → statement ≡ stmt.For number loop_number place control first first_fits direction last last_fits body
-    → Does (enter number) old before entered between tt → Does (value_walk first) entered between begun middle from
-    → Stops (value_walk last) begun middle after fault → Goes (statement_walk statement) old before (Err fault) new after
-for-last_stopped statement number loop_number place control first first_fits direction last last_fits body from old entered begun new before between middle
-    after fault is one two stopped =
-    let walked = λ (from to : Known). for_walk loop_number place (statement_walk body.value)
-    (way_of control direction first first_fits last last_fits from to) in
-    let rest = λ (from : Known). value_walk last >>= walked from in
-    goes-as (statement_walk statement) (enter number >>= λ _. (value_walk first >>= rest)) old new before after (Err fault)
-    (ap statement_walk is ∙ statement-For number loop_number place control first first_fits direction last last_fits body)
-    (goes-then (enter number) (λ _. value_walk first >>= rest) old entered new before between after tt (Err fault) one
-    (goes-then (value_walk first) rest entered begun new between middle after from (Err fault) two
-    (goes-stopped (value_walk last) (walked from) begun new middle after fault stopped)))
 
 -- what is known where there are values, and where there are none
 abbrev pub counting : Bool → Way → State → State
@@ -108,24 +34,24 @@ abbrev pub left_undefined : Way → State → State
 left_undefined way = over_change way.control None (with_undefined way.control)
 
 -- the entries of the turns are those of the whole
-turns-counted : (number : ℕ) (place : SourcePlace) (body : Walking (Unit {0})) (way : Way) (never : Kept) (old taken mid : Walk) (before after : Visits)
-    → Parts (counting true way) (counting false way) old (Ok never) taken → Walks (for_turns number place body way) taken before mid after tt
-    → after ≡ all_counted (numbers_of (for_walk number place body way (context_of old) (state_of old.flow)).linked) before
-turns-counted number place body way never old taken mid before after parts one =
-    let turns = for_turns number place body way in
+turns-counted : (head : ForHead) (body : Walking (Unit {0})) (way : Way) (never : Kept) (old taken mid : Walk) (before after : Visits)
+    → Parts (counting true way) (counting false way) old (Ok never) taken → Walks (for_turns head body way) taken before mid after tt
+    → after ≡ all_counted (numbers_of (for_walk head body way (context_of old) (state_of old.flow)).linked) before
+turns-counted head body way never old taken mid before after parts one =
+    let turns = for_turns head body way in
     let first : Walked (Unit {0}) = turns (context_of old) (counting true way (state_of old.flow)) in
     one.visits_are
     ∙ ap (λ w. all_counted (numbers_of w.linked) before) (moved-same turns (counting true way (state_of old.flow)) old taken parts.0)
     ∙ ap (λ linked. all_counted (numbers_of linked) before) (sym (append-nil first.linked) ∙ sym (append-nil (first.linked ++ [])))
 
 -- where there are values and where there are none, and behind both
-pub for-done : (number : ℕ) (place : SourcePlace) (body : Walking (Unit {0})) (way : Way) (never : Kept) (old taken mid new : Walk) (before after : Visits)
+pub for-done : (head : ForHead) (body : Walking (Unit {0})) (way : Way) (never : Kept) (old taken mid new : Walk) (before after : Visits)
     (result : Result (Unit {0}) CheckFault)
-    → Parts (counting true way) (counting false way) old (Ok never) taken → Does (for_turns number place body way) taken before mid after tt
+    → Parts (counting true way) (counting false way) old (Ok never) taken → Does (for_turns head body way) taken before mid after tt
     → Moves (λ state. left_undefined way (joined_states state (viewed_in mid never))) mid result new
-    → Goes (for_walk number place body way) old before result new after
-for-done number place body way never old taken mid new before after (Ok value) parts turned left = λ ready.
-    let turns = for_turns number place body way in
+    → Goes (for_walk head body way) old before result new after
+for-done head body way never old taken mid new before after (Ok value) parts turned left = λ ready.
+    let turns = for_turns head body way in
     let first : Walked (Unit {0}) = turns (context_of old) (counting true way (state_of old.flow)) in
     let same = moved-same turns (counting true way (state_of old.flow)) old taken parts.0 in
     let one = turned (moved-loops (counting true way (state_of old.flow)) old taken parts.0 ready) in
@@ -141,25 +67,25 @@ for-done number place body way never old taken mid new before after (Ok value) p
           ∙ ap (λ (w : Walk). w.flow.open_ids.items ++ (turns (context_of taken) (state_of taken.flow)).open_ids) parts.0.only_state
           ∙ ap (λ w. old.flow.open_ids.items ++ w.open_ids) same
           ∙ ap (λ ids. old.flow.open_ids.items ++ ids) (sym (append-nil first.open_ids) ∙ sym (append-nil (first.open_ids ++ [])));
-      visits_are = turns-counted number place body way never old taken mid before after parts one;
+      visits_are = turns-counted head body way never old taken mid before after parts one;
       unbroken = append-nil (first.broken ++ []) ∙ append-nil first.broken ∙ ap (λ w. w.broken) (sym same) ∙ one.unbroken;
     }
-for-done number place body way never old taken mid new before after (Err fault) parts turned left = λ ready.
-    let whole = for_walk number place body way (context_of old) (state_of old.flow) in
+for-done head body way never old taken mid new before after (Err fault) parts turned left = λ ready.
+    let whole = for_walk head body way (context_of old) (state_of old.flow) in
     let one = turned (moved-loops (counting true way (state_of old.flow)) old taken parts.0 ready) in
     record {
       breach_is = subst (IsBreachOf whole) (sym left) tt;
       visits_are = begun-all (numbers_of whole.linked) before after
-          (turns-counted number place body way never old taken mid before after parts one);
+          (turns-counted head body way never old taken mid before after parts one);
     }
 
-pub for-stopped : (number : ℕ) (place : SourcePlace) (body : Walking (Unit {0})) (way : Way) (never : Kept) (old taken new : Walk) (before after : Visits)
+pub for-stopped : (head : ForHead) (body : Walking (Unit {0})) (way : Way) (never : Kept) (old taken new : Walk) (before after : Visits)
     (fault : CheckFault)
     → Parts (counting true way) (counting false way) old (Ok never) taken
-    → Stops (for_turns number place body way) taken before after fault
-    → Goes (for_walk number place body way) old before (Err fault) new after
-for-stopped number place body way never old taken new before after fault parts is =
-    let turns = for_turns number place body way in
+    → Stops (for_turns head body way) taken before after fault
+    → Goes (for_walk head body way) old before (Err fault) new after
+for-stopped head body way never old taken new before after fault parts is =
+    let turns = for_turns head body way in
     let both = parted (counting true way) (counting false way) turns (give tt) in
     goes-stopped both (λ _. changed_by (left_undefined way)) old new before after fault
     (branches-stopped (counting true way) (counting false way) turns (give tt) old taken new before after never fault parts is)
@@ -323,52 +249,40 @@ module _ (way : Way) (old moved new : Walk) (visits : Visits) (is : IsMoved (ove
   way-begun result goes = λ ready. way-went result (goes (moved-loops way_start old moved is ready))
 
 -- from the tests on
-module _ (number : ℕ) (place : SourcePlace) (body : Walking (Unit {0})) (way : Way) (old : Walk) where
+module _ (head : ForHead) (body : Walking (Unit {0})) (way : Way) (old : Walk) where
   abbrev from_tests : Way → Walking (Unit {0})
-  from_tests tested = begin_way tested >>= λ _. rounds_of number place body tested
+  from_tests tested = begin_way tested >>= λ _. rounds_of head body tested
 
   pub turns-not_tested : (new : Walk) (before after : Visits) (fault : CheckFault)
       → Stops (tested_way way) old before after fault
-      → Goes (for_turns number place body way) old before (Err fault) new after
+      → Goes (for_turns head body way) old before (Err fault) new after
   turns-not_tested new before after fault stopped = goes-stopped (tested_way way) from_tests old new before after fault stopped
 
   module _ (one : Walk) (before : Visits) (tested : Way) (done : Does (tested_way way) old before one before tested) where
     pub turns-not_begun : (new : Walk) (after : Visits) (fault : CheckFault)
         → Stops (begin_way tested) one before after fault
-        → Goes (for_turns number place body way) old before (Err fault) new after
+        → Goes (for_turns head body way) old before (Err fault) new after
     turns-not_begun new after fault stopped =
         goes-then (tested_way way) from_tests old one new before before after tested (Err fault) done
-        (goes-stopped (begin_way tested) (λ _. rounds_of number place body tested) one new before after
+        (goes-stopped (begin_way tested) (λ _. rounds_of head body tested) one new before after
         fault stopped)
 
     pub turns-done : (two new : Walk) (after : Visits) (result : Result (Unit {0}) CheckFault)
         → Does (begin_way tested) one before two before tt
-        → Goes (rounds_of number place body tested) two before result new after → Goes (for_turns number place body way) old before result new after
+        → Goes (rounds_of head body tested) two before result new after → Goes (for_turns head body way) old before result new after
     turns-done two new after result begun rounds =
         goes-then (tested_way way) from_tests old one new before before after tested result done
-        (goes-then (begin_way tested) (λ _. rounds_of number place body tested) one two new before before
+        (goes-then (begin_way tested) (λ _. rounds_of head body tested) one two new before before
         after tt result begun rounds)
 
 -- the rounds of a for are its loop
-pub rounds-go : (number : ℕ) (place : SourcePlace) (body : Walking (Unit {0})) (way steady : Way) (old new : Walk) (before after : Visits)
+pub rounds-go : (head : ForHead) (body : Walking (Unit {0})) (way steady : Way) (old new : Walk) (before after : Visits)
     (result : Result (Unit {0}) CheckFault)
-    → (AreLoops (context_of old) old.aliases.now → steady ≡ steady_in (context_of old) number way)
-    → Goes (loop_walk number place (Some way.control) (for_round steady body)) old before result new after
-    → Goes (rounds_of number place body way) old before result new after
-rounds-go number place body way steady old new before after result is goes = λ ready.
-    goes-here (rounds_of number place body way)
-    (loop_walk number place (Some way.control) (for_round (steady_in (context_of old) number way) body)) old new before
+    → (AreLoops (context_of old) old.aliases.now → steady ≡ steady_in (context_of old) head.loop_number way)
+    → Goes (loop_walk head.loop_number head.place (Some way.control) (for_round steady body)) old before result new after
+    → Goes (rounds_of head body way) old before result new after
+rounds-go head body way steady old new before after result is goes = λ ready.
+    goes-here (rounds_of head body way)
+    (loop_walk head.loop_number head.place (Some way.control) (for_round (steady_in (context_of old) head.loop_number way) body)) old new before
     after result refl
-    (subst (λ s. Goes (loop_walk number place (Some way.control) (for_round s body)) old before result new after) (is ready) goes) ready
-
-abbrev made : ℕ → Direction → (first last : End) → Way
-made control direction first last = record { control = control; direction = direction; first = first; last = last }
-
--- the way of two bounds
-pub way-same : (control : ℕ) (direction : Direction) (first last : Expr) (first_fits last_fits : RangeTest) (from to : Known) (one other : End)
-    → one ≡ record (end_of first first_fits from) { form = form_before first last } → other ≡ end_of last last_fits to
-    → ◌≡◌ {A = Way} (record { control = control; direction = direction; first = one; last = other })
-    (way_of control direction first first_fits last last_fits from to)
-way-same control direction first last first_fits last_fits from to one other first_is last_is =
-    ap (λ (e : End). made control direction e other) first_is
-    ∙ ap (made control direction (record (end_of first first_fits from) { form = form_before first last })) last_is
+    (subst (λ s. Goes (loop_walk head.loop_number head.place (Some way.control) (for_round s body)) old before result new after) (is ready) goes) ready

@@ -1,17 +1,16 @@
 -- What the checker did where values are stored, from what it did over the parts of it.
 use Rattle.std.proofs.Common.{arith, ◌≡◌, refl, sym, subst, ap, ◌∙◌, ℕ, zero, suc, ◌+◌, ◌-◌, ◌<◌, ◌≤◌, true, false, List, [], ◌∷◌, ◌++◌}
-use Rattle.std.proofs.Common.{append_assoc, Option, Some, None, Result, length, drop, get_or}
+use Rattle.std.proofs.Common.{append_assoc, Option, Some, None, Result, Err, length, drop, get_or}
 use Rattle.std.specs.Prelude.{slice_get}
 use Rattle.std.specs.Bool.{◌==◌}
 use Rattle.std.specs.List.{range_with_len}
 use Rattle.std.proofs.lemmas.Bool.{eqb-true}
 use Rattle.std.proofs.lemmas.Option.{none-some, same_Some}
 use Rattle.place.specs.declared.Place.{Place as SourcePlace}
-use Rattle.typed_tree.specs.declared.tree.Access.{Access}
+use Rattle.typed_tree.specs.declared.tree.Assignment.{Assignment}
+use Rattle.typed_tree.specs.declared.tree.Copying.{Copying}
 use Rattle.typed_tree.specs.declared.tree.Expr.{Expr}
-use Rattle.typed_tree.specs.declared.tree.RangeTest.{RangeTest}
 use Rattle.typed_tree.specs.declared.tree.Selector.{Selector}
-use Rattle.typed_tree.specs.declared.tree.Whole.{Whole}
 use Rattle.domain.specs.Facts.{Bound}
 use Rattle.domain.specs.Interval.{Interval}
 use Rattle.abstract_state.specs.declared.known.Known.{Known}
@@ -23,48 +22,122 @@ use Rattle.component_states.specs.States.{State, over_components}
 use Rattle.structured_states.proofs.Claims.{item-cut}
 use Rattle.structured_states.proofs.Rowed.{rows_to, rows-next}
 use Rattle.expression_checker.specs.declared.fault.CheckFault.{CheckFault}
-use Rattle.expression_checker.specs.Visits.{Visits}
+use Rattle.expression_checker.specs.Visits.{Visits, counted}
 use Rattle.typed_tree.specs.Calls.{holds_call, whole_holds_call}
-use Rattle.expression_checker.specs.Walk.{◌>>=◌, access_walk, fitting, index_pieces, value_walk, whole_walk}
+use Rattle.expression_checker.specs.Walk.{Walking, ◌>>=◌, access_walk, fitting, index_pieces, value_walk, whole_walk}
 use Rattle.cert_checker.specs.declared.walk.Walk.{Walk}
 use Rattle.cert_checker.specs.View.{Goes, context_of}
-use Rattle.cert_checker.specs.Walk.{Stores, alike, assign, assign_component, assign_to, assignment, change, copy_to, copying, paired, reach_stored, store_to}
-use Rattle.cert_checker.proofs.Steps.{Does, goes-here, goes-then}
+use Rattle.cert_checker.specs.Walk.{Stores, alike, assign, assign_component, assign_to, assignment_walk, change, copy_to, copying_walk, from_entry, paired}
+use Rattle.cert_checker.specs.Walk.{reach_stored, store_to}
+use Rattle.cert_checker.proofs.Steps.{Does, Stops, goes-as, goes-from_entry, goes-here, goes-stopped, goes-then}
 use Rattle.expression_checker.specs.View.{state_of}
 
 -- an assignment from the access of its target on
-pub assignment-done : (becomes : SourcePlace) (target : Access) (indexes : List Expr) (fits : RangeTest) (value : Expr)
-    (reach before_value : Reach) (old reached valued : Walk) (before entries after : Visits) (known : Known) (result : Result (Unit {0}) CheckFault)
-    (new : Walk)
-    → before_value ≡ reach_stored target.selectors.items (holds_call value) reach
-    → Does (access_walk target (index_pieces indexes)) old before reached entries reach → Does (value_walk value) reached entries valued after known
-    → Goes (fitting fits known >>= assign_to becomes target.root target.selectors.items before_value (bound_form value)) valued after result new after
-    → Goes (assignment becomes target (index_pieces indexes) fits value) old before result new after
-assignment-done becomes target indexes fits value reach before_value old reached valued before entries after known result new before_is one two three =
-    let held = reach_stored target.selectors.items (holds_call value) in
-    let stored = λ (reach : Reach) (known : Known).
-    fitting fits known >>= assign_to becomes target.root target.selectors.items reach (bound_form value) in
-    goes-then (access_walk target (index_pieces indexes)) (λ reach. value_walk value >>= stored (held reach)) old reached new before entries after reach result
-    one
-    (goes-then (value_walk value) (stored (held reach)) reached valued new entries after after known result two
-    (subst (λ (r : Reach). Goes (stored r known) valued after result new after) before_is three))
+module _ (assignment : Assignment) (indexes : List Expr) (indexes_are : indexes ≡ assignment.indexes.items) (old : Walk) (first before : Visits)
+    (ticked : before ≡ counted assignment.number first) where
+  abbrev access : List Expr → Walking Reach
+  access indexes = access_walk assignment.target (index_pieces indexes)
+
+  abbrev held : Reach → Reach
+  held = reach_stored assignment.target.selectors.items (holds_call assignment.value)
+
+  -- the test of the value, and the store
+  abbrev tested_store : Reach → Known → Walking (Unit {0})
+  tested_store reach known =
+      fitting assignment.fits known
+      >>= assign_to assignment.becomes assignment.target.root assignment.target.selectors.items reach (bound_form assignment.value)
+
+  abbrev behind_access : Reach → Walking (Unit {0})
+  behind_access reach = value_walk assignment.value >>= tested_store (held reach)
+
+  from-access : (new : Walk) (after : Visits) (result : Result (Unit {0}) CheckFault) → Goes (access indexes >>= behind_access) old before result new after
+      → Goes (from_entry assignment.number (assignment_walk assignment)) old first result new after
+  from-access new after result one =
+      goes-from_entry assignment.number (assignment_walk assignment) old new first before after result ticked
+      (goes-as (assignment_walk assignment) (access indexes >>= behind_access) old new before after result
+      (ap (λ own. access own >>= behind_access) (sym indexes_are)) one)
+
+  -- the checker gave up in the access
+  pub assignment-unreached : (new : Walk) (after : Visits) (fault : CheckFault) → Stops (access indexes) old before after fault
+      → Goes (from_entry assignment.number (assignment_walk assignment)) old first (Err fault) new after
+  assignment-unreached new after fault stopped =
+      from-access new after (Err fault) (goes-stopped (access indexes) behind_access old new before after fault stopped)
+
+  module _ (reach : Reach) (reached : Walk) (entries : Visits) (one : Does (access indexes) old before reached entries reach) where
+    -- in the value
+    pub assignment-unvalued : (new : Walk) (after : Visits) (fault : CheckFault) → Stops (value_walk assignment.value) reached entries after fault
+        → Goes (from_entry assignment.number (assignment_walk assignment)) old first (Err fault) new after
+    assignment-unvalued new after fault stopped =
+        from-access new after (Err fault)
+        (goes-then (access indexes) behind_access old reached new before entries after reach (Err fault) one
+        (goes-stopped (value_walk assignment.value) (tested_store (held reach)) reached new entries after fault stopped))
+
+    pub assignment-done : (before_value : Reach) (valued new : Walk) (after : Visits) (known : Known) (result : Result (Unit {0}) CheckFault)
+        → before_value ≡ held reach → Does (value_walk assignment.value) reached entries valued after known
+        → Goes (tested_store before_value known) valued after result new after
+        → Goes (from_entry assignment.number (assignment_walk assignment)) old first result new after
+    assignment-done before_value valued new after known result before_is two three =
+        from-access new after result
+        (goes-then (access indexes) behind_access old reached new before entries after reach result one
+        (goes-then (value_walk assignment.value) (tested_store (held reach)) reached valued new entries after after known result two
+        (subst (λ (r : Reach). Goes (tested_store r known) valued after result new after) before_is three)))
 
 -- an assignment of a whole value from the access of its target on
-pub copying-done : (becomes : SourcePlace) (target : Access) (indexes : List Expr) (value : Whole) (value_indexes : List Expr)
-    (reach before_value : Reach) (old reached valued : Walk) (before entries after : Visits) (ranges : List Interval)
-    (result : Result (Unit {0}) CheckFault) (new : Walk)
-    → before_value ≡ reach_stored target.selectors.items (whole_holds_call value value_indexes) reach
-    → Does (access_walk target (index_pieces indexes)) old before reached entries reach
-    → Does (whole_walk value (index_pieces value_indexes)) reached entries valued after ranges
-    → Goes (copy_to becomes target.root target.selectors.items before_value ranges) valued after result new after
-    → Goes (copying becomes target (index_pieces indexes) value value_indexes) old before result new after
-copying-done becomes target indexes value value_indexes reach before_value old reached valued before entries after ranges result new before_is one two three =
-    let held = reach_stored target.selectors.items (whole_holds_call value value_indexes) in
-    let stored = λ (reach : Reach) (ranges : List Interval). copy_to becomes target.root target.selectors.items reach ranges in
-    let walking = whole_walk value (index_pieces value_indexes) in
-    goes-then (access_walk target (index_pieces indexes)) (λ reach. walking >>= stored (held reach)) old reached new before entries after reach result one
-    (goes-then walking (stored (held reach)) reached valued new entries after after ranges result two
-    (subst (λ (r : Reach). Goes (stored r ranges) valued after result new after) before_is three))
+module _ (copying : Copying) (indexes : List Expr) (indexes_are : indexes ≡ copying.indexes.items) (old : Walk) (first before : Visits)
+    (ticked : before ≡ counted copying.number first) where
+  abbrev target_access : List Expr → Walking Reach
+  target_access indexes = access_walk copying.target (index_pieces indexes)
+
+  abbrev whole : List Expr → Walking (List Interval)
+  whole indexes = whole_walk copying.value (index_pieces indexes)
+
+  abbrev kept_reach : Reach → Reach
+  kept_reach = reach_stored copying.target.selectors.items (whole_holds_call copying.value copying.value_indexes.items)
+
+  abbrev copied : Reach → List Interval → Walking (Unit {0})
+  copied reach ranges = copy_to copying.becomes copying.target.root copying.target.selectors.items reach ranges
+
+  abbrev behind_target : Reach → Walking (Unit {0})
+  behind_target reach = whole copying.value_indexes.items >>= copied (kept_reach reach)
+
+  from-target : (new : Walk) (after : Visits) (result : Result (Unit {0}) CheckFault)
+      → Goes (target_access indexes >>= behind_target) old before result new after
+      → Goes (from_entry copying.number (copying_walk copying)) old first result new after
+  from-target new after result one =
+      goes-from_entry copying.number (copying_walk copying) old new first before after result ticked
+      (goes-as (copying_walk copying) (target_access indexes >>= behind_target) old new before after result
+      (ap (λ own. target_access own >>= behind_target) (sym indexes_are)) one)
+
+  -- the checker gave up in the access
+  pub copying-unreached : (new : Walk) (after : Visits) (fault : CheckFault) → Stops (target_access indexes) old before after fault
+      → Goes (from_entry copying.number (copying_walk copying)) old first (Err fault) new after
+  copying-unreached new after fault stopped =
+      from-target new after (Err fault) (goes-stopped (target_access indexes) behind_target old new before after fault stopped)
+
+  module _ (reach : Reach) (reached : Walk) (entries : Visits) (one : Does (target_access indexes) old before reached entries reach)
+      (more : List Expr) (more_are : more ≡ copying.value_indexes.items) where
+    from-value : (new : Walk) (after : Visits) (result : Result (Unit {0}) CheckFault)
+        → Goes (whole more >>= copied (kept_reach reach)) reached entries result new after
+        → Goes (from_entry copying.number (copying_walk copying)) old first result new after
+    from-value new after result two =
+        from-target new after result
+        (goes-then (target_access indexes) behind_target old reached new before entries after reach result one
+        (goes-as (behind_target reach) (whole more >>= copied (kept_reach reach)) reached new entries after result
+        (ap (λ own. whole own >>= copied (kept_reach reach)) (sym more_are)) two))
+
+    -- in the value
+    pub copying-unvalued : (new : Walk) (after : Visits) (fault : CheckFault) → Stops (whole more) reached entries after fault
+        → Goes (from_entry copying.number (copying_walk copying)) old first (Err fault) new after
+    copying-unvalued new after fault stopped =
+        from-value new after (Err fault) (goes-stopped (whole more) (copied (kept_reach reach)) reached new entries after fault stopped)
+
+    pub copying-done : (before_value : Reach) (valued new : Walk) (after : Visits) (ranges : List Interval) (result : Result (Unit {0}) CheckFault)
+        → before_value ≡ kept_reach reach → Does (whole more) reached entries valued after ranges
+        → Goes (copied before_value ranges) valued after result new after → Goes (from_entry copying.number (copying_walk copying)) old first result new after
+    copying-done before_value valued new after ranges result before_is two three =
+        from-value new after result
+        (goes-then (whole more) (copied (kept_reach reach)) reached valued new entries after after ranges result two
+        (subst (λ (r : Reach). Goes (copied r ranges) valued after result new after) before_is three))
 
 -- an access without selectors is to an entire variable
 pub assigned-entire : (place : SourcePlace) (root : ℕ) (selectors : List Selector) (reach : Reach) (form : Option Bound) (passed : Known)

@@ -10,11 +10,13 @@ use Rattle.place.specs.declared.Place.{Place}
 use Rattle.certificate.specs.declared.Certificate.{Certificate}
 use Rattle.typed_tree.specs.declared.tree.Tree.{Tree}
 use Rattle.typed_tree.specs.declared.tree.Block.{Block}
-use Rattle.typed_tree.specs.declared.tree.Access.{Access}
-use Rattle.typed_tree.specs.declared.tree.RangeTest.{RangeTest}
+use Rattle.typed_tree.specs.declared.tree.Assignment.{Assignment}
+use Rattle.typed_tree.specs.declared.tree.CaseHead.{CaseHead}
+use Rattle.typed_tree.specs.declared.tree.Copying.{Copying}
+use Rattle.typed_tree.specs.declared.tree.ForHead.{ForHead}
+use Rattle.typed_tree.specs.declared.tree.LoopHead.{LoopHead}
 use Rattle.typed_tree.specs.declared.tree.Selector.{Selector}
 use Rattle.typed_tree.specs.declared.tree.Selector.TheVariants.{Element}
-use Rattle.typed_tree.specs.declared.tree.Whole.{Whole}
 use Rattle.typed_tree.specs.declared.tree.FunctionResult.{FunctionResult}
 use Rattle.typed_tree.specs.declared.tree.Expr.{Expr}
 use Rattle.typed_tree.specs.declared.tree.Stmt.{Stmt}
@@ -49,7 +51,7 @@ use Rattle.call_states.specs.Aliases.{Stored, reach_unless_alias, unless_alias, 
 use Rattle.call_states.specs.Actuals.{unknown_reach}
 use Rattle.expression_checker.specs.declared.fault.Rule.{Rule}
 use Rattle.expression_checker.specs.declared.fault.Rule.TheVariants.{LoopEntry, LoopTurn, Exit, Changes}
-use Rattle.expression_checker.specs.Walk.{Context, Piece, Walked, Walking, ◌>>=◌, access_walk, asked, call_walk}
+use Rattle.expression_checker.specs.Walk.{Context, Walked, Walking, ◌>>=◌, access_walk, asked, call_walk}
 use Rattle.expression_checker.specs.Walk.{changed_by, enter, fitting, followed, give, index_pieces}
 use Rattle.expression_checker.specs.Walk.{left_open}
 use Rattle.expression_checker.specs.Walk.{may_change, parameter_walk, passed_piece_of, tested, value_walk, whole_walk}
@@ -175,22 +177,30 @@ reach_of_store selectors reach = reach
 abbrev pub reach_stored : List Selector → Bool → Reach → Reach
 reach_stored selectors holds_call reach = reach_of_store selectors (reach_before holds_call reach)
 
+-- a piece from its entry on
+abbrev pub from_entry : ℕ → Walking (Unit {0}) → Walking (Unit {0})
+from_entry number walking = do
+  _ ← enter number
+  walking
+
 -- an assignment: the target is accessed, and then comes the value
-abbrev pub assignment : Place → Access → List Piece → RangeTest → Expr → Walking (Unit {0})
-assignment becomes target indexes fits value = do
-  reach ← access_walk target indexes
-  known ← value_walk value
-  passed ← fitting fits known
-  assign_to becomes target.root target.selectors.items
-      (reach_stored target.selectors.items (holds_call value) reach) (bound_form value) passed
+abbrev pub assignment_walk : Assignment → Walking (Unit {0})
+assignment_walk assignment =
+    let target = assignment.target in do
+      reach ← access_walk target (index_pieces assignment.indexes.items)
+      known ← value_walk assignment.value
+      passed ← fitting assignment.fits known
+      assign_to assignment.becomes target.root target.selectors.items
+          (reach_stored target.selectors.items (holds_call assignment.value) reach) (bound_form assignment.value) passed
 
 -- an assignment of a whole value: the target is accessed, and then come the components, one after another
-abbrev pub copying : Place → Access → List Piece → Whole → List Expr → Walking (Unit {0})
-copying becomes target indexes value value_indexes = do
-  reach ← access_walk target indexes
-  ranges ← whole_walk value (index_pieces value_indexes)
-  copy_to becomes target.root target.selectors.items
-      (reach_stored target.selectors.items (whole_holds_call value value_indexes) reach) ranges
+abbrev pub copying_walk : Copying → Walking (Unit {0})
+copying_walk copying =
+    let target = copying.target in
+    let hold = whole_holds_call copying.value copying.value_indexes.items in do
+      reach ← access_walk target (index_pieces copying.indexes.items)
+      ranges ← whole_walk copying.value (index_pieces copying.value_indexes.items)
+      copy_to copying.becomes target.root target.selectors.items (reach_stored target.selectors.items hold reach) ranges
 
 -- two pieces of which a run takes one, each walked from its own state; behind them the states are joined
 abbrev pub either_of : Walked (Unit {0}) → Walked (Unit {0}) → Walked (Unit {0})
@@ -209,6 +219,12 @@ parted one_state other_state one other context state =
 abbrev pub branches : Expr → (consequence alternative : Walking (Unit {0})) → Known → Walking (Unit {0})
 branches condition consequence alternative known =
     parted (where_so true condition known) (where_so false condition known) consequence alternative
+
+-- a conditional statement: the condition, and then one of its branches
+abbrev pub choice_walk : Expr → (consequence alternative : Walking (Unit {0})) → Walking (Unit {0})
+choice_walk condition consequence alternative = do
+  known ← value_walk condition
+  branches condition consequence alternative known
 
 -- the statement behind `else`, or nothing where there is none
 abbrev pub alternative_walk : Option (Box (Walking (Unit {0})) Global) → Walking (Unit {0})
@@ -268,6 +284,13 @@ loop_walk number place control walking context =
     let loop = round_of context.tree context.pairs context.claims number in
     loop_by place (with_own control loop) loop (claims_at context.claims number).facts walking context
 
+-- a while, and a repeat
+abbrev pub while_walk : LoopHead → Walking (Unit {0}) → Walking (Unit {0})
+while_walk head body = loop_walk head.loop_number head.place None (while_round head.condition body)
+
+abbrev pub repeat_walk : LoopHead → Walking (Unit {0}) → Walking (Unit {0})
+repeat_walk head body = loop_walk head.loop_number head.place None (repeat_round body head.condition)
+
 -- ---- for statements
 
 -- the test of a bound: where its value lies that passes
@@ -297,9 +320,10 @@ steady_in context number way =
     steady (touched (with_own (Some way.control) (round_of context.tree context.pairs context.claims number))) way
 
 -- the rounds of a for, from its control variable's first value
-abbrev pub rounds_of : ℕ → Place → Walking (Unit {0}) → Way → Walking (Unit {0})
-rounds_of number place body way context =
-    loop_walk number place (Some way.control) (for_round (steady_in context number way) body) context
+abbrev pub rounds_of : ForHead → Walking (Unit {0}) → Way → Walking (Unit {0})
+rounds_of head body way context =
+    loop_walk head.loop_number head.place (Some way.control) (for_round (steady_in context head.loop_number way) body)
+    context
 
 -- the control variable is the first bound, where a first turn may begin
 abbrev pub begin_way : Way → Walking (Unit {0})
@@ -307,18 +331,25 @@ begin_way way context state =
     assign way.control way.first.form (Ordinal way.first.values) context (over_variables (entered way) state)
 
 -- a for where there are values: the bounds are tested, and the control variable is the first
-abbrev pub for_turns : ℕ → Place → Walking (Unit {0}) → Way → Walking (Unit {0})
-for_turns number place body way = do
+abbrev pub for_turns : ForHead → Walking (Unit {0}) → Way → Walking (Unit {0})
+for_turns head body way = do
   tested ← tested_way way
   _ ← begin_way tested
-  rounds_of number place body tested
+  rounds_of head body tested
 
 -- a for, from the values of its bounds: behind it the control variable is undefined
-abbrev pub for_walk : ℕ → Place → Walking (Unit {0}) → Way → Walking (Unit {0})
-for_walk number place body way = do
+abbrev pub for_walk : ForHead → Walking (Unit {0}) → Way → Walking (Unit {0})
+for_walk head body way = do
   _ ← parted (over_variables (where_counts true way)) (over_variables (where_counts false way))
-      (for_turns number place body way) (give tt)
+      (for_turns head body way) (give tt)
   changed_by (over_change way.control None (with_undefined way.control))
+
+-- a for: its bounds, and then the rest
+abbrev pub bounds_walk : ForHead → Walking (Unit {0}) → Walking (Unit {0})
+bounds_walk head body = do
+  from ← value_walk head.first.value
+  to ← value_walk head.last.value
+  for_walk head body (way_of head from to)
 
 -- ---- case statements
 
@@ -348,46 +379,31 @@ arms_walk base index rows (arm ∷ arms) = do
   arms_walk base index (drop 1 rows) arms
 
 -- a case, from the value of its index
-abbrev pub case_walk : ℕ → Expr → List (Vec ℤ Global) → List (Walking (Unit {0})) → Known → Walking (Unit {0})
-case_walk site index rows arms (Ordinal range) = do
-  base ← index_test site (constants_before (length arms) rows) range
-  arms_walk base (root_of (condition_of index).form) rows arms
+abbrev pub case_walk : CaseHead → List (Walking (Unit {0})) → Known → Walking (Unit {0})
+case_walk head arms (Ordinal range) = do
+  base ← index_test head.site (constants_before (length arms) head.constants.items) range
+  arms_walk base (root_of (condition_of head.index).form) head.constants.items arms
+
+-- a case: its index, and then an arm
+abbrev pub index_walk : CaseHead → List (Walking (Unit {0})) → Walking (Unit {0})
+index_walk head arms = do
+  known ← value_walk head.index
+  case_walk head arms known
 
 -- one layer of a statement
 abbrev pub statement_step : Stmt-F (Walking (Unit {0})) → Walking (Unit {0})
 statement_step (Empty number) = enter number
-statement_step (Assign number becomes target indexes fits value) = do
-  _ ← enter number
-  assignment becomes target (index_pieces indexes.items) fits value
-statement_step (Copy number becomes target indexes type_id value value_indexes) = do
-  _ ← enter number
-  copying becomes target (index_pieces indexes.items) value value_indexes.items
-statement_step (Write number name parameters ends_line) = do
-  _ ← enter number
-  all_of (map parameter_walk parameters.items)
-statement_step (Call call actuals) = call_walk call (map passed_piece_of actuals.items)
-statement_step (Compound number statements) = do
-  _ ← enter number
-  all_of statements.items
-statement_step (If number condition consequence alternative) = do
-  _ ← enter number
-  known ← value_walk condition
-  branches condition consequence.value (alternative_walk alternative) known
-statement_step (While number loop_number place condition body) = do
-  _ ← enter number
-  loop_walk loop_number place None (while_round condition body.value)
-statement_step (Repeat number loop_number place statements condition) = do
-  _ ← enter number
-  loop_walk loop_number place None (repeat_round (all_of statements.items) condition)
-statement_step (For number loop_number place control first first_fits direction last last_fits body) = do
-  _ ← enter number
-  from ← value_walk first
-  to ← value_walk last
-  for_walk loop_number place body.value (way_of control direction first first_fits last last_fits from to)
-statement_step (Case number site index constants arms) = do
-  _ ← enter number
-  known ← value_walk index
-  case_walk site index constants.items arms.items known
+statement_step (Assign assignment) = from_entry assignment.number (assignment_walk assignment)
+statement_step (Copy copying) = from_entry copying.number (copying_walk copying)
+statement_step (Write writing) = from_entry writing.number (all_of (map parameter_walk writing.parameters.items))
+statement_step (Call calling) = call_walk calling.call (map passed_piece_of calling.actuals.items)
+statement_step (Compound number statements) = from_entry number (all_of statements.items)
+statement_step (If number condition consequence alternative) =
+    from_entry number (choice_walk condition consequence.value (alternative_walk alternative))
+statement_step (While head body) = from_entry head.number (while_walk head body.value)
+statement_step (Repeat head statements) = from_entry head.number (repeat_walk head (all_of statements.items))
+statement_step (For head body) = from_entry head.number (bounds_walk head body.value)
+statement_step (Case head arms) = from_entry head.number (index_walk head arms.items)
 
 -- the walk over a statement
 abbrev pub statement_walk : Stmt → Walking (Unit {0})

@@ -1,5 +1,4 @@
 ghost use Rattle.std.specs.Prelude.{◌≡◌, ◌∷◌, [], IfOk, map, slice_get};
-ghost use Rattle.typed_tree.specs.Calls.{holds_call};
 ghost use Rattle.abstract_state.specs.declared.known.Known.TheVariants.{Ordinal};
 ghost use Rattle.abstract_state.specs.Conditions.{bound_form};
 ghost use Rattle.abstract_state.specs.View.{said_form};
@@ -9,10 +8,9 @@ ghost use Rattle.component_states.specs.States.{over_components};
 ghost use Rattle.component_states.specs.View.{said_index, said_reach, viewed};
 ghost use Rattle.call_states.specs.View.{said_stored};
 ghost use Rattle.expression_checker.specs.Visits.{Visits};
-ghost use Rattle.expression_checker.specs.Walk.{index_pieces};
 ghost use Rattle.cert_checker.specs.View.{Goes, row_stored};
-ghost use Rattle.cert_checker.specs.Walk.{alike, assign, assign_component, assign_to, assignment, change, copy_to};
-ghost use Rattle.cert_checker.specs.Walk.{copying, ends_at_index, paired, reach_before};
+ghost use Rattle.cert_checker.specs.Walk.{alike, assign, assign_component, assign_to, assignment_walk, change};
+ghost use Rattle.cert_checker.specs.Walk.{copy_to, copying_walk, ends_at_index, from_entry, paired, reach_before};
 ghost use Rattle.cert_checker.specs.Walk.{reach_of_store, reach_stored, store_to, stores_made};
 
 use crate::walk::Walk;
@@ -30,108 +28,103 @@ use leaf_rows::{Rows, Span, limits_at};
 use place::Place;
 use std::alloc::{AllocError, Global};
 use typed_tree::calls::{holds_call, whole_holds_call};
-use typed_tree::tree::{Access, Expr, RangeTest, Selector, Whole};
+use typed_tree::tree::{Assignment, Copying, Expr, Selector};
 
 // What statements store to variables and to components.
 impl<'a> Walk<'a> {
     /// The value has to lie in the range of the target's type.
     pub(crate) fn assignment(
         &mut self,
-        becomes: Place,
-        target: &Access,
-        indexes: &[Expr],
-        fits: RangeTest,
-        value: &Expr,
+        assignment: &Assignment,
         visits: &mut Visits,
     ) -> Result<(), CheckFault>
-        ensures { Goes (assignment becomes target.now (index_pieces indexes.now) fits value.now)
+        ensures { Goes (from_entry assignment.now.number (assignment_walk assignment.now))
             self.old visits.old result self.new visits.new }
     {
-        let reach = self.access(target, indexes, visits)?;
-        let known = self.expression(value, visits)?;
-        let passed = self.flow.fitting(fits, known)?;
-        let reach = reach_stored(&target.selectors, holds_call(value), reach);
-        self.assign_to(becomes, target, reach, value, passed)
+        visits.tick(assignment.number);
+        let target = &assignment.target;
+        let reach = self.access(target, &assignment.indexes, visits)?;
+        let known = self.expression(&assignment.value, visits)?;
+        let passed = self.flow.fitting(assignment.fits, known)?;
+        let reach = reach_stored(&target.selectors, holds_call(&assignment.value), reach);
+        self.assign_to(assignment, reach, passed)
     }
 
     /// What is accessed gets the value of an expression.
     fn assign_to(
         &mut self,
-        becomes: Place,
-        target: &Access,
+        assignment: &Assignment,
         reach: Reach,
-        value: &Expr,
         passed: Known,
     ) -> Result<(), CheckFault>
-        ensures { (visits : Visits) → Goes (assign_to becomes target.now.root target.now.selectors.items
-            (said_reach reach) (bound_form value.now) passed) self.old visits result self.new visits }
+        ensures { (visits : Visits) → Goes (assign_to assignment.now.becomes assignment.now.target.root
+            assignment.now.target.selectors.items (said_reach reach) (bound_form assignment.now.value) passed)
+            self.old visits result self.new visits }
     {
+        let target = &assignment.target;
         if target.selectors.is_empty() {
-            self.change(becomes, target.root)?;
-            self.assign(target.root, value, passed)
+            self.change(assignment.becomes, target.root)?;
+            self.assign(target.root, &assignment.value, passed)
         } else {
-            self.assign_component(becomes, target, reach, passed)
+            self.assign_component(assignment, reach, passed)
         }
     }
 
     /// A component gets a value.
     fn assign_component(
         &mut self,
-        becomes: Place,
-        target: &Access,
+        assignment: &Assignment,
         reach: Reach,
         passed: Known,
     ) -> Result<(), CheckFault>
-        ensures { (visits : Visits) → Goes (assign_component becomes target.now.root target.now.selectors.items
-            (said_reach reach) passed) self.old visits result self.new visits }
+        ensures { (visits : Visits) → Goes (assign_component assignment.now.becomes assignment.now.target.root
+            assignment.now.target.selectors.items (said_reach reach) passed) self.old visits result self.new visits }
     {
+        let target = &assignment.target;
         let rows = self
             .flow
             .grounds
             .rows
             .accessed(target.root, &target.selectors);
         let stores = alike(self.alloc, passed.range(), rows)?;
-        self.store_to(becomes, target.root, reach, &stores)
+        self.store_to(assignment.becomes, target.root, reach, &stores)
     }
 
     /// An assignment of a whole value.
     pub(crate) fn copying(
         &mut self,
-        becomes: Place,
-        target: &Access,
-        indexes: &[Expr],
-        value: &Whole,
-        value_indexes: &[Expr],
+        copying: &Copying,
         visits: &mut Visits,
     ) -> Result<(), CheckFault>
-        ensures { Goes (copying becomes target.now (index_pieces indexes.now) value.now
-            value_indexes.now) self.old visits.old result self.new visits.new }
+        ensures { Goes (from_entry copying.now.number (copying_walk copying.now))
+            self.old visits.old result self.new visits.new }
     {
-        let reach = self.access(target, indexes, visits)?;
-        let ranges = self.whole_value(value, value_indexes, visits)?;
-        let holds_call = whole_holds_call(value, value_indexes);
-        let reach = reach_stored(&target.selectors, holds_call, reach);
-        self.copy_to(becomes, target, reach, &ranges)
+        visits.tick(copying.number);
+        let reach = self.access(&copying.target, &copying.indexes, visits)?;
+        let ranges = self.whole_value(&copying.value, &copying.value_indexes, visits)?;
+        let holds_call = whole_holds_call(&copying.value, &copying.value_indexes);
+        let reach = reach_stored(&copying.target.selectors, holds_call, reach);
+        self.copy_to(copying, reach, &ranges)
     }
 
     /// Components of these ranges are copied to what is accessed.
     fn copy_to(
         &mut self,
-        becomes: Place,
-        target: &Access,
+        copying: &Copying,
         reach: Reach,
         ranges: &[Interval],
     ) -> Result<(), CheckFault>
-        ensures { (visits : Visits) → Goes (copy_to becomes target.now.root target.now.selectors.items
-            (said_reach reach) ranges.now) self.old visits result self.new visits }
+        ensures { (visits : Visits) → Goes (copy_to copying.now.becomes copying.now.target.root
+            copying.now.target.selectors.items (said_reach reach) ranges.now) self.old visits result self.new visits }
     {
+        let target = &copying.target;
         let rows = self
             .flow
             .grounds
             .rows
             .accessed(target.root, &target.selectors);
         let stores = paired(self.alloc, rows, ranges)?;
-        self.store_to(becomes, target.root, reach, &stores)
+        self.store_to(copying.becomes, target.root, reach, &stores)
     }
 
     /// Values are stored to what is reached of a variable.

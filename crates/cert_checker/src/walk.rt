@@ -11,9 +11,10 @@ ghost use Rattle.expression_checker.specs.Walk.{IsBreachOf, access_walk, call_wa
 ghost use Rattle.expression_checker.specs.Walk.{parameter_walk, passed_piece_of, value_walk, whole_walk};
 ghost use Rattle.cert_checker.specs.View.{Goes, IsBegun, Meets, Parts};
 ghost use Rattle.cert_checker.specs.View.{else_walk, said_state, viewed_in};
-ghost use Rattle.cert_checker.specs.Walk.{all_of, arm_walk, arms_walk, case_walk, for_round, for_turns, for_walk};
-ghost use Rattle.cert_checker.specs.Walk.{index_test, program_walk, repeat_round, rounds_of, statement_walk, where_so};
-ghost use Rattle.cert_checker.specs.Walk.{while_round};
+ghost use Rattle.cert_checker.specs.Walk.{all_of, arm_walk, arms_walk, bounds_walk, case_walk, for_round};
+ghost use Rattle.cert_checker.specs.Walk.{for_turns, for_walk, from_entry, index_test, index_walk, program_walk};
+ghost use Rattle.cert_checker.specs.Walk.{repeat_round, repeat_walk, rounds_of, statement_walk, where_so, while_round};
+ghost use Rattle.cert_checker.specs.Walk.{while_walk};
 
 use abstract_state::{Known, entire};
 use call_states::sections::{all_block_claims, all_pairs};
@@ -27,14 +28,15 @@ use expression_checker::flow::Flow;
 use expression_checker::grounds::Grounds;
 use expression_checker::visits::Visits;
 use leaf_rows::Rows;
-use place::Place;
 use std::alloc::{AllocError, Global};
 use std::mem;
 use structured_states::cases::{arm_start, constants_before, covers};
 use structured_states::pairs::Pairs;
 use structured_states::rounds::{all_claims, all_loop_aliases};
-use structured_states::ways::{End, Way};
-use typed_tree::tree::{Access, Call, Expr, Passed, Stmt, Whole, WriteParameter};
+use structured_states::ways::Way;
+use typed_tree::tree::{
+    Access, CaseHead, Expr, ForHead, LoopHead, ProcedureCall, Stmt, Whole, Writing,
+};
 
 /// A walk over the statements of a program, in the order in which they stand. The counter of entries is lent to it.
 #[derive(Drop)]
@@ -115,38 +117,10 @@ impl<'a> Walk<'a> {
                 visits.tick(*number);
                 Ok(())
             }
-            Stmt::Assign {
-                number,
-                becomes,
-                target,
-                indexes,
-                fits,
-                value,
-            } => {
-                visits.tick(*number);
-                self.assignment(*becomes, target, indexes, *fits, value, visits)
-            }
-            Stmt::Copy {
-                number,
-                becomes,
-                target,
-                indexes,
-                value,
-                value_indexes,
-                ..
-            } => {
-                visits.tick(*number);
-                self.copying(*becomes, target, indexes, value, value_indexes, visits)
-            }
-            Stmt::Write {
-                number,
-                parameters,
-                ..
-            } => {
-                visits.tick(*number);
-                self.parameters(parameters, visits)
-            }
-            Stmt::Call { call, actuals } => self.call(*call, actuals, visits),
+            Stmt::Assign(assignment) => self.assignment(assignment, visits),
+            Stmt::Copy(copying) => self.copying(copying, visits),
+            Stmt::Write(writing) => self.write(writing, visits),
+            Stmt::Call(calling) => self.call(calling, visits),
             Stmt::Compound { number, statements } => {
                 visits.tick(*number);
                 self.statements(statements, visits)
@@ -165,65 +139,10 @@ impl<'a> Walk<'a> {
                 self.alternative(alternative, visits)?;
                 self.meet(behind)
             }
-            Stmt::While {
-                number,
-                loop_number,
-                place,
-                condition,
-                body,
-            } => {
-                visits.tick(*number);
-                self.enter_loop(*loop_number, *place, None)?;
-                let behind = self.while_round(body, condition, visits)?;
-                self.leave_loop(*loop_number, *place, behind)
-            }
-            Stmt::Repeat {
-                number,
-                loop_number,
-                place,
-                statements,
-                condition,
-            } => {
-                visits.tick(*number);
-                self.enter_loop(*loop_number, *place, None)?;
-                let behind = self.repeat_round(statements, condition, visits)?;
-                self.leave_loop(*loop_number, *place, behind)
-            }
-            Stmt::For {
-                number,
-                loop_number,
-                place,
-                control,
-                first,
-                first_fits,
-                direction,
-                last,
-                last_fits,
-                body,
-            } => {
-                visits.tick(*number);
-                let from = self.expression(first, visits)?;
-                let to = self.expression(last, visits)?;
-                let way = Way {
-                    control: *control,
-                    direction: *direction,
-                    first: End::before(first, last, *first_fits, from),
-                    last: End::new(last, *last_fits, to),
-                };
-                self.for_statement(*loop_number, *place, body, way, visits)
-            }
-            Stmt::Case {
-                number,
-                site,
-                index,
-                constants,
-                arms,
-            } => {
-                visits.tick(*number);
-                let known = self.expression(index, visits)?;
-                let range = known.range();
-                self.case_statement(arms, *site, index, constants, range, visits)
-            }
+            Stmt::While { head, body } => self.while_loop(head, body, visits),
+            Stmt::Repeat { head, statements } => self.repeat_loop(head, statements, visits),
+            Stmt::For { head, body } => self.for_loop(head, body, visits),
+            Stmt::Case { head, arms } => self.case(head, arms, visits),
         }
     }
 
@@ -236,6 +155,38 @@ impl<'a> Walk<'a> {
             self.statement(statement, visits)?;
         }
         Ok(())
+    }
+
+    /// The statement behind `else`, if there is one.
+    #[cycle(statement)]
+    fn alternative(
+        &mut self,
+        alternative: &Option<Box<Stmt>>,
+        visits: &mut Visits,
+    ) -> Result<(), CheckFault>
+        ensures { Goes (else_walk alternative.now) self.old visits.old result self.new visits.new }
+    {
+        match alternative {
+            None => Ok(()),
+            Some(statement) => self.statement(statement, visits),
+        }
+    }
+
+    /// A while.
+    #[cycle(statement)]
+    fn while_loop(
+        &mut self,
+        head: &LoopHead,
+        body: &Stmt,
+        visits: &mut Visits,
+    ) -> Result<(), CheckFault>
+        ensures { Goes (from_entry head.now.number (while_walk head.now (statement_walk body.now)))
+            self.old visits.old result self.new visits.new }
+    {
+        visits.tick(head.number);
+        self.enter_loop(head.loop_number, head.place, None)?;
+        let behind = self.while_round(body, &head.condition, visits)?;
+        self.leave_loop(head.loop_number, head.place, behind)
     }
 
     /// A round of a while, from the loop's head; the state behind the loop.
@@ -255,6 +206,23 @@ impl<'a> Walk<'a> {
         Ok(behind)
     }
 
+    /// A repeat.
+    #[cycle(statement)]
+    fn repeat_loop(
+        &mut self,
+        head: &LoopHead,
+        statements: &[Stmt],
+        visits: &mut Visits,
+    ) -> Result<(), CheckFault>
+        ensures { Goes (from_entry head.now.number (repeat_walk head.now (all_of (map statement_walk statements.now))))
+            self.old visits.old result self.new visits.new }
+    {
+        visits.tick(head.number);
+        self.enter_loop(head.loop_number, head.place, None)?;
+        let behind = self.repeat_round(statements, &head.condition, visits)?;
+        self.leave_loop(head.loop_number, head.place, behind)
+    }
+
     /// A round of a repeat, from the loop's head; the state behind the loop.
     #[cycle(statement)]
     fn repeat_round(
@@ -272,21 +240,37 @@ impl<'a> Walk<'a> {
         Ok(mem::replace(&mut self.flow.state, again))
     }
 
+    /// A for.
+    #[cycle(statement)]
+    fn for_loop(
+        &mut self,
+        head: &ForHead,
+        body: &Stmt,
+        visits: &mut Visits,
+    ) -> Result<(), CheckFault>
+        ensures { Goes (from_entry head.now.number (bounds_walk head.now (statement_walk body.now)))
+            self.old visits.old result self.new visits.new }
+    {
+        visits.tick(head.number);
+        let from = self.expression(&head.first.value, visits)?;
+        let to = self.expression(&head.last.value, visits)?;
+        self.for_statement(head, body, Way::of(head, from, to), visits)
+    }
+
     /// A for, from the values of its bounds.
     #[cycle(statement)]
     fn for_statement(
         &mut self,
-        number: u32,
-        place: Place,
+        head: &ForHead,
         body: &Stmt,
         way: Way,
         visits: &mut Visits,
     ) -> Result<(), CheckFault>
-        ensures { Goes (for_walk number place (statement_walk body.now) (said_way way))
+        ensures { Goes (for_walk head.now (statement_walk body.now) (said_way way))
             self.old visits.old result self.new visits.new }
     {
         let never = self.part_way(&way)?;
-        self.for_turns(number, place, body, way, visits)?;
+        self.for_turns(head, body, way, visits)?;
         self.leave_way(way.control, never)
     }
 
@@ -294,38 +278,36 @@ impl<'a> Walk<'a> {
     #[cycle(statement)]
     fn for_turns(
         &mut self,
-        number: u32,
-        place: Place,
+        head: &ForHead,
         body: &Stmt,
         way: Way,
         visits: &mut Visits,
     ) -> Result<(), CheckFault>
-        ensures { Goes (for_turns number place (statement_walk body.now) (said_way way))
+        ensures { Goes (for_turns head.now (statement_walk body.now) (said_way way))
             self.old visits.old result self.new visits.new }
     {
         let tested = self.tested_way(way)?;
         self.begin_way(&tested)?;
-        self.rounds_of(number, place, body, tested, visits)
+        self.rounds_of(head, body, tested, visits)
     }
 
     /// The rounds of a for.
     #[cycle(statement)]
     fn rounds_of(
         &mut self,
-        number: u32,
-        place: Place,
+        head: &ForHead,
         body: &Stmt,
         way: Way,
         visits: &mut Visits,
     ) -> Result<(), CheckFault>
-        ensures { Goes (rounds_of number place (statement_walk body.now) (said_way way))
+        ensures { Goes (rounds_of head.now (statement_walk body.now) (said_way way))
             self.old visits.old result self.new visits.new }
     {
         let control = way.control;
-        let steady = self.steady_in(number, way);
-        self.enter_loop(number, place, Some(control))?;
+        let steady = self.steady_in(head.loop_number, way);
+        self.enter_loop(head.loop_number, head.place, Some(control))?;
         let behind = self.for_round(body, steady, visits)?;
-        self.leave_loop(number, place, behind)
+        self.leave_loop(head.loop_number, head.place, behind)
     }
 
     /// A round of a for, from the loop's head; the state behind the loop.
@@ -339,22 +321,36 @@ impl<'a> Walk<'a> {
         self.end_turn(&way)
     }
 
+    /// A case.
+    #[cycle(statement)]
+    fn case(
+        &mut self,
+        head: &CaseHead,
+        arms: &[Stmt],
+        visits: &mut Visits,
+    ) -> Result<(), CheckFault>
+        ensures { Goes (from_entry head.now.number (index_walk head.now (map statement_walk arms.now)))
+            self.old visits.old result self.new visits.new }
+    {
+        visits.tick(head.number);
+        let known = self.expression(&head.index, visits)?;
+        self.case_statement(head, arms, known.range(), visits)
+    }
+
     /// A case, from the range of its index.
     #[cycle(statement)]
     fn case_statement(
         &mut self,
+        head: &CaseHead,
         arms: &[Stmt],
-        site: u32,
-        index: &Expr,
-        constants: &[Vec<i32>],
         range: Interval,
         visits: &mut Visits,
     ) -> Result<(), CheckFault>
-        ensures { Goes (case_walk site index.now constants.now (map statement_walk arms.now) (Ordinal range))
+        ensures { Goes (case_walk head.now (map statement_walk arms.now) (Ordinal range))
             self.old visits.old result self.new visits.new }
     {
-        let base = self.index_test(site, constants, arms.len(), range)?;
-        self.arms(arms, &base, entire(index), constants, visits)
+        let base = self.index_test(head, arms.len(), range)?;
+        self.arms(arms, &base, entire(&head.index), &head.constants, visits)
     }
 
     /// The arms of a case.
@@ -396,42 +392,21 @@ impl<'a> Walk<'a> {
         self.meet(behind)
     }
 
-    /// The statement behind `else`, if there is one.
-    #[cycle(statement)]
-    fn alternative(
-        &mut self,
-        alternative: &Option<Box<Stmt>>,
-        visits: &mut Visits,
-    ) -> Result<(), CheckFault>
-        ensures { Goes (else_walk alternative.now) self.old visits.old result self.new visits.new }
-    {
-        match alternative {
-            None => Ok(()),
-            Some(statement) => self.statement(statement, visits),
-        }
-    }
-
     /// A call of a procedure.
-    fn call(
-        &mut self,
-        call: Call,
-        actuals: &[Passed],
-        visits: &mut Visits,
-    ) -> Result<(), CheckFault>
-        ensures { Goes (call_walk call (map passed_piece_of actuals.now)) self.old visits.old result
-            self.new visits.new }
+    fn call(&mut self, calling: &ProcedureCall, visits: &mut Visits) -> Result<(), CheckFault>
+        ensures { Goes (call_walk calling.now.call (map passed_piece_of calling.now.actuals.items))
+            self.old visits.old result self.new visits.new }
     {
-        self.flow.call(call, actuals, visits)
+        self.flow.call(calling.call, &calling.actuals, visits)
     }
 
-    fn parameters(
-        &mut self,
-        parameters: &[WriteParameter],
-        visits: &mut Visits,
-    ) -> Result<(), CheckFault>
-        ensures { Goes (all_of (map parameter_walk parameters.now)) self.old visits.old result self.new visits.new }
+    /// A write.
+    fn write(&mut self, writing: &Writing, visits: &mut Visits) -> Result<(), CheckFault>
+        ensures { Goes (from_entry writing.now.number (all_of (map parameter_walk writing.now.parameters.items)))
+            self.old visits.old result self.new visits.new }
     {
-        for parameter in parameters {
+        visits.tick(writing.number);
+        for parameter in &writing.parameters {
             self.flow.parameter(parameter, visits)?;
         }
         Ok(())
@@ -509,18 +484,18 @@ impl<'a> Walk<'a> {
     /// The test of an index: what is known where it is one of the constants.
     fn index_test(
         &mut self,
-        site: u32,
-        constants: &[Vec<i32>],
+        head: &CaseHead,
         arms: usize,
         range: Interval,
     ) -> Result<State, CheckFault>
-        ensures { (visits : Visits) → Goes (index_test site (constants_before arms constants.now) range)
+        ensures { (visits : Visits)
+            → Goes (index_test head.now.site (constants_before arms head.now.constants.items) range)
             self.old visits (said_state self.old result) self.new visits }
     {
-        let constants = constants_before(self.alloc, arms, constants)?;
+        let constants = constants_before(self.alloc, arms, &head.constants)?;
         let passed = range.meet(&Interval::hull(&constants));
         let closed = covers(self.alloc, &constants, range)?;
-        self.flow.test(closed, site, passed)?;
+        self.flow.test(closed, head.site, passed)?;
         Ok(mem::replace(&mut self.flow.state, State::dead(self.alloc)))
     }
 }

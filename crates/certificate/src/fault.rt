@@ -27,6 +27,38 @@ pub enum ReadFault {
     Unended { line: u64 },
 }
 
+impl ReadFault {
+    ghost use Rattle.certificate.specs.Faults.{line_of, number_of};
+
+    /// Its number behind the letter F, from 1 to 5, or 0 for `Memory`.
+    pub fn number(&self) -> u8
+        ensures { result ≡ number_of self.now }
+    {
+        match self {
+            ReadFault::Memory => 0,
+            ReadFault::FirstLine { .. } => 1,
+            ReadFault::NotInGrammar { .. } => 2,
+            ReadFault::OutOfOrder { .. } => 3,
+            ReadFault::OutOfRange { .. } => 4,
+            ReadFault::Unended { .. } => 5,
+        }
+    }
+
+    /// Its line. `Memory` has none.
+    pub fn line(&self) -> Option<u64>
+        ensures { result ≡ line_of self.now }
+    {
+        match self {
+            ReadFault::Memory => None,
+            ReadFault::FirstLine { line }
+            | ReadFault::NotInGrammar { line }
+            | ReadFault::OutOfOrder { line }
+            | ReadFault::OutOfRange { line }
+            | ReadFault::Unended { line } => Some(*line),
+        }
+    }
+}
+
 impl From<AllocError> for ReadFault {
     ghost from_gives = { λ _ e. e ≡ Memory };
 

@@ -63,7 +63,7 @@ fn index_types(typer: &mut Typer, denoters: &[TypeDenoter]) -> Result<Vec<TypeId
 {
     let mut ids = Vec::with_capacity(typer.alloc, denoters.len())?;
     for denoter in denoters {
-        ids.push(index_type(typer, denoter)?)?;
+        ids.push_reserved(index_type(typer, denoter)?);
     }
     Ok(ids)
 }
@@ -76,7 +76,7 @@ fn index_type(typer: &mut Typer, denoter: &TypeDenoter) -> Result<TypeId, TypeFa
     ensures { Takes (spec.index_type (spec.denoted_type denoter.now) typer.old) result typer.new }
 {
     let id = denoted_type(typer, denoter)?;
-    if !typer.tests_ordinal(id) {
+    if !typer.types().is_ordinal(id) {
         return Err(TypeFault::Mismatch(typer.latest()));
     }
     Ok(id)

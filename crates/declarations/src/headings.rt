@@ -124,7 +124,7 @@ fn group_types(typer: &mut Typer, groups: &[FormalGroup]) -> Result<Vec<TypeId>,
 {
     let mut types = Vec::with_capacity(typer.alloc, groups.len())?;
     for group in groups {
-        types.push(typer.type_of_name(&group.type_name)?)?;
+        types.push_reserved(typer.type_of_name(&group.type_name)?);
     }
     Ok(types)
 }
@@ -145,7 +145,7 @@ fn result_type(typer: &mut Typer, name: &Name) -> Result<TypeId, TypeFault>
     ensures { Takes (spec.result_type name.now typer.old) result typer.new }
 {
     let id = typer.type_of_name(name)?;
-    if !typer.tests_ordinal(id) {
+    if !typer.types().is_ordinal(id) {
         return Err(TypeFault::Mismatch(name.place));
     }
     Ok(id)
@@ -204,7 +204,7 @@ fn parameters_named(
 {
     let mut roots = Vec::with_capacity(typer.alloc, names.len())?;
     for name in names {
-        roots.push(typer.variable(number, kind, type_id, name)?)?;
+        roots.push_reserved(typer.variable(number, kind, type_id, name)?);
     }
     Ok(roots)
 }

@@ -10,7 +10,7 @@ use Rattle.std.proofs.lemmas.List.{length-map}
 use Rattle.std.proofs.lemmas.List.Elements.{All-contains}
 use Rattle.std.proofs.lemmas.Option.{none-some, same_Some, slice_get_within}
 use Rattle.types.specs.Forms.{Form}
-use Rattle.types.specs.Types.{element_of, field_at, has_components, is_ordinal, is_structured}
+use Rattle.types.specs.Types.{element_of, field_at, form_kind, is_ordinal, is_structured, is_structured_kind}
 use Rattle.types.specs.declared.form.ArrayElement.{ArrayElement}
 use Rattle.types.specs.declared.form.RecordField.{RecordField}
 use Rattle.types.specs.declared.form.Step.{Step}
@@ -97,14 +97,14 @@ led-structured types (step.Element index) rest id own leads =
         → (next : TypeId) × (Rattle.call_states.specs.Environments.element_behind index found ≡ Some next) × (type_led types rest next ≡ Some own)
         → is_structured types id ≡ true
     by None found is = absurd (none-some is.0 is.1)
-    by (Some e) found is = ap has_components (is_array types id e found).form
+    by (Some e) found is = ap (λ form. is_structured_kind (option_map form_kind form)) (is_array types id e found).form
 led-structured types (step.Field position) rest id own leads = by (field_at types id position) refl (first-led types (step.Field position) rest id own leads)
   where
     by : (found : Option RecordField) → field_at types id position ≡ found
         → (next : TypeId) × (Rattle.call_states.specs.Environments.field_behind found ≡ Some next) × (type_led types rest next ≡ Some own)
         → is_structured types id ≡ true
     by None found is = absurd (none-some is.0 is.1)
-    by (Some f) found is = ap has_components (is_field types id position f found).form
+    by (Some f) found is = ap (λ form. is_structured_kind (option_map form_kind form)) (is_field types id position f found).form
 
 module _ (tree : Tree) (pairs : List (ℕ × ℕ)) (number : ℕ) (block : Block) (arguments : List Argument) (caller : Environment) (activations from : ℕ)
     (store : Store) (actuals : List Actual) (claims : BlockClaims) (after : Store)

@@ -2,7 +2,7 @@
 -- leaf of the type, and each is one of the type of its component.
 use Rattle.std.proofs.Common.{arith, ◌≡◌, ⊎_elim, ◌∙◌, sym, ap, refl, subst, ℕ, zero, suc, ◌<◌, ℤ, pos, true, ◌&&◌, ◌||◌, nat_eq, nat_le, nat_lt}
 use Rattle.std.proofs.Common.{ap₂, length, List, [], ◌∷◌, Option, Some, None}
-use Rattle.std.specs.Prelude.{slice_get}
+use Rattle.std.specs.Prelude.{option_map, slice_get}
 use Rattle.std.specs.List.{All, Contains, list_all}
 use Rattle.std.specs.Ordering.{int_eq}
 use Rattle.std.specs.declared.alloc.Global.{Global}
@@ -14,8 +14,8 @@ use Rattle.std.proofs.lemmas.List.Elements.{All-contains}
 use Rattle.std.proofs.lemmas.Option.{get_or_from_slice_get, none-some, same_Some, slice_get_within}
 use Rattle.types.specs.Components.{components_of}
 use Rattle.types.specs.Forms.{Array, Form}
-use Rattle.types.specs.Types.{BeginWithRequired, cells_of, form_at, has_components, have_one_length, is_same, is_structured, most_cells, range_of, string_in}
-use Rattle.types.specs.Types.{string_length}
+use Rattle.types.specs.Types.{BeginWithRequired, cells_of, form_at, form_kind, have_one_length, is_same, is_structured, is_structured_kind}
+use Rattle.types.specs.Types.{most_cells, range_of, string_in, string_length}
 use Rattle.types.specs.declared.form.OrdinalRange.{OrdinalRange}
 use Rattle.types.specs.declared.form.Step.{Step}
 use Rattle.types.specs.declared.form.TypeId.{TypeId}
@@ -78,7 +78,7 @@ alike-lie types target source ranges values alike many lie k j rest leaf v own o
     let there = alike k j rest other.0 leaf of_type other.1 of_leaf named in
     lie k j other.0 there.0 v own other.1 there.1 there.2 at ranged
 
-string-structured : (types : List Form) (n : ℕ) (form : Option Form) → string_in types form ≡ Some n → has_components form ≡ true
+string-structured : (types : List Form) (n : ℕ) (form : Option Form) → string_in types form ≡ Some n → is_structured_kind (option_map form_kind form) ≡ true
 string-structured types n (Some (Array packed index element)) is = refl
 string-structured types n form is = absurd (none-some n is)
 

@@ -1,6 +1,6 @@
 -- The walk over accesses and over whole values is sound, where that over their index expressions is.
 use Rattle.std.proofs.Common.{arith, ◌≡◌, ⊎_elim, ◌∙◌, sym, ap, refl, subst, ℕ, zero, suc, ◌+◌, ◌<◌, ℤ, pos, ◌≤ℤ◌, Bool, true, false, cond}
-use Rattle.std.proofs.Common.{◌&&◌, ◌||◌, nat_eq, nat_lt, not, List, [], ◌∷◌, ◌++◌, append-nil, append_assoc, length, map, Option, Some, None}
+use Rattle.std.proofs.Common.{◌&&◌, ◌||◌, nat_eq, nat_lt, List, [], ◌∷◌, ◌++◌, append-nil, append_assoc, length, map, Option, Some, None}
 use Rattle.std.specs.Prelude.{slice_get, slice_index_or}
 use Rattle.std.specs.List.{All, Contains, list_all}
 use Rattle.std.proofs.lemmas.Bool.{and_parts, eqb-true, ltb-true, or_cases, or_left, or_right}
@@ -726,10 +726,10 @@ module _ (world : World) (block : ℕ) (env : Surroundings) where
       let sized = is_value_of (outline_of world.tree) block type_id cells in
       let parts = and_parts leads_there (sized && nat_lt defined (sites_in world)) well in
       let site = and_parts sized (nat_lt defined (sites_in world)) parts.1 in
-      let wanted = λ (id : TypeId). is_same id type_id && not (is_ordinal (types_in world) id) in
+      let wanted = λ (id : TypeId). is_same id type_id && is_structured (types_in world) id in
       let found = type-of wanted (access_type access.root selectors)
       (leads-type (outline_of world.tree) block wanted access.root selectors n parts.0) in
-      let same = same-type found.0 type_id (and_parts (is_same found.0 type_id) (not (is_ordinal (types_in world) found.0)) found.2).0 in
+      let same = same-type found.0 type_id (and_parts (is_same found.0 type_id) (is_structured (types_in world) found.0) found.2).0 in
       let R = IsWholeIn value in
       let action = accessed access evaluations env in
       let next = λ (place : Option Place). fetch_all place (components_of visible.types type_id) defined in

@@ -1,9 +1,10 @@
 mod Actuals
 mod Calls
 mod Chains
+pub mod Fitting
 mod Named
 mod Only
 mod Operands
 mod PassedForms
 mod Results
-mod Selecting
+pub mod Selecting

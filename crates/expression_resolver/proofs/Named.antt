@@ -1,5 +1,6 @@
 -- Names as expressions: how their typing goes on from what they denote.
 use Rattle.std.proofs.Common.{◌≡◌, ℕ, Bool, [], Option, Ok, inl, inr, ap, ◌∙◌}
+use Rattle.place.specs.declared.Place.{Place}
 use Rattle.syntax_tree.specs.declared.Name.{Name}
 use Rattle.syntax_tree.specs.declared.Expr.{Expr as SyntaxExpr}
 use Rattle.syntax_tree.specs.declared.Expr.TheVariants as syntax
@@ -14,6 +15,17 @@ use Rattle.typing.specs.Outcomes.{IsFault}
 use Rattle.typing.specs.Expressions.{expression, named, denoted, accessed, function_value}
 use Rattle.typing.proofs.Rows.{behind_nothing}
 use Rattle.typing.proofs.Written.{typing_name}
+
+module _ (d : Denotation) (place : Place) (lead : Option SiteKind) (old : Passed) where
+  pub variable_denoted : (root : ℕ) (type_id : TypeId) → d ≡ denotes.Variable root type_id
+      → denoted d place lead old ≡ accessed root type_id [] [] place lead old
+  unfolding denoted
+  variable_denoted root type_id is = ap (λ e. denoted e place lead old) is
+
+  pub routine_denoted : (block : ℕ) (is_function : Bool) → d ≡ denotes.Routine block is_function
+      → denoted d place lead old ≡ function_value block is_function place [] lead old
+  unfolding denoted
+  routine_denoted block is_function is = ap (λ e. denoted e place lead old) is
 
 module _ (w : SyntaxExpr) (name : Name) (is : w ≡ syntax.Name name) (lead : Option SiteKind) (old : Passed) where
   named_is : (expression w).typing lead old ≡ and_then (find name old) (λ a. behind_marks a.look (denoted a.answer name.place lead a.passed))
@@ -31,13 +43,3 @@ module _ (w : SyntaxExpr) (name : Name) (is : w ≡ syntax.Name name) (lead : Op
     name_is =
         named_is ∙ ap (λ r. and_then r (λ a. behind_marks a.look (denoted a.answer name.place lead a.passed))) finds
         ∙ behind_nothing (denoted d name.place lead now)
-
-    pub variable_named : (root : ℕ) (type_id : TypeId) → d ≡ denotes.Variable root type_id
-        → (expression w).typing lead old ≡ accessed root type_id [] [] name.place lead now
-    unfolding denoted
-    variable_named root type_id same = name_is ∙ ap (λ e. denoted e name.place lead now) same
-
-    pub routine_named : (block : ℕ) (is_function : Bool) → d ≡ denotes.Routine block is_function
-        → (expression w).typing lead old ≡ function_value block is_function name.place [] lead now
-    unfolding denoted
-    routine_named block is_function same = name_is ∙ ap (λ e. denoted e name.place lead now) same

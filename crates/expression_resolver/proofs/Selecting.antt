@@ -13,7 +13,8 @@ use Rattle.syntax_tree.specs.declared.Expr.{Expr as SyntaxExpr}
 use Rattle.syntax_tree.specs.declared.Selector.{Selector}
 use Rattle.syntax_tree.specs.declared.Selector.TheVariants as select
 use Rattle.types.specs.declared.form.TypeId.{TypeId}
-use Rattle.types.specs.Types.{is_ordinal, host_of, cells_of}
+use Rattle.scopes.specs.declared.denotation.Denotation.{Denotation}
+use Rattle.types.specs.Types.{is_structured, host_of, cells_of}
 use Rattle.typed_tree.specs.declared.fault.TypeFault.{TypeFault}
 use Rattle.typed_tree.specs.declared.fault.TypeFault.TheVariants as fault
 use Rattle.typed_tree.specs.declared.site.SiteKind.{SiteKind}
@@ -30,37 +31,21 @@ use Rattle.typed_tree.specs.Entries.{joined}
 use Rattle.typed_tree.specs.Look.{Look, Mark, Access, Value, WholeValue, look_expr, look_access}
 use Rattle.typed_tree.proofs.Looks.{look_variable}
 use Rattle.typing.specs.declared.typed.Typed.{Typed}
-use Rattle.typing.specs.Passing.{Passed, Passing, Checked, After, after, and_then, behind_marks, pure, ◌>>=◌, ◌>>◌}
-use Rattle.typing.specs.Steps.{site, enter_as, host_type}
-use Rattle.typing.specs.Expressions.{Written, behind, selected, accessed, tests_ordinal, ordinal_value, whole_value, typed, typed_variable, expression}
+use Rattle.typing.specs.Passing.{Passed, Passing, Checked, After, after, and_then, behind_marks, given, pure, ◌>>=◌, ◌>>◌}
+use Rattle.typing.specs.Steps.{find, may_change, site, enter_as, host_type}
+use Rattle.typing.specs.Expressions.{as_variable, component}
+use Rattle.typing.specs.Expressions.{Written, behind, selected, accessed, tests_structured, ordinal_value, whole_value, typed, typed_variable, expression}
 use Rattle.typing.specs.Outcomes.{IsFault}
-use Rattle.typing.proofs.Rows.{behind_nothing, behind_both}
+use Rattle.typing.proofs.Rows.{behind_nothing, behind_both, then_assoc}
 use Rattle.typing.proofs.Selectors.{IsSelectedFrom, selectors_begin, selector_next, selector_stops, selectors_end}
 use Rattle.expression_resolver.specs.declared.typed.Entered.{Entered}
 use Rattle.expression_resolver.specs.declared.typed.Selection.{Selection}
 use Rattle.expression_resolver.specs.declared.typed.Value.TheVariants.{Whole as WholeOf}
 use Rattle.expression_resolver.specs.Made.{look_value}
-use Rattle.expression_resolver.specs.Accesses.{begun, value, valued, look_selection, left_behind, on, IsCounted, IsNothing, IsFieldBehind, IsElementBehind}
-use Rattle.expression_resolver.specs.Accesses.{IsOneBehind, SelectsField, SelectsElement, SelectsOne}
+use Rattle.expression_resolver.specs.Accesses.{begun, value, valued, look_selection, left_behind, on, reached, IsCounted, IsNothing, IsFieldBehind}
+use Rattle.expression_resolver.specs.Accesses.{IsElementBehind, IsOneBehind, SelectsField, SelectsElement, SelectsOne}
 
 -- ---- forms that are passed one after another
-
-module _ {A B C : Type 0} (f : A → Passing B) (g : B → Passing C) where
-  both_at : (look : Look) (outcome : Checked (After B))
-      → and_then (behind_marks look outcome) (λ b. behind_marks b.look (g b.answer b.passed))
-      ≡ behind_marks look (and_then outcome (λ b. behind_marks b.look (g b.answer b.passed)))
-  both_at look (Ok b) = sym (behind_both look b.look (g b.answer b.passed))
-  both_at look (Err why) = refl
-
-  first_at : (outcome : Checked (After A))
-      → and_then (and_then outcome (λ a. behind_marks a.look (f a.answer a.passed))) (λ b. behind_marks b.look (g b.answer b.passed))
-      ≡ and_then outcome (λ a. behind_marks a.look (and_then (f a.answer a.passed) (λ b. behind_marks b.look (g b.answer b.passed))))
-  first_at (Ok a) = both_at a.look (f a.answer a.passed)
-  first_at (Err why) = refl
-
-  -- the first two, or the last two
-  in_pairs : (p : Passing A) (s : Passed) → ((p >>= f) >>= g) s ≡ (p >>= (λ a. f a >>= g)) s
-  in_pairs p s = first_at (p s)
 
 module _ {A B : Type 0} (f g : A → Passing B) (same : (a : A) → (s : Passed) → f a s ≡ g a s) where
   same_at : (outcome : Checked (After A))
@@ -69,7 +54,7 @@ module _ {A B : Type 0} (f g : A → Passing B) (same : (a : A) → (s : Passed)
   same_at (Err why) = refl
 
   -- the same behind the first one
-  same_behind : (p : Passing A) (s : Passed) → (p >>= f) s ≡ (p >>= g) s
+  pub same_behind : (p : Passing A) (s : Passed) → (p >>= f) s ≡ (p >>= g) s
   same_behind p s = same_at (p s)
 
 -- ---- a variable
@@ -81,12 +66,12 @@ module _ (root : ℕ) (type_id : TypeId) (selectors : List Selector) (indexes : 
   entered_first : accessed root type_id selectors indexes place lead old ≡ (begun place lead >>= rest) old
   unfolding accessed begun value
   entered_first = sym (
-      in_pairs (λ defined. behind lead place >>= (λ id. enter_as Access >> pure (defined, id))) rest (site kind.UndefinedVariable place) old
+      then_assoc (site kind.UndefinedVariable place) (λ defined. behind lead place >>= (λ id. enter_as Access >> pure (defined, id))) rest old
       ∙ same_behind (λ defined. (behind lead place >>= (λ id. enter_as Access >> pure (defined, id))) >>= rest)
       (λ defined. behind lead place >>= (λ id. enter_as Access >> rest (defined, id)))
-      (λ defined s. in_pairs (λ id. enter_as Access >> pure (defined, id)) rest (behind lead place) s
+      (λ defined s. then_assoc (behind lead place) (λ id. enter_as Access >> pure (defined, id)) rest s
       ∙ same_behind (λ id. (enter_as Access >> pure (defined, id)) >>= rest) (λ id. enter_as Access >> rest (defined, id))
-      (λ id t. in_pairs (λ _. pure (defined, id)) rest (enter_as Access) t
+      (λ id t. then_assoc (enter_as Access) (λ _. pure (defined, id)) rest t
       ∙ same_behind (λ _. pure (defined, id) >>= rest) (λ _. rest (defined, id)) (λ _ u. behind_nothing (rest (defined, id) u)) (enter_as Access) t)
       (behind lead place) s)
       (site kind.UndefinedVariable place) old)
@@ -118,6 +103,32 @@ module _ (root : ℕ) (type_id : TypeId) (selectors : List Selector) (indexes : 
         ∙ ap (λ r. behind_marks (Access number ∷ []) (and_then r (λ a. behind_marks a.look (value root sites a.answer a.passed)))) passes
         ∙ behind_both (Access number ∷ []) look (value root sites component now)
 
+-- a component of a variable, by what its name denotes
+module _ (name : Name) (selectors : List Selector) (indexes : List Written) (lead : Option SiteKind) (old first : Passed) (d : Denotation)
+    (variable : ℕ × TypeId) (finds : find name old ≡ Ok (after d [] first)) (is : as_variable name.place d ≡ Ok variable) where
+  abbrev behind_name : ℕ × TypeId → Passing Typed
+  behind_name v = accessed v.0 v.1 selectors indexes name.place lead
+
+  pub component_goes : component name selectors indexes lead old ≡ accessed variable.0 variable.1 selectors indexes name.place lead first
+  unfolding component
+  component_goes =
+      ap (λ r. and_then r (λ a. behind_marks a.look ((given (as_variable name.place a.answer) >>= behind_name) a.passed))) finds
+      ∙ ap (λ r. behind_marks [] (and_then (and_then r (λ a. Ok (after a [] first))) (λ a. behind_marks a.look (behind_name a.answer a.passed)))) is
+      ∙ behind_nothing (behind_marks [] (behind_name variable first))
+      ∙ behind_nothing (behind_name variable first)
+
+-- what stands behind a variable that is reached
+pub reached_then : {B : Type 0} (place : Place) (variable : ℕ × TypeId) (selectors : List Selector) (indexes : List Written)
+    (more : List TreeSelector × TypeId → Passing B) (s : Passed)
+    → (may_change place variable.0 >> (enter_as Access >> (selected [] variable.1 selectors indexes >>= more))) s
+    ≡ (reached place variable selectors indexes >>= more) s
+unfolding reached
+reached_then place variable selectors indexes more s = sym (
+    then_assoc (may_change place variable.0) (λ _. enter_as Access >> selected [] variable.1 selectors indexes) more s
+    ∙ same_behind (λ _. (enter_as Access >> selected [] variable.1 selectors indexes) >>= more)
+    (λ _. enter_as Access >> (selected [] variable.1 selectors indexes >>= more))
+    (λ _ t. then_assoc (enter_as Access) (λ _. selected [] variable.1 selectors indexes) more t) (may_change place variable.0) s)
+
 -- ---- values
 
 -- an access, as it is made
@@ -127,40 +138,40 @@ look_made access indexes does =
     ap (λ rows. Access access.number ∷ (rows ++ (does ∷ []))) (flat_map-map (λ (row : Look). row) look_expr indexes.items)
 
 module _ (entered : Entered) (made : Selection) (s : Passed) where
-  by_ordinal : (ordinal : Bool) → is_ordinal s.types made.type_id ≡ ordinal
+  by_kind : (structured : Bool) → is_structured s.types made.type_id ≡ structured
       → valued entered made s
       ≡ behind_marks (Access entered.number ∷ look_selection made)
-      ((if ordinal then ordinal_value else whole_value) entered.root made.selectors.items made.type_id entered.defined entered.site s)
-  unfolding value tests_ordinal
-  by_ordinal ordinal is =
+      ((if structured then whole_value else ordinal_value) entered.root made.selectors.items made.type_id entered.defined entered.site s)
+  unfolding value tests_structured
+  by_kind structured is =
       ap (λ b. behind_marks (Access entered.number ∷ look_selection made)
-      (behind_marks [] ((if b then ordinal_value else whole_value) entered.root made.selectors.items made.type_id entered.defined entered.site s))) is
+      (behind_marks [] ((if b then whole_value else ordinal_value) entered.root made.selectors.items made.type_id entered.defined entered.site s))) is
       ∙ ap (behind_marks (Access entered.number ∷ look_selection made))
-      (behind_nothing ((if ordinal then ordinal_value else whole_value) entered.root made.selectors.items made.type_id entered.defined entered.site s))
+      (behind_nothing ((if structured then whole_value else ordinal_value) entered.root made.selectors.items made.type_id entered.defined entered.site s))
 
-  pub ordinal_is : is_ordinal s.types made.type_id ≡ true
+  pub ordinal_is : is_structured s.types made.type_id ≡ false
       → valued entered made s
       ≡ Ok (after (typed (host_of s.types made.type_id) entered.site)
       (Access entered.number ∷ (look_selection made
       ++ (Value entered.root made.selectors.items (index_count made.selectors.items) entered.defined ∷ []))) s)
   unfolding ordinal_value host_type
-  ordinal_is is = by_ordinal true is
+  ordinal_is is = by_kind false is
 
-  pub whole_is : is_ordinal s.types made.type_id ≡ false
+  pub whole_is : is_structured s.types made.type_id ≡ true
       → valued entered made s
       ≡ Ok (after (typed_variable made.type_id (cells_of s.types made.type_id) entered.site)
       (Access entered.number ∷ (look_selection made
       ++ (WholeValue entered.root made.selectors.items (index_count made.selectors.items) made.type_id (cells_of s.types made.type_id) entered.defined
       ∷ []))) s)
   unfolding whole_value
-  whole_is is = by_ordinal false is
+  whole_is is = by_kind true is
 
   -- how it is made
   abbrev made_access : VariableAccess
   made_access = record { number = entered.number; root = entered.root; selectors = made.selectors }
 
   module _ (counted : IsCounted made) where
-    pub ordinal_made : (host : TypeId) → is_ordinal s.types made.type_id ≡ true → host ≡ host_of s.types made.type_id
+    pub ordinal_made : (host : TypeId) → is_structured s.types made.type_id ≡ false → host ≡ host_of s.types made.type_id
         → valued entered made s
         ≡ Ok (after (typed host entered.site) (look_expr (form.Variable made_access made.indexes entered.defined)) s)
     ordinal_made host is same =
@@ -174,7 +185,7 @@ module _ (entered : Entered) (made : Selection) (s : Passed) where
         (sym (look_variable made_access made.indexes entered.defined
         ∙ look_made made_access made.indexes (Value entered.root made.selectors.items (length made.indexes.items) entered.defined)))
 
-    pub whole_made : (cells : ℕ) → is_ordinal s.types made.type_id ≡ false → cells ≡ cells_of s.types made.type_id
+    pub whole_made : (cells : ℕ) → is_structured s.types made.type_id ≡ true → cells ≡ cells_of s.types made.type_id
         → valued entered made s
         ≡ Ok (after (typed_variable made.type_id cells entered.site)
         (look_value (WholeOf (whole.Variable made_access made.type_id cells entered.defined) made.indexes)) s)

@@ -18,11 +18,12 @@ use Rattle.typed_tree.specs.Accesses.{index_count}
 use Rattle.typed_tree.specs.Look.{Look, Access, look_expr}
 use Rattle.typing.specs.declared.typed.Typed.{Typed}
 use Rattle.typing.specs.Passing.{Passed, Passing, Checked, After, after, behind_marks, pure, ◌>>=◌, ◌>>◌}
-use Rattle.typing.specs.Steps.{find, site, enter_as}
-use Rattle.typing.specs.Expressions.{Written, as_variable, behind, selected, tests_ordinal, ordinal_value}
+use Rattle.typing.specs.Steps.{find, may_change, site, enter_as}
+use Rattle.typing.specs.Expressions.{Written, as_variable, behind, selected, tests_structured, ordinal_value}
 use Rattle.typing.specs.Expressions.{whole_value, expression}
 use Rattle.typing.specs.Outcomes.{IsFault, Makes}
 use Rattle.expression_resolver.specs.declared.typed.Entered.{Entered}
+use Rattle.expression_resolver.specs.declared.typed.Reached.{Reached}
 use Rattle.expression_resolver.specs.declared.typed.Selection.{Selection}
 
 -- ---- a variable
@@ -71,6 +72,20 @@ look_selection made = flat_map look_expr made.indexes.items
 abbrev pub MakesSelection
     : Checked (After (List TreeSelector × TypeId)) → Result Selection TypeFault → Passed → Type 0
 MakesSelection = Makes (λ made. (made.selectors.items, made.type_id)) look_selection
+
+-- what is accessed of a variable that may be changed, by its root and its type, at the place of its name
+unfoldable pub reached : Place → ℕ × TypeId → List Selector → List Written → Passing (List TreeSelector × TypeId)
+reached place variable selectors indexes = do
+  may_change place variable.0
+  enter_as Access
+  selected [] variable.1 selectors indexes
+
+-- how it looks
+abbrev pub look_reached : Reached → Look
+look_reached made = Access made.access.number ∷ flat_map look_expr made.indexes.items
+
+abbrev pub MakesReached : Checked (After (List TreeSelector × TypeId)) → Result Reached TypeFault → Passed → Type 0
+MakesReached = Makes (λ made. (made.access.selectors.items, made.type_id)) look_reached
 
 -- an index, by the id of its site
 abbrev pub MakesIndex : Checked (After ℕ) → Result (ℕ × Expr) TypeFault → Passed → Type 0
@@ -133,8 +148,8 @@ SelectsOne selector indexes s old (Err why) new now =
 -- the value of a component, by the root of its variable, the sites of that, and the selectors
 unfoldable pub value : ℕ → ℕ × Option ℕ → List TreeSelector × TypeId → Passing Typed
 value root sites component = do
-  ordinal ← tests_ordinal component.1
-  (if ordinal then ordinal_value else whole_value) root component.0 component.1 sites.0 sites.1
+  structured ← tests_structured component.1
+  (if structured then whole_value else ordinal_value) root component.0 component.1 sites.0 sites.1
 
 -- the value of what was selected of a variable that was entered
 abbrev pub valued : Entered → Selection → Passing Typed

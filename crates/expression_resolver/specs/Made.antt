@@ -12,8 +12,12 @@ use Rattle.scopes.specs.declared.denotation.Denotation.{Denotation}
 use Rattle.scopes.specs.declared.denotation.Denotation.TheVariants as denotes
 use Rattle.typed_tree.specs.declared.fault.TypeFault.{TypeFault}
 use Rattle.typed_tree.specs.declared.site.SiteKind.{SiteKind}
+use Rattle.typed_tree.specs.declared.site.SiteKind.TheVariants as kind
 use Rattle.typed_tree.specs.declared.tree.Dyadic.TheVariants as dyadic
 use Rattle.typed_tree.specs.declared.tree.Expr.{Expr}
+use Rattle.typed_tree.specs.declared.tree.Fitted.{Fitted}
+use Rattle.typed_tree.specs.declared.tree.RangeTest.{RangeTest}
+use Rattle.typed_tree.specs.declared.tree.Whole.{Whole}
 use Rattle.typed_tree.specs.declared.tree.Link.{Link}
 use Rattle.typed_tree.specs.declared.tree.Monadic.{Monadic}
 use Rattle.typed_tree.specs.declared.tree.Relation.{Relation}
@@ -27,9 +31,10 @@ use Rattle.typed_tree.specs.Look.{look_expr, look_link, look_passed, look_whole}
 use Rattle.typed_tree.specs.WellFormed.{length_of, placed, source_of}
 use Rattle.typing.specs.declared.typed.Typed.{Typed}
 use Rattle.typing.specs.Passing.{Passed, Passing, Checked, After, after, and_then, behind_marks, given, pure, ◌>>=◌}
-use Rattle.typing.specs.Passing.{◌>>◌}
-use Rattle.typing.specs.Steps.{enter, enter_as, host_type}
-use Rattle.typing.specs.Expressions.{behind, operand_type, typed, typed_text, or_no_result}
+use Rattle.typing.specs.Passing.{◌>>◌, ◌>>?◌}
+use Rattle.typing.specs.Steps.{enter, enter_as, host_type, or_mismatch, site}
+use Rattle.typing.specs.Expressions.{Copy, Written, behind, copying, fitting, operand_type, typed, typed_text}
+use Rattle.typing.specs.Expressions.{or_no_result}
 use Rattle.typing.specs.Outcomes.{IsFault, Makes, Tells}
 use Rattle.expression_resolver.specs.declared.typed.Begun.{Begun}
 use Rattle.expression_resolver.specs.declared.typed.Value.{Value}
@@ -84,9 +89,8 @@ text_entered site type_id characters = do
   enter_as (λ n. Text n characters)
   pure (typed_text type_id (length characters) site)
 
--- what is neither a variable nor a routine of the program
+-- what is no routine of the program
 abbrev pub is_alone : Denotation → Bool
-is_alone (denotes.Variable root type_id) = false
 is_alone (denotes.Routine block is_function) = false
 is_alone d = true
 
@@ -124,11 +128,34 @@ pub record IsRelationOf (number : ℕ) (relation : Relation) (left right : Typed
       ++ (look_compared (value_length left.value) (value_length right.value) ++ (Ends ∷ [])))))
   pub is : typed_of made ≡ typed boolean left.site
 
+-- ---- values that are assigned, or passed to value parameters
+
+-- a value that is assigned to an ordinal type, by its test, whose site stands at the place, before those of its own
+unfoldable pub fitted : TypeId → Place → Written → Passing RangeTest
+fitted type_id place w = do
+  id ← site kind.Subrange place
+  range ← w.typing None >>? (λ types t. or_mismatch place (fitting types type_id t))
+  pure (record { site = id; range = range })
+
+abbrev pub MakesFitted : Checked (After RangeTest) → Result Fitted TypeFault → Passed → Type 0
+MakesFitted = Makes (λ made. made.fits) (λ made. look_expr made.value)
+
+-- a value that is copied to a structured type; K1 at the place where it may not be
+abbrev pub copied : TypeId → Place → Written → Passing Copy
+copied type_id place w = w.typing None >>? (λ types t. or_mismatch place (copying types type_id t))
+
+-- how it is copied
+abbrev pub copy_of : Whole × Vec Expr Global → Copy
+copy_of made = record { source = source_of made.0; cells = length_of made.0 }
+
+abbrev pub MakesCopied : Checked (After Copy) → Result (Whole × Vec Expr Global) TypeFault → Passed → Type 0
+MakesCopied = Makes copy_of (λ made. look_whole made.0 made.1.items)
+
+-- ---- calls
+
 -- the value of the only actual
 abbrev pub IsOnly : List Actual → SyntaxExpr → Type 0
 IsOnly actuals value = (actual : Actual) × (actuals ≡ actual ∷ []) × ((out-Actual actual).value ≡ value)
-
--- ---- calls
 
 -- actual parameters, for a callee, the first of them at the first place
 abbrev pub look_actuals : ℕ → List PassedOne → Look

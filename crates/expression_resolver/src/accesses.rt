@@ -21,7 +21,7 @@ impl Selection {
     ghost use Rattle.expression_resolver.specs.Accesses.{IsNothing};
 
     /// No selectors: a value of a type itself.
-    pub fn nothing(alloc: Global, type_id: TypeId) -> Selection
+    pub(crate) fn nothing(alloc: Global, type_id: TypeId) -> Selection
         ensures { IsNothing type_id result }
     {
         Selection {
@@ -129,45 +129,38 @@ pub(crate) fn accessed_value(typer: &Typer, entered: Entered, selection: Selecti
     requires counted { IsCounted selection }
     ensures { valued entered selection typer.now ≡ Ok (after (typed_of result) (look_value result.value) typer.now) }
 {
-    let Entered {
-        number,
-        root,
-        defined,
-        site,
-    } = entered;
+    let Entered { defined, site, .. } = entered;
     let Selection {
         selectors,
         indexes,
         type_id,
     } = selection;
     let access = Access {
-        number,
-        root,
+        number: entered.number,
+        root: entered.root,
         selectors,
     };
-    if typer.tests_ordinal(type_id) {
+    if typer.types().is_structured(type_id) {
+        let value = Whole::Variable {
+            access,
+            type_id,
+            cells: typer.types().cells(type_id),
+            defined,
+        };
         return TypedExpr {
-            value: Value::Ordinal(Expr::Variable {
-                access,
-                indexes,
-                defined,
-            }),
-            type_id: typer.host(type_id),
+            value: Value::Whole { value, indexes },
+            type_id,
             site,
         };
     }
-    let cells = typer.cells(type_id);
+    let value = Expr::Variable {
+        access,
+        indexes,
+        defined,
+    };
     TypedExpr {
-        value: Value::Whole {
-            value: Whole::Variable {
-                access,
-                type_id,
-                cells,
-                defined,
-            },
-            indexes,
-        },
-        type_id,
+        value: Value::Ordinal(value),
+        type_id: typer.types().host(type_id),
         site,
     }
 }

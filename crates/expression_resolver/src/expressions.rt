@@ -3,25 +3,30 @@ ghost use Rattle.typed_tree.specs.Look.{Begins};
 ghost use Rattle.typing.specs.Passing.{behind_marks};
 ghost use Rattle.typing.specs.Expressions as spec;
 ghost use Rattle.typing.specs.Expressions.{result_variable};
+ghost use Rattle.typed_tree.specs.Accesses.{index_count};
 ghost use Rattle.expression_resolver.specs.Made.{IsHostOf, MakesActuals, MakesCall, MakesPassed};
+ghost use Rattle.expression_resolver.specs.Made.{MakesCopied, MakesFitted, copied, fitted};
 ghost use Rattle.expression_resolver.specs.Made.{typed_of, look_value};
 ghost use Rattle.expression_resolver.specs.Made.{MakesTyped, MakesLink, MakesLinks, IsOnly, is_alone};
 ghost use Rattle.expression_resolver.specs.Accesses.{MakesSelection, MakesIndex, SelectsElement, SelectsOne, IsCounted};
+ghost use Rattle.expression_resolver.specs.Accesses.{MakesReached, reached};
 
 use crate::accesses::{accessed_value, begin, constant, enter, select_field, text, variable};
 use crate::operators::{self, monadic};
-use crate::typed::{Begun, Selection, TypedCall, TypedExpr, TypedLinks, Value};
+use crate::typed::{Begun, Reached, Selection, TypedCall, TypedExpr, TypedLinks, Value};
 use place::Place;
 use scopes::Denotation;
 use syntax_tree as syntax;
 use typed_tree::fault::TypeFault;
 use typed_tree::site::SiteKind;
 use typed_tree::tree::{
-    Access, Calculation, Call, Expr, Link, Monadic, Passed, RangeTest, Selector, VariableKind,
+    Access, Calculation, Call, Expr, Fitted, Link, Monadic, Passed, RangeTest, Selector,
+    VariableKind, Whole,
 };
 use types::{ArrayElement, TypeId, TypeTable};
 use typing::rules::{
-    as_function, as_routine, operand_type, relation_of, sign_operation, takes_operands,
+    as_function, as_routine, fitting, may_compare, may_copy, may_index, operand_type, relation_of,
+    sign_operation, takes_operands,
 };
 use typing::{Typed, Typer, characters};
 
@@ -39,15 +44,10 @@ pub fn expression(
         syntax::Expr::Number { value, place } => number(typer, *value, *place, lead),
         syntax::Expr::Name(name) => {
             let denotation = typer.find(name)?;
-            match denotation {
-                Denotation::Variable { root, type_id } => {
-                    accessed(typer, root, type_id, &[], &[], name.place, lead)
-                }
-                Denotation::Routine { block, is_function } => {
-                    function_value(typer, block, is_function, name.place, &[], lead)
-                }
-                _ => denoted(typer, denotation, name.place, lead),
+            if let Denotation::Routine { block, is_function } = denotation {
+                return function_value(typer, block, is_function, name.place, &[], lead);
             }
+            denoted(typer, denotation, name.place, lead)
         }
         syntax::Expr::Component {
             name,
@@ -57,13 +57,16 @@ pub fn expression(
         syntax::Expr::String { text, place } => string(typer, text, *place, lead),
         syntax::Expr::Call { name, actuals } => call(typer, name, actuals, lead),
         syntax::Expr::Parenthesized { open, inner } => parenthesized(typer, *open, inner, lead),
-        syntax::Expr::Not { place, operand } => {
-            let operation = Monadic::Plain(Calculation::Complement);
-            prefixed(typer, TypeTable::BOOLEAN, operation, *place, operand, lead)
-        }
+        syntax::Expr::Not { place, operand } => negation(typer, *place, operand, lead),
         syntax::Expr::Signed { sign, place, term } => {
-            let operation = sign_operation(*sign);
-            prefixed(typer, TypeTable::INTEGER, operation, *place, term, lead)
+            prefixed(
+                typer,
+                TypeTable::INTEGER,
+                sign_operation(*sign),
+                *place,
+                term,
+                lead,
+            )
         }
         syntax::Expr::Chain { first, rest } => {
             let left = expression(typer, first, lead)?;
@@ -135,7 +138,7 @@ fn spelled(
     text(typer, site, type_id, characters)
 }
 
-// What a name denotes that is neither a variable nor a routine of the program, as an expression: a constant.
+// What a name denotes that is no routine of the program, as an expression: a constant or a variable.
 #[tactic(auto, unfolding(typing::specs::Expressions::denoted))]
 fn denoted(
     typer: &mut Typer,
@@ -156,11 +159,16 @@ fn denoted(
             let characters = typer.text_at(number)?;
             text(typer, site, type_id, characters)
         }
+        Denotation::Variable { root, type_id } => {
+            let entered = enter(typer, root, place, lead)?;
+            let nothing = Selection::nothing(typer.alloc, type_id);
+            Ok(accessed_value(typer, entered, nothing))
+        }
         Denotation::Procedure(_) | Denotation::Function(_) => {
             Err(TypeFault::WrongParameters(place))
         }
         Denotation::TypeName(_) | Denotation::Output => Err(TypeFault::Mismatch(place)),
-        Denotation::Variable { .. } | Denotation::Routine { .. } => unreachable!(),
+        Denotation::Routine { .. } => unreachable!(),
     }
 }
 
@@ -178,32 +186,15 @@ fn component(
         typer.new }
 {
     let (root, type_id) = variable(typer, name)?;
-    accessed(typer, root, type_id, selectors, indexes, name.place, lead)
-}
-
-// A component of a variable of a root and a type, at the place of its name.
-#[cycle(expressions)]
-fn accessed(
-    typer: &mut Typer,
-    root: u32,
-    type_id: TypeId,
-    selectors: &[syntax::Selector],
-    indexes: &[syntax::Expr],
-    place: Place,
-    lead: Option<SiteKind>,
-) -> Result<TypedExpr, TypeFault>
-    ensures { MakesTyped (spec.accessed root type_id selectors.now (map spec.expression indexes.now) place lead
-        typer.old) result typer.new }
-{
-    let entered = enter(typer, root, place, lead)?;
+    let entered = enter(typer, root, name.place, lead)?;
     let selection = selected(typer, type_id, selectors, indexes)?;
     Ok(accessed_value(typer, entered, selection))
 }
 
-/// The selectors of an access, from a value of a type, with their index expressions (6.5.3): K1 where one is none of
-/// the type before it, S3 at a name that is no field.
+// The selectors of an access, from a value of a type, with their index expressions (6.5.3): K1 where one is none of
+// the type before it, S3 at a name that is no field.
 #[cycle(expressions)]
-pub fn selected(
+fn selected(
     typer: &mut Typer,
     type_id: TypeId,
     selectors: &[syntax::Selector],
@@ -277,7 +268,7 @@ fn index(
     let place = first_place(written);
     let site = typer.site(SiteKind::Index, place)?;
     let made = expression(typer, written, None)?;
-    if !typer.may_index(element, made.typed()) {
+    if !may_index(typer.types(), element, made.typed()) {
         return Err(TypeFault::Mismatch(place));
     }
     Ok((site, made.value.into_ordinal()))
@@ -297,6 +288,20 @@ fn parenthesized(
     let site = typer.behind(lead, bracket)?;
     let inner = expression(typer, inner, None)?;
     Ok(TypedExpr { site, ..inner })
+}
+
+// `not` and its operand (6.7.2.3).
+#[cycle(expressions)]
+fn negation(
+    typer: &mut Typer,
+    place: Place,
+    operand: &syntax::Expr,
+    lead: Option<SiteKind>,
+) -> Result<TypedExpr, TypeFault>
+    ensures { MakesTyped (spec.negation place (spec.expression operand.now) lead typer.old) result typer.new }
+{
+    let operation = Monadic::Plain(Calculation::Complement);
+    prefixed(typer, TypeTable::BOOLEAN, operation, place, operand, lead)
 }
 
 // An operation before an operand of a type, which its result is of too.
@@ -343,7 +348,7 @@ fn links(typer: &mut Typer, left: Typed, rest: &[syntax::Link]) -> Result<TypedL
     let mut links = Vec::with_capacity(typer.alloc, rest.len())?;
     let mut typed = left;
     for written in rest {
-        links.push(link(typer, typed, written)?)?;
+        links.push_reserved(link(typer, typed, written)?);
         typed = Typed {
             type_id: operand_type(written.operator),
             length: None,
@@ -388,7 +393,7 @@ fn relation(
 {
     let number = typer.enter()?;
     let right = expression(typer, right, None)?;
-    if !typer.may_compare(left.typed(), right.typed()) {
+    if !may_compare(typer.types(), left.typed(), right.typed()) {
         return Err(TypeFault::Mismatch(place));
     }
     operators::relation(typer.alloc, number, relation_of(operator), left, right)
@@ -480,7 +485,7 @@ fn result_type(typer: &Typer, place: Place, root: Option<u32>) -> Result<TypeId,
     let Some(variable) = typer.variable_at(root) else {
         return Err(TypeFault::WrongParameters(place));
     };
-    Ok(typer.host(variable.type_id))
+    Ok(typer.types().host(variable.type_id))
 }
 
 /// The call of a block, a function's or a procedure's, at the place of its name: K3 where the number of actual
@@ -525,7 +530,7 @@ fn actuals_for(
 {
     let mut made = Vec::with_capacity(typer.alloc, actuals.len())?;
     for i in 0..actuals.len() {
-        made.push(actual(typer, roots[i], &actuals[i])?)?;
+        made.push_reserved(actual(typer, roots[i], &actuals[i])?);
     }
     Ok(made)
 }
@@ -593,24 +598,43 @@ fn passed_access(
         typer.old result typer.new }
 {
     let (root, type_id) = variable(typer, name)?;
-    typer.may_change(name.place, root)?;
-    let number = typer.enter()?;
-    let component = selected(typer, type_id, selectors, indexes)?;
-    typer.passable(
-        wanted,
-        type_id,
-        &component.selectors,
-        component.type_id,
-        name.place,
-    )?;
+    let reached = reach(typer, name.place, (root, type_id), selectors, indexes)?;
+    let selected = &reached.access.selectors;
+    typer.passable(wanted, type_id, selected, reached.type_id, name.place)?;
     Ok(Passed::Reference {
         type_id: wanted,
+        access: reached.access,
+        indexes: reached.indexes,
+    })
+}
+
+/// What is accessed of a variable that may be changed, by its root and its type, at the place of its name.
+#[cycle(expressions)]
+#[tactic(auto, unfolding(crate::specs::Accesses::reached))]
+pub fn reach(
+    typer: &mut Typer,
+    place: Place,
+    variable: (u32, TypeId),
+    selectors: &[syntax::Selector],
+    indexes: &[syntax::Expr],
+) -> Result<Reached, TypeFault>
+    ensures made { MakesReached (reached place variable selectors.now (map spec.expression indexes.now) typer.old)
+        result typer.new }
+    ensures root { IfOk result (λ made. made.access.root ≡ variable.0) }
+    ensures counted { IfOk result (λ made. index_count made.access.selectors.items ≡ length made.indexes.items) }
+{
+    let (root, type_id) = variable;
+    typer.may_change(place, root)?;
+    let number = typer.enter()?;
+    let component = selected(typer, type_id, selectors, indexes)?;
+    Ok(Reached {
         access: Access {
             number,
             root,
             selectors: component.selectors,
         },
         indexes: component.indexes,
+        type_id: component.type_id,
     })
 }
 
@@ -624,16 +648,15 @@ fn passed_value(
 ) -> Result<Passed, TypeFault>
     ensures { MakesPassed (spec.passed_value type_id (spec.expression written.now)) typer.old result typer.new }
 {
-    if typer.tests_ordinal(type_id) {
-        passed_ordinal(typer, type_id, written)
-    } else {
+    if typer.types().is_structured(type_id) {
         passed_whole(typer, type_id, written)
+    } else {
+        passed_ordinal(typer, type_id, written)
     }
 }
 
 // A value of an ordinal type.
 #[cycle(expressions)]
-#[tactic(auto, unfolding(typing::specs::Expressions::passed_ordinal))]
 fn passed_ordinal(
     typer: &mut Typer,
     type_id: TypeId,
@@ -641,14 +664,7 @@ fn passed_ordinal(
 ) -> Result<Passed, TypeFault>
     ensures { MakesPassed (spec.passed_ordinal type_id (spec.expression written.now)) typer.old result typer.new }
 {
-    let place = first_place(written);
-    let site = typer.site(SiteKind::Subrange, place)?;
-    let made = expression(typer, written, None)?;
-    let range = typer
-        .fitting(type_id, made.typed())
-        .ok_or(TypeFault::Mismatch(place))?;
-    let value = made.value.into_ordinal();
-    let fits = RangeTest { site, range };
+    let Fitted { value, fits } = fitted(typer, type_id, first_place(written), written)?;
     Ok(Passed::Value { value, fits })
 }
 
@@ -662,17 +678,49 @@ fn passed_whole(
 ) -> Result<Passed, TypeFault>
     ensures { MakesPassed (spec.passed_whole type_id (spec.expression written.now)) typer.old result typer.new }
 {
-    let place = first_place(written);
-    let made = expression(typer, written, None)?;
-    if !typer.may_copy(type_id, made.typed()) {
-        return Err(TypeFault::Mismatch(place));
-    }
-    let (value, indexes) = made.whole(place)?;
+    let (value, indexes) = copied(typer, type_id, first_place(written), written)?;
     Ok(Passed::Whole {
         type_id,
         value,
         indexes,
     })
+}
+
+/// A value that is assigned to an ordinal type, with its test, whose site stands at the place (6.4.6).
+#[cycle(expressions)]
+#[tactic(auto, unfolding(crate::specs::Made::fitted))]
+pub fn fitted(
+    typer: &mut Typer,
+    type_id: TypeId,
+    place: Place,
+    written: &syntax::Expr,
+) -> Result<Fitted, TypeFault>
+    ensures { MakesFitted (fitted type_id place (spec.expression written.now) typer.old) result typer.new }
+{
+    let site = typer.site(SiteKind::Subrange, place)?;
+    let made = expression(typer, written, None)?;
+    let range = fitting(typer.types(), type_id, made.typed()).ok_or(TypeFault::Mismatch(place))?;
+    let value = made.value.into_ordinal();
+    let fits = RangeTest { site, range };
+    Ok(Fitted { value, fits })
+}
+
+/// A value that is copied to a structured type, with its index expressions: K1 at the place where it may not be
+/// (6.4.6).
+#[cycle(expressions)]
+pub fn copied(
+    typer: &mut Typer,
+    type_id: TypeId,
+    place: Place,
+    written: &syntax::Expr,
+) -> Result<(Whole, Vec<Expr>), TypeFault>
+    ensures { MakesCopied (copied type_id place (spec.expression written.now) typer.old) result typer.new }
+{
+    let made = expression(typer, written, None)?;
+    if !may_copy(typer.types(), type_id, made.typed()) {
+        return Err(TypeFault::Mismatch(place));
+    }
+    Ok(made.value.into_whole())
 }
 
 // The one actual of a function, which has no width.

@@ -6,5 +6,5 @@ mod expressions;
 mod operators;
 mod typed;
 
-pub use expressions::{expression, first_place, routine_call, selected};
-pub use typed::{Selection, TypedCall, TypedExpr, Value};
+pub use expressions::{copied, expression, first_place, fitted, reach, routine_call};
+pub use typed::{Reached, TypedCall, TypedExpr, Value};

@@ -7,7 +7,7 @@ ghost use Rattle.expression_resolver.specs.Made.{typed_of, look_value, value_len
 
 use place::Place;
 use typed_tree::fault::TypeFault;
-use typed_tree::tree::{Call, Expr, Link, Passed, Selector, Whole};
+use typed_tree::tree::{Access, Call, Expr, Link, Passed, Selector, Whole};
 use types::TypeId;
 use typing::Typed;
 
@@ -34,13 +34,26 @@ impl Value {
     }
 
     /// The ordinal that it is.
-    pub(crate) fn into_ordinal(self) -> Expr
+    pub fn into_ordinal(self) -> Expr
         requires ordinal { is_none (value_length self) ≡ true }
         ensures { look_value self ≡ look_expr result }
     {
         match self {
             Value::Ordinal(made) => made,
             Value::Whole { .. } => unreachable!(),
+        }
+    }
+
+    /// The structured value that it is, with its index expressions.
+    pub(crate) fn into_whole(self) -> (Whole, Vec<Expr>)
+        requires structured { is_none (value_length self) ≡ false }
+        ensures length { value_length self ≡ Some (length_of result.0) }
+        ensures source { value_source self ≡ source_of result.0 }
+        ensures looks { look_value self ≡ look_whole result.0 (result.1).items }
+    {
+        match self {
+            Value::Ordinal(_) => unreachable!(),
+            Value::Whole { value, indexes } => (value, indexes),
         }
     }
 
@@ -84,7 +97,7 @@ impl TypedExpr {
     }
 
     /// The ordinal that it is: K1 at the place where it is structured.
-    pub fn ordinal(self, place: Place) -> Result<Expr, TypeFault>
+    pub(crate) fn ordinal(self, place: Place) -> Result<Expr, TypeFault>
         ensures { MatchResult result
             (λ made. (is_none (value_length self.value) ≡ true) × (look_value self.value ≡ look_expr made))
             (λ why. (is_none (value_length self.value) ≡ false) × (why ≡ Mismatch place)) }
@@ -92,20 +105,6 @@ impl TypedExpr {
         match self.value {
             Value::Ordinal(made) => Ok(made),
             Value::Whole { .. } => Err(TypeFault::Mismatch(place)),
-        }
-    }
-
-    /// The structured value that it is, with its index expressions: K1 at the place where it is an ordinal.
-    pub fn whole(self, place: Place) -> Result<(Whole, Vec<Expr>), TypeFault>
-        ensures { MatchResult result
-            (λ made. (value_length self.value ≡ Some (length_of made.0))
-            × (value_source self.value ≡ source_of made.0)
-            × (look_value self.value ≡ look_whole made.0 made.1.items))
-            (λ why. (is_none (value_length self.value) ≡ true) × (why ≡ Mismatch place)) }
-    {
-        match self.value {
-            Value::Ordinal(_) => Err(TypeFault::Mismatch(place)),
-            Value::Whole { value, indexes } => Ok((value, indexes)),
         }
     }
 
@@ -140,8 +139,17 @@ pub(crate) struct TypedLinks {
 /// The selectors of an access with their index expressions, and the type of the component to which they lead
 /// (6.5.3).
 #[derive(Drop)]
-pub struct Selection {
-    pub selectors: Vec<Selector>,
+pub(crate) struct Selection {
+    pub(crate) selectors: Vec<Selector>,
+    pub(crate) indexes: Vec<Expr>,
+    pub(crate) type_id: TypeId,
+}
+
+/// What is accessed of a variable that may be changed: its access with its index expressions, and the type of what is
+/// accessed.
+#[derive(Drop)]
+pub struct Reached {
+    pub access: Access,
     pub indexes: Vec<Expr>,
     pub type_id: TypeId,
 }

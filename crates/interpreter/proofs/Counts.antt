@@ -6,7 +6,7 @@ use Rattle.std.specs.Ordering.{int_eq}
 use Rattle.std.proofs.lemmas.Int.{ints}
 use Rattle.typed_tree.specs.declared.tree.Direction.{Direction}
 use Rattle.typed_tree.specs.declared.tree.Direction.TheVariants.{To, DownTo}
-use Rattle.typed_tree.specs.declared.tree.RangeTest.{RangeTest}
+use Rattle.typed_tree.specs.declared.tree.ForHead.{ForHead}
 use Rattle.typed_tree.specs.declared.tree.Stmt.{Stmt}
 use Rattle.meaning.specs.declared.outcome.Ending.TheVariants as ending
 use Rattle.meaning.specs.declared.store.Value.TheVariants.{Number}
@@ -59,59 +59,56 @@ pub turn-given : {A : Type 0} (reply : Reply (Unit {0})) (body : Action (Unit {0
 turn-given (Gives done s) body a next = body-given (body s) a next
 turn-given (Stops e s) body a next = refl
 
-module _ (env : Surroundings) (control : ℕ) (direction : Direction) (last : ℤ) (body : Stmt) where
+module _ (env : Surroundings) (head : ForHead) (last : ℤ) (body : Stmt) where
   -- the same rounds follow
-  alike_behind : (n : ℤ) (s : State) (first second : ℤ → Action (Unit {0})) → Behind direction last n →
-      ((m : ℤ) (t : State) → has_values direction m last ≡ true → first m t ≡ second m t) →
-      another (value_behind direction last n) first s ≡ another (value_before direction last n) second s
+  alike_behind : (n : ℤ) (s : State) (first second : ℤ → Action (Unit {0})) → Behind head.direction last n →
+      ((m : ℤ) (t : State) → has_values head.direction m last ≡ true → first m t ≡ second m t) →
+      another (value_behind head.direction last n) first s ≡ another (value_before head.direction last n) second s
   alike_behind n s first second (inl none) same =
       ap (λ (o : Option ℤ). another o first s) none.0 ∙ sym (ap (λ (o : Option ℤ). another o second s) none.1)
   alike_behind n s first second (inr some) same =
-      ap (λ (o : Option ℤ). another o first s) some.0 ∙ same (next_value direction n) s some.2
+      ap (λ (o : Option ℤ). another o first s) some.0 ∙ same (next_value head.direction n) s some.2
       ∙ sym (ap (λ (o : Option ℤ). another o second s) some.1)
 
-  alike_round : (n : ℤ) (s : State) (first second : ℤ → Action (Unit {0})) → has_values direction n last ≡ true →
-      ((m : ℤ) (t : State) → has_values direction m last ≡ true → first m t ≡ second m t) →
-      and_then (for_round control direction last (effect_of body) env n s) (λ more. another more first) ≡
-      and_then (counting env control direction last body n s) (λ more. another more second)
+  alike_round : (n : ℤ) (s : State) (first second : ℤ → Action (Unit {0})) → has_values head.direction n last ≡ true →
+      ((m : ℤ) (t : State) → has_values head.direction m last ≡ true → first m t ≡ second m t) →
+      and_then (for_round head last (effect_of body) env n s) (λ more. another more first) ≡
+      and_then (counting env head last body n s) (λ more. another more second)
   alike_round n s first second left same =
-      let there : State = record s { store = kept s.store (env.visible.variables control) (Number n) } in
+      let there : State = record s { store = kept s.store (env.visible.variables head.control) (Number n) } in
       let inner = effect_of body env in
-      turn-given (use_turn there) inner (value_behind direction last n) (λ more. another more first)
+      turn-given (use_turn there) inner (value_behind head.direction last n) (λ more. another more first)
       ∙ and_then-same (use_turn there) _ _ (λ _ t. and_then-same (inner t) _ _
-      (λ _ u. alike_behind n u first second (behind direction last n left) same))
-      ∙ sym (turn-given (use_turn there) inner (value_before direction last n) (λ more. another more second))
+      (λ _ u. alike_behind n u first second (behind head.direction last n left) same))
+      ∙ sym (turn-given (use_turn there) inner (value_before head.direction last n) (λ more. another more second))
 
-  alike_looping : (bound : ℕ) (n : ℤ) (s : State) → has_values direction n last ≡ true →
-      looping bound (for_round control direction last (effect_of body) env) n s ≡ looping bound (counting env control direction last body) n s
+  alike_looping : (bound : ℕ) (n : ℤ) (s : State) → has_values head.direction n last ≡ true →
+      looping bound (for_round head last (effect_of body) env) n s ≡ looping bound (counting env head last body) n s
   alike_looping zero n s left = alike_round n s (λ b. stop ending.More) (λ b. stop ending.More) left (λ m t there. refl)
   alike_looping (suc bound) n s left =
-      alike_round n s (looping bound (for_round control direction last (effect_of body) env)) (looping bound (counting env control direction last body)) left
+      alike_round n s (looping bound (for_round head last (effect_of body) env)) (looping bound (counting env head last body)) left
       (λ m t there. alike_looping bound m t there)
 
 -- the rounds of a for from its tested bounds
-abbrev pub rounds_of : Surroundings → ℕ → Direction → Execution → Result (Option (ℤ × ℤ)) ℕ → Action (Unit {0})
-rounds_of env control direction body (Err site) = stop (ending.Error site)
-rounds_of env control direction body (Ok None) = give tt
-rounds_of env control direction body (Ok (Some bounds)) = looped (for_round control direction bounds.1 body env) bounds.0
+abbrev pub rounds_of : Surroundings → ForHead → Execution → Result (Option (ℤ × ℤ)) ℕ → Action (Unit {0})
+rounds_of env head body (Err site) = stop (ending.Error site)
+rounds_of env head body (Ok None) = give tt
+rounds_of env head body (Ok (Some bounds)) = looped (for_round head bounds.1 body env) bounds.0
 
-tested_rounds : (env : Surroundings) (control : ℕ) (direction : Direction) (body : Execution) (first last : ℤ) (one other : ℕ) (has fits fits_too : Bool)
-    (s : State) →
-    (if has then (require fits one >>= λ _. require fits_too other >>= λ _. looped (for_round control direction last body env) first) else give tt) s ≡
-    rounds_of env control direction body
-    (if has then both_bounds (if fits then Ok first else Err one) (if fits_too then Ok last else Err other) else Ok None) s
-tested_rounds env control direction body first last one other false fits fits_too s = refl
-tested_rounds env control direction body first last one other true false fits_too s = refl
-tested_rounds env control direction body first last one other true true false s = refl
-tested_rounds env control direction body first last one other true true true s = refl
+tested_rounds : (env : Surroundings) (head : ForHead) (body : Execution) (first last : ℤ) (one other : ℕ) (has fits fits_too : Bool) (s : State) →
+    (if has then (require fits one >>= λ _. require fits_too other >>= λ _. looped (for_round head last body env) first) else give tt) s ≡
+    rounds_of env head body (if has then both_bounds (if fits then Ok first else Err one) (if fits_too then Ok last else Err other) else Ok None) s
+tested_rounds env head body first last one other false fits fits_too s = refl
+tested_rounds env head body first last one other true false fits_too s = refl
+tested_rounds env head body first last one other true true false s = refl
+tested_rounds env head body first last one other true true true s = refl
 
 -- a for from the numbers of its bounds, once they are tested
-pub between-tested : (env : Surroundings) (control : ℕ) (first_fits : RangeTest) (direction : Direction) (last_fits : RangeTest) (body : Execution)
-    (first last : ℤ) (s : State) → for_between control first_fits direction last_fits body env first last s ≡
-    rounds_of env control direction body (bounds_tested direction first_fits first last_fits last) s
-between-tested env control first_fits direction last_fits body first last s =
-    tested_rounds env control direction body first last first_fits.site last_fits.site (has_values direction first last)
-    (is_in first_fits.range (Number first)) (is_in last_fits.range (Number last)) s
+pub between-tested : (env : Surroundings) (head : ForHead) (body : Execution) (first last : ℤ) (s : State) →
+    for_between head body env first last s ≡ rounds_of env head body (bounds_tested head first last) s
+between-tested env head body first last s =
+    tested_rounds env head body first last head.first.fits.site head.last.fits.site (has_values head.direction first last)
+    (is_in head.first.fits.range (Number first)) (is_in head.last.fits.range (Number last)) s
 
 -- the bounds that a test lets through
 abbrev first_of : Result (Option (ℤ × ℤ)) ℕ → ℤ
@@ -134,14 +131,12 @@ some_bounds direction first last one other true true true a b any is =
     ap (λ n. has_values direction n b) (sym (ap first_of is)) ∙ ap (has_values direction first) (sym (ap last_of is)) ∙ any
 
 -- they leave values between them
-pub bounds-leave : (direction : Direction) (first_fits : RangeTest) (first : ℤ) (last_fits : RangeTest) (last : ℤ) (a b : ℤ) →
-    bounds_tested direction first_fits first last_fits last ≡ Ok (Some (a, b)) → has_values direction a b ≡ true
-bounds-leave direction first_fits first last_fits last a b is =
-    some_bounds direction first last first_fits.site last_fits.site (has_values direction first last) (is_in first_fits.range (Number first))
-    (is_in last_fits.range (Number last)) a b refl is
+pub bounds-leave : (head : ForHead) (first last a b : ℤ) → bounds_tested head first last ≡ Ok (Some (a, b)) → has_values head.direction a b ≡ true
+bounds-leave head first last a b is =
+    some_bounds head.direction first last head.first.fits.site head.last.fits.site (has_values head.direction first last)
+    (is_in head.first.fits.range (Number first)) (is_in head.last.fits.range (Number last)) a b refl is
 
 -- a for whose bounds leave values is the rounds that don't pass the last one
-pub looped-counting : (env : Surroundings) (control : ℕ) (direction : Direction) (first last : ℤ) (body : Stmt) (s : State) →
-    has_values direction first last ≡ true → looped (for_round control direction last (effect_of body) env) first s ≡
-    looped (counting env control direction last body) first s
-looped-counting env control direction first last body s left = alike_looping env control direction last body s.turns first s left
+pub looped-counting : (env : Surroundings) (head : ForHead) (first last : ℤ) (body : Stmt) (s : State) → has_values head.direction first last ≡ true →
+    looped (for_round head last (effect_of body) env) first s ≡ looped (counting env head last body) first s
+looped-counting env head first last body s left = alike_looping env head last body s.turns first s left

@@ -28,7 +28,7 @@ use Rattle.meaning.proofs.Turns.{ExtendedCalls, extended_calls}
 use Rattle.operations.specs.Answers.{answered, checked, number_tested}
 use Rattle.meaning.specs.Meaning.{Argument, OfValue}
 use Rattle.interpreter.specs.Pending.{Resumption, Agrees, Continues, Does, pending_of, resumed, rest_of, operands_of}
-use Rattle.interpreter.specs.Pending.{tested, giving, with_top, chosen, top_of, top_place, below_top, indexed}
+use Rattle.interpreter.specs.Pending.{tested, with_top, chosen, top_of, top_place, below_top, indexed}
 
 map_append : {A B : Type 0} (f : A → B) (xs ys : List A) → map f (xs ++ ys) ≡ map f xs ++ map f ys
 map_append f [] ys = refl

@@ -4,9 +4,14 @@ use Rattle.std.proofs.Common.{if◌then◌else◌, Box, Vec, Global, map, length
 use Rattle.std.proofs.Common.{sym}
 use Rattle.std.proofs.Common.{◌∙◌, ap, refl}
 use Rattle.std.proofs.lemmas.List.{length-map}
-use Rattle.place.specs.declared.Place.{Place as SourcePlace}
 use Rattle.typed_tree.specs.declared.tree.Access.{Access}
-use Rattle.typed_tree.specs.declared.tree.Direction.{Direction}
+use Rattle.typed_tree.specs.declared.tree.Assignment.{Assignment}
+use Rattle.typed_tree.specs.declared.tree.CaseHead.{CaseHead}
+use Rattle.typed_tree.specs.declared.tree.Copying.{Copying}
+use Rattle.typed_tree.specs.declared.tree.ForHead.{ForHead}
+use Rattle.typed_tree.specs.declared.tree.LoopHead.{LoopHead}
+use Rattle.typed_tree.specs.declared.tree.ProcedureCall.{ProcedureCall}
+use Rattle.typed_tree.specs.declared.tree.Writing.{Writing}
 use Rattle.typed_tree.specs.declared.tree.Monadic.{Monadic}
 use Rattle.typed_tree.specs.declared.tree.RangeTest.{RangeTest}
 use Rattle.typed_tree.specs.declared.tree.Width.{Width}
@@ -34,17 +39,20 @@ use Rattle.typed_tree.specs.declared.tree.Stmt.TheVariants as stmt
 use Rattle.typed_tree.specs.declared.tree.Stmt.TheOpen.Stmt-F.{Empty as Empty-F, Assign as Assign-F, Copy as Copy-F, Write as Write-F}
 use Rattle.typed_tree.specs.declared.tree.Stmt.TheOpen.Stmt-F.{Compound as Compound-F, If as If-F}
 use Rattle.typed_tree.specs.declared.tree.Stmt.TheOpen.Stmt-F.{While as While-F, Repeat as Repeat-F, For as For-F, Case as Case-F, Call as Call-F}
-use Rattle.typed_tree.specs.declared.tree.Stmt.TheFolds.{fold-roll-Stmt}
+use Rattle.typed_tree.specs.declared.tree.Stmt.TheOpen.{Stmt-F}
+use Rattle.typed_tree.specs.declared.tree.Stmt.TheFolds.{fold-roll-Stmt, map-Stmt}
+use Rattle.typed_tree.specs.declared.tree.Stmt.TheViews.{roll-Stmt}
 use Rattle.meaning.specs.declared.store.Value.{Value}
 use Rattle.meaning.specs.declared.store.Value.TheVariants.{Number}
+use Rattle.interpreter_state.specs.declared.work.Rounds.TheVariants.{Behind}
 use Rattle.interpreter_state.specs.declared.work.Work.{Work}
 use Rattle.interpreter_state.specs.declared.work.Work.TheVariants as work
 use Rattle.meaning.specs.Meaning.{Surroundings}
 use Rattle.meaning.specs.Store.{Place, kept, part}
-use Rattle.meaning.specs.Effect.{State, Reply, Action, ◌>>=◌, and_then, give, require, enter, use_turn, another, looped}
+use Rattle.meaning.specs.Effect.{State, Reply, Action, ◌>>=◌, and_then, give, require, use_turn, another, looped}
 use Rattle.meaning.specs.Effect.{fetch, fetch_all, store, store_all, undefine, write, is_in, number_of, row_text, text_of}
 use Rattle.meaning.specs.Meaning.{Combination, Execution, effect_step, operated, combined, in_turn, all_of}
-use Rattle.meaning.specs.Meaning.{compared, selected, accessed, whole_of, default_width, written_of, width_of, parameter_of}
+use Rattle.meaning.specs.Meaning.{compared, selected, whole_of, default_width, written_of, width_of, parameter_of}
 use Rattle.meaning.specs.Meaning.{line_ended, is_so, turn_if, for_between, arm_of}
 use Rattle.meaning.specs.Meaning.{value_of, values_of, link_of, effect_of, Passing, all_passed, call_of, passing_of}
 use Rattle.operations.specs.Answers.{bounds_tested, positive, value_before}
@@ -53,81 +61,13 @@ use Rattle.interpreter.specs.Pending.{Resumption, pending_of, resumed, chosen, f
 use Rattle.interpreter.specs.Pending.{forgetting, turning, turning_tested, whiling, repeating, counting_on, line_ending, linking}
 use Rattle.interpreter.specs.Pending.{giving, giving_number, giving_place, giving_row, with_top, with_row, top_of, top_place, top_row, below_top}
 use Rattle.interpreter.specs.Pending.{writing, writing_one, writing_row, placing, accessing, selecting, comparing}
-use Rattle.interpreter.specs.Pending.{calling, left_below, passing, taken_from, tested, top_in_hand}
+use Rattle.interpreter.specs.Pending.{assigning, assigning_row, calling, left_below, passing, performing, taken_from, tested, top_in_hand}
 use Rattle.meaning.proofs.Expressions.{value-Variable, value-Monadic, value-Chain, value-Compare, value-Call, combination-Link}
 use Rattle.meaning.proofs.Expressions.{passing-Value, passing-Whole, passing-Reference}
 use Rattle.meaning.proofs.Replies.{and_then-and_then, and_then-same}
 use Rattle.meaning.proofs.Turns.{ExtendedCalls, extended_value, extended_effect, extended_statements}
 use Rattle.meaning.proofs.Loops.{looped-rounds, while_uses, repeat_uses, counted_uses}
 use Rattle.interpreter.proofs.Counts.{rounds_of, between-tested, turn-given}
-
-effect-Empty : (n : ℕ) (env : Surroundings) → effect_of (stmt.Empty n) env ≡ enter n env.visible
-effect-Empty n env = ap (λ (e : Stmt). effect_of e env) (sym (stmt.rolls-Empty n))
-    ∙ ap (λ (f : Execution). f env) (fold-roll-Stmt Execution effect_step (Empty-F n))
-
-effect-Assign : (n : ℕ) (becomes : SourcePlace) (target : Access) (indexes : Vec Expr Global) (fits : RangeTest) (value : Expr) (env : Surroundings) →
-    effect_of (stmt.Assign n becomes target indexes fits value) env ≡
-    (enter n env.visible >>= λ _. accessed target (values_of indexes.items) env >>= λ place. value_of value env >>= λ v.
-    require (is_in fits.range v) fits.site >>= λ _. store place v)
-effect-Assign n becomes target indexes fits value env =
-    ap (λ (e : Stmt). effect_of e env) (sym (stmt.rolls-Assign n becomes target indexes fits value))
-    ∙ ap (λ (f : Execution). f env) (fold-roll-Stmt Execution effect_step (Assign-F n becomes target indexes fits value))
-
-effect-Copy : (n : ℕ) (becomes : SourcePlace) (target : Access) (indexes : Vec Expr Global) (type_id : TypeId) (value : Whole)
-    (value_indexes : Vec Expr Global) (env : Surroundings) → effect_of (stmt.Copy n becomes target indexes type_id value value_indexes) env ≡
-    (enter n env.visible >>= λ _. accessed target (values_of indexes.items) env >>= λ place. whole_of value (values_of value_indexes.items) env >>= λ values.
-    store_all place (components_of env.visible.types type_id) values)
-effect-Copy n becomes target indexes type_id value value_indexes env =
-    ap (λ (e : Stmt). effect_of e env) (sym (stmt.rolls-Copy n becomes target indexes type_id value value_indexes))
-    ∙ ap (λ (f : Execution). f env) (fold-roll-Stmt Execution effect_step (Copy-F n becomes target indexes type_id value value_indexes))
-
-effect-Write : (n : ℕ) (name : SourcePlace) (parameters : Vec WriteParameter Global) (ends_line : Bool) (env : Surroundings) →
-    effect_of (stmt.Write n name parameters ends_line) env ≡ (enter n env.visible >>= λ _. all_of (map parameter_of parameters.items) env >>= λ _. line_ended
-    ends_line)
-effect-Write n name parameters ends_line env = ap (λ (e : Stmt). effect_of e env) (sym (stmt.rolls-Write n name parameters ends_line))
-    ∙ ap (λ (f : Execution). f env) (fold-roll-Stmt Execution effect_step (Write-F n name parameters ends_line))
-
-effect-Compound : (n : ℕ) (statements : Vec Stmt Global) (env : Surroundings) →
-    effect_of (stmt.Compound n statements) env ≡ (enter n env.visible >>= λ _. all_of (map effect_of statements.items) env)
-effect-Compound n statements env = ap (λ (e : Stmt). effect_of e env) (sym (stmt.rolls-Compound n statements))
-    ∙ ap (λ (f : Execution). f env) (fold-roll-Stmt Execution effect_step (Compound-F n statements))
-
-effect-If : (n : ℕ) (condition : Expr) (consequence : Box Stmt Global) (alternative : Option (Box Stmt Global)) (env : Surroundings) →
-    effect_of (stmt.If n condition consequence alternative) env ≡
-    (enter n env.visible >>= λ _. value_of condition env >>= λ v. chosen (is_so v) consequence.value alternative env)
-effect-If n condition consequence None env = ap (λ (e : Stmt). effect_of e env) (sym (stmt.rolls-If n condition consequence None))
-    ∙ ap (λ (f : Execution). f env) (fold-roll-Stmt Execution effect_step (If-F n condition consequence None))
-effect-If n condition consequence (Some other) env = ap (λ (e : Stmt). effect_of e env) (sym (stmt.rolls-If n condition consequence (Some other)))
-    ∙ ap (λ (f : Execution). f env) (fold-roll-Stmt Execution effect_step (If-F n condition consequence (Some other)))
-
-effect-While : (n loop_number : ℕ) (place : SourcePlace) (condition : Expr) (body : Box Stmt Global) (env : Surroundings) →
-    effect_of (stmt.While n loop_number place condition body) env ≡ (enter n env.visible >>= λ _. looped (while_rounds env condition body.value) tt)
-effect-While n loop_number place condition body env = ap (λ (e : Stmt). effect_of e env) (sym (stmt.rolls-While n loop_number place condition body))
-    ∙ ap (λ (f : Execution). f env) (fold-roll-Stmt Execution effect_step (While-F n loop_number place condition body))
-
-effect-Repeat : (n loop_number : ℕ) (place : SourcePlace) (statements : Vec Stmt Global) (condition : Expr) (env : Surroundings) →
-    effect_of (stmt.Repeat n loop_number place statements condition) env ≡
-    (enter n env.visible >>= λ _. looped (repeat_rounds env statements.items condition) tt)
-effect-Repeat n loop_number place statements condition env =
-    ap (λ (e : Stmt). effect_of e env) (sym (stmt.rolls-Repeat n loop_number place statements condition))
-    ∙ ap (λ (f : Execution). f env) (fold-roll-Stmt Execution effect_step (Repeat-F n loop_number place statements condition))
-
-effect-For : (n loop_number : ℕ) (place : SourcePlace) (control : ℕ) (first : Expr) (first_fits : RangeTest) (direction : Direction) (last : Expr)
-    (last_fits : RangeTest) (body : Box Stmt Global) (env : Surroundings) →
-    effect_of (stmt.For n loop_number place control first first_fits direction last last_fits body) env ≡
-    (enter n env.visible >>= λ _. value_of first env >>= λ a. value_of last env >>= λ b.
-    for_between control first_fits direction last_fits (effect_of body.value) env (number_of a) (number_of b) >>= λ _.
-    undefine (env.visible.variables control))
-effect-For n loop_number place control first first_fits direction last last_fits body env =
-    ap (λ (e : Stmt). effect_of e env) (sym (stmt.rolls-For n loop_number place control first first_fits direction last last_fits body))
-    ∙ ap (λ (f : Execution). f env)
-    (fold-roll-Stmt Execution effect_step (For-F n loop_number place control first first_fits direction last last_fits body))
-
-effect-Case : (n site : ℕ) (index : Expr) (constants : Vec (Vec ℤ Global) Global) (arms : Vec Stmt Global) (env : Surroundings) →
-    effect_of (stmt.Case n site index constants arms) env ≡
-    (enter n env.visible >>= λ _. value_of index env >>= λ v. arm_of site constants.items (map effect_of arms.items) (number_of v) env)
-effect-Case n site index constants arms env = ap (λ (e : Stmt). effect_of e env) (sym (stmt.rolls-Case n site index constants arms))
-    ∙ ap (λ (f : Execution). f env) (fold-roll-Stmt Execution effect_step (Case-F n site index constants arms))
 
 -- the state after an entry
 abbrev pub entered : ℕ → Surroundings → State → State
@@ -201,70 +141,80 @@ does-Links first rest all is env outer works operands s =
 abbrev executed : Surroundings → Resumption → Stmt → List Work → List Argument → Action (Unit {0})
 executed env outer e works operands = effect_of e env >>= λ _. pending_of env outer works operands
 
+-- a statement that is made of a layer, and then the rest
+executed-rolled : (x : Stmt-F Stmt) (given made : Stmt) → given ≡ made → roll-Stmt x ≡ made →
+    (env : Surroundings) (outer : Resumption) (works : List Work) (operands : List Argument) (s : State) →
+    executed env outer given works operands s ≡
+    and_then (effect_step (map-Stmt Stmt Execution effect_of x) env s) (λ _. pending_of env outer works operands)
+executed-rolled x given made is rolls env outer works operands s =
+    ap (λ (e : Stmt). executed env outer e works operands s) (is ∙ sym rolls)
+    ∙ ap (λ (f : Execution). and_then (f env s) (λ _. pending_of env outer works operands)) (fold-roll-Stmt Execution effect_step x)
+
 pub does-Empty : (n : ℕ) (given : Stmt) → given ≡ stmt.Empty n → (env : Surroundings) (outer : Resumption) (works : List Work) (operands : List Argument)
     (s : State) →
     executed env outer given works operands s ≡ pending_of env outer works operands (entered n env s)
-does-Empty n given is env outer works operands s =
-    ap (λ (e : Stmt). executed env outer e works operands s) is
-    ∙ ap (λ (a : Action (Unit {0})). and_then (a s) (λ _. pending_of env outer works operands)) (effect-Empty n env)
+does-Empty n given is env outer works operands s = executed-rolled (Empty-F n) given (stmt.Empty n) is (stmt.rolls-Empty n) env outer works operands s
 
-pub does-Assign : (n : ℕ) (becomes : SourcePlace) (target : Access) (indexes : Vec Expr Global) (fits : RangeTest) (value : Expr) (given : Stmt) →
-    given ≡ stmt.Assign n becomes target indexes fits value → (all : List Expr) → all ≡ indexes.items →
+pub does-Assign : (assignment : Assignment) (given : Stmt) → given ≡ stmt.Assign assignment →
     (env : Surroundings) (outer : Resumption) (works : List Work) (operands : List Argument) (s : State) →
     executed env outer given works operands s ≡
-    placing env target all (evaluated env outer value (work.Store fits ∷ works)) operands (entered target.number env (entered n env s))
-does-Assign n becomes target indexes fits value given is all same env outer works operands s =
+    assigning env assignment (pending_of env outer works) operands (entered assignment.target.number env (entered assignment.number env s))
+does-Assign assignment given is env outer works operands s =
     let then_rest : Unit {0} → Action (Unit {0}) = λ _. pending_of env outer works operands in
-    let place : List Expr → Reply (Option Place) =
-    λ l. selected target.selectors.items (values_of l) env (env.visible.variables target.root) (entered target.number env (entered n env s)) in
+    let target = assignment.target in
+    let fits = assignment.fits in
+    let value : Action Value = value_of assignment.value env in
+    let place : Reply (Option Place) = selected target.selectors.items (values_of assignment.indexes.items) env (env.visible.variables target.root)
+    (entered target.number env (entered assignment.number env s)) in
     let stored : Option Place → Value → Action (Unit {0}) = λ p v. require (is_in fits.range v) fits.site >>= λ _. store p v in
-    ap (λ (e : Stmt). executed env outer e works operands s) is
-    ∙ ap (λ (a : Action (Unit {0})). and_then (a s) then_rest) (effect-Assign n becomes target indexes fits value env)
-    ∙ and_then-and_then (place indexes.items) (λ p. value_of value env >>= stored p) then_rest
-    ∙ and_then-same (place indexes.items) _ _ (λ p t. and_then-and_then (value_of value env t) (stored p) then_rest
-    ∙ and_then-same (value_of value env t) _ _ (λ v u. and_then-and_then (require (is_in fits.range v) fits.site u) (λ _. store p v) then_rest))
-    ∙ ap (λ l. and_then (place l) (λ p. evaluated env outer value (work.Store fits ∷ works) (OfPlace p ∷ operands))) (sym same)
+    executed-rolled (Assign-F assignment) given (stmt.Assign assignment) is (stmt.rolls-Assign assignment) env outer works operands s
+    ∙ and_then-and_then place (λ p. value >>= stored p) then_rest
+    ∙ and_then-same place _ _ (λ p t. and_then-and_then (value t) (stored p) then_rest
+    ∙ and_then-same (value t) _ _ (λ v u. and_then-and_then (require (is_in fits.range v) fits.site u) (λ _. store p v) then_rest))
 
-pub does-Copy : (n : ℕ) (becomes : SourcePlace) (target : Access) (indexes : Vec Expr Global) (type_id : TypeId) (value : Whole)
-    (value_indexes : Vec Expr Global) (given : Stmt) → given ≡ stmt.Copy n becomes target indexes type_id value value_indexes →
-    (all others : List Expr) → all ≡ indexes.items → others ≡ value_indexes.items →
+pub does-Copy : (copying : Copying) (given : Stmt) → given ≡ stmt.Copy copying →
     (env : Surroundings) (outer : Resumption) (works : List Work) (operands : List Argument) (s : State) →
     executed env outer given works operands s ≡
-    placing env target all (giving_row (whole_of value (values_of others) env) (pending_of env outer (work.StoreRow type_id ∷ works))) operands
-    (entered target.number env (entered n env s))
-does-Copy n becomes target indexes type_id value value_indexes given is all others same alike env outer works operands s =
+    assigning_row env copying (pending_of env outer works) operands (entered copying.target.number env (entered copying.number env s))
+does-Copy copying given is env outer works operands s =
     let then_rest : Unit {0} → Action (Unit {0}) = λ _. pending_of env outer works operands in
-    let place : List Expr → Reply (Option Place) =
-    λ l. selected target.selectors.items (values_of l) env (env.visible.variables target.root) (entered target.number env (entered n env s)) in
-    let row : List Expr → Action (List Value) = λ l. whole_of value (values_of l) env in
-    let stored : Option Place → List Value → Action (Unit {0}) = λ p values. store_all p (components_of env.visible.types type_id) values in
-    ap (λ (e : Stmt). executed env outer e works operands s) is
-    ∙ ap (λ (a : Action (Unit {0})). and_then (a s) then_rest) (effect-Copy n becomes target indexes type_id value value_indexes env)
-    ∙ and_then-and_then (place indexes.items) (λ p. row value_indexes.items >>= stored p) then_rest
-    ∙ and_then-same (place indexes.items) _ _ (λ p t. and_then-and_then (row value_indexes.items t) (stored p) then_rest)
-    ∙ ap (λ l. and_then (place l) (λ p. row value_indexes.items >>= λ values. stored p values >>= then_rest)) (sym same)
-    ∙ ap (λ l. and_then (place all) (λ p. row l >>= λ values. stored p values >>= then_rest)) (sym alike)
+    let target = copying.target in
+    let place : Reply (Option Place) = selected target.selectors.items (values_of copying.indexes.items) env (env.visible.variables target.root)
+    (entered target.number env (entered copying.number env s)) in
+    let row : Action (List Value) = whole_of copying.value (values_of copying.value_indexes.items) env in
+    let stored : Option Place → List Value → Action (Unit {0}) = λ p values. store_all p (components_of env.visible.types copying.type_id) values in
+    executed-rolled (Copy-F copying) given (stmt.Copy copying) is (stmt.rolls-Copy copying) env outer works operands s
+    ∙ and_then-and_then place (λ p. row >>= stored p) then_rest
+    ∙ and_then-same place _ _ (λ p t. and_then-and_then (row t) (stored p) then_rest)
 
-pub does-Write : (n : ℕ) (name : SourcePlace) (parameters : Vec WriteParameter Global) (ends_line : Bool) (given : Stmt) →
-    given ≡ stmt.Write n name parameters ends_line → (all : Bor (List WriteParameter)) → all.now ≡ parameters.items →
+pub does-Write : (writing : Writing) (given : Stmt) → given ≡ stmt.Write writing → (all : Bor (List WriteParameter)) → all.now ≡ writing.parameters.items →
     (env : Surroundings) (outer : Resumption) (works : List Work) (operands : List Argument) (s : State) →
-    executed env outer given works operands s ≡ resumed env (work.Parameters all ends_line) (pending_of env outer works) operands (entered n env s)
-does-Write n name parameters ends_line given is all same env outer works operands s =
+    executed env outer given works operands s ≡
+    resumed env (work.Parameters all writing.ends_line) (pending_of env outer works) operands (entered writing.number env s)
+does-Write writing given is all same env outer works operands s =
     let then_rest : Unit {0} → Action (Unit {0}) = λ _. pending_of env outer works operands in
-    let written : List WriteParameter → Reply (Unit {0}) = λ l. all_of (map parameter_of l) env (entered n env s) in
-    ap (λ (e : Stmt). executed env outer e works operands s) is
-    ∙ ap (λ (a : Action (Unit {0})). and_then (a s) then_rest) (effect-Write n name parameters ends_line env)
-    ∙ and_then-and_then (written parameters.items) (λ _. line_ended ends_line) then_rest
-    ∙ ap (λ (l : List WriteParameter). and_then (written l) (λ _. line_ended ends_line >>= then_rest)) (sym same)
+    let written : List WriteParameter → Reply (Unit {0}) = λ l. all_of (map parameter_of l) env (entered writing.number env s) in
+    executed-rolled (Write-F writing) given (stmt.Write writing) is (stmt.rolls-Write writing) env outer works operands s
+    ∙ and_then-and_then (written writing.parameters.items) (λ _. line_ended writing.ends_line) then_rest
+    ∙ ap (λ (l : List WriteParameter). and_then (written l) (λ _. line_ended writing.ends_line >>= then_rest)) (sym same)
 
 pub does-Compound : (n : ℕ) (statements : Vec Stmt Global) (given : Stmt) → given ≡ stmt.Compound n statements → (all : Bor (List Stmt)) →
     all.now ≡ statements.items → (env : Surroundings) (outer : Resumption) (works : List Work) (operands : List Argument) (s : State) →
     executed env outer given works operands s ≡ pending_of env outer (work.Statements all ∷ works) operands (entered n env s)
 does-Compound n statements given is all same env outer works operands s =
     let then_rest : Unit {0} → Action (Unit {0}) = λ _. pending_of env outer works operands in
-    ap (λ (e : Stmt). executed env outer e works operands s) is
-    ∙ ap (λ (a : Action (Unit {0})). and_then (a s) then_rest) (effect-Compound n statements env)
+    executed-rolled (Compound-F n statements) given (stmt.Compound n statements) is (stmt.rolls-Compound n statements) env outer works operands s
     ∙ ap (λ (l : List Stmt). and_then (all_of (map effect_of l) env (entered n env s)) then_rest) (sym same)
+
+-- the statement behind `else` is the one of the layer
+if-rolled : (n : ℕ) (condition : Expr) (consequence : Box Stmt Global) (alternative : Option (Box Stmt Global)) (given : Stmt) →
+    given ≡ stmt.If n condition consequence alternative →
+    (env : Surroundings) (outer : Resumption) (works : List Work) (operands : List Argument) (s : State) → executed env outer given works operands s ≡
+    and_then ((value_of condition env >>= λ v. chosen (is_so v) consequence.value alternative env) (entered n env s)) (λ _. pending_of env outer works operands)
+if-rolled n condition consequence None given is env outer works operands s =
+    executed-rolled (If-F n condition consequence None) given _ is (stmt.rolls-If n condition consequence None) env outer works operands s
+if-rolled n condition consequence (Some other) given is env outer works operands s =
+    executed-rolled (If-F n condition consequence (Some other)) given _ is (stmt.rolls-If n condition consequence (Some other)) env outer works operands s
 
 -- what is pending after the condition of an if
 abbrev pub choosing : Surroundings → Resumption → Stmt → Option (Box Stmt Global) → List Work → Resumption
@@ -277,165 +227,156 @@ pub does-If : (n : ℕ) (condition : Expr) (consequence : Box Stmt Global) (alte
 does-If n condition consequence alternative given is one same env outer works operands s =
     let then_rest : Unit {0} → Action (Unit {0}) = λ _. pending_of env outer works operands in
     let tested : Reply Value = value_of condition env (entered n env s) in
-    ap (λ (e : Stmt). executed env outer e works operands s) is
-    ∙ ap (λ (a : Action (Unit {0})). and_then (a s) then_rest) (effect-If n condition consequence alternative env)
+    if-rolled n condition consequence alternative given is env outer works operands s
     ∙ and_then-and_then tested (λ v. chosen (is_so v) consequence.value alternative env) then_rest
     ∙ ap (λ (e : Stmt). and_then tested (λ v. chosen (is_so v) e alternative env >>= then_rest)) (sym same)
 
-pub does-While : (n loop_number : ℕ) (place : SourcePlace) (condition : Expr) (body : Box Stmt Global) (given : Stmt) →
-    given ≡ stmt.While n loop_number place condition body → (inner : Stmt) → inner ≡ body.value →
+pub does-While : (head : LoopHead) (body : Box Stmt Global) (given : Stmt) → given ≡ stmt.While head body → (inner : Stmt) → inner ≡ body.value →
     (env : Surroundings) (outer : Resumption) (works : List Work) (operands : List Argument) (s : State) →
-    executed env outer given works operands s ≡ whiling env condition inner (pending_of env outer works) operands (entered n env s)
-does-While n loop_number place condition body given is inner same env outer works operands s =
-    let then_rest : Unit {0} → Action (Unit {0}) = λ _. pending_of env outer works operands in
-    ap (λ (e : Stmt). executed env outer e works operands s) is
-    ∙ ap (λ (a : Action (Unit {0})). and_then (a s) then_rest) (effect-While n loop_number place condition body env)
-    ∙ ap (λ (e : Stmt). whiling env condition e (pending_of env outer works) operands (entered n env s)) (sym same)
+    executed env outer given works operands s ≡ whiling env head inner (pending_of env outer works) operands (entered head.number env s)
+does-While head body given is inner same env outer works operands s =
+    executed-rolled (While-F head body) given (stmt.While head body) is (stmt.rolls-While head body) env outer works operands s
+    ∙ ap (λ (e : Stmt). whiling env head e (pending_of env outer works) operands (entered head.number env s)) (sym same)
 
 -- what is pending after the condition of a while
-abbrev pub while_tested : Surroundings → Resumption → Expr → Stmt → List Work → Resumption
-while_tested env outer condition body works =
-    with_top (λ v below. further (while_rounds env condition body) (turn_if (is_so v) (effect_of body env)) >>= λ _. pending_of env outer works below)
+abbrev pub while_tested : Surroundings → Resumption → LoopHead → Stmt → List Work → Resumption
+while_tested env outer head body works =
+    with_top (λ v below. further (while_rounds env head body) (turn_if (is_so v) (effect_of body env)) >>= λ _. pending_of env outer works below)
 
-pub does-while-round : (env : Surroundings) (outer : Resumption) (calls : ExtendedCalls env.calls) (condition : Expr) (body : Stmt) (works : List Work)
+pub does-while-round : (env : Surroundings) (outer : Resumption) (calls : ExtendedCalls env.calls) (head : LoopHead) (body : Stmt) (works : List Work)
     (operands : List Argument) (s : State) →
-    whiling env condition body (pending_of env outer works) operands s ≡ giving (value_of condition env) (while_tested env outer condition body works)
-    operands s
-does-while-round env outer calls condition body works operands s =
+    whiling env head body (pending_of env outer works) operands s ≡ giving (value_of head.condition env) (while_tested env outer head body works) operands s
+does-while-round env outer calls head body works operands s =
     let then_rest : Unit {0} → Action (Unit {0}) = λ _. pending_of env outer works operands in
-    let round = while_rounds env condition body in
+    let round = while_rounds env head body in
     let again : Option (Unit {0}) → Action (Unit {0}) = λ more. another more (looped round) in
     let turn : Value → Action (Option (Unit {0})) = λ v. turn_if (is_so v) (effect_of body env) in
-    let uses = while_uses (value_of condition) (effect_of body) env (extended_value env calls condition) (extended_effect env calls body) in
+    let uses = while_uses (value_of head.condition) (effect_of body) env (extended_value env calls head.condition) (extended_effect env calls body) in
     ap (λ (r : Reply (Unit {0})). and_then r then_rest) (looped-rounds round uses tt s)
     ∙ and_then-and_then (round tt s) again then_rest
-    ∙ and_then-and_then (value_of condition env s) turn (λ more. again more >>= then_rest)
-    ∙ and_then-same (value_of condition env s) _ _ (λ v t. sym (and_then-and_then (turn v t) again then_rest))
+    ∙ and_then-and_then (value_of head.condition env s) turn (λ more. again more >>= then_rest)
+    ∙ and_then-same (value_of head.condition env s) _ _ (λ v t. sym (and_then-and_then (turn v t) again then_rest))
 
-pub does-while-turn : (env : Surroundings) (outer : Resumption) (calls : ExtendedCalls env.calls) (condition : Bor Expr) (body : Bor Stmt) (works : List Work)
+pub does-while-turn : (env : Surroundings) (outer : Resumption) (calls : ExtendedCalls env.calls) (head : Bor LoopHead) (body : Bor Stmt) (works : List Work)
     (operands : List Argument) (s : State) →
-    is_so (top_of operands) ≡ true → while_tested env outer condition.now body.now works operands s ≡
-    turning_tested env (work.Statement body) condition.now (work.WhileTurn condition body) (pending_of env outer works) (below_top operands) s
-does-while-turn env outer calls condition body works operands s so =
+    is_so (top_of operands) ≡ true → while_tested env outer head.now body.now works operands s ≡
+    turning_tested env (work.Statement body) head.now.condition (work.WhileTurn head body) (pending_of env outer works) (below_top operands) s
+does-while-turn env outer calls head body works operands s so =
     let then_rest : Unit {0} → Action (Unit {0}) = λ _. pending_of env outer works (below_top operands) in
-    let round = while_rounds env condition.now body.now in
+    let round = while_rounds env head.now body.now in
     let again : Option (Unit {0}) → Action (Unit {0}) = λ more. another more (looped round) in
     let inner = effect_of body.now env in
     ap (λ (b : Bool). and_then (further round (turn_if b inner) s) then_rest) so
     ∙ ap (λ (r : Reply (Unit {0})). and_then r then_rest) (turn-given (use_turn s) inner (Some tt) again)
     ∙ and_then-and_then (use_turn s) (λ _. inner >>= λ _. again (Some tt)) then_rest
     ∙ and_then-same (use_turn s) _ _ (λ _ t. and_then-and_then (inner t) (λ _. again (Some tt)) then_rest
-    ∙ and_then-same (inner t) _ _ (λ _ u. does-while-round env outer calls condition.now body.now works (below_top operands) u))
+    ∙ and_then-same (inner t) _ _ (λ _ u. does-while-round env outer calls head.now body.now works (below_top operands) u))
 
-pub does-Repeat : (n loop_number : ℕ) (place : SourcePlace) (statements : Vec Stmt Global) (condition : Expr) (given : Stmt) →
-    given ≡ stmt.Repeat n loop_number place statements condition → (all : List Stmt) → all ≡ statements.items →
-    (env : Surroundings) (outer : Resumption) (works : List Work) (operands : List Argument) (s : State) →
-    executed env outer given works operands s ≡ repeating env all condition (pending_of env outer works) operands (entered n env s)
-does-Repeat n loop_number place statements condition given is all same env outer works operands s =
-    let then_rest : Unit {0} → Action (Unit {0}) = λ _. pending_of env outer works operands in
-    ap (λ (e : Stmt). executed env outer e works operands s) is
-    ∙ ap (λ (a : Action (Unit {0})). and_then (a s) then_rest) (effect-Repeat n loop_number place statements condition env)
-    ∙ ap (λ (l : List Stmt). repeating env l condition (pending_of env outer works) operands (entered n env s)) (sym same)
+pub does-Repeat : (head : LoopHead) (statements : Vec Stmt Global) (given : Stmt) → given ≡ stmt.Repeat head statements →
+    (all : List Stmt) → all ≡ statements.items → (env : Surroundings) (outer : Resumption) (works : List Work) (operands : List Argument) (s : State) →
+    executed env outer given works operands s ≡ repeating env head all (pending_of env outer works) operands (entered head.number env s)
+does-Repeat head statements given is all same env outer works operands s =
+    executed-rolled (Repeat-F head statements) given (stmt.Repeat head statements) is (stmt.rolls-Repeat head statements) env outer works operands s
+    ∙ ap (λ (l : List Stmt). repeating env head l (pending_of env outer works) operands (entered head.number env s)) (sym same)
 
-pub does-repeat-round : (env : Surroundings) (outer : Resumption) (calls : ExtendedCalls env.calls) (statements : Bor (List Stmt)) (condition : Bor Expr)
+pub does-repeat-round : (env : Surroundings) (outer : Resumption) (calls : ExtendedCalls env.calls) (head : Bor LoopHead) (statements : Bor (List Stmt))
     (works : List Work) (operands : List Argument) (s : State) →
-    repeating env statements.now condition.now (pending_of env outer works) operands s ≡
-    turning_tested env (work.Statements statements) condition.now (work.Unless statements condition) (pending_of env outer works) operands s
-does-repeat-round env outer calls statements condition works operands s =
+    repeating env head.now statements.now (pending_of env outer works) operands s ≡
+    turning_tested env (work.Statements statements) head.now.condition (work.Unless head statements) (pending_of env outer works) operands s
+does-repeat-round env outer calls head statements works operands s =
     let then_rest : Unit {0} → Action (Unit {0}) = λ _. pending_of env outer works operands in
-    let round = repeat_rounds env statements.now condition.now in
+    let condition = head.now.condition in
+    let round = repeat_rounds env head.now statements.now in
     let again : Option (Unit {0}) → Action (Unit {0}) = λ more. another more (looped round) in
     let all : Action (Unit {0}) = all_of (map effect_of statements.now) env in
-    let tested : Action Value = value_of condition.now env in
+    let tested : Action Value = value_of condition env in
     let until : Value → Action (Option (Unit {0})) = λ v. give (if is_so v then None else Some tt) in
     let rest : Option (Unit {0}) → Action (Unit {0}) = λ more. again more >>= then_rest in
-    let uses = repeat_uses (all_of (map effect_of statements.now)) (value_of condition.now) env (extended_statements env calls statements.now)
-    (extended_value env calls condition.now) in
+    let uses = repeat_uses (all_of (map effect_of statements.now)) (value_of condition) env (extended_statements env calls statements.now)
+    (extended_value env calls condition) in
     ap (λ (r : Reply (Unit {0})). and_then r then_rest) (looped-rounds round uses tt s)
     ∙ and_then-and_then (round tt s) again then_rest
     ∙ and_then-and_then (use_turn s) (λ _. all >>= λ _. tested >>= until) rest
     ∙ and_then-same (use_turn s) _ _ (λ _ t. and_then-and_then (all t) (λ _. tested >>= until) rest
     ∙ and_then-same (all t) _ _ (λ _ u. and_then-and_then (tested u) until rest))
 
-pub does-unless : (env : Surroundings) (outer : Resumption) (statements : Bor (List Stmt)) (condition : Bor Expr) (works : List Work)
+pub does-unless : (env : Surroundings) (outer : Resumption) (head : Bor LoopHead) (statements : Bor (List Stmt)) (works : List Work)
     (operands : List Argument) (s : State) →
-    is_so (top_of operands) ≡ false → resumed env (work.Unless statements condition) (pending_of env outer works) operands s ≡
-    repeating env statements.now condition.now (pending_of env outer works) (below_top operands) s
-does-unless env outer statements condition works operands s so =
-    ap (λ (b : Bool). and_then (further (repeat_rounds env statements.now condition.now) (give (if b then None else Some tt)) s)
+    is_so (top_of operands) ≡ false → resumed env (work.Unless head statements) (pending_of env outer works) operands s ≡
+    repeating env head.now statements.now (pending_of env outer works) (below_top operands) s
+does-unless env outer head statements works operands s so =
+    ap (λ (b : Bool). and_then (further (repeat_rounds env head.now statements.now) (give (if b then None else Some tt)) s)
     (λ _. pending_of env outer works (below_top operands))) so
 
 -- what is pending after the bounds of a for
-abbrev pub bounding : Surroundings → Resumption → ℕ → RangeTest → Direction → RangeTest → Stmt → List Work → Resumption
-bounding env outer control first_fits direction last_fits body works =
-    with_top (λ last rest. with_top (λ first below. for_between control first_fits direction last_fits (effect_of body) env (number_of first) (number_of last)
-    >>= λ _. forgetting (env.visible.variables control) (pending_of env outer works) below) rest)
+abbrev pub bounding : Surroundings → Resumption → ForHead → Stmt → List Work → Resumption
+bounding env outer head body works =
+    with_top (λ last rest. with_top (λ first below. for_between head (effect_of body) env (number_of first) (number_of last)
+    >>= λ _. forgetting (env.visible.variables head.control) (pending_of env outer works) below) rest)
 
-pub does-For : (n loop_number : ℕ) (place : SourcePlace) (control : ℕ) (first : Expr) (first_fits : RangeTest) (direction : Direction) (last : Expr)
-    (last_fits : RangeTest) (body : Box Stmt Global) (given : Stmt) →
-    given ≡ stmt.For n loop_number place control first first_fits direction last last_fits body → (inner : Stmt) → inner ≡ body.value →
+pub does-For : (head : ForHead) (body : Box Stmt Global) (given : Stmt) → given ≡ stmt.For head body → (inner : Stmt) → inner ≡ body.value →
     (env : Surroundings) (outer : Resumption) (works : List Work) (operands : List Argument) (s : State) →
-    executed env outer given works operands s ≡ giving (value_of first env) (giving (value_of last env)
-    (bounding env outer control first_fits direction last_fits inner works)) operands (entered n env s)
-does-For n loop_number place control first first_fits direction last last_fits body given is inner same env outer works operands s =
+    executed env outer given works operands s ≡
+    giving (value_of head.first.value env) (giving (value_of head.last.value env) (bounding env outer head inner works)) operands
+    (entered head.number env s)
+does-For head body given is inner same env outer works operands s =
     let then_rest : Unit {0} → Action (Unit {0}) = λ _. pending_of env outer works operands in
-    let there = entered n env s in
-    let between : Value → Value → Action (Unit {0}) =
-    λ a b. for_between control first_fits direction last_fits (effect_of body.value) env (number_of a) (number_of b) in
-    let behind : Unit {0} → Action (Unit {0}) = λ _. undefine (env.visible.variables control) in
-    let with_last : Value → Action (Unit {0}) = λ a. value_of last env >>= λ b. between a b >>= behind in
-    ap (λ (e : Stmt). executed env outer e works operands s) is
-    ∙ ap (λ (a : Action (Unit {0})). and_then (a s) then_rest)
-    (effect-For n loop_number place control first first_fits direction last last_fits body env)
-    ∙ and_then-and_then (value_of first env there) with_last then_rest
-    ∙ and_then-same (value_of first env there) _ _ (λ a t. and_then-and_then (value_of last env t) (λ b. between a b >>= behind) then_rest
-    ∙ and_then-same (value_of last env t) _ _ (λ b u. and_then-and_then (between a b u) behind then_rest))
-    ∙ ap (λ (e : Stmt). giving (value_of first env) (giving (value_of last env)
-    (bounding env outer control first_fits direction last_fits e works)) operands there) (sym same)
+    let there = entered head.number env s in
+    let first : Action Value = value_of head.first.value env in
+    let last : Action Value = value_of head.last.value env in
+    let between : Value → Value → Action (Unit {0}) = λ a b. for_between head (effect_of body.value) env (number_of a) (number_of b) in
+    let behind : Unit {0} → Action (Unit {0}) = λ _. undefine (env.visible.variables head.control) in
+    executed-rolled (For-F head body) given (stmt.For head body) is (stmt.rolls-For head body) env outer works operands s
+    ∙ and_then-and_then (first there) (λ a. last >>= λ b. between a b >>= behind) then_rest
+    ∙ and_then-same (first there) _ _ (λ a t. and_then-and_then (last t) (λ b. between a b >>= behind) then_rest
+    ∙ and_then-same (last t) _ _ (λ b u. and_then-and_then (between a b u) behind then_rest))
+    ∙ ap (λ (e : Stmt). giving first (giving last (bounding env outer head e works)) operands there) (sym same)
 
-pub does-bounds : (env : Surroundings) (outer : Resumption) (control : ℕ) (first_fits : RangeTest) (direction : Direction) (last_fits : RangeTest) (body : Stmt)
-    (works : List Work) (operands : List Argument) (s : State) (result : Result (Option (ℤ × ℤ)) ℕ) →
-    bounds_tested direction first_fits (number_of (top_of (below_top operands))) last_fits (number_of (top_of operands)) ≡ result →
-    bounding env outer control first_fits direction last_fits body works operands s ≡
-    and_then (rounds_of env control direction (effect_of body) result s)
-    (λ _. forgetting (env.visible.variables control) (pending_of env outer works) (below_top (below_top operands)))
-does-bounds env outer control first_fits direction last_fits body works operands s result is =
-    let then_rest : Unit {0} → Action (Unit {0}) = λ _. forgetting (env.visible.variables control) (pending_of env outer works)
-    (below_top (below_top operands)) in
+pub does-bounds : (env : Surroundings) (outer : Resumption) (head : ForHead) (body : Stmt) (works : List Work) (operands : List Argument) (s : State)
+    (result : Result (Option (ℤ × ℤ)) ℕ) → bounds_tested head (number_of (top_of (below_top operands))) (number_of (top_of operands)) ≡ result →
+    bounding env outer head body works operands s ≡
+    and_then (rounds_of env head (effect_of body) result s)
+    (λ _. forgetting (env.visible.variables head.control) (pending_of env outer works) (below_top (below_top operands)))
+does-bounds env outer head body works operands s result is =
+    let then_rest : Unit {0} → Action (Unit {0}) =
+    λ _. forgetting (env.visible.variables head.control) (pending_of env outer works) (below_top (below_top operands)) in
     ap (λ (r : Reply (Unit {0})). and_then r then_rest)
-    (between-tested env control first_fits direction last_fits (effect_of body) (number_of (top_of (below_top operands))) (number_of (top_of operands)) s
-    ∙ ap (λ (r : Result (Option (ℤ × ℤ)) ℕ). rounds_of env control direction (effect_of body) r s) is)
+    (between-tested env head (effect_of body) (number_of (top_of (below_top operands))) (number_of (top_of operands)) s
+    ∙ ap (λ (r : Result (Option (ℤ × ℤ)) ℕ). rounds_of env head (effect_of body) r s) is)
 
-pub does-for-round : (env : Surroundings) (calls : ExtendedCalls env.calls) (control : ℕ) (direction : Direction) (n last : ℤ) (body : Bor Stmt)
-    (next : Resumption) (operands : List Argument)
-    (s : State) → counting_on env control direction n last body.now next operands s ≡
-    turning env (work.Statement body) (work.Next control direction n last body) next operands
-    (record s { store = kept s.store (env.visible.variables control) (Number n) })
-does-for-round env calls control direction n last body next operands s =
+pub does-for-round : (env : Surroundings) (calls : ExtendedCalls env.calls) (head : Bor ForHead) (n last : ℤ) (body : Bor Stmt) (next : Resumption)
+    (operands : List Argument) (s : State) → counting_on env head.now n last body.now next operands s ≡
+    turning env (work.Statement body) (work.For head (Behind n last) body) next operands
+    (record s { store = kept s.store (env.visible.variables head.now.control) (Number n) })
+does-for-round env calls head n last body next operands s =
+    let control = head.now.control in
     let then_rest : Unit {0} → Action (Unit {0}) = λ _. forgetting (env.visible.variables control) next operands in
-    let each = counting env control direction last body.now in
+    let each = counting env head.now last body.now in
     let again : Option ℤ → Action (Unit {0}) = λ more. another more (looped each) in
     let there : State = record s { store = kept s.store (env.visible.variables control) (Number n) } in
-    let uses = counted_uses control (effect_of body.now) env (value_before direction last) (extended_effect env calls body.now) in
+    let behind = value_before head.now.direction last in
+    let uses = counted_uses control (effect_of body.now) env behind (extended_effect env calls body.now) in
     ap (λ (r : Reply (Unit {0})). and_then r then_rest)
-    (looped-rounds each uses n s ∙ turn-given (use_turn there) (effect_of body.now env) (value_before direction last n) again)
-    ∙ and_then-and_then (use_turn there) (λ _. effect_of body.now env >>= λ _. again (value_before direction last n)) then_rest
-    ∙ and_then-same (use_turn there) _ _
-    (λ _ t. and_then-and_then (effect_of body.now env t) (λ _. again (value_before direction last n)) then_rest)
+    (looped-rounds each uses n s ∙ turn-given (use_turn there) (effect_of body.now env) (behind n) again)
+    ∙ and_then-and_then (use_turn there) (λ _. effect_of body.now env >>= λ _. again (behind n)) then_rest
+    ∙ and_then-same (use_turn there) _ _ (λ _ t. and_then-and_then (effect_of body.now env t) (λ _. again (behind n)) then_rest)
 
-pub does-Case : (n site : ℕ) (index : Expr) (constants : Vec (Vec ℤ Global) Global) (arms : Vec Stmt Global) (given : Stmt) →
-    given ≡ stmt.Case n site index constants arms → (rows : Bor (List (Vec ℤ Global))) → rows.now ≡ constants.items →
-    (all : Bor (List Stmt)) → all.now ≡ arms.items → (env : Surroundings) (outer : Resumption) (works : List Work) (operands : List Argument) (s : State) →
-    executed env outer given works operands s ≡ evaluated env outer index (work.Case site rows all ∷ works) operands (entered n env s)
-does-Case n site index constants arms given is rows same all alike env outer works operands s =
+-- what is pending after the index of a case
+abbrev pub casing : Surroundings → Resumption → CaseHead → List Stmt → List Work → Resumption
+casing env outer head arms works =
+    with_top (λ v below. arm_of head.site head.constants.items (map effect_of arms) (number_of v) env >>= λ _. pending_of env outer works below)
+
+pub does-Case : (head : CaseHead) (arms : Vec Stmt Global) (given : Stmt) → given ≡ stmt.Case head arms → (all : List Stmt) → all ≡ arms.items →
+    (env : Surroundings) (outer : Resumption) (works : List Work) (operands : List Argument) (s : State) →
+    executed env outer given works operands s ≡
+    giving (value_of head.index env) (casing env outer head all works) operands (entered head.number env s)
+does-Case head arms given is all same env outer works operands s =
     let then_rest : Unit {0} → Action (Unit {0}) = λ _. pending_of env outer works operands in
-    let value : Reply Value = value_of index env (entered n env s) in
-    let arm : List (Vec ℤ Global) → List Stmt → Value → Action (Unit {0}) = λ l m v. arm_of site l (map effect_of m) (number_of v) env in
-    ap (λ (e : Stmt). executed env outer e works operands s) is
-    ∙ ap (λ (a : Action (Unit {0})). and_then (a s) then_rest) (effect-Case n site index constants arms env)
-    ∙ and_then-and_then value (arm constants.items arms.items) then_rest
-    ∙ ap (λ (l : List (Vec ℤ Global)). and_then value (λ v. arm l arms.items v >>= then_rest)) (sym same)
-    ∙ ap (λ (m : List Stmt). and_then value (λ v. arm rows.now m v >>= then_rest)) (sym alike)
+    let value : Reply Value = value_of head.index env (entered head.number env s) in
+    let arm : List Stmt → Value → Action (Unit {0}) = λ l v. arm_of head.site head.constants.items (map effect_of l) (number_of v) env in
+    executed-rolled (Case-F head arms) given (stmt.Case head arms) is (stmt.rolls-Case head arms) env outer works operands s
+    ∙ and_then-and_then value (arm arms.items) then_rest
+    ∙ ap (λ (l : List Stmt). and_then value (λ v. arm l v >>= then_rest)) (sym same)
 
 pub does-Statements : (first : Bor Stmt) (rest all : Bor (List Stmt)) → all.now ≡ first.now ∷ rest.now →
     (env : Surroundings) (outer : Resumption) (works : List Work) (operands : List Argument) (s : State) →
@@ -623,25 +564,16 @@ does-Call call actuals given is same_call same all alike env outer works operand
     ∙ ap (λ (c : Call). calling env c actuals.items next operands (entered call.number env s)) (sym same)
     ∙ ap (λ (l : List Passed). calling env same_call l next operands (entered call.number env s)) (sym alike)
 
-effect-Call : (call : Call) (actuals : Vec Passed Global) (env : Surroundings) →
-    effect_of (stmt.Call call actuals) env ≡ (call_of call (map passing_of actuals.items) env >>= λ _. give tt)
-effect-Call call actuals env = ap (λ (e : Stmt). effect_of e env) (sym (stmt.rolls-Call call actuals))
-    ∙ ap (λ (f : Execution). f env) (fold-roll-Stmt Execution effect_step (Call-F call actuals))
-
 -- a procedure, whose value is discarded
-pub does-procedure : (call : Call) (actuals : Vec Passed Global) (given : Stmt) → given ≡ stmt.Call call actuals → (same_call : Call) → same_call ≡ call →
-    (all : List Passed) → all ≡ actuals.items → (env : Surroundings) (outer : Resumption) (works : List Work) (operands : List Argument) (s : State) →
+pub does-procedure : (procedure : ProcedureCall) (given : Stmt) → given ≡ stmt.Call procedure →
+    (env : Surroundings) (outer : Resumption) (works : List Work) (operands : List Argument) (s : State) →
     executed env outer given works operands s ≡
-    calling env same_call all (pending_of env outer (work.Discard ∷ works)) operands (entered call.number env s)
-does-procedure call actuals given is same_call same all alike env outer works operands s =
+    performing env procedure (pending_of env outer works) operands (entered procedure.call.number env s)
+does-procedure procedure given is env outer works operands s =
     let then_rest : Unit {0} → Action (Unit {0}) = λ _. pending_of env outer works operands in
-    let next = pending_of env outer (work.Discard ∷ works) in
-    ap (λ (e : Stmt). executed env outer e works operands s) is
-    ∙ ap (λ (a : Action (Unit {0})). and_then (a s) then_rest) (effect-Call call actuals env)
-    ∙ and_then-and_then (call_of call (map passing_of actuals.items) env s) (λ _. give tt) then_rest
-    ∙ called-as call actuals.items env next operands s
-    ∙ ap (λ (c : Call). calling env c actuals.items next operands (entered call.number env s)) (sym same)
-    ∙ ap (λ (l : List Passed). calling env same_call l next operands (entered call.number env s)) (sym alike)
+    executed-rolled (Call-F procedure) given (stmt.Call procedure) is (stmt.rolls-Call procedure) env outer works operands s
+    ∙ and_then-and_then (call_of procedure.call (map passing_of procedure.actuals.items) env s) (λ _. give tt) then_rest
+    ∙ called-as procedure.call procedure.actuals.items env (pending_of env outer (work.Discard ∷ works)) operands s
 
 -- actual parameters, the first one and then the others
 pub does-passed : (first : Bor Passed) (rest all : Bor (List Passed)) → all.now ≡ first.now ∷ rest.now → (env : Surroundings) (next : Resumption)

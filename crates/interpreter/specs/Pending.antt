@@ -17,8 +17,11 @@ use Rattle.typed_tree.specs.declared.tree.Passed.{Passed}
 use Rattle.typed_tree.specs.declared.tree.WriteParameter.{WriteParameter}
 use Rattle.typed_tree.specs.declared.tree.Access.{Access}
 use Rattle.typed_tree.specs.declared.tree.Selector.{Selector}
+use Rattle.typed_tree.specs.declared.tree.Assignment.{Assignment}
+use Rattle.typed_tree.specs.declared.tree.Copying.{Copying}
 use Rattle.typed_tree.specs.declared.tree.ForHead.{ForHead}
 use Rattle.typed_tree.specs.declared.tree.LoopHead.{LoopHead}
+use Rattle.typed_tree.specs.declared.tree.ProcedureCall.{ProcedureCall}
 use Rattle.typed_tree.specs.declared.tree.RangeTest.{RangeTest}
 use Rattle.typed_tree.specs.declared.tree.Expr.{Expr}
 use Rattle.typed_tree.specs.declared.tree.Stmt.{Stmt}
@@ -34,6 +37,7 @@ use Rattle.operations.specs.Answers.{positive, value_before}
 use Rattle.interpreter_state.specs.declared.activation.Activation.{Activation as KeptActivation}
 use Rattle.interpreter_state.specs.declared.store.Place.{Place as KeptPlace}
 use Rattle.interpreter_state.specs.declared.work.Caller.{Caller}
+use Rattle.interpreter_state.specs.declared.work.Rounds.TheVariants.{Between, Behind}
 use Rattle.interpreter_state.specs.declared.work.Work.{Work}
 use Rattle.interpreter_state.specs.declared.work.Work.TheVariants as work
 use Rattle.interpreter_state.specs.contracts.store.PlaceOrd.TheImpl.{ghosts as places}
@@ -232,14 +236,14 @@ resumed env (work.WhileTurn head body) next operands =
     >>= λ _. next below)
     operands
 resumed env (work.Unless head statements) next operands = unless_so env head.now statements.now next operands
-resumed env (work.Bounds head body) next operands =
+resumed env (work.For head Between body) next operands =
     with_top
     (λ last rest. with_top
     (λ first below. for_between head.now (effect_of body.now) env (number_of first) (number_of last)
     >>= λ _. forgetting (env.visible.variables head.now.control) next below)
     rest)
     operands
-resumed env (work.Next head value last body) next operands = do
+resumed env (work.For head (Behind value last) body) next operands = do
   _ ← further (counting env head.now last body.now) (give (value_before head.now.direction last value))
   forgetting (env.visible.variables head.now.control) next operands
 resumed env (work.Case head arms) next operands =
@@ -359,6 +363,23 @@ turning_tested env first condition second next operands = do
 abbrev pub calling : Surroundings → Call → List Passed → Resumption → Resumption
 calling env call actuals next =
     passing env (map passing_of actuals) (activating env call.block (length actuals) next)
+
+-- the place of a target and the value, which is stored there, and then the rest
+abbrev pub assigning : Surroundings → Assignment → Resumption → Resumption
+assigning env assignment next =
+    placing env assignment.target assignment.indexes.items
+    (giving (value_of assignment.value env) (resumed env (work.Store assignment.fits) next))
+
+-- the same of a structured value
+abbrev pub assigning_row : Surroundings → Copying → Resumption → Resumption
+assigning_row env copying next =
+    placing env copying.target copying.indexes.items
+    (giving_row (whole_of copying.value (values_of copying.value_indexes.items) env)
+    (resumed env (work.StoreRow copying.type_id) next))
+
+-- a procedure, and then the rest
+abbrev pub performing : Surroundings → ProcedureCall → Resumption → Resumption
+performing env procedure next = calling env procedure.call procedure.actuals.items (resumed env work.Discard next)
 
 -- what is pending in an activation, the next first, and what goes on behind it
 abbrev pub pending_of : Surroundings → Resumption → List Work → Resumption

@@ -6,6 +6,9 @@ use Rattle.std.specs.Prelude.{sum_by}
 use Rattle.std.specs.declared.alloc.AllocError.{AllocError}
 use Rattle.std.specs.declared.alloc.Global.{Global}
 use Rattle.std.specs.declared.boxed.Box.{Box}
+use Rattle.typed_tree.specs.declared.tree.Assignment.{Assignment}
+use Rattle.typed_tree.specs.declared.tree.Copying.{Copying}
+use Rattle.typed_tree.specs.declared.tree.ProcedureCall.{ProcedureCall}
 use Rattle.typed_tree.specs.declared.tree.Width.{Width}
 use Rattle.typed_tree.specs.declared.tree.WriteParameter.{WriteParameter}
 use Rattle.typed_tree.specs.declared.tree.Written.{Written}
@@ -90,6 +93,19 @@ size_of_written (String value indexes) = 2 + size_of_whole value indexes.items
 abbrev pub size_of_parameter : WriteParameter → ℕ
 size_of_parameter parameter = size_of_written parameter.value + size_of_width parameter.width
 
+abbrev pub size_of_assignment : Assignment → ℕ
+size_of_assignment assignment =
+    3 + size_of_selectors assignment.target.selectors.items assignment.indexes.items
+    + size_of_expression assignment.value
+
+abbrev pub size_of_copying : Copying → ℕ
+size_of_copying copying =
+    3 + size_of_selectors copying.target.selectors.items copying.indexes.items
+    + size_of_whole copying.value copying.value_indexes.items
+
+abbrev pub size_of_procedure : ProcedureCall → ℕ
+size_of_procedure procedure = 1 + call_size (map size_of_passed procedure.actuals.items)
+
 -- the statement behind `else`, or nothing
 abbrev pub alternative_size : Option (Box ℕ Global) → ℕ
 alternative_size None = 0
@@ -97,14 +113,10 @@ alternative_size (Some size) = size.value
 
 abbrev pub statement_size : Stmt-F ℕ → ℕ
 statement_size (Empty n) = 0
-statement_size (Assign assignment) =
-    3 + size_of_selectors assignment.target.selectors.items assignment.indexes.items
-    + size_of_expression assignment.value
-statement_size (Copy copying) =
-    3 + size_of_selectors copying.target.selectors.items copying.indexes.items
-    + size_of_whole copying.value copying.value_indexes.items
+statement_size (Assign assignment) = size_of_assignment assignment
+statement_size (Copy copying) = size_of_copying copying
 statement_size (Write writing) = row_size 1 (map size_of_parameter writing.parameters.items)
-statement_size (Calling calling) = 1 + call_size (map size_of_passed calling.actuals.items)
+statement_size (Calling procedure) = size_of_procedure procedure
 statement_size (Compound n statements) = row_size 2 statements.items
 statement_size (If n condition consequence alternative) =
     3 + size_of_expression condition + consequence.value + alternative_size alternative

@@ -143,13 +143,7 @@ impl<'t> Run<'t, '_> {
             } => self.choose(consequence, alternative),
             Work::WhileTurn { head, body } => self.while_turn(head, body),
             Work::Unless { head, statements } => self.unless(head, statements),
-            Work::Bounds { head, body } => self.bounds(head, body),
-            Work::Next {
-                head,
-                value,
-                last,
-                body,
-            } => self.next_round(head, value, last, body),
+            Work::For { head, rounds, body } => self.rounds(head, rounds, body),
             Work::Case { head, arms } => self.case(head, arms),
             Work::Parameters {
                 parameters,

@@ -1,11 +1,12 @@
 ghost use Rattle.std.specs.Prelude.{◌+◌};
-ghost use Rattle.interpreter.specs.Pending.{Does, counting_on, forgetting, line_ending, repeating, resumed, whiling};
-ghost use Rattle.interpreter.specs.Pending.{writing, writing_one, writing_row};
-ghost use Rattle.interpreter.specs.Size.{Adds, Lightens, size_of_expression, size_of_parameter, size_of_whole};
-ghost use Rattle.interpreter.specs.Size.{size_of_width};
+ghost use Rattle.interpreter_state.specs.declared.work.Rounds.TheVariants.{Between, Behind};
+ghost use Rattle.interpreter.specs.Pending.{Does, assigning, assigning_row, counting_on, forgetting, line_ending};
+ghost use Rattle.interpreter.specs.Pending.{performing, repeating, resumed, whiling, writing, writing_one, writing_row};
+ghost use Rattle.interpreter.specs.Size.{Adds, Lightens, size_of_assignment, size_of_copying, size_of_expression};
+ghost use Rattle.interpreter.specs.Size.{size_of_parameter, size_of_procedure, size_of_whole, size_of_width};
 
 use crate::interpreter::Run;
-use interpreter_state::work::{Work, put};
+use interpreter_state::work::{Rounds, Work, put};
 use meaning::outcome::Ending;
 use meaning::store::{Ordinal, Value};
 use operations::arms::arm_at;
@@ -16,7 +17,8 @@ use operations::rows::length_of;
 use operations::text::{write_ordinal, write_row, write_row_in};
 use std::alloc::AllocError;
 use typed_tree::tree::{
-    CaseHead, Expr, ForHead, LoopHead, Representation, Stmt, Whole, Width, WriteParameter, Written,
+    Assignment, CaseHead, Copying, Expr, ForHead, LoopHead, ProcedureCall, Representation, Stmt,
+    Whole, Width, WriteParameter, Written,
 };
 
 // The steps of statements.
@@ -40,30 +42,10 @@ impl<'t> Run<'t, '_> {
     {
         match statement {
             Stmt::Empty { .. } => Ok(None),
-            Stmt::Assign(assignment) => {
-                put(&mut self.pending, Work::Store(assignment.fits))?;
-                self.access(
-                    &assignment.target,
-                    &assignment.indexes,
-                    Work::Value(&assignment.value),
-                )
-            }
-            Stmt::Copy(copying) => {
-                put(&mut self.pending, Work::StoreRow(copying.type_id))?;
-                self.access(
-                    &copying.target,
-                    &copying.indexes,
-                    Work::Whole {
-                        value: &copying.value,
-                        indexes: &copying.value_indexes,
-                    },
-                )
-            }
+            Stmt::Assign(assignment) => self.assignment(assignment),
+            Stmt::Copy(copying) => self.copying(copying),
             Stmt::Write(writing) => self.parameters(&writing.parameters, writing.ends_line),
-            Stmt::Call(calling) => {
-                put(&mut self.pending, Work::Discard)?;
-                self.call(&calling.call, &calling.actuals)
-            }
+            Stmt::Call(procedure) => self.procedure(procedure),
             Stmt::Compound { statements, .. } => self.statements(statements),
             Stmt::If {
                 condition,
@@ -82,12 +64,54 @@ impl<'t> Run<'t, '_> {
             Stmt::For { head, body } => self.plan_values(
                 &head.first.value,
                 &head.last.value,
-                Work::Bounds { head, body },
+                Work::For {
+                    head,
+                    rounds: Rounds::Between,
+                    body,
+                },
             ),
             Stmt::Case { head, arms } => {
                 self.plan(Work::Value(&head.index), Work::Case { head, arms })
             }
         }
+    }
+
+    // The place of the target and the value, which is stored there.
+    fn assignment(&mut self, assignment: &'t Assignment) -> Result<Option<Ending>, AllocError>
+        ensures size { Adds (size_of_assignment assignment.now) self.old result self.new }
+        ensures does { Does (λ env. assigning env assignment.now) self.old result self.new }
+    {
+        put(&mut self.pending, Work::Store(assignment.fits))?;
+        self.access(
+            &assignment.target,
+            &assignment.indexes,
+            Work::Value(&assignment.value),
+        )
+    }
+
+    // The place of the target and the row of the value, which is stored there.
+    fn copying(&mut self, copying: &'t Copying) -> Result<Option<Ending>, AllocError>
+        ensures size { Adds (size_of_copying copying.now) self.old result self.new }
+        ensures does { Does (λ env. assigning_row env copying.now) self.old result self.new }
+    {
+        put(&mut self.pending, Work::StoreRow(copying.type_id))?;
+        self.access(
+            &copying.target,
+            &copying.indexes,
+            Work::Whole {
+                value: &copying.value,
+                indexes: &copying.value_indexes,
+            },
+        )
+    }
+
+    // A call whose value is dropped.
+    fn procedure(&mut self, procedure: &'t ProcedureCall) -> Result<Option<Ending>, AllocError>
+        ensures size { Adds (size_of_procedure procedure.now) self.old result self.new }
+        ensures does { Does (λ env. performing env procedure.now) self.old result self.new }
+    {
+        put(&mut self.pending, Work::Discard)?;
+        self.call(&procedure.call, &procedure.actuals)
     }
 
     pub(crate) fn choose(
@@ -170,13 +194,25 @@ impl<'t> Run<'t, '_> {
         }
     }
 
-    pub(crate) fn bounds(
+    pub(crate) fn rounds(
         &mut self,
         head: &'t ForHead,
+        rounds: Rounds,
         body: &'t Stmt,
     ) -> Result<Option<Ending>, AllocError>
-        ensures fewer { Lightens (Work.Bounds head.entry body.entry) self.old result self.new }
-        ensures does { Does (λ env. resumed env (Work.Bounds head.entry body.entry)) self.old result self.new }
+        ensures fewer { Lightens (Work.For head.entry rounds body.entry) self.old result self.new }
+        ensures does { Does (λ env. resumed env (Work.For head.entry rounds body.entry)) self.old result self.new }
+    {
+        match rounds {
+            Rounds::Between => self.bounds(head, body),
+            Rounds::Behind { value, last } => self.next_round(head, value, last, body),
+        }
+    }
+
+    // The rounds of a for between its bounds.
+    fn bounds(&mut self, head: &'t ForHead, body: &'t Stmt) -> Result<Option<Ending>, AllocError>
+        ensures fewer { Lightens (Work.For head.entry Between body.entry) self.old result self.new }
+        ensures does { Does (λ env. resumed env (Work.For head.entry Between body.entry)) self.old result self.new }
     {
         let last = self.popped_number();
         let first = self.popped_number();
@@ -202,24 +238,25 @@ impl<'t> Run<'t, '_> {
         self.keep(place, Value::Number(Ordinal::new(value)))?;
         self.turn(
             Work::Statement(body),
-            Work::Next {
+            Work::For {
                 head,
-                value,
-                last,
+                rounds: Rounds::Behind { value, last },
                 body,
             },
         )
     }
 
-    pub(crate) fn next_round(
+    // The rounds of a for behind that with a value of its control variable.
+    fn next_round(
         &mut self,
         head: &'t ForHead,
         value: i32,
         last: i32,
         body: &'t Stmt,
     ) -> Result<Option<Ending>, AllocError>
-        ensures fewer { Lightens (Work.Next head.entry value last body.entry) self.old result self.new }
-        ensures does { Does (λ env. resumed env (Work.Next head.entry value last body.entry)) self.old result self.new }
+        ensures fewer { Lightens (Work.For head.entry (Behind value last) body.entry) self.old result self.new }
+        ensures does { Does (λ env. resumed env (Work.For head.entry (Behind value last) body.entry))
+            self.old result self.new }
     {
         match value_toward(head.direction, last, value) {
             Some(value) => self.for_round(head, value, last, body),

@@ -29,16 +29,10 @@ pub enum Work<'t> {
         head: &'t LoopHead,
         statements: &'t [Stmt],
     },
-    /// A for statement, whose bounds are topmost, the last above the first.
-    Bounds {
+    /// The rounds of a for that are left.
+    For {
         head: &'t ForHead,
-        body: &'t Stmt,
-    },
-    /// The rounds of a for behind that with a value of its control variable.
-    Next {
-        head: &'t ForHead,
-        value: i32,
-        last: i32,
+        rounds: Rounds,
         body: &'t Stmt,
     },
     /// The arms of a case, whose index is topmost.
@@ -119,6 +113,15 @@ pub enum Work<'t> {
     },
     /// Drops the topmost value.
     Discard,
+}
+
+/// Which rounds of a for are left.
+#[derive(Clone, Copy)]
+pub enum Rounds {
+    /// Those between the bounds, which are topmost, the last above the first.
+    Between,
+    /// Those behind that with a value of the control variable.
+    Behind { value: i32, last: i32 },
 }
 
 /// An activation that waits for one inside it, with the work that is left in it, the next on top.

@@ -12,7 +12,7 @@ use Rattle.std.specs.Option.{option_and_then, option_map}
 use Rattle.std.specs.Prelude.{slice_get, slice_index_or}
 use Rattle.types.specs.Components.{Steps, components_of}
 use Rattle.types.specs.Forms.{Array, Form, Record}
-use Rattle.types.specs.Types.{form_at, has_components, is_structured}
+use Rattle.types.specs.Types.{form_at, form_kind, is_structured, is_structured_kind}
 use Rattle.types.specs.declared.form.OrdinalRange.{OrdinalRange}
 use Rattle.types.specs.declared.form.TypeId.{TypeId}
 use Rattle.types.proofs.Growing.{slice_get-left, slice_get-right}
@@ -185,7 +185,7 @@ module _ (types : List Form) where
   pub leaf-behind : (id : TypeId) (leaf : Leaf) → is_structured types id ≡ true → Has (leaves_of types id) leaf → is_named leaf.steps [] ≡ true → ⊥
   leaf-behind id leaf structured has named = by (form_at types id) refl structured
     where
-      by : (form : Option Form) → form_at types id ≡ form → has_components form ≡ true → ⊥
+      by : (form : Option Form) → form_at types id ≡ form → is_structured_kind (option_map form_kind form) ≡ true → ⊥
       by (Some (Array packed index element)) is structured =
           let behind = behind_elements (range_at (leafed_before types id) index) in
           let own = leaves_at (leafed_before types id) element in

@@ -6,10 +6,10 @@ use Rattle.std.proofs.lemmas.Bool.Decides.{Decides-int_eq}
 use Rattle.std.proofs.lemmas.Option.{cond_some, none-some, same_Some}
 use Rattle.std.specs.Option.{option_and_then}
 use Rattle.std.specs.Ordering.{int_eq}
-use Rattle.std.specs.Prelude.{slice_get}
+use Rattle.std.specs.Prelude.{option_map, slice_get}
 use Rattle.types.specs.Components.{Steps, components_at, components_of, fields_components, values_from}
 use Rattle.types.specs.Forms.{Array, FieldForm, Form, Record}
-use Rattle.types.specs.Types.{Counted, before, cells_at, element_of, field_at, form_at, has_components, is_structured, placed_fields, values_in}
+use Rattle.types.specs.Types.{Counted, before, cells_at, element_of, field_at, form_at, form_kind, is_structured, is_structured_kind, placed_fields, values_in}
 use Rattle.types.specs.declared.form.ArrayElement.{ArrayElement}
 use Rattle.types.specs.declared.form.OrdinalRange.{OrdinalRange}
 use Rattle.types.specs.declared.form.RecordField.{RecordField}
@@ -321,7 +321,7 @@ module _ (types : List Form) where
   structured-from (Element fits cells ∷ selectors) from id leads itself =
       let on = led-on (Element fits cells) selectors from id (selected types (Element fits cells) from) refl leads in
       let is = is-element fits cells from on.0 on.1 in
-      ap has_components (is_array types from is.element is.is).form
+      ap (λ form. is_structured_kind (option_map form_kind form)) (is_array types from is.element is.is).form
   structured-from (Field position offset ∷ selectors) from id leads itself =
       let on = led-on (Field position offset) selectors from id (selected types (Field position offset) from) refl leads in
-      ap has_components (is-field position offset from on.0 on.1).form
+      ap (λ form. is_structured_kind (option_map form_kind form)) (is-field position offset from on.0 on.1).form

@@ -2,21 +2,19 @@
 -- a program ends with. It says nothing of which of them comes.
 use Rattle.std.specs.Prelude.{ℕ, List, [], ◌∷◌, ◌++◌, Option, Some, None, decimal, codes}
 use Rattle.place.specs.declared.Place.{Place}
-use Rattle.lexer.specs.declared.fault.LexFault.{LexFault}
-use Rattle.lexer.specs.declared.fault.LexFault.TheVariants as lex
-use Rattle.token_cursor.specs.declared.fault.ParseFault.{ParseFault}
-use Rattle.token_cursor.specs.declared.fault.ParseFault.TheVariants as parse
+use Rattle.lexer.specs.LexFault as lex
+use Rattle.token_cursor.specs.ParseFault as parse
 use Rattle.typed_tree.specs.declared.fault.TypeFault.{TypeFault}
-use Rattle.typed_tree.specs.declared.fault.TypeFault.TheVariants as typing
+use Rattle.typed_tree.specs.Faults.{code_of, place_of_fault}
 use Rattle.typed_tree.specs.declared.site.Site.{Site}
 use Rattle.typed_tree.specs.declared.site.SiteKind.{SiteKind}
 use Rattle.typed_tree.specs.Sites.{name_of, kind_of}
 use Rattle.certificate.specs.declared.fault.ReadFault.{ReadFault}
-use Rattle.certificate.specs.declared.fault.ReadFault.TheVariants as read
+use Rattle.certificate.specs.Faults.{line_of}
+use Rattle.certificate.specs.Faults as read
 use Rattle.expression_checker.specs.declared.fault.CheckFault.{CheckFault}
 use Rattle.expression_checker.specs.declared.fault.CheckFault.TheVariants as check
-use Rattle.expression_checker.specs.declared.fault.Rule.{Rule}
-use Rattle.expression_checker.specs.declared.fault.Rule.TheVariants as rule
+use Rattle.expression_checker.specs.Rules as rule
 use Rattle.code_generator.specs.declared.fault.GenFault.{GenFault}
 use Rattle.code_generator.specs.declared.fault.GenFault.TheVariants as generate
 use Rattle.stack_machine.specs.declared.stop.Stop.{Stop}
@@ -47,22 +45,13 @@ abbrev pub open_line : Site → List ℕ
 open_line site =
     place_text site.place.line site.place.column ++ codes ": possible error: " ++ name_of site.kind ++ 10 ∷ []
 
--- the letters of the rules: L of tokens, P of syntax, S of names, K of types and kinds, Y of cells, F of the text of a
--- certificate, C of its claims, G of the code
+-- the letters of the rules: L of tokens, P of syntax, F of the text of a certificate, C of its claims, G of the code;
+-- those of names and types tell their own
 abbrev pub letter_l : ℕ
 letter_l = 76
 
 abbrev pub letter_p : ℕ
 letter_p = 80
-
-abbrev pub letter_s : ℕ
-letter_s = 83
-
-abbrev pub letter_k : ℕ
-letter_k = 75
-
-abbrev pub letter_y : ℕ
-letter_y = 89
 
 abbrev pub letter_f : ℕ
 letter_f = 70
@@ -77,68 +66,27 @@ letter_g = 71
 abbrev pub code_text : RuleCode → List ℕ
 code_text code = code.letter ∷ [] ++ decimal code.number
 
--- a rule at a place
-abbrev pub at : Place → ℕ → ℕ → Refusal
-at place letter number = At place (record { letter = letter; number = number })
-
-abbrev pub lexer_refusal : LexFault → Refusal
-lexer_refusal lex.Memory = Memory
-lexer_refusal (lex.UnknownByte place) = at place letter_l 1
-lexer_refusal (lex.OpenComment place) = at place letter_l 2
-lexer_refusal (lex.OpenString place) = at place letter_l 3
-lexer_refusal (lex.EmptyString place) = at place letter_l 4
-lexer_refusal (lex.LargeNumber place) = at place letter_l 5
-lexer_refusal (lex.TouchingLetter place) = at place letter_l 6
-lexer_refusal (lex.LongText place) = at place letter_l 7
-lexer_refusal (lex.StringByte place) = at place letter_l 8
-
-abbrev pub parser_refusal : ParseFault → Refusal
-parser_refusal parse.Memory = Memory
-parser_refusal (parse.NoProgram place) = at place letter_p 1
-parser_refusal (parse.TooDeep place) = at place letter_p 2
-parser_refusal (parse.LeftOut place) = at place letter_p 3
+-- a rule at a place; want of memory, where there is none
+abbrev pub at_or_memory : Option Place → ℕ → ℕ → Refusal
+at_or_memory None letter number = Memory
+at_or_memory (Some place) letter number = At place (record { letter = letter; number = number })
 
 abbrev pub typing_refusal : TypeFault → Refusal
-typing_refusal typing.Memory = Memory
-typing_refusal (typing.DeclaredTwice place) = at place letter_s 1
-typing_refusal (typing.UsedBeforeDeclared place) = at place letter_s 2
-typing_refusal (typing.NotDeclared place) = at place letter_s 3
-typing_refusal (typing.NestedTooDeep place) = at place letter_s 4
-typing_refusal (typing.Mismatch place) = at place letter_k 1
-typing_refusal (typing.NotVariable place) = at place letter_k 2
-typing_refusal (typing.WrongParameters place) = at place letter_k 3
-typing_refusal (typing.PackedComponent place) = at place letter_k 4
-typing_refusal (typing.Threatened place) = at place letter_k 5
-typing_refusal (typing.CaseConstant place) = at place letter_k 6
-typing_refusal (typing.NeverAssigned place) = at place letter_k 7
-typing_refusal (typing.NotProgramParameter place) = at place letter_k 8
-typing_refusal (typing.NotCompleted place) = at place letter_k 9
-typing_refusal (typing.TooMany place) = at place letter_k 10
-typing_refusal (typing.FirstAboveLast place) = at place letter_y 1
-typing_refusal (typing.TooManyCells place) = at place letter_y 2
+typing_refusal fault = at_or_memory (place_of_fault fault) (code_of fault).0 (code_of fault).1
+
+-- a rule at a line of the certificate
+abbrev pub at_line_or_memory : Option ℕ → ℕ → Refusal
+at_line_or_memory None number = Memory
+at_line_or_memory (Some line) number = Certificate line (record { letter = letter_f; number = number })
 
 abbrev pub certificate_refusal : ReadFault → Refusal
-certificate_refusal read.Memory = Memory
-certificate_refusal (read.FirstLine line) = Certificate line (record { letter = letter_f; number = 1 })
-certificate_refusal (read.NotInGrammar line) = Certificate line (record { letter = letter_f; number = 2 })
-certificate_refusal (read.OutOfOrder line) = Certificate line (record { letter = letter_f; number = 3 })
-certificate_refusal (read.OutOfRange line) = Certificate line (record { letter = letter_f; number = 4 })
-certificate_refusal (read.Unended line) = Certificate line (record { letter = letter_f; number = 5 })
-
--- the number of a rule of certificates
-abbrev pub rule_number : Rule → ℕ
-rule_number rule.LoopEntry = 2
-rule_number rule.LoopTurn = 3
-rule_number rule.Exit = 4
-rule_number rule.CallEntry = 5
-rule_number rule.Aliases = 6
-rule_number rule.Changes = 7
+certificate_refusal fault = at_line_or_memory (line_of fault) (read.number_of fault)
 
 abbrev pub checker_refusal : CheckFault → Refusal
 checker_refusal check.Memory = Memory
 checker_refusal check.Foreign = Claims (record { letter = letter_c; number = 1 })
 checker_refusal (check.Broken broken place) =
-    Claim place (record { letter = letter_c; number = rule_number broken })
+    Claim place (record { letter = letter_c; number = rule.number_of broken })
 
 abbrev pub generator_refusal : GenFault → Refusal
 generator_refusal generate.Memory = Memory
@@ -147,8 +95,8 @@ generator_refusal generate.TooLarge = Whole (record { letter = letter_g; number 
 -- what a fault says
 abbrev pub refusal_of : Fault → Refusal
 refusal_of fault.Memory = Memory
-refusal_of (fault.Lex f) = lexer_refusal f
-refusal_of (fault.Parse f) = parser_refusal f
+refusal_of (fault.Lex f) = at_or_memory (lex.place_of_fault f) letter_l (lex.number_of f)
+refusal_of (fault.Parse f) = at_or_memory (parse.place_of_fault f) letter_p (parse.number_of f)
 refusal_of (fault.Typing f) = typing_refusal f
 refusal_of (fault.Certificate f) = certificate_refusal f
 refusal_of (fault.Check f) = checker_refusal f

@@ -4,20 +4,18 @@ ghost use Rattle.report_text.specs.declared.text.TheConstants.{LINE_SIZE};
 ghost use Rattle.report_text.specs.Text.{name_size, number_size, place_text, open_line, refusal_of, refusal_line};
 ghost use Rattle.report_text.specs.Text.{refusal_status, stop_line, stop_status, error_name, input_name, machine_text};
 ghost use Rattle.report_text.specs.Text.{code_text};
-ghost use Rattle.report_text.specs.Text.{lexer_refusal, parser_refusal, typing_refusal, certificate_refusal};
-ghost use Rattle.report_text.specs.Text.{checker_refusal, rule_number, generator_refusal};
+ghost use Rattle.report_text.specs.Text.{at_or_memory, typing_refusal, certificate_refusal};
+ghost use Rattle.report_text.specs.Text.{checker_refusal, generator_refusal};
 
 use crate::fault::Fault;
 use certificate::fault::ReadFault;
 use code_generator::fault::GenFault;
-use expression_checker::fault::{CheckFault, Rule};
+use expression_checker::fault::CheckFault;
 use itoa::Buffer;
-use lexer::fault::LexFault;
 use place::Place;
 use smallvec::SmallVec;
 use stack_machine::stop::{InputFault, MachineFault, Stop};
 use std::alloc::{AllocError, Global};
-use token_cursor::fault::ParseFault;
 use typed_tree::fault::TypeFault;
 use typed_tree::site::{Site, SiteKind};
 
@@ -127,8 +125,8 @@ pub fn refusal_told(fault: &Fault) -> Refusal
 {
     match fault {
         Fault::Memory => Refusal::Memory,
-        Fault::Lex(fault) => lexer_refusal(*fault),
-        Fault::Parse(fault) => parser_refusal(*fault),
+        Fault::Lex(fault) => at_or_memory(fault.place(), b'L', fault.number()),
+        Fault::Parse(fault) => at_or_memory(fault.place(), b'P', fault.number()),
         Fault::Typing(fault) => typing_refusal(*fault),
         Fault::Certificate(fault) => certificate_refusal(*fault),
         Fault::Check(fault) => checker_refusal(*fault),
@@ -136,83 +134,36 @@ pub fn refusal_told(fault: &Fault) -> Refusal
     }
 }
 
-fn at(place: Place, letter: u8, number: u8) -> Refusal
-    ensures { result ≡ Refusal.At place (record { letter = letter; number = number }) }
+// A rule that is broken at a place; want of memory, where there is none.
+fn at_or_memory(place: Option<Place>, letter: u8, number: u8) -> Refusal
+    ensures { result ≡ at_or_memory place letter number }
 {
-    Refusal::At {
-        place,
-        code: RuleCode { letter, number },
-    }
-}
-
-fn lexer_refusal(fault: LexFault) -> Refusal
-    ensures { result ≡ lexer_refusal fault }
-{
-    match fault {
-        LexFault::Memory => Refusal::Memory,
-        LexFault::UnknownByte(place) => at(place, b'L', 1),
-        LexFault::OpenComment(place) => at(place, b'L', 2),
-        LexFault::OpenString(place) => at(place, b'L', 3),
-        LexFault::EmptyString(place) => at(place, b'L', 4),
-        LexFault::LargeNumber(place) => at(place, b'L', 5),
-        LexFault::TouchingLetter(place) => at(place, b'L', 6),
-        LexFault::LongText(place) => at(place, b'L', 7),
-        LexFault::StringByte(place) => at(place, b'L', 8),
-    }
-}
-
-fn parser_refusal(fault: ParseFault) -> Refusal
-    ensures { result ≡ parser_refusal fault }
-{
-    match fault {
-        ParseFault::Memory => Refusal::Memory,
-        ParseFault::NoProgram(place) => at(place, b'P', 1),
-        ParseFault::TooDeep(place) => at(place, b'P', 2),
-        ParseFault::LeftOut(place) => at(place, b'P', 3),
+    match place {
+        None => Refusal::Memory,
+        Some(place) => Refusal::At {
+            place,
+            code: RuleCode { letter, number },
+        },
     }
 }
 
 fn typing_refusal(fault: TypeFault) -> Refusal
     ensures { result ≡ typing_refusal fault }
 {
-    match fault {
-        TypeFault::Memory => Refusal::Memory,
-        TypeFault::DeclaredTwice(place) => at(place, b'S', 1),
-        TypeFault::UsedBeforeDeclared(place) => at(place, b'S', 2),
-        TypeFault::NotDeclared(place) => at(place, b'S', 3),
-        TypeFault::NestedTooDeep(place) => at(place, b'S', 4),
-        TypeFault::Mismatch(place) => at(place, b'K', 1),
-        TypeFault::NotVariable(place) => at(place, b'K', 2),
-        TypeFault::WrongParameters(place) => at(place, b'K', 3),
-        TypeFault::PackedComponent(place) => at(place, b'K', 4),
-        TypeFault::Threatened(place) => at(place, b'K', 5),
-        TypeFault::CaseConstant(place) => at(place, b'K', 6),
-        TypeFault::NeverAssigned(place) => at(place, b'K', 7),
-        TypeFault::NotProgramParameter(place) => at(place, b'K', 8),
-        TypeFault::NotCompleted(place) => at(place, b'K', 9),
-        TypeFault::TooMany(place) => at(place, b'K', 10),
-        TypeFault::FirstAboveLast(place) => at(place, b'Y', 1),
-        TypeFault::TooManyCells(place) => at(place, b'Y', 2),
-    }
+    let (letter, number) = fault.code();
+    at_or_memory(fault.place(), letter, number)
 }
 
 fn certificate_refusal(fault: ReadFault) -> Refusal
     ensures { result ≡ certificate_refusal fault }
 {
-    let (line, number) = match fault {
-        ReadFault::Memory => return Refusal::Memory,
-        ReadFault::FirstLine { line } => (line, 1),
-        ReadFault::NotInGrammar { line } => (line, 2),
-        ReadFault::OutOfOrder { line } => (line, 3),
-        ReadFault::OutOfRange { line } => (line, 4),
-        ReadFault::Unended { line } => (line, 5),
+    let code = RuleCode {
+        letter: b'F',
+        number: fault.number(),
     };
-    Refusal::Certificate {
-        line,
-        code: RuleCode {
-            letter: b'F',
-            number,
-        },
+    match fault.line() {
+        None => Refusal::Memory,
+        Some(line) => Refusal::Certificate { line, code },
     }
 }
 
@@ -229,22 +180,9 @@ fn checker_refusal(fault: CheckFault) -> Refusal
             place,
             code: RuleCode {
                 letter: b'C',
-                number: rule_number(rule),
+                number: rule.number(),
             },
         },
-    }
-}
-
-fn rule_number(rule: Rule) -> u8
-    ensures { result ≡ rule_number rule }
-{
-    match rule {
-        Rule::LoopEntry => 2,
-        Rule::LoopTurn => 3,
-        Rule::Exit => 4,
-        Rule::CallEntry => 5,
-        Rule::Aliases => 6,
-        Rule::Changes => 7,
     }
 }
 

@@ -1,15 +1,14 @@
 -- How ifs and fors look, as they are made.
 use Rattle.std.proofs.Common.{◌≡◌, ℕ, [], ◌∷◌, ◌++◌, Option, Some, None, Box, sym, ap, ◌∙◌, append_assoc}
 use Rattle.std.specs.declared.alloc.Global.{Global}
-use Rattle.place.specs.declared.Place.{Place}
-use Rattle.typed_tree.specs.declared.tree.Direction.{Direction}
-use Rattle.typed_tree.specs.declared.tree.RangeTest.{RangeTest}
 use Rattle.typed_tree.specs.declared.tree.Expr.{Expr}
+use Rattle.typed_tree.specs.declared.tree.ForHead.{ForHead}
 use Rattle.typed_tree.specs.declared.tree.Stmt.{Stmt}
 use Rattle.typed_tree.specs.declared.tree.Stmt.TheVariants as stmt
 use Rattle.typed_tree.specs.Look.{Look, Fits, If, Then, Else, Controls, For, ForEnds, Ends, look_expr, look_stmt}
 use Rattle.typed_tree.proofs.Looks.{look_if, look_if_else, look_for}
-use Rattle.resolver.specs.Made.{look_else}
+use Rattle.typing.proofs.Written.{written_statements}
+use Rattle.resolver.specs.Made.{for_head_look, look_bound, look_else}
 
 behind : (number : ℕ) (condition : Expr) (rest : Look)
     → ◌≡◌ {A = Look} (If number ∷ (look_expr condition ++ (Then ∷ rest))) ((If number ∷ (look_expr condition ++ (Then ∷ []))) ++ rest)
@@ -24,19 +23,20 @@ look_choice number condition consequence (Some other) =
     look_if_else number condition consequence other
     ∙ behind number condition (look_stmt consequence.value ++ (Else ∷ (look_stmt other.value ++ (Ends ∷ []))))
 
+-- conditional statements, as they are read, and as an if is made
+pub ruleset conditional_forms = (written_statements, look_choice)
+
 -- a for, behind what it is as far as its `do`
-pub look_counted : (number loop_number : ℕ) (place : Place) (control : ℕ) (first : Expr) (first_fits : RangeTest) (direction : Direction) (last : Expr)
-    (last_fits : RangeTest) (body : Box Stmt Global)
-    → look_stmt (stmt.For number loop_number place control first first_fits direction last last_fits body)
-    ≡ (For number loop_number place control direction
-    ∷ ((look_expr first ++ (Fits control [] first_fits ∷ [])) ++ (look_expr last ++ (Fits control [] last_fits ∷ []))))
-    ++ (Controls control ∷ (look_stmt body.value ++ (ForEnds ∷ [])))
-look_counted number loop_number place control first first_fits direction last last_fits body =
-    let inside = Controls control ∷ (look_stmt body.value ++ (ForEnds ∷ [])) in
-    let one = look_expr first ++ (Fits control [] first_fits ∷ []) in
-    let two = look_expr last ++ (Fits control [] last_fits ∷ []) in
-    look_for number loop_number place control first first_fits direction last last_fits body
-    ∙ ap (λ look. For number loop_number place control direction ∷ look)
-    (sym (append_assoc (look_expr first) (Fits control [] first_fits ∷ []) (look_expr last ++ (Fits control [] last_fits ∷ inside)))
-    ∙ ap (λ look. one ++ look) (sym (append_assoc (look_expr last) (Fits control [] last_fits ∷ []) inside))
+pub look_counted : (head : ForHead) (body : Box Stmt Global)
+    → look_stmt (stmt.For head body) ≡ for_head_look head ++ (Controls head.control ∷ (look_stmt body.value ++ (ForEnds ∷ [])))
+look_counted head body =
+    let inside = Controls head.control ∷ (look_stmt body.value ++ (ForEnds ∷ [])) in
+    let first = head.first in
+    let last = head.last in
+    let one = look_bound head.control first in
+    let two = look_bound head.control last in
+    look_for head body
+    ∙ ap (λ look. For head.number head.loop_number head.place head.control head.direction ∷ look)
+    (sym (append_assoc (look_expr first.value) (Fits head.control [] first.fits ∷ []) (look_expr last.value ++ (Fits head.control [] last.fits ∷ inside)))
+    ∙ ap (λ look. one ++ look) (sym (append_assoc (look_expr last.value) (Fits head.control [] last.fits ∷ []) inside))
     ∙ sym (append_assoc one two inside))

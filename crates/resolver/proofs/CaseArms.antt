@@ -1,6 +1,6 @@
--- Cases: how their typing goes on from that of their arms, and how they look.
-use Rattle.std.proofs.Common.{◌≡◌, ℕ, ℤ, zero, suc, ◌+◌, ◌<◌, ◌≤◌, List, [], ◌∷◌, ◌++◌, length, map, drop, get_or, Some, slice_get, Result}
-use Rattle.std.proofs.Common.{MatchResult, Ok, Err, Vec, inl, inr}
+-- Cases: how their typing goes on from that of their arms.
+use Rattle.std.proofs.Common.{◌≡◌, ℕ, ℤ, zero, suc, ◌+◌, ◌<◌, ◌≤◌, List, [], ◌∷◌, ◌++◌, length, map, drop, get_or, Some, slice_get}
+use Rattle.std.proofs.Common.{Ok, Err, Vec, inl, inr}
 use Rattle.std.proofs.Common.{refl, sym, ap, ap₂, subst, ◌∙◌, append-nil, append_assoc, length-append, arith}
 use Rattle.std.proofs.Math.Seq.{drop-nil}
 use Rattle.std.proofs.lemmas.List.{map-append, length-map, drop_more, at_drop_all}
@@ -10,23 +10,12 @@ use Rattle.syntax_tree.specs.declared.Stmt.{Stmt as SyntaxStmt}
 use Rattle.syntax_tree.specs.Places.{arms_of}
 use Rattle.types.specs.declared.form.TypeId.{TypeId}
 use Rattle.typed_tree.specs.declared.fault.TypeFault.{TypeFault}
-use Rattle.typed_tree.specs.declared.tree.Expr.{Expr}
 use Rattle.typed_tree.specs.declared.tree.Stmt.{Stmt}
-use Rattle.typed_tree.specs.declared.tree.Stmt.TheVariants as stmt
-use Rattle.typed_tree.specs.Look.{Look, Case, Arm, Ends, look_expr, look_stmt, arms_look}
-use Rattle.typed_tree.proofs.Looks.{look_case}
+use Rattle.typed_tree.specs.Look.{Look, Arm, look_stmt, arms_look}
 use Rattle.typing.specs.Passing.{Passed, Passing, Checked, After, after, and_then, behind_marks, mark, ◌>>◌}
 use Rattle.typing.specs.Outcomes.{IsFault}
 use Rattle.typing.specs.Statements.{statement, case_constant, constant_row, case_arms}
 use Rattle.typing.proofs.Rows.{behind_nothing, behind_both}
-use Rattle.resolver.specs.Made.{IsAdded, MakesConstants, MakesRow}
-use Rattle.resolver.specs.declared.typed.Arms.{Arms}
-
--- a case, behind what it is as far as its `of`
-pub look_of_case : (number site : ℕ) (index : Expr) (constants : Vec (Vec ℤ Global) Global) (arms : Vec Stmt Global)
-    → look_stmt (stmt.Case number site index constants arms)
-    ≡ (Case number site ∷ look_expr index) ++ (arms_look constants.items (map look_stmt arms.items) ++ (Ends ∷ []))
-look_of_case number site index constants arms = look_case number site index constants arms
 
 -- ---- the constants before an arm
 
@@ -63,18 +52,6 @@ module _ (type_id : TypeId) (before : List ℤ) (written : List Constant) (old :
   row_ends i row now all left = left ∙ at_drop_all (λ cs. constant_row type_id before row cs now) written i all
 
 -- ---- rows and arms
-
--- a row is kept, behind those before it
-pub row_kept : (old new : Arms) (outcome : Checked (After (List ℤ))) (passed : Passed) (made : Result (Vec ℤ Global) TypeFault)
-    (result : Result (Unit {0}) TypeFault) → MakesConstants old.seen.keys new.seen.keys outcome made passed
-    → MatchResult result (λ _. IsAdded old.rows.items new.rows.items made) (IsFault made) → new.statements ≡ old.statements
-    → MakesRow old new outcome result passed
-row_kept old new outcome passed made (Ok _) makes one same =
-    let is = subst (λ r. MakesConstants old.seen.keys new.seen.keys outcome r passed) one.is makes in
-    record { row = one.one; is = is.0; seen = is.1; rows = one.grown; same = same }
-row_kept old new outcome passed made (Err why) makes (inl memory) same = inl memory
-row_kept old new outcome passed made (Err why) makes (inr is) same =
-    subst (λ r. MakesConstants old.seen.keys new.seen.keys outcome r passed) is makes
 
 drop_later : {A : Type 0} (x : A) (xs : List A) (i : ℕ) → drop (suc i + 1) (x ∷ xs) ≡ drop (i + 1) xs
 drop_later x xs i = let later : suc i + 1 ≡ suc (i + 1) = omega arith in ap (λ n. drop n (x ∷ xs)) later

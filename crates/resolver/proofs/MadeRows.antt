@@ -1,26 +1,13 @@
 -- Forms that are made one after another: the next one, or the first that is refused.
-use Rattle.std.proofs.Common.{◌≡◌, ℕ, ◌+◌, ◌<◌, List, [], ◌∷◌, ◌++◌, length, map, get_or, Result, Ok, inl, inr, sym, ap, subst, ◌∙◌, append-nil}
+use Rattle.std.proofs.Common.{◌≡◌, ℕ, ◌+◌, ◌<◌, List, [], ◌∷◌, ◌++◌, length, map, get_or, Ok, sym, ap, subst, ◌∙◌, append-nil}
 use Rattle.std.specs.Prelude.{flat_map}
 use Rattle.std.proofs.lemmas.List.{length-map, get_or-map}
 use Rattle.std.proofs.lemmas.Grind.{flat_map-append}
 use Rattle.typed_tree.specs.declared.fault.TypeFault.{TypeFault}
 use Rattle.typed_tree.specs.Look.{Look}
-use Rattle.typing.specs.Passing.{Passed, Passing, Checked, After, after, each}
-use Rattle.typing.specs.Outcomes.{IsFault, Makes}
+use Rattle.typing.specs.Passing.{Passed, Passing, after, each}
+use Rattle.typing.specs.Outcomes.{IsFault}
 use Rattle.typing.proofs.Rows.{IsLeftFrom, each_next, each_stops}
-use Rattle.resolver.specs.Made.{IsAdded}
-
--- what stands behind the others is what was made
-pub added : {A T : Type 0} (answer : T → A) (look : T → Look) (outcome : Checked (After A)) (passed : Passed) {old new : List T}
-    {made : Result T TypeFault} (one : IsAdded old new made) → Makes answer look outcome made passed
-    → outcome ≡ Ok (after (answer one.one) (look one.one) passed)
-added answer look outcome passed one makes = subst (λ r. Makes answer look outcome r passed) one.is makes
-
--- what was made doesn't stand there, or nothing was made
-pub not_added : {A T : Type 0} (answer : T → A) (look : T → Look) (outcome : Checked (After A)) (passed : Passed) (made : Result T TypeFault)
-    (why : TypeFault) → IsFault made why → Makes answer look outcome made passed → IsFault outcome why
-not_added answer look outcome passed made why (inl memory) makes = inl memory
-not_added answer look outcome passed made why (inr is) makes = subst (λ r. Makes answer look outcome r passed) is makes
 
 module _ {A B T : Type 0} (read : A → B) (step : B → Passing (Unit {0})) (look : T → Look) (written : List A) (old : Passed)
     (i : ℕ) (next : A) (made : List T) (now : Passed) (within : i < length written) (is : next ≡ get_or written i next)

@@ -1,7 +1,7 @@
 -- How the resolver's answers are what typing says of statements: what is made of a form looks so. It says nothing of
 -- what typing answers.
-use Rattle.std.specs.Prelude.{◌≡◌, ℕ, ℤ, Bool, List, [], ◌∷◌, ◌++◌, flat_map, length, Result, Ok, Err, Option, Some}
-use Rattle.std.specs.Prelude.{None, Vec, IsPermutation, map, is_none, ◌&&◌}
+use Rattle.std.specs.Prelude.{◌≡◌, ℕ, ℤ, Bool, true, false, List, [], ◌∷◌, ◌++◌, flat_map, length, Result, Ok, Err}
+use Rattle.std.specs.Prelude.{Option, Some, None, Vec, IsPermutation, map}
 use Rattle.std.specs.List.Sorted.{IsNonDecreasingBy}
 use Rattle.std.specs.Borrow.{Bor}
 use Rattle.std.specs.declared.alloc.Global.{Global}
@@ -9,45 +9,38 @@ use Rattle.std.specs.declared.boxed.Box.{Box}
 use Rattle.syntax_tree.specs.declared.Program.{Program}
 use Rattle.syntax_tree.specs.declared.Actual.{Actual}
 use Rattle.syntax_tree.specs.declared.Stmt.{Stmt as SyntaxStmt}
+use Rattle.syntax_tree.specs.declared.Stmt.TheOpen.{Stmt-F}
+use Rattle.syntax_tree.specs.declared.Stmt.TheOpen.Stmt-F.{If as IfOf, Case as CaseOf, While as WhileOf}
+use Rattle.syntax_tree.specs.declared.Stmt.TheOpen.Stmt-F.{Repeat as RepeatOf, For as ForOf}
+use Rattle.syntax_tree.specs.declared.Stmt.TheViews.{out-Stmt}
 use Rattle.place.specs.declared.Place.{Place}
 use Rattle.typed_tree.specs.declared.fault.TypeFault.{TypeFault}
 use Rattle.typed_tree.specs.declared.tree.Tree.{Tree}
 use Rattle.typed_tree.specs.declared.tree.Block.{Block}
 use Rattle.typed_tree.specs.declared.tree.FunctionResult.{FunctionResult}
+use Rattle.typed_tree.specs.declared.tree.Fitted.{Fitted}
+use Rattle.typed_tree.specs.declared.tree.ForHead.{ForHead}
+use Rattle.typed_tree.specs.declared.tree.CaseHead.{CaseHead}
 use Rattle.typed_tree.specs.declared.tree.Expr.{Expr}
-use Rattle.typed_tree.specs.declared.tree.Selector.{Selector}
 use Rattle.typed_tree.specs.declared.tree.Stmt.{Stmt}
 use Rattle.typed_tree.specs.declared.tree.WriteParameter.{WriteParameter}
 use Rattle.typed_tree.specs.declared.tree.Width.{Width}
-use Rattle.typed_tree.specs.declared.tree.Written.{Written}
-use Rattle.typed_tree.specs.declared.tree.Whole.{Whole}
+use Rattle.typed_tree.specs.declared.tree.Written.{Written as WrittenValue}
 use Rattle.types.specs.declared.form.TypeId.{TypeId}
-use Rattle.types.specs.Forms.{Form}
-use Rattle.types.specs.Types.{is_ordinal}
-use Rattle.typing.specs.declared.typed.Typed.{Typed}
-use Rattle.typed_tree.specs.Look.{Look, Mark, Fits, If, Then, Else, For, Controls, ForEnds, Case, blocks_of_look}
-use Rattle.typed_tree.specs.Look.{look_block}
-use Rattle.typed_tree.specs.Look.{look_expr, look_stmt, arms_look}
-use Rattle.typed_tree.specs.Look.{tree_look}
-use Rattle.typed_tree.specs.Look.{Copied, look_access, look_whole, look_written, look_parameter, look_width}
-use Rattle.typed_tree.specs.WellFormed.{length_of, source_of}
-use Rattle.typed_tree.specs.Accesses.{index_count}
+use Rattle.types.specs.Types.{is_structured}
+use Rattle.typed_tree.specs.Look.{Look, Mark, Fits, If, Then, Else, For, Case, Target, WholeTarget, blocks_of_look}
+use Rattle.typed_tree.specs.Look.{look_block, look_expr, look_stmt, arms_look, tree_look, look_access, look_written}
+use Rattle.typed_tree.specs.Look.{look_parameter, look_width}
 use Rattle.typing.specs.Passing.{Passed, Passing, Checked, After, after, ◌>>◌}
 use Rattle.typing.specs.Outcomes.{IsFault, Makes}
 use Rattle.typing.specs.Sound.{IsTyped}
 use Rattle.typing.specs.Typing.{typing}
-use Rattle.typing.specs.Statements.{Accessed, compound, statement, target_mark}
+use Rattle.typing.specs.Statements.{Accessed, compound, statement}
 use Rattle.typing.specs.Blocks.{block_ends}
 use Rattle.typing.specs.Routines.{all_came, result_at_end}
 use Rattle.typing.specs.View.{enclosing_of}
 use Rattle.typing.specs.declared.blocks.BegunBlock.{BegunBlock}
-use Rattle.resolver.specs.declared.typed.Fitted.{Fitted}
-use Rattle.resolver.specs.declared.typed.ForHead.{ForHead}
-use Rattle.resolver.specs.declared.typed.IfHead.{IfHead}
-use Rattle.resolver.specs.declared.typed.CaseHead.{CaseHead}
-use Rattle.resolver.specs.declared.typed.Case.{Case as CaseSoFar}
-use Rattle.resolver.specs.declared.typed.Arms.{Arms}
-use Rattle.resolver.specs.declared.typed.Target.{Target}
+use Rattle.expression_resolver.specs.declared.typed.Reached.{Reached}
 use Rattle.resolver.specs.declared.typed.MadeBlock.{MadeBlock}
 use Rattle.resolver.specs.declared.typed.LaidBlocks.{LaidBlocks}
 use Rattle.resolver.specs.Table.{IsTableOf}
@@ -64,126 +57,89 @@ MakesStmts = Makes (λ made. tt) (λ made. flat_map look_stmt made.items)
 abbrev pub MakesCondition : Checked (After (Unit {0})) → Result Expr TypeFault → Passed → Type 0
 MakesCondition = Makes (λ made. tt) look_expr
 
--- how an if looks as far as its `then`
-abbrev pub if_head_look : IfHead → Look
-if_head_look head = If head.number ∷ (look_expr head.condition ++ (Then ∷ []))
+-- how an if looks as far as its `then`, of this number and this condition
+abbrev pub if_head_look : ℕ × Expr → Look
+if_head_look head = If head.0 ∷ (look_expr head.1 ++ (Then ∷ []))
 
 -- an if as far as its `then`
-abbrev pub MakesIfHead : Checked (After (Unit {0})) → Result IfHead TypeFault → Passed → Type 0
+abbrev pub MakesIfHead : Checked (After (Unit {0})) → Result (ℕ × Expr) TypeFault → Passed → Type 0
 MakesIfHead = Makes (λ head. tt) if_head_look
 
--- how an ordinal looks with its test, which is for what is accessed by this root and these selectors
-abbrev pub look_fitted : ℕ → List Selector → Fitted → Look
-look_fitted root selectors made = look_expr made.value ++ (Fits root selectors made.fits ∷ [])
+-- what tells of what is accessed left of `:=`, structured or not
+abbrev pub target_look : Bool → Reached → Mark
+target_look true made =
+    WholeTarget made.access.root made.access.selectors.items (length made.indexes.items) made.type_id
+target_look false made = Target made.access.root made.access.selectors.items (length made.indexes.items)
 
--- a bound of a for, or what is assigned to an ordinal
-abbrev pub MakesFitted
-    : ℕ → List Selector → Checked (After (Unit {0})) → Result Fitted TypeFault → Passed → Type 0
-MakesFitted root selectors = Makes (λ made. tt) (look_fitted root selectors)
-
--- there are as many index expressions as the selectors of what is accessed take
-abbrev pub IsCounted : Target → Type 0
-IsCounted target = index_count target.access.selectors.items ≡ length target.indexes.items
-
--- how what is accessed left of `:=` looks, an ordinal or not
-abbrev pub look_target : Bool → Target → Look
-look_target ordinal target =
-    look_access target.access target.indexes.items
-    (target_mark ordinal target.access.root target.access.selectors.items target.type_id)
+-- how it looks
+abbrev pub look_target : Bool → Reached → Look
+look_target structured made = look_access made.access made.indexes.items (target_look structured made)
 
 -- what it accesses
-abbrev pub accessed_of : Target → Accessed
-accessed_of target = record {
-  root = target.access.root;
-  selectors = target.access.selectors.items;
-  type_id = target.type_id;
+abbrev pub accessed_of : Reached → Accessed
+accessed_of made = record {
+  root = made.access.root;
+  selectors = made.access.selectors.items;
+  type_id = made.type_id;
 }
 
 -- what is accessed left of `:=`
-abbrev pub MakesTarget : Checked (After Accessed) → Result Target TypeFault → Passed → Type 0
+abbrev pub MakesTarget : Checked (After Accessed) → Result Reached TypeFault → Passed → Type 0
 MakesTarget outcome (Ok made) new =
-    (outcome ≡ Ok (after (accessed_of made) (look_target (is_ordinal new.types made.type_id) made) new))
-    × IsCounted made
+    outcome ≡ Ok (after (accessed_of made) (look_target (is_structured new.types made.type_id) made) new)
 MakesTarget outcome (Err why) new = IsFault outcome why
 
--- what is copied to a structured target of a type
-abbrev pub MakesCopied
-    : TypeId → Checked (After (Unit {0})) → Result (Whole × Vec Expr Global) TypeFault → Passed → Type 0
-MakesCopied type_id =
-    Makes (λ made. tt)
-    (λ made. look_whole made.0 made.1.items ++ (Copied type_id (source_of made.0) (length_of made.0) ∷ []))
+-- how a bound of a for looks, whose control variable has this root
+abbrev pub look_bound : ℕ → Fitted → Look
+look_bound control made = look_expr made.value ++ (Fits control [] made.fits ∷ [])
+
+-- a bound of a for
+abbrev pub MakesBound : ℕ → Checked (After (Unit {0})) → Result Fitted TypeFault → Passed → Type 0
+MakesBound control = Makes (λ made. tt) (look_bound control)
 
 -- how a for looks as far as its `do`
 abbrev pub for_head_look : ForHead → Look
 for_head_look head =
     For head.number head.loop_number head.place head.control head.direction
-    ∷ (look_fitted head.control [] head.first ++ look_fitted head.control [] head.last)
+    ∷ (look_bound head.control head.first ++ look_bound head.control head.last)
 
 -- a for as far as its `do`, by the root of its control variable
 abbrev pub MakesForHead : Checked (After ℕ) → Result ForHead TypeFault → Passed → Type 0
 MakesForHead = Makes (λ head. head.control) for_head_look
 
--- how the statement of a for looks, by the root of its control variable
-abbrev pub for_body_look : ℕ → Box Stmt Global → Look
-for_body_look control made = Controls control ∷ (look_stmt made.value ++ (ForEnds ∷ []))
+-- a conditional statement (6.8.3.3)
+abbrev pub is_conditional_form : Stmt-F SyntaxStmt → Bool
+is_conditional_form (IfOf place condition consequence alternative) = true
+is_conditional_form (CaseOf place index constants arms semicolon) = true
+is_conditional_form other = false
 
--- the statement of a for
-abbrev pub MakesForBody : ℕ → Checked (After (Unit {0})) → Result (Box Stmt Global) TypeFault → Passed → Type 0
-MakesForBody control = Makes (λ made. tt) (for_body_look control)
+abbrev pub is_conditional : SyntaxStmt → Bool
+is_conditional s = is_conditional_form (out-Stmt s)
 
--- how a case looks as far as its `of`
-abbrev pub case_head_look : CaseHead → Look
-case_head_look head = Case head.number head.site ∷ look_expr head.index
+-- a repetitive statement (6.8.3.6)
+abbrev pub is_repetitive_form : Stmt-F SyntaxStmt → Bool
+is_repetitive_form (WhileOf place condition body) = true
+is_repetitive_form (RepeatOf place statements condition) = true
+is_repetitive_form (ForOf place variable first direction last body) = true
+is_repetitive_form other = false
 
--- an ordinal of an ordinal type, as the index of a case is
-abbrev pub is_index : List Form → Typed → Bool
-is_index types t = is_none t.length && is_ordinal types t.type_id
+abbrev pub is_repetitive : SyntaxStmt → Bool
+is_repetitive s = is_repetitive_form (out-Stmt s)
 
 -- a case as far as its `of`, by the type of its index
-abbrev pub MakesCaseHead : Checked (After TypeId) → Result CaseHead TypeFault → Passed → Type 0
-MakesCaseHead = Makes (λ head. head.type_id) case_head_look
+abbrev pub MakesCaseHead : Checked (After TypeId) → Result (CaseHead × TypeId) TypeFault → Passed → Type 0
+MakesCaseHead = Makes (λ made. made.1) (λ made. Case made.0.number made.0.site ∷ look_expr made.0.index)
 
--- no arm so far
-pub record IsNoArm (arms : Arms) : Type 0 where
-  pub rows : arms.rows.items ≡ []
-  pub seen : arms.seen.keys ≡ []
-  pub statements : arms.statements.items ≡ []
-
--- a case as far as its `of`, with no arm so far
-abbrev pub MakesCase : Checked (After TypeId) → Result CaseSoFar TypeFault → Passed → Type 0
-MakesCase outcome (Ok made) new =
-    (outcome ≡ Ok (after made.head.type_id (case_head_look made.head) new)) × IsNoArm made.arms
-MakesCase outcome (Err why) new = IsFault outcome why
-
--- the arms of a case
-abbrev pub MakesArms : Checked (After (Unit {0})) → Result (Unit {0}) TypeFault → Arms → Passed → Type 0
-MakesArms outcome (Ok _) arms new =
-    outcome ≡ Ok (after tt (arms_look arms.rows.items (map look_stmt arms.statements.items)) new)
-MakesArms outcome (Err why) arms new = IsFault outcome why
+-- the arms of a case, with the rows of constants before them
+abbrev pub MakesArms
+    : Checked (After (Unit {0})) → Result (Vec (Vec ℤ Global) Global × Vec Stmt Global) TypeFault → Passed → Type 0
+MakesArms = Makes (λ made. tt) (λ made. arms_look made.0.items (map look_stmt made.1.items))
 
 -- the constants before an arm, which are met behind others
 abbrev pub MakesConstants
     : List ℤ → List ℤ → Checked (After (List ℤ)) → Result (Vec ℤ Global) TypeFault → Passed → Type 0
 MakesConstants old new outcome (Ok row) passed = (outcome ≡ Ok (after row.items [] passed)) × (new ≡ old ++ row.items)
 MakesConstants old new outcome (Err why) passed = IsFault outcome why
-
--- the constants before one arm more, which stand behind the rows of the arms before
-pub record HasRow (old new : Arms) (outcome : Checked (After (List ℤ))) (passed : Passed) : Type 0 where
-  pub row : Vec ℤ Global
-  pub is : outcome ≡ Ok (after row.items [] passed)
-  pub seen : new.seen.keys ≡ old.seen.keys ++ row.items
-  pub rows : new.rows.items ≡ old.rows.items ++ row ∷ []
-  pub same : new.statements ≡ old.statements
-
-abbrev pub MakesRow : Arms → Arms → Checked (After (List ℤ)) → Result (Unit {0}) TypeFault → Passed → Type 0
-MakesRow old new outcome (Ok _) passed = HasRow old new outcome passed
-MakesRow old new outcome (Err why) passed = IsFault outcome why
-
--- something that was made stands behind others
-pub record IsAdded {T : Type 0} (old new : List T) (made : Result T TypeFault) : Type 0 where
-  pub one : T
-  pub is : made ≡ Ok one
-  pub grown : new ≡ old ++ one ∷ []
 
 -- a statement in a box
 abbrev pub MakesBoxed : Checked (After (Unit {0})) → Result (Box Stmt Global) TypeFault → Passed → Type 0
@@ -203,7 +159,7 @@ abbrev pub MakesValues : Checked (After (List Actual)) → Result (Bor (List Act
 MakesValues = Makes (λ values. values.now) (λ values. [])
 
 -- what is written, of something that looks so, where a mark behind that tells how
-pub record IsWrittenAs (form : Option Mark) (look : Look) (made : Written) : Type 0 where
+pub record IsWrittenAs (form : Option Mark) (look : Look) (made : WrittenValue) : Type 0 where
   pub one : Mark
   pub is : form ≡ Some one
   pub looks : look_written made ≡ look ++ (one ∷ [])

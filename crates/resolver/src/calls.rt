@@ -9,17 +9,16 @@ ghost use Rattle.expression_resolver.specs.Made.{typed_of, look_value};
 ghost use Rattle.resolver.specs.Made.{MakesStmt, MakesParameter, MakesParameters, MakesWidth, MakesOwnWidth};
 ghost use Rattle.resolver.specs.Made.{MakesValues, IsWrittenAs};
 
-use crate::memory::put;
 use expression_resolver::{TypedExpr, Value, expression, first_place, routine_call};
 use place::Place;
 use scopes::{Denotation, RequiredProcedure};
 use syntax_tree as syntax;
 use typed_tree::fault::TypeFault;
 use typed_tree::site::SiteKind;
-use typed_tree::tree::{Stmt, Width, WriteParameter, Written};
+use typed_tree::tree::{ProcedureCall, Stmt, Width, WriteParameter, Writing, Written};
 use types::TypeTable;
 use typing::Typer;
-use typing::rules::{as_procedure, as_routine, ends_line, is_output};
+use typing::rules::{as_procedure, as_routine, ends_line, is_output, representation};
 
 /// The call of a procedure.
 #[tactic(auto, unfolding(typing::specs::Statements::procedure_call))]
@@ -66,10 +65,10 @@ fn declared_call(
         return Err(TypeFault::WrongParameters(name.place));
     }
     let made = routine_call(typer, false, callee, name.place, actuals)?;
-    Ok(Stmt::Call {
+    Ok(Stmt::Call(ProcedureCall {
         call: made.call,
         actuals: made.actuals,
-    })
+    }))
 }
 
 // A write or writeln.
@@ -86,12 +85,12 @@ fn write(
     let number = typer.enter()?;
     let values = written_values(typer, actuals)?;
     has_values(name.place, procedure, values)?;
-    Ok(Stmt::Write {
+    Ok(Stmt::Write(Writing {
         number,
         name: name.place,
         parameters: parameters(typer, values)?,
         ends_line: ends_line(procedure),
-    })
+    }))
 }
 
 // A write has a value; a writeln needs none.
@@ -148,7 +147,7 @@ fn parameters(
 {
     let mut parameters = Vec::with_capacity(typer.alloc, values.len())?;
     for value in values {
-        put(&mut parameters, parameter(typer, value))?;
+        parameters.push_reserved(parameter(typer, value)?);
     }
     Ok(parameters)
 }
@@ -173,16 +172,16 @@ fn written_value(typer: &Typer, made: TypedExpr, place: Place) -> Result<Written
     let TypedExpr { value, type_id, .. } = made;
     match value {
         Value::Ordinal(value) => {
-            let representation = typer
-                .representation(type_id)
-                .ok_or(TypeFault::Mismatch(place))?;
+            let representation = representation(typer.types(), type_id).ok_or(TypeFault::Mismatch(
+                place,
+            ))?;
             Ok(Written::Ordinal {
                 value,
                 representation,
             })
         }
         Value::Whole { value, indexes } => {
-            if !typer.is_string(type_id) {
+            if !typer.types().is_string(type_id) {
                 return Err(TypeFault::Mismatch(place));
             }
             Ok(Written::String { value, indexes })

@@ -1,17 +1,16 @@
-ghost use Rattle.std.specs.Prelude.{ℕ, []};
+ghost use Rattle.std.specs.Prelude.{ℕ};
 ghost use Rattle.typed_tree.specs.Look.{Empty};
 ghost use Rattle.typing.specs.Expressions.{expression};
 ghost use Rattle.typing.specs.Statements as spec;
 ghost use Rattle.typing.specs.Steps.{enter_as};
-ghost use Rattle.resolver.specs.Made.{MakesStmt, MakesCondition, MakesIfHead, MakesFitted, MakesForHead};
+ghost use Rattle.resolver.specs.Made.{MakesBound, MakesStmt, MakesCaseHead, MakesCondition, MakesIfHead, MakesForHead};
 
-use crate::assignments::assigned;
-use crate::typed::{Fitted, ForHead, IfHead};
-use expression_resolver::{expression, first_place};
+use expression_resolver::{expression, first_place, fitted};
 use place::Place;
 use syntax_tree as syntax;
 use typed_tree::fault::TypeFault;
-use typed_tree::tree::{Expr, Stmt};
+use typed_tree::site::SiteKind;
+use typed_tree::tree::{CaseHead, Expr, Fitted, ForHead, Stmt};
 use types::{TypeId, TypeTable};
 use typing::Typer;
 use typing::rules::{as_variable, way};
@@ -25,19 +24,19 @@ pub(crate) fn empty(typer: &mut Typer) -> Result<Stmt, TypeFault>
     Ok(Stmt::Empty { number })
 }
 
-/// An if as far as its `then` (6.8.3.4).
+/// An if as far as its `then` (6.8.3.4): its number, and its condition.
 #[tactic(auto, unfolding(typing::specs::Statements::tested))]
 pub(crate) fn if_head(
     typer: &mut Typer,
     place: Place,
     tested: &syntax::Expr,
-) -> Result<IfHead, TypeFault>
+) -> Result<(u32, Expr), TypeFault>
     ensures { MakesIfHead (spec.tested place (expression tested.now) typer.old) result typer.new }
 {
     typer.pass(place);
     let number = typer.enter()?;
     let condition = condition(typer, tested)?;
-    Ok(IfHead { number, condition })
+    Ok((number, condition))
 }
 
 /// A condition, which is Boolean.
@@ -64,7 +63,7 @@ pub(crate) fn for_head(
     typer.pass(place);
     let denotation = typer.find(variable)?;
     let (control, type_id) = as_variable(variable.place, denotation)?;
-    if !typer.tests_ordinal(type_id) {
+    if !typer.types().is_ordinal(type_id) {
         return Err(TypeFault::Mismatch(variable.place));
     }
     typer.may_change(variable.place, control)?;
@@ -85,8 +84,33 @@ pub(crate) fn for_head(
 
 // A bound of a for: the site of its test stands before those of its first token.
 fn bound(typer: &mut Typer, type_id: TypeId, written: &syntax::Expr) -> Result<Fitted, TypeFault>
-    ensures { (control : ℕ) → MakesFitted control [] (spec.bound control type_id (expression written.now) typer.old)
-        result typer.new }
+    ensures { (control : ℕ) → MakesBound control (spec.bound control type_id (expression written.now) typer.old) result
+        typer.new }
 {
-    assigned(typer, type_id, first_place(written), written)
+    fitted(typer, type_id, first_place(written), written)
+}
+
+/// A case as far as its `of` (6.8.3.5), without constants, and the type of its index, which is ordinal: K1 at the first
+/// token of that where it isn't.
+#[tactic(auto, unfolding(typing::specs::Statements::case_head))]
+pub(crate) fn case_head(
+    typer: &mut Typer,
+    place: Place,
+    index: &syntax::Expr,
+) -> Result<(CaseHead, TypeId), TypeFault>
+    ensures { MakesCaseHead (spec.case_head place (expression index.now) typer.old) result typer.new }
+{
+    let site = typer.site(SiteKind::Case, place)?;
+    let number = typer.enter()?;
+    let made = expression(typer, index, None)?;
+    if !made.typed().is_ordinal(typer.types()) {
+        return Err(TypeFault::Mismatch(first_place(index)));
+    }
+    let head = CaseHead {
+        number,
+        site,
+        index: made.value.into_ordinal(),
+        constants: Vec::new(typer.alloc),
+    };
+    Ok((head, made.type_id))
 }

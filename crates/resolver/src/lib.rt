@@ -7,7 +7,6 @@ mod blocks;
 mod calls;
 mod cases;
 mod heads;
-mod memory;
 mod program;
 mod statements;
 mod table;

@@ -1,27 +1,26 @@
-ghost use Rattle.std.specs.Prelude.{[], map, option_map};
+ghost use Rattle.std.specs.Prelude.{◌≡◌, [], true, map, option_map};
 ghost use Rattle.syntax_tree.specs.Places.{arms_of};
 ghost use Rattle.typing.specs.Expressions.{expression};
-ghost use Rattle.typing.specs.Passing.{each};
+ghost use Rattle.typing.specs.Passing.{behind_marks, each};
 ghost use Rattle.typing.specs.Statements as spec;
-ghost use Rattle.resolver.specs.Made.{MakesStmt, MakesStmts, MakesBoxed, MakesAlternative, MakesForBody};
-ghost use Rattle.resolver.specs.Made.{MakesArms, IsNoArm};
+ghost use Rattle.resolver.specs.Made.{MakesStmt, MakesStmts, MakesBoxed, MakesAlternative, MakesArms};
+ghost use Rattle.resolver.specs.Made.{for_head_look, is_conditional, is_repetitive};
 
 use crate::assignments::assignment;
 use crate::calls::procedure_call;
-use crate::cases::{begun_case, case_row};
-use crate::heads::{condition, empty, for_head, if_head};
-use crate::memory::put;
-use crate::typed::Arms;
+use crate::cases::constant_row;
+use crate::heads::{case_head, condition, empty, for_head, if_head};
+use indexmap::IndexSet;
 use place::Place;
 use syntax_tree as syntax;
 use typed_tree::fault::TypeFault;
-use typed_tree::tree::Stmt;
+use typed_tree::tree::{CaseHead, ForHead, LoopHead, Stmt};
 use types::TypeId;
 use typing::Typer;
 
 /// A statement.
 #[cycle(statements)]
-#[tactic(auto, using(typing::proofs::Written::written_statements), unfolding(typing::specs::Statements::choice))]
+#[tactic(auto, using(typing::proofs::Written::written_statements))]
 pub(crate) fn statement(typer: &mut Typer, written: &syntax::Stmt) -> Result<Stmt, TypeFault>
     ensures { MakesStmt (spec.statement written.now typer.old) result typer.new }
 {
@@ -36,17 +35,56 @@ pub(crate) fn statement(typer: &mut Typer, written: &syntax::Stmt) -> Result<Stm
         } => assignment(typer, name, selectors, indexes, *becomes, value),
         syntax::Stmt::Call { name, actuals } => procedure_call(typer, name, actuals),
         syntax::Stmt::Compound { statements } => compound(typer, statements),
+        syntax::Stmt::If { .. } | syntax::Stmt::Case { .. } => conditional(typer, written),
+        syntax::Stmt::While { .. } | syntax::Stmt::Repeat { .. } | syntax::Stmt::For { .. } => {
+            repetitive(typer, written)
+        }
+    }
+}
+
+// A conditional statement (6.8.3.3).
+#[cycle(statements)]
+#[tactic(auto, using(crate::proofs::Branches::conditional_forms), unfolding(typing::specs::Statements::choice))]
+fn conditional(typer: &mut Typer, written: &syntax::Stmt) -> Result<Stmt, TypeFault>
+    requires { is_conditional written.now ≡ true }
+    ensures { MakesStmt (spec.statement written.now typer.old) result typer.new }
+{
+    match written {
         syntax::Stmt::If {
             place,
             condition,
             consequence,
             alternative,
         } => {
-            let head = if_head(typer, *place, condition)?;
+            let (number, condition) = if_head(typer, *place, condition)?;
             let consequence = boxed(typer, consequence)?;
             let alternative = other(typer, alternative)?;
-            Ok(head.with(consequence, alternative))
+            Ok(Stmt::If {
+                number,
+                condition,
+                consequence,
+                alternative,
+            })
         }
+        syntax::Stmt::Case {
+            place,
+            index,
+            constants,
+            arms,
+            ..
+        } => case_statement(typer, arms, *place, index, constants),
+        _ => unreachable!(),
+    }
+}
+
+// A repetitive statement (6.8.3.6).
+#[cycle(statements)]
+#[tactic(auto, using(typing::proofs::Written::written_statements))]
+fn repetitive(typer: &mut Typer, written: &syntax::Stmt) -> Result<Stmt, TypeFault>
+    requires { is_repetitive written.now ≡ true }
+    ensures { MakesStmt (spec.statement written.now typer.old) result typer.new }
+{
+    match written {
         syntax::Stmt::While {
             place,
             condition,
@@ -64,14 +102,11 @@ pub(crate) fn statement(typer: &mut Typer, written: &syntax::Stmt) -> Result<Stm
             direction,
             last,
             body,
-        } => for_loop(typer, body, *place, variable, first, *direction, last),
-        syntax::Stmt::Case {
-            place,
-            index,
-            constants,
-            arms,
-            ..
-        } => case_statement(typer, arms, *place, index, constants),
+        } => {
+            let head = for_head(typer, *place, variable, first, *direction, last)?;
+            for_loop(typer, head, body)
+        }
+        _ => unreachable!(),
     }
 }
 
@@ -93,7 +128,7 @@ fn statements(typer: &mut Typer, written: &[syntax::Stmt]) -> Result<Vec<Stmt>, 
 {
     let mut made = Vec::with_capacity(typer.alloc, written.len())?;
     for next in written {
-        put(&mut made, statement(typer, next))?;
+        made.push_reserved(statement(typer, next)?);
     }
     Ok(made)
 }
@@ -137,15 +172,14 @@ fn while_loop(
 {
     typer.pass(place);
     let (number, loop_number) = typer.enter_loop()?;
-    let condition = condition(typer, tested)?;
-    let body = boxed(typer, body)?;
-    Ok(Stmt::While {
+    let head = LoopHead {
         number,
         loop_number,
         place,
-        condition,
-        body,
-    })
+        condition: condition(typer, tested)?,
+    };
+    let body = boxed(typer, body)?;
+    Ok(Stmt::While { head, body })
 }
 
 // A repeat (6.8.3.7).
@@ -163,50 +197,31 @@ fn repeat_loop(
     typer.pass(place);
     let (number, loop_number) = typer.enter_loop()?;
     let statements = statements(typer, written)?;
-    let condition = condition(typer, tested)?;
-    Ok(Stmt::Repeat {
+    let head = LoopHead {
         number,
         loop_number,
         place,
-        statements,
-        condition,
-    })
+        condition: condition(typer, tested)?,
+    };
+    Ok(Stmt::Repeat { head, statements })
 }
 
-// A for (6.8.3.9).
+// A for (6.8.3.9), behind its `do`.
 #[cycle(statements)]
-fn for_loop(
-    typer: &mut Typer,
-    body: &syntax::Stmt,
-    place: Place,
-    variable: &syntax::Name,
-    first: &syntax::Expr,
-    direction: syntax::Direction,
-    last: &syntax::Expr,
-) -> Result<Stmt, TypeFault>
-    ensures { MakesStmt (spec.for_loop place variable.now (expression first.now) direction (expression last.now)
-        (spec.statement body.now) typer.old) result typer.new }
+#[tactic(auto, using(crate::proofs::Branches::look_counted), unfolding(typing::specs::Statements::for_body))]
+fn for_loop(typer: &mut Typer, head: ForHead, body: &syntax::Stmt) -> Result<Stmt, TypeFault>
+    ensures { MakesStmt (behind_marks (for_head_look head) (spec.for_body head.control (spec.statement body.now)
+        typer.old)) result typer.new }
 {
-    let head = for_head(typer, place, variable, first, direction, last)?;
-    let body = for_body(typer, body, head.control)?;
-    Ok(head.with(body))
-}
-
-// The statement of a for, by the root of its control variable.
-#[cycle(statements)]
-#[tactic(auto, unfolding(typing::specs::Statements::for_body))]
-fn for_body(typer: &mut Typer, body: &syntax::Stmt, control: u32) -> Result<Box<Stmt>, TypeFault>
-    ensures { MakesForBody control (spec.for_body control (spec.statement body.now) typer.old) result typer.new }
-{
-    typer.begin_control(control)?;
+    typer.begin_control(head.control)?;
     let body = boxed(typer, body)?;
     typer.end_control();
-    Ok(body)
+    Ok(Stmt::For { head, body })
 }
 
 // A case (6.8.3.5).
 #[cycle(statements)]
-#[tactic(auto, unfolding(typing::specs::Statements::case_body))]
+#[tactic(auto, using(typed_tree::proofs::Looks::look_case), unfolding(typing::specs::Statements::case_body))]
 fn case_statement(
     typer: &mut Typer,
     arms: &[syntax::Stmt],
@@ -217,29 +232,31 @@ fn case_statement(
     ensures { MakesStmt (spec.case_statement place (expression index.now)
         (arms_of constants.now (map spec.statement arms.now)) typer.old) result typer.new }
 {
-    let mut case = begun_case(typer, place, index, arms.len())?;
-    case_arms(typer, arms, constants, case.head.type_id, &mut case.arms)?;
-    Ok(case.ended())
+    let (head, type_id) = case_head(typer, place, index)?;
+    let (constants, arms) = case_arms(typer, type_id, constants, arms)?;
+    let head = CaseHead { constants, ..head };
+    Ok(Stmt::Case { head, arms })
 }
 
-// The arms of a case, by the type of its index.
+// The arms of a case, by the type of its index, with the rows of constants before them.
 #[cycle(statements)]
 fn case_arms(
     typer: &mut Typer,
-    written: &[syntax::Stmt],
-    constants: &[Vec<syntax::Constant>],
     type_id: TypeId,
-    arms: &mut Arms,
-) -> Result<(), TypeFault>
-    requires none { IsNoArm arms.old }
+    constants: &[Vec<syntax::Constant>],
+    written: &[syntax::Stmt],
+) -> Result<(Vec<Vec<i32>>, Vec<Stmt>), TypeFault>
     ensures { MakesArms (spec.case_arms type_id [] (arms_of constants.now (map spec.statement written.now)) typer.old)
-        result arms.new typer.new }
+        result typer.new }
 {
+    let mut seen = IndexSet::new(typer.alloc);
+    let mut rows = Vec::with_capacity(typer.alloc, written.len())?;
+    let mut arms = Vec::with_capacity(typer.alloc, written.len())?;
     for (index, arm) in written.iter().enumerate() {
         if let Some(row) = constants.get(index) {
-            case_row(typer, type_id, row, arms)?;
-            put(&mut arms.statements, statement(typer, arm))?;
+            rows.push_reserved(constant_row(typer, type_id, row, &mut seen)?);
+            arms.push_reserved(statement(typer, arm)?);
         }
     }
-    Ok(())
+    Ok((rows, arms))
 }

@@ -57,11 +57,7 @@ fn meet(met: &mut Met, statement: &Stmt)
     ensures { Meets (meets (inside_of statement.now)) met.old met.new }
 {
     match statement {
-        Stmt::Empty { .. }
-        | Stmt::Assign { .. }
-        | Stmt::Copy { .. }
-        | Stmt::Write { .. }
-        | Stmt::Call { .. } => {}
+        Stmt::Empty { .. } | Stmt::Assign(_) | Stmt::Copy(_) | Stmt::Write(_) | Stmt::Call(_) => {}
         Stmt::Compound { statements, .. } => meet_all(met, statements),
         Stmt::If {
             consequence,
@@ -87,8 +83,8 @@ fn meet(met: &mut Met, statement: &Stmt)
             close(met, row, start);
         }
         Stmt::Case { arms, .. } => meet_all(met, arms),
-        Stmt::For { control, body, .. } => {
-            meet_control(met, *control);
+        Stmt::For { head, body } => {
+            meet_control(met, head.control);
             let (row, start) = open(met);
             meet(met, body);
             close(met, row, start);

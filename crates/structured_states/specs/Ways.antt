@@ -4,6 +4,8 @@ use Rattle.std.specs.Prelude.{ℕ, ℤ, pos, ◌+ℤ◌, ◌-ℤ◌, neg_ℤ, Bo
 use Rattle.typed_tree.specs.declared.tree.Direction.{Direction}
 use Rattle.typed_tree.specs.declared.tree.Direction.TheVariants.{To, DownTo}
 use Rattle.typed_tree.specs.declared.tree.Expr.{Expr}
+use Rattle.typed_tree.specs.declared.tree.Fitted.{Fitted}
+use Rattle.typed_tree.specs.declared.tree.ForHead.{ForHead}
 use Rattle.typed_tree.specs.declared.tree.RangeTest.{RangeTest}
 use Rattle.typed_tree.specs.Calls.{holds_call}
 use Rattle.typed_tree.specs.declared.tree.Relation.{Relation}
@@ -30,21 +32,21 @@ pub record Way : Type 0 where
   pub first : End
   pub last : End
 
--- an expression as a bound
-abbrev pub end_of : Expr → RangeTest → Known → End
-end_of expression fits (Ordinal values) = record { form = bound_form expression; fits = fits; values = values }
+-- a bound with what is known of its value
+abbrev pub end_of : Fitted → Known → End
+end_of bound (Ordinal values) = record { form = bound_form bound.value; fits = bound.fits; values = values }
 
 -- the form of an expression behind which another was evaluated
 abbrev pub form_before : Expr → (later : Expr) → Option Bound
 form_before expression later = if holds_call later then None else bound_form expression
 
--- the way between two expressions
-abbrev pub way_of : ℕ → Direction → (first : Expr) → RangeTest → (last : Expr) → RangeTest → (from to : Known) → Way
-way_of control direction first first_fits last last_fits from to = record {
-  control = control;
-  direction = direction;
-  first = record (end_of first first_fits from) { form = form_before first last };
-  last = end_of last last_fits to;
+-- the way of a for statement, from what is known of the values of its bounds
+abbrev pub way_of : ForHead → (from to : Known) → Way
+way_of head from to = record {
+  control = head.control;
+  direction = head.direction;
+  first = record (end_of head.first from) { form = form_before head.first.value head.last.value };
+  last = end_of head.last to;
 }
 
 -- ---- whether there are values

@@ -8,7 +8,7 @@ ghost use Rattle.structured_states.specs.Loops.{touched};
 ghost use Rattle.structured_states.specs.View.{head_round, said_end, said_way};
 ghost use Rattle.structured_states.specs.Ways.{end_of, entered, form_before, in_order, met, next, on_way, own};
 ghost use Rattle.structured_states.specs.Ways.{relation_of, steady, turn_begun, turn_ended, unless_touched};
-ghost use Rattle.structured_states.specs.Ways.{values_behind, where_counts, with_values};
+ghost use Rattle.structured_states.specs.Ways.{values_behind, way_of, where_counts, with_values};
 
 use crate::rounds::Round;
 use abstract_state::{Known, State, bound_form};
@@ -17,7 +17,7 @@ use domain::interval::Interval;
 use leaf_rows::Rows;
 use std::alloc::AllocError;
 use typed_tree::calls::holds_call;
-use typed_tree::tree::{Direction, Expr, RangeTest, Relation};
+use typed_tree::tree::{Direction, Expr, Fitted, ForHead, RangeTest, Relation};
 
 /// A bound of a for statement.
 #[derive(Clone, Copy)]
@@ -29,26 +29,25 @@ pub struct End {
 }
 
 impl End {
-    /// An expression as a bound.
-    pub fn new(expression: &Expr, fits: RangeTest, known: Known) -> End
-        ensures { said_end result ≡ end_of expression.now fits known }
+    /// A bound with what is known of its value.
+    fn new(bound: &Fitted, known: Known) -> End
+        ensures { said_end result ≡ end_of bound.now known }
     {
         End {
-            form: bound_form(expression),
-            fits,
+            form: bound_form(&bound.value),
+            fits: bound.fits,
             values: known.range(),
         }
     }
 
-    /// An expression as a bound behind which another was evaluated.
-    pub fn before(expression: &Expr, later: &Expr, fits: RangeTest, known: Known) -> End
+    /// A bound behind which another was evaluated.
+    fn before(bound: &Fitted, later: &Expr, known: Known) -> End
         ensures { said_end result
-            ≡ record (end_of expression.now fits known) { form = form_before expression.now later.now } }
+            ≡ record (end_of bound.now known) { form = form_before bound.now.value later.now } }
     {
         End {
-            form: form_before(expression, later),
-            fits,
-            values: known.range(),
+            form: form_before(&bound.value, later),
+            ..End::new(bound, known)
         }
     }
 
@@ -110,6 +109,18 @@ pub struct Way {
 }
 
 impl Way {
+    /// The way of a for statement, from what is known of the values of its bounds.
+    pub fn of(head: &ForHead, from: Known, to: Known) -> Way
+        ensures { said_way result ≡ way_of head.now from to }
+    {
+        Way {
+            control: head.control,
+            direction: head.direction,
+            first: End::before(&head.first, &head.last.value, from),
+            last: End::new(&head.last, to),
+        }
+    }
+
     /// The way of bounds with values of these ranges.
     pub fn with_values(self, first: Interval, last: Interval) -> Way
         ensures { said_way result ≡ with_values first last (said_way self) }

@@ -1,3 +1,4 @@
+pub mod Faults
 pub mod Sites
 pub mod Ids
 pub mod Entries

@@ -62,6 +62,60 @@ pub enum TypeFault {
     TooManyCells(Place),
 }
 
+impl TypeFault {
+    ghost use Rattle.typed_tree.specs.Faults.{code_of, place_of_fault};
+
+    /// The letter of its rule, S, K or Y, and the number behind it; 0 and 0 for `Memory`.
+    pub fn code(&self) -> (u8, u8)
+        ensures { result ≡ code_of self.now }
+    {
+        match self {
+            TypeFault::Memory => (0, 0),
+            TypeFault::DeclaredTwice(_) => (b'S', 1),
+            TypeFault::UsedBeforeDeclared(_) => (b'S', 2),
+            TypeFault::NotDeclared(_) => (b'S', 3),
+            TypeFault::NestedTooDeep(_) => (b'S', 4),
+            TypeFault::Mismatch(_) => (b'K', 1),
+            TypeFault::NotVariable(_) => (b'K', 2),
+            TypeFault::WrongParameters(_) => (b'K', 3),
+            TypeFault::PackedComponent(_) => (b'K', 4),
+            TypeFault::Threatened(_) => (b'K', 5),
+            TypeFault::CaseConstant(_) => (b'K', 6),
+            TypeFault::NeverAssigned(_) => (b'K', 7),
+            TypeFault::NotProgramParameter(_) => (b'K', 8),
+            TypeFault::NotCompleted(_) => (b'K', 9),
+            TypeFault::TooMany(_) => (b'K', 10),
+            TypeFault::FirstAboveLast(_) => (b'Y', 1),
+            TypeFault::TooManyCells(_) => (b'Y', 2),
+        }
+    }
+
+    /// Where it stands in the text. `Memory` stands nowhere.
+    pub fn place(&self) -> Option<Place>
+        ensures { result ≡ place_of_fault self.now }
+    {
+        match self {
+            TypeFault::Memory => None,
+            TypeFault::DeclaredTwice(place)
+            | TypeFault::UsedBeforeDeclared(place)
+            | TypeFault::NotDeclared(place)
+            | TypeFault::NestedTooDeep(place)
+            | TypeFault::Mismatch(place)
+            | TypeFault::NotVariable(place)
+            | TypeFault::WrongParameters(place)
+            | TypeFault::PackedComponent(place)
+            | TypeFault::Threatened(place)
+            | TypeFault::CaseConstant(place)
+            | TypeFault::NeverAssigned(place)
+            | TypeFault::NotProgramParameter(place)
+            | TypeFault::NotCompleted(place)
+            | TypeFault::TooMany(place)
+            | TypeFault::FirstAboveLast(place)
+            | TypeFault::TooManyCells(place) => Some(*place),
+        }
+    }
+}
+
 impl From<AllocError> for TypeFault {
     ghost from_gives = { λ _ e. e ≡ Memory };
 

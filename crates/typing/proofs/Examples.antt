@@ -17,7 +17,7 @@ use Rattle.syntax_tree.specs.declared.ConstantValue.TheVariants as constant
 use Rattle.types.specs.Forms.{Form}
 use Rattle.types.specs.Forms.{FieldForm, Enumeration, Subrange, Array, Record}
 use Rattle.types.specs.declared.form.TypeId.{TypeId}
-use Rattle.types.specs.Types.{required_forms, integer, boolean, char, range_of, range, field_of}
+use Rattle.types.specs.Types.{required_forms, integer, boolean, char, range_of, field_of}
 use Rattle.typing.specs.Names.{folded, required_region}
 use Rattle.typing.specs.Expressions.{copying, fitting, typed, typed_text, typed_variable, takes_operands, may_compare, as_function, field_named}
 use Rattle.typing.specs.Expressions.{or_not_declared}
@@ -96,7 +96,7 @@ abbrev negative : TypeId
 negative = record { index = 5 }
 
 -- a value of an enumerated type may be assigned to a subrange of it, within the range of that
-pub enumeration_fits : fitting own_types warm (of colour) ≡ range (pos 1) (pos 2)
+pub enumeration_fits : fitting own_types warm (of colour) ≡ Some (record { first = pos 1; last = pos 2 })
 enumeration_fits = refl
 
 -- an integer may not be assigned to it
@@ -104,7 +104,7 @@ pub integer_does_not_fit : fitting own_types warm (of integer) ≡ None
 integer_does_not_fit = refl
 
 -- an integer may be assigned to a subrange of integer
-pub integer_fits_subrange : fitting own_types negative (of integer) ≡ range (neg_ℤ (pos 5)) (neg_ℤ (pos 1))
+pub integer_fits_subrange : fitting own_types negative (of integer) ≡ Some (record { first = neg_ℤ (pos 5); last = neg_ℤ (pos 1) })
 integer_fits_subrange = refl
 
 -- strings of two, two and three characters

@@ -96,8 +96,8 @@ access_typing name selectors ws variable = do
   may_change name.place variable.0
   enter_as Look.Access
   component ← Expressions.selected [] variable.1 selectors ws
-  ordinal ← Expressions.tests_ordinal component.1
-  mark (Statements.target_mark ordinal variable.0 component.0 component.1)
+  structured ← Expressions.tests_structured component.1
+  mark (Statements.target_mark structured variable.0 component.0 component.1)
   pure (record { root = variable.0; selectors = component.0; type_id = component.1 })
 
 -- a variable is told as assigned
@@ -133,11 +133,11 @@ access_told name selectors ws variable =
     told_behind variable.0 (may_change name.place variable.0) _ λ _.
     told_behind variable.0 (enter_as Look.Access) _ λ _.
     told_behind variable.0 (Expressions.selected [] variable.1 selectors ws) _ λ component.
-    told_behind variable.0 (Expressions.tests_ordinal component.1) _ λ ordinal.
-    last component ordinal
+    told_behind variable.0 (Expressions.tests_structured component.1) _ λ structured.
+    last component structured
   where
-    last : (component : List TreeSelector × TypeId) (ordinal : Bool)
-        → Walks (IsTold variable.0) (mark (Statements.target_mark ordinal variable.0 component.0 component.1)
+    last : (component : List TreeSelector × TypeId) (structured : Bool)
+        → Walks (IsTold variable.0) (mark (Statements.target_mark structured variable.0 component.0 component.1)
         >> pure {A = Statements.Accessed} (record { root = variable.0; selectors = component.0; type_id = component.1 }))
     last component true = record { walks = λ old. ap (λ b. b || false) (eq-eqb variable.0 variable.0 refl) }
     last component false = record { walks = λ old. ap (λ b. b || false) (eq-eqb variable.0 variable.0 refl) }
@@ -234,15 +234,15 @@ module _ (owner : Owner) (depth : ℕ) where
       let more = λ (before : List TreeSelector) (type_id : TypeId). selected_walks before type_id selectors ws laws.1 in
       search (walk, more, laws.0.typing) depth 8
 
-  value_walks : (ordinal : Bool) (root : ℕ) (selectors : List TreeSelector) (type_id : TypeId) (defined : ℕ) (lead : Option ℕ)
-      → Goes_by ((if ordinal then Expressions.ordinal_value else Expressions.whole_value) root selectors type_id defined lead)
+  value_walks : (structured : Bool) (root : ℕ) (selectors : List TreeSelector) (type_id : TypeId) (defined : ℕ) (lead : Option ℕ)
+      → Goes_by ((if structured then Expressions.whole_value else Expressions.ordinal_value) root selectors type_id defined lead)
   unfolding Expressions.ordinal_value Expressions.whole_value
   value_walks true root selectors type_id defined lead = search walk
   value_walks false root selectors type_id defined lead = search walk
 
   accessed_walks : (root : ℕ) (type_id : TypeId) (selectors : List Selector) (ws : List Written) (place : Place) (lead : Option SiteKind) → AllWalk ws
       → Goes_by (Expressions.accessed root type_id selectors ws place lead)
-  unfolding Expressions.accessed Expressions.tests_ordinal
+  unfolding Expressions.accessed Expressions.tests_structured
   accessed_walks root type_id selectors ws place lead laws = search (walk, behind_walks, selected_walks, value_walks) depth 12
 
   passed_variable_walks : (name : Name) (selectors : List Selector) (ws : List Written) (wanted : TypeId) (callee position : ℕ) → AllWalk ws
@@ -251,10 +251,10 @@ module _ (owner : Owner) (depth : ℕ) where
   passed_variable_walks name selectors ws wanted callee position laws = search (walk, selected_walks) depth 12
 
   passed_value_walks : (type_id : TypeId) (w : Written) (callee position : ℕ) → WrittenWalks w → Goes_by (Expressions.passed_value type_id w callee position)
-  unfolding Expressions.passed_value Expressions.tests_ordinal Expressions.passed_ordinal Expressions.passed_whole
+  unfolding Expressions.passed_value Expressions.tests_structured Expressions.passed_ordinal Expressions.passed_whole
   passed_value_walks type_id w callee position law = search (walk, by)
     where
-      by : (ordinal : Bool) → Goes_by ((if ordinal then Expressions.passed_ordinal else Expressions.passed_whole) type_id w callee position)
+      by : (structured : Bool) → Goes_by ((if structured then Expressions.passed_whole else Expressions.passed_ordinal) type_id w callee position)
       by true = search (walk, law.typing)
       by false = search (walk, law.typing)
 
@@ -496,14 +496,14 @@ module _ (owner : Owner) (depth : ℕ) where
 
   -- ---- statements
 
-  target_mark_walks : (ordinal : Bool) (root : ℕ) (selectors : List TreeSelector) (id : TypeId)
-      → Goes_by (mark (Statements.target_mark ordinal root selectors id))
+  target_mark_walks : (structured : Bool) (root : ℕ) (selectors : List TreeSelector) (id : TypeId)
+      → Goes_by (mark (Statements.target_mark structured root selectors id))
   target_mark_walks true root selectors id = search walk
   target_mark_walks false root selectors id = search walk
 
   access_walks : (name : Name) (selectors : List Selector) (ws : List Written) → AllWalk ws → (variable : ℕ × TypeId)
       → Goes_by (access_typing name selectors ws variable)
-  unfolding Expressions.tests_ordinal
+  unfolding Expressions.tests_structured
   access_walks name selectors ws laws variable = search (walk, selected_walks, target_mark_walks) depth 12
 
   target_walks : (name : Name) (selectors : List Selector) (ws : List Written) → AllWalk ws → Goes_by (Statements.target name selectors ws)
@@ -536,15 +536,15 @@ module _ (owner : Owner) (depth : ℕ) where
         walks = λ old. result_walks routine.0 old (Statements.function_target name.place routine.0 old) refl;
       }
 
-  becomes_walks : (ordinal : Bool) (to : Statements.Accessed) (place : Place) (w : Written) → WrittenWalks w
-      → Goes_by (if ordinal then Statements.assigned to place w else Statements.copied to.type_id place w)
+  becomes_walks : (structured : Bool) (to : Statements.Accessed) (place : Place) (w : Written) → WrittenWalks w
+      → Goes_by (if structured then Statements.copied to.type_id place w else Statements.assigned to place w)
   unfolding Statements.assigned Statements.copied
   becomes_walks true to place w law = search (walk, law.typing)
   becomes_walks false to place w law = search (walk, law.typing)
 
   assignment_walks : (name : Name) (selectors : List Selector) (ws : List Written) (place : Place) (w : Written) → AllWalk ws → WrittenWalks w
       → Goes_by (Statements.assignment name selectors ws place w)
-  unfolding Statements.assignment Expressions.tests_ordinal
+  unfolding Statements.assignment Expressions.tests_structured
   assignment_walks name selectors ws place w laws law = search (walk, target_walks, becomes_walks)
 
   names_file_walks : (form : layer.Expr-F Expr Actual Link) → Goes_by (Statements.names_file form)

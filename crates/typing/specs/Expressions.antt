@@ -29,7 +29,7 @@ use Rattle.types.specs.declared.form.RecordField.{RecordField}
 use Rattle.types.specs.declared.form.ArrayElement.{ArrayElement}
 use Rattle.types.specs.declared.form.TypeId.{TypeId}
 use Rattle.types.specs.declared.form.OrdinalRange.{OrdinalRange}
-use Rattle.types.specs.Types.{integer, boolean, char, is_same, is_assignable, is_compatible, is_ordinal, is_string}
+use Rattle.types.specs.Types.{integer, boolean, char, is_same, is_assignable, is_compatible, is_string, is_structured}
 use Rattle.types.specs.Types.{cells_of, element_of, field_of, form_at, range_of}
 use Rattle.scopes.specs.declared.denotation.Denotation.{Denotation}
 use Rattle.scopes.specs.declared.denotation.Denotation.TheVariants as denotes
@@ -172,9 +172,9 @@ selected before type_id (select.Index place joined ∷ selectors) (w ∷ indexes
   id ← index e w
   selected (before ++ tree.Element (record { site = id; range = e.range }) e.cells ∷ []) e.type_id selectors indexes
 
--- a type is ordinal
-unfoldable pub tests_ordinal : TypeId → Passing Bool
-tests_ordinal id = by_types (λ types. Ok (is_ordinal types id))
+-- a type is structured
+unfoldable pub tests_structured : TypeId → Passing Bool
+tests_structured id = by_types (λ types. Ok (is_structured types id))
 
 -- the value of what is accessed, an ordinal, which is of the host type (6.7.1)
 unfoldable pub ordinal_value : ℕ → List TreeSelector → TypeId → ℕ → Option ℕ → Passing Typed
@@ -197,8 +197,8 @@ accessed root type_id selectors indexes place lead = do
   id ← behind lead place
   enter_as Access
   component ← selected [] type_id selectors indexes
-  ordinal ← tests_ordinal component.1
-  (if ordinal then ordinal_value else whole_value) root component.0 component.1 defined id
+  structured ← tests_structured component.1
+  (if structured then whole_value else ordinal_value) root component.0 component.1 defined id
 
 -- a component of a variable
 unfoldable pub component : Name → List Selector → List Written → Option SiteKind → Passing Typed
@@ -303,8 +303,8 @@ passed_whole type_id w callee position = do
 
 unfoldable pub passed_value : TypeId → Written → ℕ → ℕ → Passing (Unit {0})
 passed_value type_id w callee position = do
-  ordinal ← tests_ordinal type_id
-  (if ordinal then passed_ordinal else passed_whole) type_id w callee position
+  structured ← tests_structured type_id
+  (if structured then passed_whole else passed_ordinal) type_id w callee position
 
 -- an actual parameter, by what the formal one is; there is no other at its place
 abbrev pub passed_to : Option Variable → Written → ℕ → ℕ → Passing (Unit {0})

@@ -58,11 +58,11 @@ use Rattle.typing.specs.Steps.{wants_output}
 use Rattle.typing.specs.Constants.{ordinal_constant, constant_place}
 use Rattle.typing.specs.declared.typed.Typed.{Typed}
 use Rattle.typing.specs.Expressions.{Written, WrittenActual, is_of, as_routine, as_variable, copying, expression}
-use Rattle.typing.specs.Expressions.{fitting, routine_call, selected, tests_ordinal, written_actual}
+use Rattle.typing.specs.Expressions.{fitting, routine_call, selected, tests_structured, written_actual}
 
 abbrev pub target_mark : Bool → ℕ → List TreeSelector → TypeId → Mark
-target_mark true root selectors type_id = Target root selectors (index_count selectors)
-target_mark false root selectors type_id = WholeTarget root selectors (index_count selectors) type_id
+target_mark true root selectors type_id = WholeTarget root selectors (index_count selectors) type_id
+target_mark false root selectors type_id = Target root selectors (index_count selectors)
 
 -- the result of a function is assigned by its name, inside its block alone, nested ones included (6.7.3, 6.8.2.2)
 abbrev pub result_target : Place → Bool → Option ℕ → Passing ℕ
@@ -102,8 +102,8 @@ target name selectors indexes = do
   may_change name.place variable.0
   enter_as Access
   component ← selected [] variable.1 selectors indexes
-  ordinal ← tests_ordinal component.1
-  mark (target_mark ordinal variable.0 component.0 component.1)
+  structured ← tests_structured component.1
+  mark (target_mark structured variable.0 component.0 component.1)
   pure (record { root = variable.0; selectors = component.0; type_id = component.1 })
 
 -- a value that is assigned to an ordinal, and then its test
@@ -125,8 +125,8 @@ unfoldable pub assignment : Name → List Selector → List Written → Place �
 assignment name selectors indexes becomes value = do
   enter_as (λ n. Assign n becomes)
   to ← target name selectors indexes
-  ordinal ← tests_ordinal to.type_id
-  if ordinal then assigned to becomes value else copied to.type_id becomes value
+  structured ← tests_structured to.type_id
+  if structured then copied to.type_id becomes value else assigned to becomes value
 
 -- the procedure that a name denotes
 abbrev pub as_procedure : Place → Denotation → Checked RequiredProcedure

@@ -1,5 +1,4 @@
 use crate::names::fold_into;
-use crate::typed::Typed;
 use crate::typer::Typer;
 use place::Place;
 use syntax_tree::Name;
@@ -7,8 +6,8 @@ use typed_tree::fault::TypeFault;
 use types::{ArrayElement, RecordField, TypeForm, TypeId};
 
 impl Typer {
-    ghost use Rattle.std.specs.Prelude.{◌≡◌, ◌&&◌, is_none};
-    ghost use Rattle.types.specs.Types.{cells_of, element_of, is_compatible, is_ordinal};
+    ghost use Rattle.std.specs.Prelude.{◌≡◌};
+    ghost use Rattle.types.specs.Types.{element_of};
     ghost use Rattle.typing.specs.Expressions as spec;
     ghost use Rattle.typing.specs.Outcomes.{Takes};
     ghost use Rattle.typing.specs.Passing.{by_types};
@@ -33,26 +32,5 @@ impl Typer {
         ensures { result ≡ or_mismatch place (element_of self.now.types id) }
     {
         self.types.element(id).ok_or(TypeFault::Mismatch(place))
-    }
-
-    /// Whether a value may be the index of an element: an ordinal that is compatible with the index type (6.5.3.2).
-    pub fn may_index(&self, element: ArrayElement, value: Typed) -> bool
-        ensures { result ≡ (is_none value.length && is_compatible self.now.types element.index value.type_id) }
-    {
-        value.length.is_none() && self.types.compatible(element.index, value.type_id)
-    }
-
-    /// Whether a type is ordinal (6.4.2).
-    pub fn tests_ordinal(&self, id: TypeId) -> bool
-        ensures { result ≡ is_ordinal self.now.types id }
-    {
-        self.types.is_ordinal(id)
-    }
-
-    /// How many cells a variable of a type takes.
-    pub fn cells(&self, id: TypeId) -> u32
-        ensures { result ≡ cells_of self.now.types id }
-    {
-        self.types.cells(id)
     }
 }

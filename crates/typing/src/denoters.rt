@@ -13,7 +13,6 @@ use typed_tree::fault::TypeFault;
 use types::{TypeForm, TypeId, TypeRefusal};
 
 impl Typer {
-    ghost use Rattle.types.specs.Types.{host_of};
     ghost use Rattle.typing.specs.Outcomes.{Takes};
     ghost use Rattle.typing.specs.Steps as step;
     ghost use Rattle.typing.specs.Denoters as spec;
@@ -64,13 +63,6 @@ impl Typer {
             left = before;
         }
         Ok(element)
-    }
-
-    /// The host type of a subrange; another type itself (6.4.2.4).
-    pub fn host(&self, id: TypeId) -> TypeId
-        ensures { result ≡ host_of self.now.types id }
-    {
-        self.types.host(id)
     }
 
     /// The form of a subrange between constants, which are of one ordinal type: K1 at the place where they aren't.

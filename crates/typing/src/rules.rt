@@ -1,5 +1,6 @@
 //! The rules of types, of operators and of calls, which need nothing else of a program.
-ghost use Rattle.std.specs.Prelude.{◌≡◌, is_some, nat_eq};
+ghost use Rattle.std.specs.Prelude.{◌≡◌, ◌&&◌, is_none, is_some, nat_eq};
+ghost use Rattle.types.specs.Types.{is_compatible};
 ghost use Rattle.typing.specs.Steps.{told};
 ghost use Rattle.typing.specs.Expressions.{sign_operation, operand_type, takes_operands, relation_of, may_compare};
 ghost use Rattle.typing.specs.Expressions.{as_function, as_routine, as_variable, fitting, copying};
@@ -12,7 +13,7 @@ use scopes::{Denotation, RequiredFunction, RequiredProcedure, ScopeFault};
 use syntax_tree::{Operator, RelationalOperator, Sign};
 use typed_tree::fault::TypeFault;
 use typed_tree::tree::{Calculation, Direction, Monadic, Relation, Representation};
-use types::{OrdinalRange, TypeForm, TypeId, TypeTable};
+use types::{ArrayElement, OrdinalRange, TypeForm, TypeId, TypeTable};
 
 // What the scopes answer, at a place.
 pub(crate) fn placed<T>(answer: Result<T, ScopeFault>, place: Place) -> Result<T, TypeFault>
@@ -71,8 +72,8 @@ pub fn relation_of(operator: RelationalOperator) -> Relation
     }
 }
 
-// Whether a relation may hold between two operands (6.7.2.5).
-pub(crate) fn may_compare(types: &TypeTable, left: Typed, right: Typed) -> bool
+/// Whether a relation may hold between two operands (6.7.2.5).
+pub fn may_compare(types: &TypeTable, left: Typed, right: Typed) -> bool
     ensures { result ≡ may_compare types.now left right }
 {
     left.length == right.length
@@ -141,6 +142,13 @@ pub fn ends_line(procedure: RequiredProcedure) -> bool
         RequiredProcedure::Write => false,
         RequiredProcedure::Writeln => true,
     }
+}
+
+/// Whether a value may be the index of an element: an ordinal that is compatible with the index type (6.5.3.2).
+pub fn may_index(types: &TypeTable, element: ArrayElement, value: Typed) -> bool
+    ensures { result ≡ (is_none value.length && is_compatible types.now element.index value.type_id) }
+{
+    value.length.is_none() && types.compatible(element.index, value.type_id)
 }
 
 /// The values of a target's type, if an ordinal value may be assigned to it (6.4.6).

@@ -1,7 +1,8 @@
-ghost use Rattle.std.specs.Prelude.{◌≡◌};
+ghost use Rattle.std.specs.Prelude.{◌≡◌, ◌&&◌, is_none};
+ghost use Rattle.types.specs.Types.{is_ordinal};
 ghost use Rattle.typing.specs.Expressions.{is_of};
 
-use types::TypeId;
+use types::{TypeId, TypeTable};
 
 /// What an expression is.
 #[derive(Clone, Copy)]
@@ -23,5 +24,12 @@ impl Typed {
         ensures { result ≡ is_of type_id self }
     {
         self.length.is_none() && self.type_id.same(type_id)
+    }
+
+    /// Whether it is an ordinal, of an ordinal type (6.4.2).
+    pub fn is_ordinal(self, types: &TypeTable) -> bool
+        ensures { result ≡ (is_none self.length && is_ordinal types.now self.type_id) }
+    {
+        self.length.is_none() && types.is_ordinal(self.type_id)
     }
 }

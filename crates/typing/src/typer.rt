@@ -117,6 +117,13 @@ impl Typer {
         })
     }
 
+    /// The types that are known.
+    pub fn types(&self) -> &TypeTable
+        ensures { result.now ≡ self.now.types }
+    {
+        &self.types
+    }
+
     /// The typed tree of the program that was passed, by its blocks, the order of their statements in the text, and its
     /// table of loops.
     pub fn tree(self, blocks: Vec<Block>, bodies: Vec<u32>, loops: Vec<Loop>) -> Tree

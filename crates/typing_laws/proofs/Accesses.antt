@@ -1,6 +1,6 @@
 -- What accesses of variables do: selectors lead from a variable to a component, and each index has its site before those
 -- of its first token.
-use Rattle.std.proofs.Common.{◌≡◌, ℕ, ℤ, ◌<◌, ◌≤◌, Bool, true, false, ◌&&◌, ◌||◌, not, nat_eq, nat_le, cond, if◌then◌else◌, List, [], ◌∷◌, ◌++◌, length, Option}
+use Rattle.std.proofs.Common.{◌≡◌, ℕ, ℤ, ◌<◌, ◌≤◌, Bool, true, false, ◌&&◌, ◌||◌, nat_eq, nat_le, cond, if◌then◌else◌, List, [], ◌∷◌, ◌++◌, length, Option}
 use Rattle.std.proofs.Common.{Some, None, Ok, is_none, slice_get, refl, sym, ap, subst, ◌∙◌, arith}
 use Rattle.std.specs.List.{list_all}
 use Rattle.std.specs.Ordering.{int_eq}
@@ -19,7 +19,7 @@ use Rattle.types.specs.declared.form.ArrayElement.{ArrayElement}
 use Rattle.types.specs.declared.form.OrdinalRange.{OrdinalRange}
 use Rattle.types.specs.declared.form.RecordField.{RecordField}
 use Rattle.types.specs.declared.form.TypeId.{TypeId}
-use Rattle.types.specs.Types.{cells_of, element_of, field_at, field_of, form_at, is_compatible, is_ordinal, is_same, most_cells}
+use Rattle.types.specs.Types.{cells_of, element_of, field_at, field_of, form_at, is_compatible, is_ordinal, is_same, is_structured, most_cells}
 use Rattle.types.specs.Types.{range_of}
 use Rattle.types.proofs.Elements.{is_array}
 use Rattle.types.proofs.Fields.{is_field, named_at}
@@ -37,7 +37,7 @@ use Rattle.typed_tree.specs.WellFormed.{fits_target, is_range_of, of_one}
 use Rattle.typing.specs.Names.{folded}
 use Rattle.typing.specs.Passing.{Checked}
 use Rattle.typing.specs.Steps.{or_mismatch}
-use Rattle.typing.specs.Expressions.{Written, typed, typed_variable, or_not_declared, field_in, field_named, index, selected, tests_ordinal, ordinal_value}
+use Rattle.typing.specs.Expressions.{Written, typed, typed_variable, or_not_declared, field_in, field_named, index, selected, tests_structured, ordinal_value}
 use Rattle.typing.specs.Expressions.{whole_value, accessed}
 use Rattle.typing_laws.proofs.Covers.{Covers, covers_none, covers_skip, covers_both, leads_first, leads_more}
 use Rattle.typing_laws.proofs.Grown.{both_true}
@@ -47,7 +47,8 @@ use Rattle.typing_laws.proofs.Sound.{IsVariable}
 use Rattle.typing_laws.proofs.Strings.{fit_is, there}
 use Rattle.typing_laws.proofs.Steps.{Does, Nothing, joins, quietly, last, checks, sited, mark_does, pass_does, pure_does, by_types_does, fail_does, enter_does}
 use Rattle.typing_laws.proofs.Steps.{host_type_does, site_does, led, IsKnown, behind_does}
-use Rattle.typing_laws.proofs.Tables.{AreLawful, stands_longer, is_ordinal_longer, cells_of_longer, element_of_longer, field_of_longer, range_of_longer}
+use Rattle.typing_laws.proofs.Tables.{AreLawful, stands_longer, is_ordinal_longer, is_structured_longer, cells_of_longer, element_of_longer, field_of_longer}
+use Rattle.typing_laws.proofs.Tables.{ordinal_is, range_of_longer}
 use Rattle.typing_laws.proofs.WholeRanges.{IsWholeRange}
 use Rattle.typing_laws.proofs.Leading.{IsLed, Types, known_later, ordinal_types, lt_true, LawfulWritten, covers_test, led_covers, led_behind}
 
@@ -219,15 +220,15 @@ module _ (here : Here) where
       (leads_element root before id place e site now next (leads_later root before id least now (further_still one two) l) is.0 is.1 more known))
 
   abbrev pub IsTested : Reached → TypeId → Bool → Type 0
-  IsTested now id ordinal = ◌≡◌ {A = Checked Bool} (Ok (is_ordinal now.types id)) (Ok ordinal)
+  IsTested now id structured = ◌≡◌ {A = Checked Bool} (Ok (is_structured now.types id)) (Ok structured)
 
-  pub tested : (now : Reached) (id : TypeId) (ordinal : Bool) → IsTested now id ordinal → is_ordinal now.types id ≡ ordinal
-  tested now id ordinal is = cc
+  pub tested : (now : Reached) (id : TypeId) (structured : Bool) → IsTested now id structured → is_structured now.types id ≡ structured
+  tested now id structured is = cc
 
-  pub tests_ordinal_does : {least : Reached} (id : TypeId)
-      → Does here least Nothing (tests_ordinal id) (λ ordinal now. AreLawful now.types × IsTested now id ordinal)
-  unfolding tests_ordinal
-  tests_ordinal_does id = by_types_does (λ types. Ok (is_ordinal types id))
+  pub tests_structured_does : {least : Reached} (id : TypeId)
+      → Does here least Nothing (tests_structured id) (λ structured now. AreLawful now.types × IsTested now id structured)
+  unfolding tests_structured
+  tests_structured_does id = by_types_does (λ types. Ok (is_structured types id))
 
   -- what is accessed is of a type that is wanted
   pub leads_formed : (root : ℕ) (selectors : List TreeSelector) (id : TypeId) (now : Reached) → LeadsTo root selectors id now
@@ -245,11 +246,11 @@ module _ (here : Here) where
       leads_formed root selectors id now l (is_ordinal o.types) o h (is_ordinal_longer h.types id l.stands ∙ is)
 
   pub whole_formed : (root : ℕ) (selectors : List TreeSelector) (id : TypeId) (now : Reached) (o : Outline) → LeadsTo root selectors id now
-      → is_ordinal now.types id ≡ false → IsFurther now (whole_of o)
+      → is_structured now.types id ≡ true → IsFurther now (whole_of o)
       → leads_to_whole o here.block id root selectors (index_count selectors) ≡ true
   whole_formed root selectors id now o l is h =
-      leads_formed root selectors id now l (λ other. is_same other id && not (is_ordinal o.types other)) o h
-      (both_true _ _ (eq-eqb id.index id.index refl) (ap not (is_ordinal_longer h.types id l.stands ∙ is)))
+      leads_formed root selectors id now l (λ other. is_same other id && is_structured o.types other) o h
+      (both_true _ _ (eq-eqb id.index id.index refl) (is_structured_longer h.types id is))
 
   -- what is accessed is tested for the range of its type
   pub fits_formed : (root : ℕ) (selectors : List TreeSelector) (id : TypeId) (fits : RangeTest) (now : Reached) (o : Outline) → LeadsTo root selectors id now
@@ -263,17 +264,18 @@ module _ (here : Here) where
   -- ---- values of accesses
 
   ordinal_value_does : {least : Reached} (root : ℕ) (selectors : List TreeSelector) (id : TypeId) (defined : ℕ) (lead : Option ℕ)
-      → LeadsTo root selectors id least → is_ordinal least.types id ≡ true → defined < least.sites → IsKnown lead least
+      → LeadsTo root selectors id least → is_structured least.types id ≡ false → defined < least.sites → IsKnown lead least
       → Does here least Nothing (ordinal_value root selectors id defined lead) Types
   unfolding ordinal_value
-  ordinal_value_does {least} root selectors id defined lead l ordinal test known =
+  ordinal_value_does {least} root selectors id defined lead l plain test known =
+      let ordinal = ordinal_is least.types id l.stands plain in
       quietly (mark_does (Value root selectors (index_count selectors) defined) refl refl refl
       (λ o h. both_true _ _ (ordinal_formed root selectors id least o l ordinal h) (lt_true defined o.sites (omega (arith, test, h.sites))))) λ _ _ one _.
       quietly (host_type_does id) λ host _ two _.
       pure_does (typed host lead) (λ n h. ordinal_types host lead least n (further_still one (further_still two h)) known)
 
   whole_value_does : {least : Reached} (root : ℕ) (selectors : List TreeSelector) (id : TypeId) (defined : ℕ) (lead : Option ℕ)
-      → LeadsTo root selectors id least → is_ordinal least.types id ≡ false → defined < least.sites → IsKnown lead least
+      → LeadsTo root selectors id least → is_structured least.types id ≡ true → defined < least.sites → IsKnown lead least
       → Does here least Nothing (whole_value root selectors id defined lead) Types
   unfolding whole_value
   whole_value_does {least} root selectors id defined lead l structured test known =
@@ -285,10 +287,8 @@ module _ (here : Here) where
       (both_true _ _ (value_formed now (whole_of o) cells (leads_later root selectors id least now one l).stands as_many is.0 h)
       (lt_true defined o.sites (omega (arith, test, one.sites, h.sites)))))) λ _ _ two _.
       pure_does (typed_variable id cells lead) (λ n h.
-      let seen = further_still one (further_still two h) in (
-        known_later lead least n seen known,
-        λ count long. (refl, is_ordinal_longer seen.types id l.stands ∙ structured, stands_longer seen.types id l.stands),
-      ))
+      let seen = further_still one (further_still two h) in
+      (known_later lead least n seen known, λ count long. (refl, is_structured_longer seen.types id structured)))
     where
       counted : (now : Reached) (cells : ℕ) → ◌≡◌ {A = Checked ℕ} (Ok (cells_of now.types id)) (Ok cells) → cells ≡ cells_of now.types id
       counted now cells is = cc
@@ -302,11 +302,11 @@ module _ (here : Here) where
           le_true : (m : ℕ) → m ≤ most_cells → nat_le m most_cells ≡ true
           le_true m few = grind (arith, nat_tests)
 
-  value_does : {least : Reached} (ordinal : Bool) (root : ℕ) (selectors : List TreeSelector) (id : TypeId) (defined : ℕ) (lead : Option ℕ)
-      → LeadsTo root selectors id least → is_ordinal least.types id ≡ ordinal → defined < least.sites → IsKnown lead least
-      → Does here least Nothing ((if ordinal then ordinal_value else whole_value) root selectors id defined lead) Types
-  value_does true root selectors id defined lead l is test known = ordinal_value_does root selectors id defined lead l is test known
-  value_does false root selectors id defined lead l is test known = whole_value_does root selectors id defined lead l is test known
+  value_does : {least : Reached} (structured : Bool) (root : ℕ) (selectors : List TreeSelector) (id : TypeId) (defined : ℕ) (lead : Option ℕ)
+      → LeadsTo root selectors id least → is_structured least.types id ≡ structured → defined < least.sites → IsKnown lead least
+      → Does here least Nothing ((if structured then whole_value else ordinal_value) root selectors id defined lead) Types
+  value_does true root selectors id defined lead l is test known = whole_value_does root selectors id defined lead l is test known
+  value_does false root selectors id defined lead l is test known = ordinal_value_does root selectors id defined lead l is test known
 
   pub accessed_does : {least : Reached} (root : ℕ) (type_id : TypeId) (selectors : List Selector) (rows : List (List Place)) (ws : List Written)
       (place : Place) (lead : Option SiteKind)
@@ -321,8 +321,8 @@ module _ (here : Here) where
       quietly (enter_does Access (λ n. refl) (λ n. refl) (λ n. refl) (λ n o h. refl)) λ _ entered three _.
       let start = leads_later root [] type_id _ entered (further_still one (further_still two three)) leads_to_it in
       last (selected_does root [] type_id selectors rows ws laws start) λ component met four l.
-      quietly (tests_ordinal_does component.1) λ ordinal next five ordered.
-      value_does ordinal root component.0 component.1 defined id (leads_later root component.0 component.1 met next five l)
-      (tested next component.1 ordinal ordered.1)
+      quietly (tests_structured_does component.1) λ structured next five is_tested.
+      value_does structured root component.0 component.1 defined id (leads_later root component.0 component.1 met next five l)
+      (tested next component.1 structured is_tested.1)
       (omega (arith, test, two.sites, three.sites, four.sites, five.sites))
       (known_later id now next (further_still three (further_still four five)) known))

@@ -7,7 +7,7 @@ use Rattle.syntax_tree.specs.Places.{joined_places}
 use Rattle.types.specs.Forms.{Form}
 use Rattle.types.specs.declared.form.TypeId.{TypeId}
 use Rattle.types.specs.declared.form.OrdinalRange.{OrdinalRange}
-use Rattle.types.specs.Types.{is_assignable, is_ordinal, range_of}
+use Rattle.types.specs.Types.{is_assignable, is_ordinal, is_structured, range_of}
 use Rattle.scopes.specs.declared.denotation.Denotation.{Denotation}
 use Rattle.scopes.specs.declared.denotation.Denotation.TheVariants as denotes
 use Rattle.typed_tree.specs.declared.fault.TypeFault.TheVariants as fault
@@ -34,10 +34,10 @@ use Rattle.typing_laws.proofs.Strings.{there}
 use Rattle.typing_laws.proofs.Steps.{Does, Anything, Nothing, IsSoundThen, joins, quietly, last, checks_types, sited, answered, pure_does, given_does}
 use Rattle.typing_laws.proofs.Steps.{fail_does, mark_does, pass_does, enter_does, site_does, host_type_does, heading_at_does, variable_at_does, led}
 use Rattle.typing_laws.proofs.Steps.{behind_does}
-use Rattle.typing_laws.proofs.Tables.{is_ordinal_longer, range_of_longer}
+use Rattle.typing_laws.proofs.Tables.{is_ordinal_longer, is_structured_longer, ordinal_is, range_of_longer}
 use Rattle.typing_laws.proofs.Leading.{IsLed, Types, led_alone, ordinal_types, lt_true, IsFormalAt, formal_later, formal_is, LawfulWritten, covers_test}
 use Rattle.typing_laws.proofs.Leading.{led_covers}
-use Rattle.typing_laws.proofs.Accesses.{round_formed, same_range, tests_ordinal_does, tested}
+use Rattle.typing_laws.proofs.Accesses.{round_formed, same_range, tests_structured_does, tested}
 
 -- ---- tests
 
@@ -163,40 +163,40 @@ module _ (here : Here) where
       IsRangeThere range n = IsRangeIn n.types range
 
   whole_formed : (now : Reached) (callee position : ℕ) (formal : Variable) (copy : Copy) (o : Outline) → IsFurther now (whole_of o)
-      → IsFormalAt now callee position formal → is_value_kind formal.kind ≡ true → is_ordinal now.types formal.type_id ≡ false
+      → IsFormalAt now callee position formal → is_value_kind formal.kind ≡ true → is_structured now.types formal.type_id ≡ true
       → IsCopyFor now.types formal.type_id copy
       → passes_whole o here.block formal.type_id copy.source copy.cells callee position ≡ true
   whole_formed now callee position formal copy o more at by_value structured fits =
-      both_true _ _ (copy_formed here.block now formal.type_id copy o more at.stands structured fits)
+      both_true _ _ (copy_formed here.block now formal.type_id copy o more structured fits)
       (ap (of_one (takes_whole formal.type_id)) (formal_is now callee position formal o more at)
       ∙ both_true _ _ by_value (eq-eqb formal.type_id.index formal.type_id.index refl))
 
   whole_does : {least : Reached} (w : Written) (places : List Place) (callee position : ℕ) (formal : Variable) → LawfulWritten here places w
-      → IsFormalAt least callee position formal → is_value_kind formal.kind ≡ true → is_ordinal least.types formal.type_id ≡ false
+      → IsFormalAt least callee position formal → is_value_kind formal.kind ≡ true → is_structured least.types formal.type_id ≡ true
       → Does here least (Covers 0 places) (passed_whole formal.type_id w callee position) Anything
   unfolding passed_whole
   whole_does {least} w places callee position formal law at by_value structured =
       last (sited (covers_any 2 places) (checks_types {L = λ copy n. IsCopyFor n.types formal.type_id copy} (law.types least None tt)
       λ types t copy next more same lawful copies own.
-      copying_there w.first next types formal.type_id t copy same lawful (is_ordinal_longer more.types formal.type_id at.stands ∙ structured) own.1 copies))
+      copying_there w.first next types formal.type_id t copy same lawful (is_structured_longer more.types formal.type_id structured) own.1 copies))
       λ copy next more fits.
       let there = formal_later least next callee position formal more at in
       mark_does (ForWhole formal.type_id copy.source copy.cells callee position) refl refl refl
       (λ o h. whole_formed next callee position formal copy o h there by_value
-      (is_ordinal_longer more.types formal.type_id at.stands ∙ structured) fits)
+      (is_structured_longer more.types formal.type_id structured) fits)
 
   value_does : {least : Reached} (w : Written) (places : List Place) (callee position : ℕ) (formal : Variable) → LawfulWritten here places w
       → IsFormalAt least callee position formal → is_value_kind formal.kind ≡ true
       → Does here least (Covers 0 places) (passed_value formal.type_id w callee position) Anything
   unfolding passed_value
   value_does {least} w places callee position formal law at is =
-      quietly (tests_ordinal_does here formal.type_id) λ ordinal now more ordered.
-      by now ordinal (formal_later least now callee position formal more at) (tested here now formal.type_id ordinal ordered.1)
+      quietly (tests_structured_does here formal.type_id) λ structured now more is_tested.
+      by now structured (formal_later least now callee position formal more at) (tested here now formal.type_id structured is_tested.1)
     where
-      by : (now : Reached) (ordinal : Bool) → IsFormalAt now callee position formal → is_ordinal now.types formal.type_id ≡ ordinal
-          → Does here now (Covers 0 places) ((if ordinal then passed_ordinal else passed_whole) formal.type_id w callee position) Anything
-      by now true at h = ordinal_does w places callee position formal law at is h
-      by now false at h = whole_does w places callee position formal law at is h
+      by : (now : Reached) (structured : Bool) → IsFormalAt now callee position formal → is_structured now.types formal.type_id ≡ structured
+          → Does here now (Covers 0 places) ((if structured then passed_whole else passed_ordinal) formal.type_id w callee position) Anything
+      by now true at h = whole_does w places callee position formal law at is h
+      by now false at h = ordinal_does w places callee position formal law at is (ordinal_is now.types formal.type_id at.stands h)
 
   -- ---- actual parameters
 

@@ -1,14 +1,12 @@
 -- What may be copied to a structured target: a value of its type, or a string as long.
-use Rattle.std.proofs.Common.{◌≡◌, ℕ, ◌<◌, Bool, true, false, ◌&&◌, ◌||◌, nat_eq, if◌then◌else◌, List, length, Option, Some, None, is_some, refl, sym, ap, ap₂}
-use Rattle.std.proofs.Common.{subst, ◌∙◌, Ok}
-use Rattle.std.specs.Option.{option_and_then}
+use Rattle.std.proofs.Common.{◌≡◌, ℕ, Bool, true, false, ◌&&◌, ◌||◌, nat_eq, if◌then◌else◌, List, Option, Some, None, is_some, refl, sym, ap, ap₂}
+use Rattle.std.proofs.Common.{subst, ◌∙◌, Ok, option_map}
 use Rattle.std.proofs.lemmas.Bool.{eqb-true}
-use Rattle.std.proofs.lemmas.Option.{slice_get-get_or}
 use Rattle.place.specs.declared.Place.{Place}
-use Rattle.types.specs.Forms.{Array, Form, Integer, Record, Subrange}
+use Rattle.types.specs.Forms.{Form, Subrange}
 use Rattle.types.specs.declared.form.TypeId.{TypeId}
-use Rattle.types.specs.Types.{cells_of, form_at, form_range, has_components, have_one_length, host_in, host_of, is_assignable, is_ordinal, is_same, is_string}
-use Rattle.types.specs.Types.{is_structured, string_in, string_length}
+use Rattle.types.specs.Types.{cells_of, form_at, form_kind, have_one_length, host_in, host_of, is_assignable, is_same, is_string, is_structured}
+use Rattle.types.specs.Types.{is_structured_kind, string_in, string_length}
 use Rattle.typed_tree.specs.WellFormed.{Outline, is_alike, may_copy}
 use Rattle.typing.specs.declared.typed.Typed.{Typed}
 use Rattle.typing.specs.Expressions.{Copy, copy_of, copying}
@@ -17,25 +15,15 @@ use Rattle.typing.proofs.Copying.{copy_made}
 use Rattle.typing_laws.proofs.Grown.{both_true}
 use Rattle.typing_laws.proofs.Reached.{IsLonger, IsFurther, Reached, whole_of}
 use Rattle.typing_laws.proofs.Strings.{both_and, there}
-use Rattle.typing_laws.proofs.Tables.{AreLawful, cells_of_longer, is_ordinal_longer, stands_longer, is_string_longer, string_has_cells, string_longer}
+use Rattle.typing_laws.proofs.Tables.{AreLawful, cells_of_longer, is_string_longer, is_structured_longer, string_has_cells, string_longer, structured_stands}
 
 -- ---- types of structured values
 
--- what stands in the table and isn't ordinal is structured
-structured_is : (types : List Form) (id : TypeId) → id.index < length types → is_ordinal types id ≡ false → is_structured types id ≡ true
-structured_is types id stands plain = by (form_at types id) refl plain
+-- the host type of one is itself
+host_itself : (types : List Form) (id : TypeId) → is_structured types id ≡ true → host_of types id ≡ id
+host_itself types id structured = by (form_at types id) structured
   where
-    by : (form : Option Form) → form_at types id ≡ form → is_some (option_and_then form_range form) ≡ false → has_components form ≡ true
-    by None found is = let known = slice_get-get_or types id.index Integer stands in absurd cc
-    by (Some (Array packed index element)) found is = refl
-    by (Some (Record packed fields)) found is = refl
-    by other found is = absurd cc
-
--- its host type is itself
-host_itself : (types : List Form) (id : TypeId) → is_ordinal types id ≡ false → host_of types id ≡ id
-host_itself types id plain = by (form_at types id) plain
-  where
-    by : (form : Option Form) → is_some (option_and_then form_range form) ≡ false → host_in id form ≡ id
+    by : (form : Option Form) → is_structured_kind (option_map form_kind form) ≡ true → host_in id form ≡ id
     by (Some (Subrange host first last)) is = absurd cc
     by other is = refl
 
@@ -52,7 +40,7 @@ host_of_string types id is = by (form_at types id) is
 -- the type of a structured value is that of the variable whose value it is; or it is a string's
 abbrev pub IsSource : List Form → TypeId → Option TypeId → Type 0
 IsSource types id None = is_string types id ≡ true
-IsSource types id (Some source) = (source ≡ id) × (is_ordinal types id ≡ false) × (id.index < length types)
+IsSource types id (Some source) = (source ≡ id) × (is_structured types id ≡ true)
 
 -- what is structured has such a type
 abbrev pub HasSource : List Form → Typed → Type 0
@@ -63,10 +51,10 @@ abbrev pub IsCopyFor : List Form → TypeId → Copy → Type 0
 IsCopyFor types target copy = (nat_eq (cells_of types target) copy.cells ≡ true) × (is_alike types target copy.source copy.cells ≡ true)
 
 -- a type to which a string of some type is assigned is a string
-string_target : (types : List Form) (target id : TypeId) → is_ordinal types target ≡ false → is_string types id ≡ true
+string_target : (types : List Form) (target id : TypeId) → is_structured types target ≡ true → is_string types id ≡ true
     → is_assignable types target id ≡ true → is_string types target ≡ true
-string_target types target id plain string is =
-    by (is_same target id) refl (ap₂ (λ a b. is_same a b || lengths) (sym (host_itself types target plain)) (sym (host_of_string types id string)) ∙ is)
+string_target types target id structured string is =
+    by (is_same target id) refl (ap₂ (λ a b. is_same a b || lengths) (sym (host_itself types target structured)) (sym (host_of_string types id string)) ∙ is)
   where
     lengths : Bool
     lengths = have_one_length (string_length types target) (string_length types id)
@@ -82,23 +70,23 @@ string_target types target id plain string is =
         ap (is_string types) one ∙ string
     by false same h = first_some (string_length types target) (string_length types id) h
 
-alike_is : (types : List Form) → AreLawful types → (target id : TypeId) (source : Option TypeId) (cells : ℕ) → is_ordinal types target ≡ false
+alike_is : (types : List Form) → AreLawful types → (target id : TypeId) (source : Option TypeId) (cells : ℕ) → is_structured types target ≡ true
     → IsSource types id source → is_assignable types target id ≡ true → nat_eq (cells_of types target) cells ≡ true
     → is_alike types target source cells ≡ true
-alike_is types lawful target id None cells plain string is as_many =
-    by (string_length types target) refl (string_target types target id plain string is)
+alike_is types lawful target id None cells structured string is as_many =
+    by (string_length types target) refl (string_target types target id structured string is)
   where
     by : (n : Option ℕ) → string_length types target ≡ n → is_some n ≡ true → have_one_length n (Some cells) ≡ true
     by None found h = absurd cc
     by (Some n) found h = ap (λ m. nat_eq m cells) (sym (string_has_cells types lawful target n found)) ∙ as_many
-alike_is types lawful target id (Some source) cells plain own is as_many =
+alike_is types lawful target id (Some source) cells structured own is as_many =
     let lengths : Bool = have_one_length (string_length types target) (string_length types id) in
     subst (λ z. (is_same target z || have_one_length (string_length types target) (string_length types z)) ≡ true) (sym own.0)
-    (ap₂ (λ a b. is_same a b || lengths) (sym (host_itself types target plain)) (sym (host_itself types id own.1)) ∙ is)
+    (ap₂ (λ a b. is_same a b || lengths) (sym (host_itself types target structured)) (sym (host_itself types id own.1)) ∙ is)
 
-copying_is : (types : List Form) → AreLawful types → (target : TypeId) (t : Typed) (copy : Copy) → is_ordinal types target ≡ false
+copying_is : (types : List Form) → AreLawful types → (target : TypeId) (t : Typed) (copy : Copy) → is_structured types target ≡ true
     → HasSource types t → copying types target t ≡ Some copy → IsCopyFor types target copy
-copying_is types lawful target t copy plain has is = by t.length refl is
+copying_is types lawful target t copy structured has is = by t.length refl is
   where
     by : (length : Option ℕ) → t.length ≡ length → copy_of types target t length ≡ Some copy → IsCopyFor types target copy
     by None long h = absurd cc
@@ -109,22 +97,21 @@ copying_is types lawful target t copy plain has is = by t.length refl is
         fits true both g =
             let parts = both_and (is_assignable types target t.type_id) (nat_eq (cells_of types target) n) both in
             let same : copy_made t.source n ≡ copy = cc in
-            subst (IsCopyFor types target) same (parts.1, alike_is types lawful target t.type_id t.source n plain (has n long) parts.0 parts.1)
+            subst (IsCopyFor types target) same (parts.1, alike_is types lawful target t.type_id t.source n structured (has n long) parts.0 parts.1)
         fits false both g = absurd cc
 
 -- the same, as it is tested
 pub copying_there : (place : Place) (now : Reached) (types : List Form) (target : TypeId) (t : Typed) (copy : Copy) → now.types ≡ types → AreLawful types
-    → is_ordinal now.types target ≡ false → HasSource now.types t → or_mismatch place (copying types target t) ≡ Ok copy → IsCopyFor now.types target copy
-copying_there place now types target t copy same lawful plain has is =
-    copying_is now.types (subst AreLawful (sym same) lawful) target t copy plain has
+    → is_structured now.types target ≡ true → HasSource now.types t → or_mismatch place (copying types target t) ≡ Ok copy → IsCopyFor now.types target copy
+copying_there place now types target t copy same lawful structured has is =
+    copying_is now.types (subst AreLawful (sym same) lawful) target t copy structured has
     (ap (λ l. copying l target t) same ∙ there place (copying types target t) copy is)
 
 -- ---- with more types
 
 pub source_longer : {old new : List Form} → IsLonger old new → (id : TypeId) (source : Option TypeId) → IsSource old id source → IsSource new id source
 source_longer longer id None is = is_string_longer longer id is
-source_longer longer id (Some source) own =
-    (own.0, is_ordinal_longer longer id own.2 ∙ own.1, stands_longer longer id own.2)
+source_longer longer id (Some source) own = (own.0, is_structured_longer longer id own.1)
 
 alike_longer : {old new : List Form} → IsLonger old new → (target : TypeId) (source : Option TypeId) (cells : ℕ) → is_alike old target source cells ≡ true
     → is_alike new target source cells ≡ true
@@ -148,9 +135,9 @@ alike_longer {old} {new} longer target (Some source) cells is = by (is_same targ
     by false h = both (string_length old target) (string_length old source) refl refl h
 
 -- a copy for a target may be copied to it
-pub copy_formed : (block : ℕ) (now : Reached) (target : TypeId) (copy : Copy) (o : Outline) → IsFurther now (whole_of o) → target.index < length now.types
-    → is_ordinal now.types target ≡ false → IsCopyFor now.types target copy → may_copy o block target copy.source copy.cells ≡ true
-copy_formed block now target copy o more stands plain fits =
-    both_true _ _ (structured_is o.types target (stands_longer more.types target stands) (is_ordinal_longer more.types target stands ∙ plain))
-    (both_true _ _ (ap (λ n. nat_eq n copy.cells) (cells_of_longer more.types target stands) ∙ fits.0)
+pub copy_formed : (block : ℕ) (now : Reached) (target : TypeId) (copy : Copy) (o : Outline) → IsFurther now (whole_of o)
+    → is_structured now.types target ≡ true → IsCopyFor now.types target copy → may_copy o block target copy.source copy.cells ≡ true
+copy_formed block now target copy o more structured fits =
+    both_true _ _ (is_structured_longer more.types target structured)
+    (both_true _ _ (ap (λ n. nat_eq n copy.cells) (cells_of_longer more.types target (structured_stands now.types target structured)) ∙ fits.0)
     (alike_longer more.types target copy.source copy.cells fits.1))

@@ -5,7 +5,6 @@ use Rattle.std.proofs.Common.{Some, None, refl, sym, ap, subst, ◌∙◌}
 use Rattle.std.specs.Prelude.{flat_map}
 use Rattle.std.specs.Option.{option_and_then}
 use Rattle.std.proofs.lemmas.Bool.{and_from}
-use Rattle.typed_tree.specs.declared.tree.RangeTest.{RangeTest}
 use Rattle.typed_tree.specs.declared.tree.Width.{Width as TotalWidth}
 use Rattle.typed_tree.specs.declared.tree.WriteParameter.{WriteParameter}
 use Rattle.typed_tree.specs.declared.tree.Written.{Written as WrittenValue}
@@ -27,7 +26,7 @@ use Rattle.typed_tree.specs.declared.tree.Stmt.TheFolds.{map-Stmt, fold-roll-Stm
 use Rattle.typed_tree.specs.declared.tree.Stmt.TheViews.{roll-Stmt}
 use Rattle.typed_tree.specs.Entries.{joined}
 use Rattle.typed_tree.specs.WellFormed.{placed}
-use Rattle.typed_tree.specs.Look.{Look, Mark, Ends, Then, Else, Do, Until, Fits, Controls, ForEnds, For as ForMark, Target, WholeTarget, Width, Written}
+use Rattle.typed_tree.specs.Look.{Look, Mark, Ends, Then, Else, Do, Until, Fits, Controls, ForEnds, Target, WholeTarget, Width, Written}
 use Rattle.typed_tree.specs.Look.{WrittenString, whole_look, passed_look, link_look, expression_look, look_expr, look_passed}
 use Rattle.typed_tree.specs.Look.{look_link, look_whole, look_width, look_written, look_parameter, arms_look, statement_look, look_stmt}
 use Rattle.typed_tree.specs.Threats.{Spares, all_so, all_spare, expr_spares, indexes_so, is_none_of, link_spares, passed_spares, spares, spares_in_expr}
@@ -342,55 +341,41 @@ tells_chosen condition first rest so also one two =
     (tells_expr condition)
     (tells_then first (rest ++ (Ends ∷ [])) so also one (tells_before rest Ends also (λ roots. refl) two))
 
-tells_assigned : (access : Look) (does : Mark) (root : ℕ) (rest : Look) (so also : Spares)
-    → ((roots : List ℕ) → mark_behind does roots ≡ (if is_none_of roots root && true then Some roots else None)) → Tells access so → Tells rest also
-    → Tells ((access ++ (does ∷ [])) ++ rest) (λ roots. so roots && (is_none_of roots root && also roots))
-tells_assigned access does root rest so also changes one two roots behind is =
-    let k = tells_then (access ++ (does ∷ [])) rest (λ roots. so roots && is_none_of roots root) also (tells_change access does root so changes one) two roots
-    behind is in
+tells_assigned : (indexes : List Expr) (does : Mark) (root : ℕ) (rest : Look) (also : Spares)
+    → ((roots : List ℕ) → mark_behind does roots ≡ (if is_none_of roots root && true then Some roots else None)) → Tells rest also
+    → Tells ((joined (map look_expr indexes) ++ (does ∷ [])) ++ rest) (λ roots. spares_in_indexes roots indexes && (is_none_of roots root && also roots))
+tells_assigned indexes does root rest also changes told roots behind is =
+    let access = joined (map look_expr indexes) in
+    let so = λ (all : List ℕ). spares_in_indexes all indexes in
+    let k = tells_then (access ++ (does ∷ [])) rest (λ all. so all && is_none_of all root) also
+    (tells_change access does root so changes (tells_exprs indexes)) told roots behind is in
     (regrouped (so roots) (is_none_of roots root) (also roots) k.0, k.1)
   where
     regrouped : (a b c : Bool) → ((a && b) && c) ≡ true → (a && (b && c)) ≡ true
     regrouped true b c is = is
     regrouped false b c is = is
 
-tells_for : (begins : Mark) (control : ℕ) (first : Expr) (first_fits : RangeTest) (last : Expr) (last_fits : RangeTest) (body : Stmt)
-    → ((roots : List ℕ) → mark_behind begins roots ≡ (if is_none_of roots control && true then Some roots else None)) → TellsStmt body
-    → Tells (begins
-    ∷ (look_expr first
-    ++ (Fits control [] first_fits ∷ (look_expr last ++ (Fits control [] last_fits ∷ Controls control ∷ (look_stmt body ++ (ForEnds ∷ [])))))))
-    (λ roots. is_none_of roots control && (spares_in_expr roots first && (spares_in_expr roots last && spares body (control ∷ roots))))
-tells_for begins control first first_fits last last_fits body changes told roots behind is =
-    let inside = Fits control [] last_fits ∷ Controls control ∷ (look_stmt body ++ (ForEnds ∷ [])) in
-    let in_body = λ (all : List ℕ). spares body (control ∷ all) in
-    let bounds = look_expr first ++ (Fits control [] first_fits ∷ (look_expr last ++ inside)) in
-    let one = changed (is_none_of roots control) roots behind bounds
-    (sym (ap (option_and_then (λ (more : List ℕ). spared_behind more bounds)) (changes roots)) ∙ is) in
-    let two = tells_then (look_expr first) (Fits control [] first_fits ∷ (look_expr last ++ inside)) (λ all. spares_in_expr all first)
-    (λ all. spares_in_expr all last && in_body all) (tells_expr first)
-    (tells_then (look_expr last) inside (λ all. spares_in_expr all last) in_body (tells_expr last)
-    (tells_body control body told)) roots behind one.1 in
-    (and_from (is_none_of roots control) (spares_in_expr roots first && (spares_in_expr roots last && in_body roots)) one.0 two.0, two.1)
-
 tells_stmt_layer : (y : Stmt-F ToldStmt) → Tells (stmt_layer (bare_stmt y)) (so_stmt_layer (bare_stmt y))
 tells_stmt_layer (Empty number) = nothing
-tells_stmt_layer (Assign number becomes target indexes fits value) =
-    let end = Fits target.root target.selectors.items fits in
-    tells_assigned (joined (map look_expr indexes.items)) (Target target.root target.selectors.items (length indexes.items)) target.root
-    (look_expr value ++ (end ∷ [])) (λ roots. spares_in_indexes roots indexes.items) (λ roots. spares_in_expr roots value) (λ roots. refl)
-    (tells_exprs indexes.items) (tells_before (look_expr value) end (λ roots. spares_in_expr roots value) (λ roots. refl) (tells_expr value))
-tells_stmt_layer (Copy number becomes target indexes type_id value value_indexes) =
-    tells_assigned (joined (map look_expr indexes.items)) (WholeTarget target.root target.selectors.items (length indexes.items) type_id) target.root
-    (look_whole value value_indexes.items ++ (_ ∷ [])) (λ roots. spares_in_indexes roots indexes.items)
-    (λ roots. spares_in_whole roots value value_indexes.items) (λ roots. refl) (tells_exprs indexes.items)
-    (tells_before (look_whole value value_indexes.items) _ (λ roots. spares_in_whole roots value value_indexes.items) (λ roots. refl)
-    (tells_value value value_indexes.items))
-tells_stmt_layer (Write number name parameters ends_line) =
-    tells_before (flat_map look_parameter parameters.items) Ends (λ roots. all_so (map (spares_in_parameter roots) parameters.items)) (λ roots. refl)
-    (tells_parameters parameters.items)
-tells_stmt_layer (Calling call actuals) =
-    tells_before (joined (placed call.block 0 (map look_passed actuals.items))) _ (λ roots. all_so (map (spares_in_passed roots) actuals.items))
-    (λ roots. refl) (tells_actuals actuals.items call.block 0)
+tells_stmt_layer (Assign assignment) =
+    let target = assignment.target in
+    let value = look_expr assignment.value in
+    let end = Fits target.root target.selectors.items assignment.fits in
+    tells_assigned assignment.indexes.items (Target target.root target.selectors.items (length assignment.indexes.items)) target.root (value ++ (end ∷ []))
+    (λ roots. spares_in_expr roots assignment.value) (λ roots. refl)
+    (tells_before value end (λ roots. spares_in_expr roots assignment.value) (λ roots. refl) (tells_expr assignment.value))
+tells_stmt_layer (Copy copying) =
+    let target = copying.target in
+    let value = look_whole copying.value copying.value_indexes.items in
+    let so = λ (roots : List ℕ). spares_in_whole roots copying.value copying.value_indexes.items in
+    tells_assigned copying.indexes.items (WholeTarget target.root target.selectors.items (length copying.indexes.items) copying.type_id) target.root
+    (value ++ (_ ∷ [])) so (λ roots. refl) (tells_before value _ so (λ roots. refl) (tells_value copying.value copying.value_indexes.items))
+tells_stmt_layer (Write writing) =
+    tells_before (flat_map look_parameter writing.parameters.items) Ends (λ roots. all_so (map (spares_in_parameter roots) writing.parameters.items))
+    (λ roots. refl) (tells_parameters writing.parameters.items)
+tells_stmt_layer (Calling calling) =
+    tells_before (joined (placed calling.call.block 0 (map look_passed calling.actuals.items))) _
+    (λ roots. all_so (map (spares_in_passed roots) calling.actuals.items)) (λ roots. refl) (tells_actuals calling.actuals.items calling.call.block 0)
 tells_stmt_layer (Compound number statements) =
     tells_before (joined (map look_stmt (map (λ s. s.0) statements.items))) Ends (all_spare (map spares (map (λ s. s.0) statements.items))) (λ roots. refl)
     (tells_all statements.items)
@@ -399,20 +384,29 @@ tells_stmt_layer (If number condition consequence None) =
 tells_stmt_layer (If number condition consequence (Some other)) =
     tells_chosen condition (look_stmt consequence.value.0) (Else ∷ look_stmt other.value.0) (spares consequence.value.0) (spares other.value.0)
     consequence.value.1 other.value.1
-tells_stmt_layer (While number loop_number place condition body) =
-    tells_then (look_expr condition) (Do ∷ (look_stmt body.value.0 ++ (Ends ∷ []))) (λ roots. spares_in_expr roots condition) (spares body.value.0)
-    (tells_expr condition) (tells_before (look_stmt body.value.0) Ends (spares body.value.0) (λ roots. refl) body.value.1)
-tells_stmt_layer (Repeat number loop_number place statements condition) =
-    tells_then (joined (map look_stmt (map (λ s. s.0) statements.items))) (Until ∷ (look_expr condition ++ (Ends ∷ [])))
-    (all_spare (map spares (map (λ s. s.0) statements.items))) (λ roots. spares_in_expr roots condition) (tells_all statements.items)
-    (tells_before (look_expr condition) Ends (λ roots. spares_in_expr roots condition) (λ roots. refl) (tells_expr condition))
-tells_stmt_layer (For number loop_number place control first first_fits direction last last_fits body) =
-    tells_for (ForMark number loop_number place control direction) control first first_fits last last_fits body.value.0 (λ roots. refl) body.value.1
-tells_stmt_layer (Case number site index constants arms) =
-    let inside = arms_look constants.items (map look_stmt (map (λ s. s.0) arms.items)) in
+tells_stmt_layer (While head body) =
+    tells_then (look_expr head.condition) (Do ∷ (look_stmt body.value.0 ++ (Ends ∷ []))) (λ roots. spares_in_expr roots head.condition) (spares body.value.0)
+    (tells_expr head.condition) (tells_before (look_stmt body.value.0) Ends (spares body.value.0) (λ roots. refl) body.value.1)
+tells_stmt_layer (Repeat head statements) =
+    tells_then (joined (map look_stmt (map (λ s. s.0) statements.items))) (Until ∷ (look_expr head.condition ++ (Ends ∷ [])))
+    (all_spare (map spares (map (λ s. s.0) statements.items))) (λ roots. spares_in_expr roots head.condition) (tells_all statements.items)
+    (tells_before (look_expr head.condition) Ends (λ roots. spares_in_expr roots head.condition) (λ roots. refl) (tells_expr head.condition))
+tells_stmt_layer (For head body) = λ roots behind is.
+    let first = look_expr head.first.value in
+    let last = look_expr head.last.value in
+    let inside = Fits head.control [] head.last.fits ∷ Controls head.control ∷ (look_stmt body.value.0 ++ (ForEnds ∷ [])) in
+    let more = Fits head.control [] head.first.fits ∷ (last ++ inside) in
+    let in_body = λ (all : List ℕ). spares body.value.0 (head.control ∷ all) in
+    let in_last = λ (all : List ℕ). spares_in_expr all head.last.value in
+    let one = changed (is_none_of roots head.control) roots behind (first ++ more) is in
+    let two = tells_then first more (λ all. spares_in_expr all head.first.value) (λ all. in_last all && in_body all) (tells_expr head.first.value)
+    (tells_then last inside in_last in_body (tells_expr head.last.value) (tells_body head.control body.value.0 body.value.1)) roots behind one.1 in
+    (and_from (is_none_of roots head.control) (spares_in_expr roots head.first.value && (in_last roots && in_body roots)) one.0 two.0, two.1)
+tells_stmt_layer (Case head arms) =
+    let inside = arms_look head.constants.items (map look_stmt (map (λ s. s.0) arms.items)) in
     let so = all_spare (map spares (map (λ s. s.0) arms.items)) in
-    tells_then (look_expr index) (inside ++ (Ends ∷ [])) (λ roots. spares_in_expr roots index) so (tells_expr index)
-    (tells_before inside Ends so (λ roots. refl) (tells_arms constants.items arms.items))
+    tells_then (look_expr head.index) (inside ++ (Ends ∷ [])) (λ roots. spares_in_expr roots head.index) so (tells_expr head.index)
+    (tells_before inside Ends so (λ roots. refl) (tells_arms head.constants.items arms.items))
 
 -- how a statement looks tells what it spares
 pub tells_stmt : (s : Stmt) → TellsStmt s

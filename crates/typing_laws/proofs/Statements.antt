@@ -1,6 +1,6 @@
 -- What statements do, form by form, and the law of every statement, by induction over its form.
 use Rattle.std.proofs.Common.{◌≡◌, ℕ, ℤ, Vec, ap, ◌∙◌, nat_eq, Bool, true, false, if◌then◌else◌, List, [], ◌∷◌, ◌++◌, map, Option, Some, None, Ok}
-use Rattle.std.proofs.Common.{refl, sym, slice_get, subst, append_assoc, arith, is_none, option_map, ◌&&◌, ◌<◌, length}
+use Rattle.std.proofs.Common.{refl, sym, slice_get, subst, append_assoc, arith, is_none, option_map, ◌&&◌}
 use Rattle.std.specs.List.{flat_map}
 use Rattle.std.specs.declared.alloc.Global.{Global}
 use Rattle.place.specs.declared.Place.{Place}
@@ -21,7 +21,7 @@ use Rattle.syntax_tree.specs.Places.{Places, selector_places, joined_places, exp
 use Rattle.syntax_tree.specs.Places.{statement_step as statement_row}
 use Rattle.types.specs.Forms.{Form}
 use Rattle.types.specs.declared.form.TypeId.{TypeId}
-use Rattle.types.specs.Types.{integer, is_ordinal, is_string, range_of}
+use Rattle.types.specs.Types.{integer, is_ordinal, is_string, is_structured, range_of}
 use Rattle.scopes.specs.declared.denotation.Denotation.{Denotation}
 use Rattle.scopes.specs.declared.denotation.RequiredProcedure.{RequiredProcedure}
 use Rattle.typed_tree.specs.declared.fault.TypeFault.TheVariants as fault
@@ -42,7 +42,7 @@ use Rattle.typing.specs.Statements.{Accessed, assigned, copied, assignment, as_p
 use Rattle.typing.specs.Statements.{written_values, has_values, representation_of, written_as, measured, width, parameter, write, required_call, declared_call}
 use Rattle.typing.specs.Statements.{call_by, procedure_call, compound, condition, alternative, tested, choice, while_loop, repeat_loop, way, bound, for_head}
 use Rattle.typing.specs.Statements.{for_loop, case_arms, case_head, case_body, case_statement, statement_step, statement}
-use Rattle.typing_laws.proofs.Tables.{is_ordinal_longer, stands_longer}
+use Rattle.typing_laws.proofs.Tables.{is_structured_longer}
 use Rattle.typing_laws.proofs.WholeRanges.{IsWholeRange}
 use Rattle.typing_laws.proofs.Copies.{IsCopyFor, copy_formed, copying_there}
 use Rattle.typing_laws.proofs.Covers.{Covers, covers_both, covers_none, covers_behind, covers_skip, covers_lower, leads_first}
@@ -54,7 +54,7 @@ use Rattle.typing_laws.proofs.Steps.{fail_does, find_does, pass_does, wants_outp
 use Rattle.typing_laws.specs.Controls.{is_bracket}
 use Rattle.typing_laws.proofs.Steps.{for_body_does, site_does, IsKnown, controlled_does}
 use Rattle.typing_laws.proofs.Leading.{IsLed, Types, lt_true, LawfulWritten, covers_test, led_covers}
-use Rattle.typing_laws.proofs.Accesses.{AreLawfulRows, LeadsTo, fits_formed, leads_nowhere, leads_later, tested as tested_is, tests_ordinal_does}
+use Rattle.typing_laws.proofs.Accesses.{AreLawfulRows, LeadsTo, fits_formed, leads_nowhere, leads_later, tested as tested_is, tests_structured_does}
 use Rattle.typing_laws.proofs.Accesses.{ordinal_formed}
 use Rattle.typing_laws.proofs.Calls.{IsLawfulWidth, LawfulActual, fitting_is, fitting_whole, routine_is, routine_call_does}
 use Rattle.typing_laws.proofs.Expressions.{variable_is}
@@ -122,26 +122,24 @@ module _ (here : Here) where
       let led_there = leads_later here to.root to.selectors to.type_id least n (further_still one more) led in
       fits_formed here to.root to.selectors to.type_id (record { site = site; range = range }) n o led_there h (omega (arith, known, more.sites)) is.0 is.1))
 
-  copied_does : {least : Reached} (id : TypeId) (becomes : Place) (places : List Place) (value : Written) → id.index < length least.types
-      → is_ordinal least.types id ≡ false → LawfulWritten here places value → Does here least (Covers 0 (becomes ∷ places)) (copied id becomes value) Anything
+  copied_does : {least : Reached} (id : TypeId) (becomes : Place) (places : List Place) (value : Written) → is_structured least.types id ≡ true
+      → LawfulWritten here places value → Does here least (Covers 0 (becomes ∷ places)) (copied id becomes value) Anything
   unfolding copied
-  copied_does id becomes places value stands structured law =
+  copied_does id becomes places value structured law =
       sited (λ sites. covers_skip 0 becomes places sites)
       (quietly (pass_does becomes) λ _ now one _.
       last (checks_types {L = λ copy n. IsCopyFor n.types id copy} (typed_does now places value None law tt)
       λ types t copy n more same lawful copies own.
-      let plain = is_ordinal_longer (further_still one more).types id stands ∙ structured in
-      copying_there becomes n types id t copy same lawful plain own.1 copies) λ copy n two fits.
+      let again = is_structured_longer (further_still one more).types id structured in
+      copying_there becomes n types id t copy same lawful again own.1 copies) λ copy n two fits.
       mark_does (Copied id copy.source copy.cells) refl refl refl
-      (λ o h.
-      let seen = (further_still one two).types in
-      copy_formed here.block n id copy o h (stands_longer seen id stands) (is_ordinal_longer seen id stands ∙ structured) fits))
+      (λ o h. copy_formed here.block n id copy o h (is_structured_longer (further_still one two).types id structured) fits))
 
-  value_does : {least : Reached} (ordinal : Bool) (to : Accessed) (becomes : Place) (places : List Place) (value : Written) → IsAccessed here to least
-      → is_ordinal least.types to.type_id ≡ ordinal → LawfulWritten here places value
-      → Does here least (Covers 0 (becomes ∷ places)) (if ordinal then assigned to becomes value else copied to.type_id becomes value) Anything
-  value_does true to becomes places value led is law = assigned_does to becomes places value led law
-  value_does false to becomes places value led is law = copied_does to.type_id becomes places value led.stands is law
+  value_does : {least : Reached} (structured : Bool) (to : Accessed) (becomes : Place) (places : List Place) (value : Written) → IsAccessed here to least
+      → is_structured least.types to.type_id ≡ structured → LawfulWritten here places value
+      → Does here least (Covers 0 (becomes ∷ places)) (if structured then copied to.type_id becomes value else assigned to becomes value) Anything
+  value_does true to becomes places value led is law = copied_does to.type_id becomes places value is law
+  value_does false to becomes places value led is law = assigned_does to becomes places value led law
 
   assignment_does : (name : Name) (selectors : List Selector) (rows : List (List Place)) (ws : List Written) (becomes : Place) (places : List Place)
       (value : Written) → AreLawfulRows here rows ws → LawfulWritten here places value
@@ -152,9 +150,9 @@ module _ (here : Here) where
         sited (λ sites. covers_skip 0 name.place (selector_places selectors rows ++ (becomes ∷ places)) sites)
         (quietly (enter_does (λ n. Assign n becomes) (λ n. refl) (λ n. refl) (λ n. refl) (λ n m h. refl)) λ _ _ _ _.
         joins (covers_both 0 (selector_places selectors rows) (becomes ∷ places)) (target_does here name selectors rows ws laws) λ to now _ led.
-        quietly (tests_ordinal_does here to.type_id) λ ordinal next one ordered.
-        value_does ordinal to becomes places value (leads_later here to.root to.selectors to.type_id now next one led)
-        (tested_is here next to.type_id ordinal ordered.1) law);
+        quietly (tests_structured_does here to.type_id) λ structured next one is_tested.
+        value_does structured to becomes places value (leads_later here to.root to.selectors to.type_id now next one led)
+        (tested_is here next to.type_id structured is_tested.1) law);
   }
 
   -- ---- what is written

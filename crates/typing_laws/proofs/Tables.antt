@@ -1,22 +1,49 @@
 -- Tables of types as a program makes them, each longer than the one before, and texts that are characters.
 use Rattle.std.proofs.Common.{◌≡◌, ℕ, zero, suc, ◌<◌, ◌≤◌, Bool, true, false, if◌then◌else◌, nat_lt, List, [], ◌∷◌, ◌++◌, length, sum_by, Some, None, Ok, Err}
-use Rattle.std.proofs.Common.{ok_or, slice_get, get_or, refl, sym, ap, subst, ◌∙◌, arith, length-append, append_assoc, Option, is_some}
+use Rattle.std.proofs.Common.{ok_or, slice_get, get_or, refl, sym, ap, subst, ◌∙◌, arith, length-append, append_assoc, Option, is_some, option_map}
+use Rattle.std.specs.Option.{option_and_then}
 use Rattle.std.proofs.lemmas.Bool.Decides.{nat_tests}
 use Rattle.std.proofs.lemmas.List.Sums.{sum_by-cons}
-use Rattle.std.proofs.lemmas.Option.{slice_get_within}
-use Rattle.types.specs.Forms.{Form}
+use Rattle.std.proofs.lemmas.Option.{slice_get-get_or, slice_get_within}
+use Rattle.types.specs.Forms.{Form, Integer}
 use Rattle.types.specs.declared.form.TypeId.{TypeId}
+use Rattle.types.specs.declared.form.TypeKind.{TypeKind}
+use Rattle.types.specs.declared.form.TypeKind.TheVariants.{Ordinal, Structured}
 use Rattle.types.specs.declared.refusal.TypeRefusal.TheVariants.{TooManyCells, FirstAboveLast}
 use Rattle.types.specs.Types.{BeginWithRequired, Counted, admitted_cells, cells_of, char, counted, element_of, entry_cells, few, field_at, form_cells}
-use Rattle.types.specs.Types.{form_at, form_range, is_ordinal, is_string, range_of, is_turned, most_cells, required_forms, string_in, string_length}
+use Rattle.types.specs.Types.{form_at, form_kind, form_range, is_ordinal, is_string, is_structured, is_structured_kind, kind_range, range_of, is_turned}
+use Rattle.types.specs.Types.{most_cells, required_forms, string_in, string_length}
 use Rattle.types.proofs.Built.{AreBuilt, IsOver, built_more, required_built, string_elements}
 use Rattle.types.proofs.Counts.{counted_more, one_cell}
-use Rattle.types.proofs.Longer.{cells_longer, element_longer, field_at_longer, ordinal_longer, range_longer, string_stays}
+use Rattle.types.proofs.Longer.{cells_longer, element_longer, field_at_longer, form_longer, ordinal_longer, range_longer, string_stays}
 use Rattle.types.proofs.Strings.{indexes, string_cells}
 use Rattle.typed_tree.specs.declared.tree.Variable.{Variable}
 use Rattle.typed_tree.specs.WellFormed.{are_characters}
 use Rattle.typing_laws.proofs.Reached.{IsLonger}
 use Rattle.typing_laws.proofs.WholeRanges.{HaveWholeRanges, IfWhole, required_have, whole_more}
+
+-- ---- the kinds of types
+
+-- what is structured stands in the table
+pub structured_stands : (types : List Form) (id : TypeId) → is_structured types id ≡ true → id.index < length types
+structured_stands types id is = by (form_at types id) refl is
+  where
+    by : (form : Option Form) → form_at types id ≡ form → is_structured_kind (option_map form_kind form) ≡ true → id.index < length types
+    by None found h = absurd cc
+    by (Some form) found h = slice_get_within types id.index form found
+
+-- what stands there and isn't structured is ordinal
+pub ordinal_is : (types : List Form) (id : TypeId) → id.index < length types → is_structured types id ≡ false → is_ordinal types id ≡ true
+ordinal_is types id stands plain = by (form_at types id) refl plain
+  where
+    of_kind : (kind : TypeKind) → is_structured_kind (Some kind) ≡ false → is_some (kind_range kind) ≡ true
+    of_kind (Ordinal range) h = refl
+    of_kind Structured h = absurd cc
+
+    by : (form : Option Form) → form_at types id ≡ form → is_structured_kind (option_map form_kind form) ≡ false
+        → is_some (option_and_then form_range form) ≡ true
+    by None found h = let known = slice_get-get_or types id.index Integer stands in absurd cc
+    by (Some form) found h = of_kind (form_kind form) h
 
 -- ---- longer tables
 
@@ -51,6 +78,12 @@ module _ {old new : List Form} (longer : IsLonger old new) where
 
     pub field_of_longer : (position : ℕ) → field_at new id position ≡ field_at old id position
     field_of_longer position = ap (λ types. field_at types id position) longer.goes_on ∙ field_at_longer old longer.more id there position
+
+  -- what is structured is so there
+  pub is_structured_longer : (id : TypeId) → is_structured old id ≡ true → is_structured new id ≡ true
+  is_structured_longer id is =
+      ap (λ types. is_structured types id) longer.goes_on
+      ∙ ap (λ form. is_structured_kind (option_map form_kind form)) (form_longer old longer.more id (structured_stands old id is)) ∙ is
 
   -- a string is as long
   pub string_longer : (id : TypeId) (n : ℕ) → string_length old id ≡ Some n → string_length new id ≡ Some n

@@ -9,7 +9,7 @@ use Rattle.syntax_tree.specs.declared.Name.{Name}
 use Rattle.syntax_tree.specs.declared.Selector.{Selector}
 use Rattle.syntax_tree.specs.Places.{selector_places}
 use Rattle.types.specs.declared.form.TypeId.{TypeId}
-use Rattle.types.specs.Types.{is_ordinal}
+use Rattle.types.specs.Types.{is_structured}
 use Rattle.scopes.specs.declared.denotation.Denotation.{Denotation}
 use Rattle.typed_tree.specs.declared.tree.Selector.{Selector as TreeSelector}
 use Rattle.typed_tree.specs.declared.tree.Variable.{Variable}
@@ -29,8 +29,9 @@ use Rattle.typing_laws.proofs.Reached.{mapped_longer, stands_later, as_far, reac
 use Rattle.typing_laws.proofs.Sound.{IsVariable, IsRoutine, routine_longer, variable_later, or_right}
 use Rattle.typing_laws.proofs.Steps.{Does, Anything, Nothing, IsFound, quietly, last, further_answered, pure_does, given_does, find_does, enter_does}
 use Rattle.typing_laws.proofs.Steps.{may_change_does, change_does, split, fine_with_result, grown_assigned}
-use Rattle.typing_laws.proofs.Accesses.{LeadsTo, AreLawfulRows, leads_nowhere, leads_later, selected_does, tests_ordinal_does, tested as tested_is}
+use Rattle.typing_laws.proofs.Accesses.{LeadsTo, AreLawfulRows, leads_nowhere, leads_later, selected_does, tests_structured_does, tested as tested_is}
 use Rattle.typing_laws.proofs.Accesses.{ordinal_formed, whole_formed}
+use Rattle.typing_laws.proofs.Tables.{ordinal_is}
 use Rattle.typing_laws.proofs.Calls.{may_call_it, routine_is}
 use Rattle.typing_laws.proofs.Expressions.{variable_is}
 use Rattle.typing_laws.proofs.Strings.{behind_nothing}
@@ -41,14 +42,15 @@ abbrev accessed_by : ℕ → List TreeSelector × TypeId → Accessed
 accessed_by root component = record { root = root; selectors = component.0; type_id = component.1 }
 
 module _ (here : Here) where
-  target_formed : {least : Reached} (root : ℕ) (selectors : List TreeSelector) (id : TypeId) (ordinal : Bool) → LeadsTo here root selectors id least
-      → is_ordinal least.types id ≡ ordinal → MayChange here least root → Does here least Nothing (mark (target_mark ordinal root selectors id)) Anything
+  target_formed : {least : Reached} (root : ℕ) (selectors : List TreeSelector) (id : TypeId) (structured : Bool) → LeadsTo here root selectors id least
+      → is_structured least.types id ≡ structured → MayChange here least root
+      → Does here least Nothing (mark (target_mark structured root selectors id)) Anything
   target_formed {least} root selectors id true l is may =
-      change_does (Target root selectors (index_count selectors)) root refl refl refl refl may
-      (λ n h. ordinal_formed here root selectors id least n l is h)
-  target_formed {least} root selectors id false l is may =
       change_does (WholeTarget root selectors (index_count selectors) id) root refl refl refl refl may
       (λ n h. whole_formed here root selectors id least n l is h)
+  target_formed {least} root selectors id false l is may =
+      change_does (Target root selectors (index_count selectors)) root refl refl refl refl may
+      (λ n h. ordinal_formed here root selectors id least n l (ordinal_is least.types id l.stands is) h)
 
   -- selectors lead to what is accessed
   abbrev pub IsAccessed : Accessed → Reached → Type 0
@@ -114,10 +116,10 @@ module _ (here : Here) where
       last (selected_does here variable.0 [] variable.1 selectors rows ws laws
       (leads_later here variable.0 [] variable.1 least entered (further_still two three) start))
       λ component met later l.
-      quietly (tests_ordinal_does here component.1) λ ordinal next four ordered.
+      quietly (tests_structured_does here component.1) λ structured next four is_tested.
       let may_there = change_later here changed next variable.0 (further_still three (further_still later four)) may in
       let led = leads_later here variable.0 component.0 component.1 met next four l in
-      quietly (target_formed variable.0 component.0 component.1 ordinal led (tested_is here next component.1 ordinal ordered.1) may_there) λ _ _ five _.
+      quietly (target_formed variable.0 component.0 component.1 structured led (tested_is here next component.1 structured is_tested.1) may_there) λ _ _ five _.
       pure_does (accessed_by variable.0 component)
       (λ n h. leads_later here variable.0 component.0 component.1 next n (further_still five h) led)
 

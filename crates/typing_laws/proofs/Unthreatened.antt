@@ -12,7 +12,7 @@ use Rattle.typed_tree.specs.declared.tree.Block.{Block}
 use Rattle.typed_tree.specs.declared.tree.Tree.{Tree}
 use Rattle.typed_tree.specs.declared.tree.Stmt.{Stmt}
 use Rattle.typed_tree.specs.declared.tree.Stmt.TheOpen.{Stmt-F}
-use Rattle.typed_tree.specs.declared.tree.Stmt.TheOpen.Stmt-F.{Empty, Assign, Write, Compound, If, While, Repeat, For, Case, Copy, Call as Calling}
+use Rattle.typed_tree.specs.declared.tree.Stmt.TheOpen.Stmt-F.{Compound, If, While, Repeat, For, Case}
 use Rattle.typed_tree.specs.declared.tree.Stmt.TheFolds.{map-Stmt, fold-roll-Stmt, ind-Stmt}
 use Rattle.typed_tree.specs.declared.tree.Stmt.TheViews.{roll-Stmt}
 use Rattle.typed_tree.specs.Entries.{joined, of_block}
@@ -96,24 +96,26 @@ controls_layer (If number condition consequence (Some other)) =
     behind_others (look_expr condition) (Then ∷ (look_stmt consequence.value.0 ++ (Else ∷ (look_stmt other.value.0 ++ (Ends ∷ []))))) (own ++ others)
     (both_told (look_stmt consequence.value.0) (Else ∷ (look_stmt other.value.0 ++ (Ends ∷ []))) own others consequence.value.1
     (before_others (look_stmt other.value.0) (Ends ∷ []) others other.value.1))
-controls_layer (While number loop_number place condition body) =
-    behind_others (look_expr condition) (Do ∷ (look_stmt body.value.0 ++ (Ends ∷ []))) (inside_of body.value.0).controls
+controls_layer (While head body) =
+    behind_others (look_expr head.condition) (Do ∷ (look_stmt body.value.0 ++ (Ends ∷ []))) (inside_of body.value.0).controls
     (before_others (look_stmt body.value.0) (Ends ∷ []) (inside_of body.value.0).controls body.value.1)
-controls_layer (Repeat number loop_number place statements condition) = all_told statements.items (Until ∷ (look_expr condition ++ (Ends ∷ [])))
-controls_layer (For number loop_number place control first first_fits direction last last_fits body) = λ root is.
+controls_layer (Repeat head statements) = all_told statements.items (Until ∷ (look_expr head.condition ++ (Ends ∷ [])))
+controls_layer (For head body) = λ root is.
     let own = (inside_of body.value.0).controls in
-    let inside = Fits control [] last_fits ∷ Controls control ∷ (look_stmt body.value.0 ++ (ForEnds ∷ [])) in
-    let bounds = look_expr first ++ (Fits control [] first_fits ∷ (look_expr last ++ inside)) in
-    let told = behind_others (look_expr first) (Fits control [] first_fits ∷ (look_expr last ++ inside)) own
-    (behind_others (look_expr last) inside own
-    (before_others (look_stmt body.value.0) (ForEnds ∷ []) own body.value.1)) in
-    ⊎_elim (λ same. or_left (nat_eq control root) (has (told_in bounds) root) same)
-    (λ later. or_right (nat_eq control root) (has (told_in bounds) root) (told root later))
-    (or_cases (nat_eq control root) (has own root) is)
-controls_layer (Case number site index constants arms) =
-    let inside = arms_look constants.items (map look_stmt (map (λ (s : Told). s.0) arms.items)) in
+    let last = look_expr head.last.value in
+    let inside = Fits head.control [] head.last.fits ∷ Controls head.control ∷ (look_stmt body.value.0 ++ (ForEnds ∷ [])) in
+    let first = look_expr head.first.value in
+    let more = Fits head.control [] head.first.fits ∷ (last ++ inside) in
+    let told = behind_others first more own
+    (behind_others last inside own (before_others (look_stmt body.value.0) (ForEnds ∷ []) own body.value.1)) in
+    ⊎_elim (λ same. or_left (nat_eq head.control root) (has (told_in (first ++ more)) root) same)
+    (λ later. or_right (nat_eq head.control root) (has (told_in (first ++ more)) root) (told root later))
+    (or_cases (nat_eq head.control root) (has own root) is)
+controls_layer (Case head arms) =
+    let inside = arms_look head.constants.items (map look_stmt (map (λ (s : Told). s.0) arms.items)) in
     let controls = (all_inside (map inside_of (map (λ (s : Told). s.0) arms.items))).controls in
-    behind_others (look_expr index) (inside ++ (Ends ∷ [])) controls (before_others inside (Ends ∷ []) controls (arms_told constants.items arms.items))
+    behind_others (look_expr head.index) (inside ++ (Ends ∷ [])) controls
+    (before_others inside (Ends ∷ []) controls (arms_told head.constants.items arms.items))
 controls_layer other = λ root is. absurd cc
 
 controls_told : (s : Stmt) → HasControls (look_stmt s) (inside_of s).controls

@@ -105,11 +105,13 @@ index_types-loop-denoter-preserved t c =
     let passes = c.in_ok-index_type.ensures in
     let next = types_next denoted_type denoters old i denoter here.ids.items here.typer c.loop-denoter-test.true c.denoter-item.is
     here.invariant.left c.in_ok-index_type.field-0 new passes in
-    let ids : here.ids.items ++ c.in_ok-index_type.field-0 ∷ [] ≡ c.push.new.self.items = search (rules, c.in_ok-push.ensures.items) in
+    let ids : here.ids.items ++ c.in_ok-index_type.field-0 ∷ [] ≡ c.push_reserved.new.self.items = search (rules, c.push_reserved.ensures.items) in
     record {
       left = subst (λ ids. AreTypesFrom denoted_type denoters old (i + 1) ids new) ids next;
       known = names_stay (index_type (denoted_type denoter)) (index_keeps denoter) c.in_ok-index_type.field-0 [] here.typer new
           passes rest (others_known here.typer.regions (denoter_names denoter) rest known);
+      count = omega (arith, c.push_reserved.ensures.len);
+      room = omega (arith, c.push_reserved.ensures.capacity);
     }
 
 -- ---- a record

@@ -1,4 +1,4 @@
-use Rattle.std.proofs.Common.{rules, ◌≡◌, [], ◌∷◌, ◌++◌, subst, ◌+◌}
+use Rattle.std.proofs.Common.{rules, ◌≡◌, [], ◌∷◌, ◌++◌, subst, ◌+◌, arith}
 use Rattle.std.proofs.lemmas.List.{get_or_default}
 use Rattle.typing.specs.Routines.{declared}
 use Rattle.declarations.proofs.HeadingForms.{NamedFrom, named_next}
@@ -20,8 +20,10 @@ loop-name-preserved c =
     let passes = c.in_ok-variable.ensures in
     let next = named_next block kind type_id names c.args.typer.now i _ roots now c.loop-name-test.true (get_or_default names i _ _ c.loop-name-test.true)
     c.loop-name.invariant.left root new passes in
-    let pushed : roots ++ root ∷ [] ≡ c.push.new.self.items = search (rules, c.in_ok-push.ensures.items) in
+    let pushed : roots ++ root ∷ [] ≡ c.push_reserved.new.self.items = search (rules, c.push_reserved.ensures.items) in
     record {
       left = subst (λ l. NamedFrom block kind type_id names c.args.typer.now (i + 1) l new) pushed next;
       known = names_stay (declared block kind type_id _) (declared_keeps block kind type_id _) root [] now new passes names c.loop-name.invariant.known;
+      count = omega (arith, c.push_reserved.ensures.len);
+      room = omega (arith, c.push_reserved.ensures.capacity);
     }

@@ -4,30 +4,30 @@ use Rattle.std.proofs.Common.{is_some, Some, None, Ok, Err}
 use Rattle.std.specs.Prelude.{slice_get}
 use Rattle.std.proofs.lemmas.List.{length-map}
 use Rattle.syntax_tree.specs.declared.Expr.TheViews.{out-Actual}
-use Rattle.types.specs.Types.{is_ordinal}
+use Rattle.types.specs.Types.{is_structured}
 use Rattle.typed_tree.specs.declared.fault.TypeFault.TheVariants as fault
-use Rattle.typed_tree.specs.WellFormed.{is_variable_kind, length_of}
-use Rattle.typed_tree.proofs.Looks.{look_function_call}
+use Rattle.typed_tree.specs.WellFormed.{is_variable_kind}
+use Rattle.typed_tree.proofs.Looks.{look_function_call, look_passed_value}
 use Rattle.typed_tree.specs.Look.{Begins}
 use Rattle.typing.specs.Passing.{after, behind_marks}
 use Rattle.typing.specs.Expressions.{Written, expression, written_actual, written_link, chain_behind, relation_behind}
 use Rattle.typing.specs.Steps.{program_heading}
-use Rattle.typing.proofs.Copying.{copied_as, copy_made}
 use Rattle.typing.proofs.Written.{typing_component}
 use Rattle.typing.specs.Expressions as spec
 use Rattle.typing.specs.Outcomes.{IsFault, Makes}
-use Rattle.expression_resolver.specs.Made.{typed_of, look_value, value_source, MakesTyped}
+use Rattle.expression_resolver.specs.Made.{fitted, typed_of, look_value, MakesTyped}
 use Rattle.typed_tree.specs.Accesses.{index_count}
-use Rattle.typed_tree.specs.Look.{Access, ForWhole, look_expr, look_passed}
+use Rattle.typed_tree.specs.Look.{Access, ForVariable, look_expr, look_passed}
 use Rattle.typing.proofs.Selectors.{index_passes}
-use Rattle.expression_resolver.specs.Accesses.{value, look_selection, SelectsOne}
-use Rattle.expression_resolver.proofs.Selecting.{variable_stops, selectors_stop, component_is, elements_take_one, field_selects, element_selects}
+use Rattle.expression_resolver.specs.Accesses.{value, look_reached, look_selection, SelectsOne}
+use Rattle.expression_resolver.proofs.Selecting.{component_goes, component_is, elements_take_one, element_selects, field_selects, selectors_stop}
+use Rattle.expression_resolver.proofs.Selecting.{variable_stops}
 use Rattle.expression_resolver.proofs.Chains.{first_stops, first_goes_on, chain_begun, relation_begun}
-use Rattle.expression_resolver.proofs.Named.{name_stops, name_is, variable_named, routine_named}
+use Rattle.expression_resolver.proofs.Named.{name_is, name_stops, routine_denoted}
 use Rattle.expression_resolver.proofs.Actuals.{ArePassedFrom, one_passed}
 use Rattle.expression_resolver.proofs.Calls.{actual_stops, call_made, count_stops, value_is, value_stops}
-use Rattle.expression_resolver.proofs.PassedForms.{other_kind, to_none, to_value, to_variable, value_by_kind, variable_made, variable_passes}
-use Rattle.expression_resolver.proofs.PassedForms.{whole_made, whole_passes}
+use Rattle.expression_resolver.proofs.PassedForms.{component_stops, ordinal_passes, ordinal_stops, other_kind, to_none, to_value, to_variable}
+use Rattle.expression_resolver.proofs.PassedForms.{value_by_kind, variable_made, variable_passes, variable_stops as access_stops}
 use Rattle.expression_resolver.proofs.expressions.+expressions.Goals as goal
 
 -- ---- a name
@@ -39,18 +39,14 @@ expression-returns-in_err-denotation-in-Name t c =
     name_stops c.args.written.now c.in-Name.name c.in-Name.is c.args.lead c.args.typer.now why c.in_err-denotation-in-Name.ensures in
     search rules
 
-pub expression-returns-in-Variable : goal.expression-returns-in-Variable
-expression-returns-in-Variable t c =
-    subst (λ o. MakesTyped o c.accessed.result c.accessed.new.typer)
-    (sym (variable_named c.args.written.now c.in-Name.name c.in-Name.is c.args.lead c.args.typer.now c.in_ok-denotation-in-Name.denotation
-    c.find.new.self c.in_ok-denotation-in-Name.ensures c.in-Variable.root c.in-Variable.type_id c.in-Variable.is))
-    c.accessed.ensures
-
 pub expression-returns-in-Routine : goal.expression-returns-in-Routine
 expression-returns-in-Routine t c =
+    let place = c.in-Name.name.place in
     subst (λ o. MakesTyped o c.function_value.result c.function_value.new.typer)
-    (sym (routine_named c.args.written.now c.in-Name.name c.in-Name.is c.args.lead c.args.typer.now c.in_ok-denotation-in-Name.denotation
-    c.find.new.self c.in_ok-denotation-in-Name.ensures c.in-Routine.block c.in-Routine.is_function c.in-Routine.is))
+    (sym (name_is c.args.written.now c.in-Name.name c.in-Name.is c.args.lead c.args.typer.now c.in_ok-denotation-in-Name.denotation c.find.new.self
+    c.in_ok-denotation-in-Name.ensures
+    ∙ routine_denoted c.in_ok-denotation-in-Name.denotation place c.args.lead c.find.new.self c.in-Routine.block c.in-Routine.is_function
+    c.in-Routine.is))
     c.function_value.ensures
 
 pub expression-returns-in_default : goal.expression-returns-in_default
@@ -121,36 +117,58 @@ expression-returns-in_ok-left-in-Relation t c =
     (sym c.deref-in-Relation-2.ensures)))
     c.relation.ensures
 
--- ---- an access
+-- ---- a component
 
-pub accessed-returns-in_err-entered : goal.accessed-returns-in_err-entered
-accessed-returns-in_err-entered t c =
+pub component-returns-in_err-entered : goal.component-returns-in_err-entered
+component-returns-in_err-entered t c =
+    let name = c.args.name.now in
+    let selectors = c.args.selectors.now in
+    let indexes = map expression c.args.indexes.now in
+    let old = c.args.typer.now in
+    let first = c.variable.new.typer in
+    let root = c.in_ok-root.root in
+    let type_id = c.in_ok-root.type_id in
+    let found = c.in_ok-root.ensures in
     let why = c.in_err-entered.field-0.0 in
-    let stops : IsFault (spec.accessed c.args.root c.args.type_id c.args.selectors.now (map expression c.args.indexes.now) c.args.place c.args.lead
-    c.args.typer.now) why =
-    variable_stops c.args.root c.args.type_id c.args.selectors.now (map expression c.args.indexes.now) c.args.place c.args.lead c.args.typer.now why
-    c.in_err-entered.ensures in
+    let stops : IsFault (spec.component name selectors indexes c.args.lead old) why =
+    subst (λ o. IsFault o why) (sym (component_goes name selectors indexes c.args.lead old first found.0 (root, type_id) found.1 found.2))
+    (variable_stops root type_id selectors indexes name.place c.args.lead first why c.in_err-entered.ensures) in
     search rules
 
-pub accessed-returns-in_err-selection : goal.accessed-returns-in_err-selection
-accessed-returns-in_err-selection t c =
+pub component-returns-in_err-selection : goal.component-returns-in_err-selection
+component-returns-in_err-selection t c =
+    let name = c.args.name.now in
+    let selectors = c.args.selectors.now in
+    let indexes = map expression c.args.indexes.now in
+    let old = c.args.typer.now in
+    let first = c.variable.new.typer in
+    let root = c.in_ok-root.root in
+    let type_id = c.in_ok-root.type_id in
+    let found = c.in_ok-root.ensures in
     let e = c.in_ok-entered.entered in
     let why = c.in_err-selection.field-0.0 in
-    let stops : IsFault (spec.accessed c.args.root c.args.type_id c.args.selectors.now (map expression c.args.indexes.now) c.args.place c.args.lead
-    c.args.typer.now) why =
-    selectors_stop c.args.root c.args.type_id c.args.selectors.now (map expression c.args.indexes.now) c.args.place c.args.lead c.args.typer.now
-    (e.defined, e.site) e.number c.enter.new.typer c.in_ok-entered.ensures.0 why c.in_err-selection.ensures.made in
+    let stops : IsFault (spec.component name selectors indexes c.args.lead old) why =
+    subst (λ o. IsFault o why) (sym (component_goes name selectors indexes c.args.lead old first found.0 (root, type_id) found.1 found.2))
+    (selectors_stop root type_id selectors indexes name.place c.args.lead first (e.defined, e.site) e.number c.enter.new.typer c.in_ok-entered.ensures.0 why
+    c.in_err-selection.ensures.made) in
     search rules
 
-pub accessed-returns : goal.accessed-returns
-accessed-returns t c =
+pub component-returns : goal.component-returns
+component-returns t c =
+    let name = c.args.name.now in
+    let selectors = c.args.selectors.now in
+    let indexes = map expression c.args.indexes.now in
+    let first = c.variable.new.typer in
+    let root = c.in_ok-root.root in
+    let type_id = c.in_ok-root.type_id in
+    let found = c.in_ok-root.ensures in
     let e = c.in_ok-entered.entered in
     let made = c.in_ok-selection.selection in
     let now = c.selected.new.typer in
-    component_is c.args.root c.args.type_id c.args.selectors.now (map expression c.args.indexes.now) c.args.place c.args.lead c.args.typer.now
-    (e.defined, e.site) e.number c.enter.new.typer c.in_ok-entered.ensures.0 (made.selectors.items, made.type_id) (look_selection made) now
-    c.in_ok-selection.ensures.made
-    ∙ ap (λ root. behind_marks (Access e.number ∷ look_selection made) (value root (e.defined, e.site) (made.selectors.items, made.type_id) now))
+    component_goes name selectors indexes c.args.lead c.args.typer.now first found.0 (root, type_id) found.1 found.2
+    ∙ component_is root type_id selectors indexes name.place c.args.lead first (e.defined, e.site) e.number c.enter.new.typer
+    c.in_ok-entered.ensures.0 (made.selectors.items, made.type_id) (look_selection made) now c.in_ok-selection.ensures.made
+    ∙ ap (λ r. behind_marks (Access e.number ∷ look_selection made) (value r (e.defined, e.site) (made.selectors.items, made.type_id) now))
     (sym c.in_ok-entered.ensures.1)
     ∙ c.accessed_value.ensures
 
@@ -225,60 +243,105 @@ actual-returns-in_default t c =
 -- one more is made
 pub actuals_for-loop-i-preserved : goal.actuals_for-loop-i-preserved
 actuals_for-loop-i-preserved t c =
-    let within : c.loop-i.i < length c.args.actuals.now = search rules in
-    let rooted : c.loop-i.i < length c.args.roots.now = grind (arith, within, c.requires) in
-    subst (λ made. ArePassedFrom c.args.roots.now c.args.actuals.now c.args.typer.now (c.loop-i.i + 1) made c.actual.new.typer)
-    (sym c.in_ok-push.ensures.items)
-    (one_passed c.args.roots.now c.args.actuals.now c.args.typer.now c.loop-i.i c.loop-i.made.items c.loop-i.typer c.loop-i.invariant
-    _ _ rooted within (search rules) (search rules) c.in_ok-actual.field-0 c.actual.new.typer c.in_ok-actual.ensures)
+    let here = c.loop-i in
+    let within : here.i < length c.args.actuals.now = search rules in
+    let rooted : here.i < length c.args.roots.now = grind (arith, within, c.requires) in
+    record {
+      from =
+          subst (λ made. ArePassedFrom c.args.roots.now c.args.actuals.now c.args.typer.now (here.i + 1) made c.actual.new.typer)
+          (sym c.push_reserved.ensures.items)
+          (one_passed c.args.roots.now c.args.actuals.now c.args.typer.now here.i here.made.items here.typer here.invariant.from
+          _ _ rooted within (search rules) (search rules) c.in_ok-actual.field-0 c.actual.new.typer c.in_ok-actual.ensures);
+      count = omega (arith, c.push_reserved.ensures.len);
+      room = omega (arith, c.push_reserved.ensures.capacity);
+    }
 
--- a value for a value parameter
-pub passed_value-returns-then-tests_ordinal : goal.passed_value-returns-then-tests_ordinal
-passed_value-returns-then-tests_ordinal t c =
-    let is : is_ordinal c.args.typer.now.types c.args.type_id ≡ true = search rules in
-    λ callee position.
-    subst (λ o. Makes (λ _. tt) (λ made. look_passed made callee position) o c.passed_ordinal.result c.passed_ordinal.new.typer)
-    (sym (value_by_kind c.args.type_id (expression c.args.written.now) callee position c.args.typer.now true is))
-    (c.passed_ordinal.ensures callee position)
+-- ---- values for value parameters
 
-pub passed_value-returns-else-tests_ordinal : goal.passed_value-returns-else-tests_ordinal
-passed_value-returns-else-tests_ordinal t c =
-    let is : is_ordinal c.args.typer.now.types c.args.type_id ≡ false = search rules in
+pub passed_value-returns-then-is_structured : goal.passed_value-returns-then-is_structured
+passed_value-returns-then-is_structured t c =
+    let is : is_structured c.args.typer.now.types c.args.type_id ≡ true = search rules in
     λ callee position.
     subst (λ o. Makes (λ _. tt) (λ made. look_passed made callee position) o c.passed_whole.result c.passed_whole.new.typer)
-    (sym (value_by_kind c.args.type_id (expression c.args.written.now) callee position c.args.typer.now false is))
+    (sym (value_by_kind c.args.type_id (expression c.args.written.now) callee position c.args.typer.now true is))
     (c.passed_whole.ensures callee position)
 
-pub passed_whole-returns : goal.passed_whole-returns
-passed_whole-returns t c =
-    let made = c.in_ok-made.made in
-    let now = c.expression.new.typer in
-    let value = c.in_ok-value.value in
-    let is = c.in_ok-value.ensures in
-    let source = value_source made.value in
-    let cells = length_of value in
-    let may : is_some (spec.copying now.types c.args.type_id (typed_of made)) ≡ true =
-    ap (λ t. is_some (spec.copying now.types c.args.type_id t)) (sym c.typed.ensures) ∙ sym c.may_copy.ensures ∙ c.if-not-may_copy.false in
+pub passed_value-returns-else-is_structured : goal.passed_value-returns-else-is_structured
+passed_value-returns-else-is_structured t c =
+    let is : is_structured c.args.typer.now.types c.args.type_id ≡ false = search rules in
     λ callee position.
-    whole_passes c.args.type_id (expression c.args.written.now) callee position c.args.typer.now (typed_of made) (look_value made.value) now
-    (copy_made source cells) c.in_ok-made.ensures (copied_as now.types c.args.type_id (typed_of made) cells is.0 may)
-    ∙ ap (λ look. Ok (after tt (look ++ (ForWhole c.args.type_id source cells callee position ∷ [])) now)) is.2
-    ∙ whole_made c.args.type_id value c.in_ok-value.indexes callee position source now is.1
+    subst (λ o. Makes (λ _. tt) (λ made. look_passed made callee position) o c.passed_ordinal.result c.passed_ordinal.new.typer)
+    (sym (value_by_kind c.args.type_id (expression c.args.written.now) callee position c.args.typer.now false is))
+    (c.passed_ordinal.ensures callee position)
 
--- a variable for a variable parameter
+pub passed_ordinal-returns-in_err-value : goal.passed_ordinal-returns-in_err-value
+passed_ordinal-returns-in_err-value t c = λ callee position.
+    let type_id = c.args.type_id in
+    let w = expression c.args.written.now in
+    let s = c.args.typer.now in
+    let why = c.in_err-value.field-0.0 in
+    let stops : IsFault (spec.passed_ordinal type_id w callee position s) why =
+    ordinal_stops type_id w callee position s why
+    (subst (λ place. IsFault (fitted type_id place w s) why) c.first_place.ensures c.in_err-value.ensures) in
+    search rules
+
+pub passed_ordinal-returns : goal.passed_ordinal-returns
+passed_ordinal-returns t c = λ callee position.
+    let type_id = c.args.type_id in
+    let w = expression c.args.written.now in
+    let s = c.args.typer.now in
+    let made = c.in_ok-value.field-0 in
+    let now = c.fitted.new.typer in
+    ordinal_passes type_id w callee position s made.fits (look_expr made.value) now
+    (subst (λ place. fitted type_id place w s ≡ Ok (after made.fits (look_expr made.value) now)) c.first_place.ensures c.in_ok-value.ensures)
+    ∙ ap (λ look. Ok (after tt look now)) (sym (look_passed_value made.value made.fits callee position))
+
+-- ---- variables for variable parameters
+
+pub passed_access-returns-in_err-reached : goal.passed_access-returns-in_err-reached
+passed_access-returns-in_err-reached t c = λ callee position.
+    let name = c.args.name.now in
+    let selectors = c.args.selectors.now in
+    let indexes = map expression c.args.indexes.now in
+    let old = c.args.typer.now in
+    let why = c.in_err-reached.field-0.0 in
+    let stops : IsFault (spec.passed_variable name selectors indexes c.args.wanted callee position old) why =
+    access_stops name selectors indexes c.args.wanted callee position c.in_ok-root.ensures.0 (c.in_ok-root.root, c.in_ok-root.type_id) old
+    c.variable.new.typer c.in_ok-root.ensures.1 c.in_ok-root.ensures.2 why c.in_err-reached.ensures.made in
+    search rules
+
+pub passed_access-returns-in_err-passable : goal.passed_access-returns-in_err-passable
+passed_access-returns-in_err-passable t c = λ callee position.
+    let made = c.in_ok-reached.reached in
+    let name = c.args.name.now in
+    let selectors = c.args.selectors.now in
+    let indexes = map expression c.args.indexes.now in
+    let old = c.args.typer.now in
+    let now = c.reach.new.typer in
+    let why = c.in_err-passable.field-0.0 in
+    let is : spec.passable now.types c.args.wanted c.in_ok-root.type_id made.access.selectors.items made.type_id name.place ≡ Err why = search rules in
+    let stops : spec.passed_variable name selectors indexes c.args.wanted callee position old ≡ Err why =
+    component_stops name selectors indexes c.args.wanted callee position c.in_ok-root.ensures.0 (c.in_ok-root.root, c.in_ok-root.type_id) old
+    c.variable.new.typer c.in_ok-root.ensures.1 c.in_ok-root.ensures.2 (made.access.selectors.items, made.type_id) (look_reached made) now
+    c.in_ok-reached.ensures.made why is in
+    search rules
+
 pub passed_access-returns : goal.passed_access-returns
 passed_access-returns t c =
-    let made = c.in_ok-component.component in
+    let made = c.in_ok-reached.reached in
+    let access = made.access in
+    let selectors = access.selectors.items in
     let name = c.args.name.now in
-    let fits : spec.passable c.selected.new.typer.types c.args.wanted c.in_ok-root.type_id made.selectors.items made.type_id name.place ≡ Ok tt =
-    search rules in
+    let wanted = c.args.wanted in
+    let now = c.reach.new.typer in
+    let fits : spec.passable now.types wanted c.in_ok-root.type_id selectors made.type_id name.place ≡ Ok tt = search rules in
     λ callee position.
-    variable_passes name c.args.selectors.now (map expression c.args.indexes.now) c.args.wanted callee position
-    c.in_ok-root.ensures.0 (c.in_ok-root.root, c.in_ok-root.type_id) c.in_ok-number.number
-    c.args.typer.now c.variable.new.typer c.may_change.new.self c.enter.new.self
-    c.in_ok-root.ensures.1 c.in_ok-root.ensures.2 (search rules) (search rules)
-    (made.selectors.items, made.type_id) (look_selection made) c.selected.new.typer c.in_ok-component.ensures.made fits
-    ∙ variable_made c.args.wanted c.in_ok-number.number c.in_ok-root.root made callee position c.selected.new.typer c.in_ok-component.ensures.counted
+    variable_passes name c.args.selectors.now (map expression c.args.indexes.now) wanted callee position c.in_ok-root.ensures.0
+    (c.in_ok-root.root, c.in_ok-root.type_id) c.args.typer.now c.variable.new.typer c.in_ok-root.ensures.1 c.in_ok-root.ensures.2
+    (selectors, made.type_id) (look_reached made) now c.in_ok-reached.ensures.made fits
+    ∙ ap (λ root. Ok (after tt (look_reached made ++ (ForVariable wanted root selectors (index_count selectors) callee position ∷ [])) now))
+    (sym c.in_ok-reached.ensures.root)
+    ∙ ap (λ look. Ok (after tt look now)) (variable_made wanted made callee position c.in_ok-reached.ensures.counted)
 
 pub passed_variable-returns-in-Component : goal.passed_variable-returns-in-Component
 passed_variable-returns-in-Component t c =

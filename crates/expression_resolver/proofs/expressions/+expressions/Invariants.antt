@@ -1,4 +1,4 @@
-use Rattle.std.proofs.Common.{◌≡◌, map, drop}
+use Rattle.std.proofs.Common.{◌≡◌, ◌≤◌, length, map, drop, vec_len, vec_capacity}
 use Rattle.std.specs.Prelude.{flat_map}
 use Rattle.typed_tree.specs.Look.{look_link}
 use Rattle.typing.specs.Passing.{behind_marks}
@@ -7,16 +7,23 @@ use Rattle.expression_resolver.proofs.Selecting.{AreSelectedFrom}
 use Rattle.expression_resolver.proofs.Actuals.{ArePassedFrom}
 use Rattle.expression_resolver.proofs.expressions.+expressions.Given as goal
 
--- the operators so far are made, and those behind them are left
+-- the operators so far are made, and those behind them are left; there is room for these
 abbrev pub invariant-links-loop-written : goal.invariant-links-loop-written
-invariant-links-loop-written l =
-    links l.fn.left (map written_link l.rest) l.initial.typer
-    ≡ behind_marks (flat_map look_link l.links.items) (links l.typed (map written_link (drop l.written-index l.rest)) l.typer)
+invariant-links-loop-written l = record {
+  from : links l.fn.left (map written_link l.rest) l.initial.typer
+      ≡ behind_marks (flat_map look_link l.links.items) (links l.typed (map written_link (drop l.written-index l.rest)) l.typer);
+  count : vec_len l.links ≡ l.written-index;
+  room : length l.rest ≤ vec_capacity l.links;
+}
 
 -- the selectors so far are made, and those behind them are left
 abbrev pub invariant-selected-loop-selector : goal.invariant-selected-loop-selector
 invariant-selected-loop-selector l = AreSelectedFrom l.fn.type_id l.selectors l.indexes l.initial.typer l.selector-index l.selection l.typer
 
--- the actual parameters so far are made, and those behind them are left
+-- the actual parameters so far are made, and those behind them are left; there is room for these
 abbrev pub invariant-actuals_for-loop-i : goal.invariant-actuals_for-loop-i
-invariant-actuals_for-loop-i l = ArePassedFrom l.roots l.actuals l.initial.typer l.i l.made.items l.typer
+invariant-actuals_for-loop-i l = record {
+  from : ArePassedFrom l.roots l.actuals l.initial.typer l.i l.made.items l.typer;
+  count : vec_len l.made ≡ l.i;
+  room : length l.actuals ≤ vec_capacity l.made;
+}

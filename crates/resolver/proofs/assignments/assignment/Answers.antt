@@ -1,37 +1,40 @@
-use Rattle.std.proofs.Common.{rules, map, sym, subst, ◌∙◌}
-use Rattle.typing.specs.Expressions.{expression}
-use Rattle.typing.specs.Outcomes.{IsFault}
+use Rattle.std.proofs.Common.{rules}
+use Rattle.typed_tree.proofs.Looks.{look_assign, look_copy}
+use Rattle.typed_tree.specs.Look.{look_expr}
+use Rattle.typing.specs.Expressions.{expression, tests_structured}
 use Rattle.typing.specs.Statements as spec
-use Rattle.resolver.specs.Made.{MakesStmt, accessed_of, look_target}
-use Rattle.resolver.proofs.Targets.{target_stops, target_passes}
+use Rattle.resolver.specs.Made.{accessed_of}
+use Rattle.resolver.proofs.Targets.{assigned_fits, assigned_stops}
 use Rattle.resolver.proofs.assignments.assignment.Goals as goal
 
 -- its target is refused
 pub returns-in_err-target : goal.returns-in_err-target
-returns-in_err-target c =
-    let why = c.in_err-target.field-0.0 in
-    let stops : IsFault (spec.assignment c.args.name.now c.args.selectors.now (map expression c.args.indexes.now) c.args.becomes
-    (expression c.args.value.now) c.args.typer.now) why =
-    target_stops c.args.name.now c.args.selectors.now (map expression c.args.indexes.now) c.args.becomes (expression c.args.value.now) c.args.typer.now
-    c.enter.new.self c.in_ok-number.number c.in_ok-number.ensures why c.in_err-target.ensures in
-    search rules
+unfolding spec.assignment
+returns-in_err-target c = search rules
 
--- it is an ordinal
-pub returns-then-tests_ordinal : goal.returns-then-tests_ordinal
-returns-then-tests_ordinal c =
-    let made = c.in_ok-target.target in
-    subst (λ o. MakesStmt o c.assign.result c.assign.new.typer)
-    (sym (target_passes c.args.name.now c.args.selectors.now (map expression c.args.indexes.now) c.args.becomes (expression c.args.value.now)
-    c.args.typer.now c.enter.new.self c.in_ok-number.number c.in_ok-number.ensures (accessed_of made) (λ o. look_target o made) c.target.new.typer _
-    c.in_ok-target.ensures.0 (sym c.tests_ordinal.ensures ∙ c.if-tests_ordinal.true)))
-    c.assign.ensures
+-- ---- it is structured
 
--- it is structured
+pub returns-in_err-value : goal.returns-in_err-value
+unfolding spec.assignment spec.copied tests_structured
+returns-in_err-value c = search rules
+
+pub returns-then-is_structured : goal.returns-then-is_structured
+unfolding spec.assignment spec.copied tests_structured
+returns-then-is_structured c = search (rules, look_copy)
+
+-- ---- it is ordinal
+
+pub returns-in_err-value-2 : goal.returns-in_err-value-2
+unfolding spec.assignment tests_structured
+returns-in_err-value-2 c =
+    let stops = assigned_stops (accessed_of c.in_ok-target.target) c.args.becomes (expression c.args.value.now) c.target.new.typer
+    c.in_err-value-2.field-0.0 c.in_err-value-2.ensures in
+    search (rules, stops)
+
 pub returns : goal.returns
+unfolding spec.assignment tests_structured
 returns c =
-    let made = c.in_ok-target.target in
-    subst (λ o. MakesStmt o c.copy.result c.copy.new.typer)
-    (sym (target_passes c.args.name.now c.args.selectors.now (map expression c.args.indexes.now) c.args.becomes (expression c.args.value.now)
-    c.args.typer.now c.enter.new.self c.in_ok-number.number c.in_ok-number.ensures (accessed_of made) (λ o. look_target o made) c.target.new.typer _
-    c.in_ok-target.ensures.0 (sym c.tests_ordinal.ensures ∙ c.if-tests_ordinal.false)))
-    c.copy.ensures
+    let own = c.in_ok-value-2.field-0 in
+    let fits = assigned_fits (accessed_of c.in_ok-target.target) c.args.becomes (expression c.args.value.now) c.target.new.typer own.fits
+    (look_expr own.value) c.fitted.new.typer c.in_ok-value-2.ensures in
+    search (rules, fits, look_assign)

@@ -9,8 +9,8 @@ pub meet-returns-in-While : goal.meet-returns-in-While
 meet-returns-in-While t c =
     let w = c.in-While in
     subst (λ i. Meets (meets i) c.args.met.now c.close.new.met)
-    (sym (ap inside_of w.is ∙ inside_while w.number w.loop_number w.place w.condition w.body))
-    (loop_met w.loop_number (inside_of w.body.value) c.args.met.now c.open-row.new.met c.meet-in-While.new.met c.close.new.met _ _
+    (sym (ap inside_of w.is ∙ inside_while w.head w.body))
+    (loop_met w.head.loop_number (inside_of w.body.value) c.args.met.now c.open-row.new.met c.meet-in-While.new.met c.close.new.met _ _
     c.open-row.ensures.begun c.open-row.ensures.row c.open-row.ensures.start
     (subst (λ s. Meets (meets (inside_of s)) c.open-row.new.met c.meet-in-While.new.met) c.deref-in-While.ensures c.meet-in-While.ensures)
     c.close.ensures)
@@ -20,8 +20,8 @@ meet-returns-in-Repeat t c =
     let w = c.in-Repeat in
     let begun = c.open-row-in-Repeat in
     subst (λ i. Meets (meets i) c.args.met.now c.close-in-Repeat.new.met)
-    (sym (ap inside_of w.is ∙ inside_repeat w.number w.loop_number w.place w.statements w.condition))
-    (loop_met w.loop_number (all_inside (map inside_of w.statements.items)) c.args.met.now begun.new.met c.meet_all-in-Repeat.new.met
+    (sym (ap inside_of w.is ∙ inside_repeat w.head w.statements))
+    (loop_met w.head.loop_number (all_inside (map inside_of w.statements.items)) c.args.met.now begun.new.met c.meet_all-in-Repeat.new.met
     c.close-in-Repeat.new.met _ _ begun.ensures.begun begun.ensures.row begun.ensures.start
     (subst (λ l. Meets (meets (all_inside (map inside_of l))) begun.new.met c.meet_all-in-Repeat.new.met) c.deref-in-Repeat.ensures.value
     c.meet_all-in-Repeat.ensures)
@@ -30,13 +30,14 @@ meet-returns-in-Repeat t c =
 pub meet-returns-in-For : goal.meet-returns-in-For
 meet-returns-in-For t c =
     let w = c.in-For in
+    let head = w.head in
     let begun = c.open-row-in-For in
-    let inside = looped w.loop_number (inside_of w.body.value) in
+    let inside = looped head.loop_number (inside_of w.body.value) in
     subst (λ i. Meets (meets i) c.args.met.now c.close-in-For.new.met)
-    (sym (ap inside_of w.is ∙ inside_for w.number w.loop_number w.place w.control w.first w.first_fits w.direction w.last w.last_fits w.body))
-    (then_meets (controlled w.control) (meets inside) _ (meets_controlled w.control inside) c.args.met.now c.meet_control.new.met c.close-in-For.new.met
-    c.meet_control.ensures
-    (loop_met w.loop_number (inside_of w.body.value) c.meet_control.new.met begun.new.met c.meet-in-For.new.met c.close-in-For.new.met _ _
+    (sym (ap inside_of w.is ∙ inside_for head w.body))
+    (then_meets (controlled head.control) (meets inside) _ (meets_controlled head.control inside) c.args.met.now c.meet_control.new.met
+    c.close-in-For.new.met c.meet_control.ensures
+    (loop_met head.loop_number (inside_of w.body.value) c.meet_control.new.met begun.new.met c.meet-in-For.new.met c.close-in-For.new.met _ _
     begun.ensures.begun begun.ensures.row begun.ensures.start
     (subst (λ s. Meets (meets (inside_of s)) begun.new.met c.meet-in-For.new.met) c.deref-in-For.ensures c.meet-in-For.ensures)
     c.close-in-For.ensures))

@@ -8,9 +8,10 @@ use Rattle.cert_checker.proofs.walk.Walk.assign_component.Goals as goal
 
 pub returns : goal.returns
 returns c = λ visits.
-    let target = c.args.target.now in
+    let target = c.args.assignment.now.target in
     let old = c.args.self.now in
-    component-goes c.args.becomes target.root target.selectors.items (said_reach c.args.reach) (numbers c.accessed-rows.result) c.deref-2.result.now old
+    component-goes c.args.assignment.now.becomes target.root target.selectors.items (said_reach c.args.reach)
+    (numbers c.accessed-rows.result) c.deref-2.result.now old
     c.store_to.new.self visits c.store_to.result
     (c.accessed-rows.ensures ∙ ap (rows_accessed (rows_of (context_of old).tree) target.root) c.deref.ensures.value) c.args.passed c.range.result
     c.range.ensures (c.deref-2.ensures.value ∙ c.in_ok-stores.ensures) (c.store_to.ensures visits)

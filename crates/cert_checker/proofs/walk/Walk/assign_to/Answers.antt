@@ -10,11 +10,12 @@ use Rattle.cert_checker.proofs.walk.Walk.assign_to.Goals as goal
 
 pub returns-in_err-change : goal.returns-in_err-change
 returns-in_err-change c = λ visits.
-    let place = c.args.becomes in
-    let root = c.args.target.now.root in
-    let selectors = c.args.target.now.selectors.items in
+    let assignment = c.args.assignment.now in
+    let place = assignment.becomes in
+    let root = assignment.target.root in
+    let selectors = assignment.target.selectors.items in
     let reach = said_reach c.args.reach in
-    let form = bound_form c.args.value.now in
+    let form = bound_form assignment.value in
     let old = c.args.self.now in
     let fault = c.in_err-change.field-0.0 in
     let left = c.from_residual in
@@ -26,11 +27,12 @@ returns-in_err-change c = λ visits.
 
 pub returns-in_ok-change : goal.returns-in_ok-change
 returns-in_ok-change c = λ visits.
-    let place = c.args.becomes in
-    let root = c.args.target.now.root in
-    let selectors = c.args.target.now.selectors.items in
+    let assignment = c.args.assignment.now in
+    let place = assignment.becomes in
+    let root = assignment.target.root in
+    let selectors = assignment.target.selectors.items in
     let reach = said_reach c.args.reach in
-    let form = bound_form c.args.value.now in
+    let form = bound_form assignment.value in
     let old = c.args.self.now in
     let none : (length selectors == 0) ≡ true = search (rules, c.is_empty.ensures, c.if-is_empty.true) in
     goes-as (assign_to place root selectors reach form c.args.passed) (change place root >>= λ _. assign root form c.args.passed) old
@@ -40,11 +42,13 @@ returns-in_ok-change c = λ visits.
 
 pub returns-else-is_empty : goal.returns-else-is_empty
 returns-else-is_empty c = λ visits.
-    let root = c.args.target.now.root in
-    let selectors = c.args.target.now.selectors.items in
+    let assignment = c.args.assignment.now in
+    let root = assignment.target.root in
+    let selectors = assignment.target.selectors.items in
     let reach = said_reach c.args.reach in
-    let form = bound_form c.args.value.now in
+    let form = bound_form assignment.value in
     let some : (length selectors == 0) ≡ false = search (rules, c.is_empty.ensures, c.if-is_empty.false) in
-    goes-as (assign_to c.args.becomes root selectors reach form c.args.passed)
-    (assign_component c.args.becomes root selectors reach c.args.passed) c.args.self.now c.assign_component.new.self visits visits c.assign_component.result
-    (assigned-component c.args.becomes root selectors reach form c.args.passed some) (c.assign_component.ensures visits)
+    goes-as (assign_to assignment.becomes root selectors reach form c.args.passed)
+    (assign_component assignment.becomes root selectors reach c.args.passed) c.args.self.now c.assign_component.new.self visits visits
+    c.assign_component.result
+    (assigned-component assignment.becomes root selectors reach form c.args.passed some) (c.assign_component.ensures visits)

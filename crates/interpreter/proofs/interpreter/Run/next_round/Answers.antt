@@ -11,15 +11,16 @@ use Rattle.interpreter.proofs.interpreter.Run.next_round.Goals as goal
 pub returns-in-Some-clause-does : goal.returns-in-Some-clause-does
 returns-in-Some-clause-does c = λ env outer s agrees.
     let old = c.args.self.now in
-    let each = counting env c.args.control c.args.direction c.args.last c.args.body.now in
+    let head = c.args.head.now in
+    let each = counting env head c.args.last c.args.body.now in
     let value_fits : SFits w32 c.in-Some.value = search rules in
     let does : ℤ → ℤ → Type 0 = λ n m.
-    Does (λ env. counting_on env c.args.control c.args.direction n m c.args.body.now) old c.for_round.result c.for_round.new.self in
+    Does (λ env. counting_on env head n m c.args.body.now) old c.for_round.result c.for_round.new.self in
     let last : to_z w32 (of_z w32 c.args.last) ≡ c.args.last = omega (arith, ints, c.ranges.last) in
     let value : to_z w32 (of_z w32 c.args.value) ≡ c.args.value = omega (arith, ints, c.ranges.value) in
     let next = pending_of env outer (reverse old.pending.items) in
     continues_as env outer old c.for_round.new.self _ _ c.for_round.result
-    (ap (λ (o : Option ℤ). and_then (another o (looped each) s) (λ _. forgetting (env.visible.variables c.args.control) next (operands_of old)))
-    (sym (ap (value_before c.args.direction c.args.last) value)
-    ∙ sym (ap (λ n. value_before c.args.direction n (to_z w32 (of_z w32 c.args.value))) last) ∙ sym c.value_toward.ensures ∙ c.in-Some.is))
+    (ap (λ (o : Option ℤ). and_then (another o (looped each) s) (λ _. forgetting (env.visible.variables head.control) next (operands_of old)))
+    (sym (ap (value_before head.direction c.args.last) value)
+    ∙ sym (ap (λ n. value_before head.direction n (to_z w32 (of_z w32 c.args.value))) last) ∙ sym c.value_toward.ensures ∙ c.in-Some.is))
     (passed does c.in-Some.value c.args.last value_fits c.ranges.last c.for_round.ensures.does env outer s agrees)

@@ -1,9 +1,7 @@
-use Rattle.std.proofs.Common.{List, reverse, refl, sym, ap, ◌∙◌}
-use Rattle.interpreter_state.specs.declared.work.Work.{Work}
-use Rattle.meaning.specs.Meaning.{values_of, whole_of}
-use Rattle.interpreter.specs.Pending.{calling, giving_row, operands_of, pending_of, placing}
-use Rattle.interpreter.proofs.Resuming.{continues_as, goes_on_to, reverse_pushed}
-use Rattle.interpreter.proofs.Unrolling.{entered, evaluated, does-Empty, does-Assign, does-Copy, does-Write, does-Compound}
+use Rattle.std.proofs.Common.{reverse, refl}
+use Rattle.interpreter.specs.Pending.{operands_of}
+use Rattle.interpreter.proofs.Resuming.{continues_as, goes_on_to}
+use Rattle.interpreter.proofs.Unrolling.{entered, does-Empty, does-Assign, does-Copy, does-Write, does-Compound}
 use Rattle.interpreter.proofs.Unrolling.{does-If, does-While, does-Repeat, does-For, does-Case, does-procedure}
 use Rattle.interpreter.proofs.interpreter.Run.statement.Goals as goal
 
@@ -14,41 +12,30 @@ returns-in-Empty-clause-does c = λ env outer s agrees.
     agrees refl refl
     (does-Empty c.in-Empty.number c.args.statement.now c.in-Empty.is env outer (reverse old.pending.items) (operands_of old) s)
 
-pub returns-in_ok-put-in-Assign-clause-does : goal.returns-in_ok-put-in-Assign-clause-does
-returns-in_ok-put-in-Assign-clause-does c = λ env outer s agrees.
+pub returns-in-Assign-clause-does : goal.returns-in-Assign-clause-does
+returns-in-Assign-clause-does c = λ env outer s agrees.
     let old = c.args.self.now in
-    let given = c.in-Assign in
-    let there = entered given.target.number env (entered given.number env s) in
-    let indexes = c.deref.result.now in
-    continues_as env outer old c.access.new.self _ _ c.access.result
-    (does-Assign given.number given.becomes given.target given.indexes given.fits given.value c.args.statement.now given.is indexes c.deref.ensures.value
-    env outer (reverse old.pending.items) (operands_of old) s
-    ∙ ap (λ (works : List Work). placing env given.target indexes (evaluated env outer given.value works) (operands_of old) there)
-    (sym (reverse_pushed _ _ _ _ c.in_ok-put-in-Assign.ensures refl)))
-    (c.access.ensures.does env outer there agrees)
+    let given = c.in-Assign.assignment in
+    continues_as env outer old c.assignment.new.self _ _ c.assignment.result
+    (does-Assign given c.args.statement.now c.in-Assign.is env outer (reverse old.pending.items) (operands_of old) s)
+    (c.assignment.ensures.does env outer (entered given.target.number env (entered given.number env s)) agrees)
 
-pub returns-in_ok-put-in-Copy-clause-does : goal.returns-in_ok-put-in-Copy-clause-does
-returns-in_ok-put-in-Copy-clause-does c = λ env outer s agrees.
+pub returns-in-Copy-clause-does : goal.returns-in-Copy-clause-does
+returns-in-Copy-clause-does c = λ env outer s agrees.
     let old = c.args.self.now in
-    let given = c.in-Copy in
-    let there = entered given.target.number env (entered given.number env s) in
-    let indexes = c.deref-in-Copy.result.now in
-    let others = c.deref-in-Copy-2.result.now in
-    let row = whole_of given.value (values_of others) env in
-    continues_as env outer old c.access-in-Copy.new.self _ _ c.access-in-Copy.result
-    (does-Copy given.number given.becomes given.target given.indexes given.type_id given.value given.value_indexes c.args.statement.now given.is
-    indexes others c.deref-in-Copy.ensures.value c.deref-in-Copy-2.ensures.value env outer (reverse old.pending.items) (operands_of old) s
-    ∙ ap (λ (works : List Work). placing env given.target indexes (giving_row row (pending_of env outer works)) (operands_of old) there)
-    (sym (reverse_pushed _ _ _ _ c.in_ok-put-in-Copy.ensures refl)))
-    (c.access-in-Copy.ensures.does env outer there agrees)
+    let given = c.in-Copy.copying in
+    continues_as env outer old c.copying.new.self _ _ c.copying.result
+    (does-Copy given c.args.statement.now c.in-Copy.is env outer (reverse old.pending.items) (operands_of old) s)
+    (c.copying.ensures.does env outer (entered given.target.number env (entered given.number env s)) agrees)
 
 pub returns-in-Write-clause-does : goal.returns-in-Write-clause-does
 returns-in-Write-clause-does c = λ env outer s agrees.
     let old = c.args.self.now in
+    let given = c.in-Write.writing in
     continues_as env outer old c.parameters.new.self _ _ c.parameters.result
-    (does-Write c.in-Write.number c.in-Write.name c.in-Write.parameters c.in-Write.ends_line c.args.statement.now c.in-Write.is c.deref-in-Write.result
-    c.deref-in-Write.ensures.value env outer (reverse old.pending.items) (operands_of old) s)
-    (c.parameters.ensures.does env outer (entered c.in-Write.number env s) agrees)
+    (does-Write given c.args.statement.now c.in-Write.is c.deref.result c.deref.ensures.value env outer (reverse old.pending.items)
+    (operands_of old) s)
+    (c.parameters.ensures.does env outer (entered given.number env s) agrees)
 
 pub returns-in-Compound-clause-does : goal.returns-in-Compound-clause-does
 returns-in-Compound-clause-does c = λ env outer s agrees.
@@ -72,46 +59,41 @@ returns-in-While-clause-does c = λ env outer s agrees.
     let old = c.args.self.now in
     let given = c.in-While in
     continues_as env outer old c.while_round.new.self _ _ c.while_round.result
-    (does-While given.number given.loop_number given.place given.condition given.body c.args.statement.now given.is c.deref-in-While.result.now
-    c.deref-in-While.ensures env outer (reverse old.pending.items) (operands_of old) s)
-    (c.while_round.ensures.does env outer (entered given.number env s) agrees)
+    (does-While given.head given.body c.args.statement.now given.is c.deref-in-While.result.now c.deref-in-While.ensures env outer
+    (reverse old.pending.items) (operands_of old) s)
+    (c.while_round.ensures.does env outer (entered given.head.number env s) agrees)
 
 pub returns-in-Repeat-clause-does : goal.returns-in-Repeat-clause-does
 returns-in-Repeat-clause-does c = λ env outer s agrees.
     let old = c.args.self.now in
     let given = c.in-Repeat in
     continues_as env outer old c.repeat_round.new.self _ _ c.repeat_round.result
-    (does-Repeat given.number given.loop_number given.place given.statements given.condition c.args.statement.now given.is c.deref-in-Repeat.result.now
-    c.deref-in-Repeat.ensures.value env outer (reverse old.pending.items) (operands_of old) s)
-    (c.repeat_round.ensures.does env outer (entered given.number env s) agrees)
+    (does-Repeat given.head given.statements c.args.statement.now given.is c.deref-in-Repeat.result.now c.deref-in-Repeat.ensures.value env outer
+    (reverse old.pending.items) (operands_of old) s)
+    (c.repeat_round.ensures.does env outer (entered given.head.number env s) agrees)
 
 pub returns-in-For-clause-does : goal.returns-in-For-clause-does
 returns-in-For-clause-does c = λ env outer s agrees.
     let old = c.args.self.now in
     let given = c.in-For in
     continues_as env outer old c.plan_values.new.self _ _ c.plan_values.result
-    (does-For given.number given.loop_number given.place given.control given.first given.first_fits given.direction given.last given.last_fits given.body
-    c.args.statement.now given.is c.deref-in-For.result.now c.deref-in-For.ensures env outer (reverse old.pending.items) (operands_of old) s)
-    (c.plan_values.ensures.does env outer (entered given.number env s) agrees)
+    (does-For given.head given.body c.args.statement.now given.is c.deref-in-For.result.now c.deref-in-For.ensures env outer
+    (reverse old.pending.items) (operands_of old) s)
+    (c.plan_values.ensures.does env outer (entered given.head.number env s) agrees)
 
 pub returns-in-Case-clause-does : goal.returns-in-Case-clause-does
 returns-in-Case-clause-does c = λ env outer s agrees.
     let old = c.args.self.now in
     let given = c.in-Case in
     continues_as env outer old c.plan-in-Case.new.self _ _ c.plan-in-Case.result
-    (does-Case given.number given.site given.index given.constants given.arms c.args.statement.now given.is c.deref-in-Case.result
-    c.deref-in-Case.ensures.value c.deref-in-Case-2.result c.deref-in-Case-2.ensures.value env outer (reverse old.pending.items) (operands_of old) s)
-    (c.plan-in-Case.ensures.does env outer (entered given.number env s) agrees)
+    (does-Case given.head given.arms c.args.statement.now given.is c.deref-in-Case.result.now c.deref-in-Case.ensures.value env outer
+    (reverse old.pending.items) (operands_of old) s)
+    (c.plan-in-Case.ensures.does env outer (entered given.head.number env s) agrees)
 
-pub returns-in_ok-put-in-Call-clause-does : goal.returns-in_ok-put-in-Call-clause-does
-returns-in_ok-put-in-Call-clause-does c = λ env outer s agrees.
+pub returns-in-Call-clause-does : goal.returns-in-Call-clause-does
+returns-in-Call-clause-does c = λ env outer s agrees.
     let old = c.args.self.now in
-    let given = c.in-Call in
-    let all = c.deref-in-Call.result.now in
-    let there = entered given.call.number env s in
-    continues_as env outer old c.call.new.self _ _ c.call.result
-    (does-procedure given.call given.actuals c.args.statement.now given.is given.call refl all c.deref-in-Call.ensures.value env outer
-    (reverse old.pending.items) (operands_of old) s
-    ∙ ap (λ (works : List Work). calling env given.call all (pending_of env outer works) (operands_of old) there)
-    (sym (reverse_pushed _ _ _ _ c.in_ok-put-in-Call.ensures refl)))
-    (c.call.ensures.does env outer there agrees)
+    let given = c.in-Call.procedure in
+    continues_as env outer old c.procedure.new.self _ _ c.procedure.result
+    (does-procedure given c.args.statement.now c.in-Call.is env outer (reverse old.pending.items) (operands_of old) s)
+    (c.procedure.ensures.does env outer (entered given.call.number env s) agrees)

@@ -1,9 +1,4 @@
-use Rattle.std.proofs.Common.{ℤ, rules}
-use mir.Syntax.{w32}
-use mir.Val.{SFits}
-use Rattle.interpreter_state.specs.declared.work.Work.TheVariants as work
-use Rattle.interpreter.specs.Pending.{Does, resumed}
-use Rattle.interpreter.proofs.Resuming.{does_as, passed}
+use Rattle.interpreter.proofs.Resuming.{does_as}
 use Rattle.interpreter.proofs.interpreter.Run.step.Goals as goal
 
 pub returns-in-Statements-clause-does : goal.returns-in-Statements-clause-does
@@ -22,20 +17,8 @@ returns-in-WhileTurn-clause-does c = does_as c.args.self.now c.while_turn.new.se
 pub returns-in-Unless-clause-does : goal.returns-in-Unless-clause-does
 returns-in-Unless-clause-does c = does_as c.args.self.now c.unless.new.self c.args.work _ c.unless.result c.in-Unless.is c.unless.ensures.does
 
-pub returns-in-Bounds-clause-does : goal.returns-in-Bounds-clause-does
-returns-in-Bounds-clause-does c = does_as c.args.self.now c.bounds.new.self c.args.work _ c.bounds.result c.in-Bounds.is c.bounds.ensures.does
-
-pub returns-in-Next-clause-does : goal.returns-in-Next-clause-does
-returns-in-Next-clause-does c =
-    let given = c.in-Next in
-    let old = c.args.self.now in
-    let new = c.next_round.new.self in
-    let fits : SFits w32 given.value = search rules in
-    let last_fits : SFits w32 given.last = search rules in
-    let does : ℤ → ℤ → Type 0 = λ value last.
-    Does (λ env. resumed env (work.Next given.control given.direction value last given.body)) old c.next_round.result new in
-    does_as old new c.args.work _ c.next_round.result given.is
-    (passed does given.value given.last fits last_fits c.next_round.ensures.does)
+pub returns-in-For-clause-does : goal.returns-in-For-clause-does
+returns-in-For-clause-does c = does_as c.args.self.now c.rounds.new.self c.args.work _ c.rounds.result c.in-For.is c.rounds.ensures.does
 
 pub returns-in-Case-clause-does : goal.returns-in-Case-clause-does
 returns-in-Case-clause-does c = does_as c.args.self.now c.case.new.self c.args.work _ c.case.result c.in-Case.is c.case.ensures.does

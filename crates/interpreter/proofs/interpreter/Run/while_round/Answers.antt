@@ -8,5 +8,5 @@ pub returns-clause-does : goal.returns-clause-does
 returns-clause-does c = λ env outer s agrees.
     let old = c.args.self.now in
     continues_as env outer old c.plan.new.self _ _ c.plan.result
-    (does-while-round env outer (calls_extended env outer old s agrees) c.args.condition.now c.args.body.now (reverse old.pending.items) (operands_of old) s)
+    (does-while-round env outer (calls_extended env outer old s agrees) c.args.head.now c.args.body.now (reverse old.pending.items) (operands_of old) s)
     (c.plan.ensures.does env outer s agrees)

@@ -1,0 +1,23 @@
+-- The numbers and the lines of the faults of a certificate's text, F1 to F5. It doesn't say which text has which fault.
+use Rattle.std.specs.Prelude.{ℕ, Option, Some, None}
+use Rattle.certificate.specs.declared.fault.ReadFault.{ReadFault}
+use Rattle.certificate.specs.declared.fault.ReadFault.TheVariants.{Memory, FirstLine, NotInGrammar, OutOfOrder}
+use Rattle.certificate.specs.declared.fault.ReadFault.TheVariants.{OutOfRange, Unended}
+
+-- the number of a fault behind the letter F, and 0 for want of memory
+abbrev pub number_of : ReadFault → ℕ
+number_of Memory = 0
+number_of (FirstLine line) = 1
+number_of (NotInGrammar line) = 2
+number_of (OutOfOrder line) = 3
+number_of (OutOfRange line) = 4
+number_of (Unended line) = 5
+
+-- the line of a fault
+abbrev pub line_of : ReadFault → Option ℕ
+line_of Memory = None
+line_of (FirstLine line) = Some line
+line_of (NotInGrammar line) = Some line
+line_of (OutOfOrder line) = Some line
+line_of (OutOfRange line) = Some line
+line_of (Unended line) = Some line

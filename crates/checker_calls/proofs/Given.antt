@@ -1,0 +1,545 @@
+-- What is given where a block is called holds where it begins: each formal parameter has what its actual one has.
+use Rattle.std.proofs.Common.{arith, ◌≡◌, ⊎_elim, ◌∙◌, sym, ap, refl, subst, ℕ, ℤ, ◌+ℤ◌, ◌≤ℤ◌, pos, Bool, true, false, ◌&&◌, ◌||◌, not, nat_eq}
+use Rattle.std.proofs.Common.{List, [], ◌∷◌, ◌++◌, map, length, int_le, Option, Some, None}
+use Rattle.std.specs.List.{All, Contains, list_all, list_any}
+use Rattle.std.specs.Prelude.{is_some, option_map, slice_get}
+use Rattle.std.proofs.lemmas.Bool.{and_parts, eqb-true, false≢true, or_cases}
+use Rattle.std.proofs.lemmas.Int.{ints}
+use Rattle.std.proofs.lemmas.List.Elements.{All-append, All-cons, All-contains, All-contains_itself, All-map, All-nil, All-weaker, Contains-append_left}
+use Rattle.std.proofs.lemmas.List.Elements.{Contains-append_right}
+use Rattle.std.proofs.lemmas.List.Sums.{AllPass-from_list_all}
+use Rattle.std.proofs.lemmas.Option.{cond_some, none-some, same_Some, slice_get_within}
+use Rattle.types.specs.Types.{is_ordinal, is_structured}
+use Rattle.types.specs.declared.form.OrdinalRange.{OrdinalRange}
+use Rattle.types.specs.declared.form.Step.{Step}
+use Rattle.types.proofs.Scalars.{ordinal_component}
+use Rattle.typed_tree.specs.WellFormed.{is_value_kind, is_variable_kind}
+use Rattle.typed_tree.specs.declared.tree.Block.{Block}
+use Rattle.typed_tree.specs.declared.tree.Selector.{Selector}
+use Rattle.typed_tree.specs.declared.tree.Tree.{Tree}
+use Rattle.typed_tree.specs.declared.tree.Variable.{Variable as DeclaredVariable}
+use Rattle.domain.specs.Facts as fact
+use Rattle.domain.specs.Facts.{Fact, Path}
+use Rattle.domain.specs.Interval.{HasMember, Interval, is_included, is_vacant}
+use Rattle.meaning.specs.declared.store.Value.{Value}
+use Rattle.meaning.specs.declared.store.Value.TheVariants.{Number}
+use Rattle.meaning.specs.Meaning as meaning
+use Rattle.meaning.specs.Meaning.{Argument, environment_of, place_passed}
+use Rattle.meaning.specs.Store.{Environment, Place, Store}
+use Rattle.checker_calls.proofs.Headings.{one-there}
+use Rattle.checker_calls.proofs.Claimed.{AllHold}
+use Rattle.checker_calls.proofs.Lists.{contains-more}
+use Rattle.checker_calls.proofs.Bearers.{named-root}
+use Rattle.checker_calls.proofs.Started.{value-home}
+use Rattle.checker_calls.proofs.Assigned.{Received}
+use Rattle.checker_rows.proofs.Selected.{Matches}
+use Rattle.checker_calls.proofs.FormalRows.{first-behind_fields, no-way, same-value, variable-row}
+use Rattle.checker_state.proofs.Lists.{any-in}
+use Rattle.checker_calls.proofs.Reached.{alive, reached-has}
+use Rattle.checker_state.proofs.Looped.{given-all, range-lies}
+use Rattle.checker_state.proofs.Ranged.{included-in}
+use Rattle.checker_state.specs.Stores.{Index, Reach, all_of_row, gives_reached}
+use Rattle.checker_calls.proofs.Borne.{IsBorne, IsBorneBy, IsReached, caller-kept, component-borne, lies-at, outer-value, value-received}
+use Rattle.checker_calls.proofs.Entered.{behind_assignments}
+use Rattle.checker_calls.proofs.Passed.{AreArguments, Fits, IsArgument}
+use Rattle.checker_calls.specs.Actuals.{Actual, Bearer, Binding, OfRows, OfValue, OfVariable, Passed, Reached, actual_of, bearers_named, bearers_of, bound_to}
+use Rattle.checker_calls.specs.Environments.{Begun, LiesIn}
+use Rattle.checker_calls.proofs.Callee.{IsCalled, activation_of}
+use Rattle.checker_rows.proofs.Accessed.{IsOf}
+use Rattle.checker_state.proofs.Given.{first-of, value-is}
+use Rattle.checker_state.proofs.Bounded.{bound-here}
+use Rattle.checker_loops.proofs.Tabled.{are-rows}
+use Rattle.checker_loops.specs.Loops.{all_said, gives_claims, rows_named, said, said_bound, stretch_of, table_of}
+use Rattle.checker_state.proofs.Bounds.{le-is, raised-is, told-of}
+use Rattle.checker_state.specs.Bounds.{Bound, constant, plus, raised_bound}
+use Rattle.checker_rows.specs.Rows.{all_parts, first_index, index_at, is_variable_row, rows_accessed, rows_of}
+use Rattle.checker_state.specs.Knows.{IsOfForm, Knows}
+use Rattle.checker_state.specs.State.{Claim, Dead, Held, Live, Ordered, Range, Span, State, Stretched, at_most, has_value, is_below, is_dead, range_of}
+use Rattle.checker_calls.specs.Entry.{Limit, are_borne_between, are_given, are_ordered, are_reached, covers_between, forms_at_most, has_between, held_in}
+use Rattle.checker_calls.specs.Entry.{is_at_most, is_borne_between, is_defined_borne, is_given, limit_moved, limit_of, limit_of_actual, limit_of_bound}
+use Rattle.checker_calls.specs.Entry.{limit_of_plus, limit_of_variable, range_borne}
+use Rattle.checker_state.specs.Holds.{HasComponent, HasNumber, HasValue, HeldHolds, Holds, IsBound, IsIn, LieBetween, Moment, StateHolds, StretchHolds, moment}
+use Rattle.checker_state.specs.Holds.{part_of, value_at}
+use Rattle.checker_calls.proofs.Parameters.{IsOuter, IsOutward, IsParameter, outward-cases, parameter-block}
+use Rattle.checker_state.specs.State.{Holds as Holding}
+
+-- ---- the variables that a fact names
+
+abbrev pub bound_roots : fact.Bound → List ℕ
+bound_roots (fact.Number n) = []
+bound_roots (fact.Plus root n) = root ∷ []
+
+abbrev pub fact_roots : Fact → List ℕ
+fact_roots (fact.Range path range) = path.root ∷ []
+fact_roots (fact.Defined path) = path.root ∷ []
+fact_roots (fact.Stretch path first last) = path.root ∷ (bound_roots first ++ bound_roots last)
+fact_roots (fact.Order root other number) = root ∷ other ∷ []
+
+-- the caller of a block may know each of them
+abbrev pub AreOutward : Tree → ℕ → Fact → Type 0
+AreOutward tree number one = (root : ℕ) → Contains (fact_roots one) root → IsOutward tree number root
+
+-- a state gives what holds where it does
+pub given-claims : (tree : Tree) (env : Environment) (state : State) (store : Store) (facts : List Fact)
+    → Knows (all_parts tree) (length tree.variables.items) env state store → gives_claims tree state facts ≡ true → AllHold tree facts env store
+given-claims tree env state store facts known given =
+    given-all (all_parts tree) (table_of tree) (are-rows tree) env state store (all_said tree facts) known given
+
+-- ---- limits
+
+-- a limit is a number: that of its form, and one of its range
+pub record IsLimit (m : Moment) (limit : Limit) (n : ℤ) : Type 0 where
+  pub of_form : (b : Bound) → limit.form ≡ Some b → IsBound m b n
+  pub in_range : HasMember limit.range n
+
+below-holds : (a b : Interval) (m n : ℤ) → HasMember a m → HasMember b n → is_below a b ≡ true → m ≤ℤ n
+below-holds a b m n left right is =
+    let parts = and_parts (not (is_vacant a || is_vacant b)) (int_le a.last b.first) is in
+    let less : a.last ≤ℤ b.first = grind (arith, ints, parts.1) in
+    let high = left.1 in
+    let low = right.0 in
+    omega (arith, ints)
+
+module _ (tree : Tree) (env : Environment) (store : Store) (state : State)
+    (knows : Knows (all_parts tree) (length tree.variables.items) env state store) where
+  abbrev here : Moment
+  here = moment env store
+
+  at_most-holds : (state : State) → StateHolds (all_parts tree) state here → (a b : Bound) (m n : ℤ) → IsBound here a m → IsBound here b n
+      → at_most state a b ≡ true → m ≤ℤ n
+  at_most-holds Dead holds a b m n left right is = absurd holds
+  at_most-holds (Live known) holds a b m n left right is =
+      le-is (all_parts tree) here known (told-of (all_parts tree) (table_of tree) (are-rows tree) env knows.shows store known holds) a b m n left right is
+
+  forms-hold : (a b : Option Bound) (m n : ℤ) → ((one : Bound) → a ≡ Some one → IsBound here one m) → ((one : Bound) → b ≡ Some one → IsBound here one n)
+      → forms_at_most state a b ≡ true → m ≤ℤ n
+  forms-hold None b m n left right is = absurd (false≢true is)
+  forms-hold (Some a) None m n left right is = absurd (false≢true is)
+  forms-hold (Some a) (Some b) m n left right is = at_most-holds state knows.holds a b m n (left a refl) (right b refl) is
+
+  -- a limit that is known to be at most another is
+  pub limits-hold : (a b : Limit) (m n : ℤ) → IsLimit here a m → IsLimit here b n → is_at_most state a b ≡ true → m ≤ℤ n
+  limits-hold a b m n left right is =
+      ⊎_elim (λ formed. forms-hold a.form b.form m n left.of_form right.of_form formed)
+      (λ ranged. below-holds a.range b.range m n left.in_range right.in_range ranged)
+      (or_cases (forms_at_most state a.form b.form) (is_below a.range b.range) is)
+
+  -- the limit of a bound is the bound's number
+  pub limit-is : (bound : Bound) (n : ℤ) → IsBound here bound n → IsLimit here (limit_of tree state bound) n
+  limit-is bound n is = record {
+    of_form = λ b same. subst (λ (x : Bound). IsBound here x n) (same_Some bound b same) is;
+    in_range = bound-here (all_parts tree) (table_of tree) (are-rows tree) env knows.shows store state bound n knows.holds is;
+  }
+
+  value-here : (state : State) → StateHolds (all_parts tree) state here → (bound : Bound) → has_value (table_of tree) state bound ≡ true
+      → (n : ℤ) × IsBound here bound n
+  value-here Dead holds bound is = absurd holds
+  value-here (Live known) holds bound is =
+      value-is (all_parts tree) (table_of tree) (are-rows tree) env knows.shows store known holds bound is
+
+  moved-form : (k n : ℤ) (form : Option Bound) → ((b : Bound) → form ≡ Some b → IsBound here b n) → (b : Bound)
+      → option_map (raised_bound k) form ≡ Some b → IsBound here b (n +ℤ k)
+  moved-form k n None of_form b is = absurd (none-some b is)
+  moved-form k n (Some own) of_form b is =
+      subst (λ (c : Bound). IsBound here c (n +ℤ k)) (same_Some (raised_bound k own) b is) (raised-is here k own n (of_form own refl))
+
+  pub moved-limit : (k n : ℤ) (limit : Limit) → IsLimit here limit n → IsLimit here (limit_moved k limit) (n +ℤ k)
+  moved-limit k n limit is = record {
+    of_form = moved-form k n limit.form is.of_form;
+    in_range = (let low = is.in_range.0 in
+        let high = is.in_range.1 in
+        (omega (arith, ints), omega (arith, ints)));
+  }
+
+  held-here : (state : State) → StateHolds (all_parts tree) state here → (one : Held) → Contains (held_in state) one → HeldHolds (all_parts tree) one here
+  held-here Dead holds one inside = absurd holds
+  held-here (Live known) holds one inside = holds.held one inside
+
+  -- an index between two limits lies in a stretch that is held from the first to the last
+  between-has : (first last : Limit) (low high index : ℤ) → IsLimit here first low → IsLimit here last high → low ≤ℤ index
+      → index ≤ℤ high → (row : ℕ) (spans : List Span) (steps : List Step) → IsOf tree row steps → first_index steps ≡ Some index
+      → has_between tree state first last spans ≡ true → StretchHolds (all_parts tree) (record { row = row; spans = spans }) here
+      → HasComponent (all_parts tree) here row steps
+  between-has first last low high index low_is high_is above below row [] steps of_row at is holds = absurd (false≢true is)
+  between-has first last low high index low_is high_is above below row (span ∷ other ∷ spans) steps of_row at is holds = absurd (false≢true is)
+  between-has first last low high index low_is high_is above below row (span ∷ []) steps of_row at is ([], bounds, defined) = absurd bounds
+  between-has first last low high index low_is high_is above below row (span ∷ []) steps of_row at is (one ∷ two ∷ numbers, bounds, defined) =
+      absurd bounds.2
+  between-has first last low high index low_is high_is above below row (span ∷ []) steps of_row at is (one ∷ [], bounds, defined) =
+      let from = limit_of tree state span.first in
+      let to = limit_of tree state span.last in
+      let both = and_parts (is_at_most state from first) (is_at_most state last to) is in
+      let before = limits-hold from first one.first low (limit-is span.first one.first bounds.0) low_is both.0 in
+      let after = limits-hold last to high one.last high_is (limit-is span.last one.last bounds.1) both.1 in
+      defined steps index of_row at
+      (subst (λ (indexes : List ℤ). LieBetween (one ∷ []) indexes) (sym (first-of steps index at).1)
+      (omega (arith, ints, before, above), omega (arith, ints, after, below), tt))
+
+  -- so it is with what is held of a row
+  covered-has : (first last : Limit) (low high index : ℤ) → IsLimit here first low → IsLimit here last high → low ≤ℤ index
+      → index ≤ℤ high → (row : ℕ) (one : Held) (steps : List Step) → IsOf tree row steps → first_index steps ≡ Some index
+      → covers_between tree state row first last one ≡ true → HeldHolds (all_parts tree) one here → HasComponent (all_parts tree) here row steps
+  covered-has first last low high index low_is high_is above below row (Ordered root other number) steps of_row at is holds = absurd (false≢true is)
+  covered-has first last low high index low_is high_is above below row (Stretched stretch) steps of_row at is holds =
+      let both = and_parts (nat_eq stretch.row row) (has_between tree state first last stretch.spans) is in
+      let same = eqb-true stretch.row row both.0 in
+      between-has first last low high index low_is high_is above below row stretch.spans steps of_row at both.1
+      (subst (λ (r : ℕ). StretchHolds (all_parts tree) (record { row = r; spans = stretch.spans }) here) same holds)
+
+-- ---- what a call gives
+
+module _ (tree : Tree) (pairs : List (ℕ × ℕ)) (number : ℕ) (block : Block) (arguments : List Argument) (caller : Environment) (activations from : ℕ)
+    (call : IsCalled tree pairs number block arguments caller activations from) (store : Store) (begun : Begun activations store) (actuals : List Actual)
+    (are : AreArguments tree caller store block.heading.parameters.items actuals arguments) (state : State)
+    (knows : Knows (all_parts tree) (length tree.variables.items) caller state store) where
+  abbrev callee : Environment
+  callee = environment_of tree (activation_of number block arguments caller activations)
+
+  abbrev bindings : List Binding
+  bindings = bound_to block.heading.parameters.items actuals
+
+  abbrev behind : Store
+  behind = behind_assignments tree pairs number block arguments caller activations from call store
+
+  abbrev inner : Moment
+  inner = moment callee behind
+
+  abbrev outer : Moment
+  outer = moment caller store
+
+  abbrev IsBorneHere : Bearer → ℕ → List Step → Type 0
+  IsBorneHere bearer root steps = IsBorne tree pairs number block arguments caller activations from call store begun actuals are bearer root steps
+
+  abbrev IsReachedHere : ℕ → Reach → ℕ → List Step → Type 0
+  IsReachedHere row reach root steps = IsReached tree pairs number block arguments caller activations from call store begun actuals are row reach root
+      steps
+
+  abbrev BorneBy : List Bearer → ℕ → List Step → Type 0
+  BorneBy bearers root steps =
+      IsBorneBy tree pairs number block arguments caller activations from call store begun actuals are bearers root steps
+
+  -- ---- what is given of a bearer
+
+  -- where its values lie
+  range-given : (bearer : Bearer) (root : ℕ) (steps : List Step) (range : Interval) (v : Value) → IsBorneHere bearer root steps
+      → is_included (range_borne state bearer) range ≡ true → value_at inner root steps ≡ Some v → IsIn range v
+  range-given (Passed own) root steps range v borne included is =
+      let same : borne.0 ≡ v = same_Some borne.0 v (sym borne.1 ∙ is) in
+      included-in own range v included (subst (IsIn own) same borne.2)
+  range-given (Reached row reach) root steps range v borne included is =
+      included-in (range_of state row) range v included
+      (range-lies (all_parts tree) outer state row knows.holds (borne.way ++ steps) v borne.of_row (sym borne.same ∙ is))
+
+  component-has : (row : ℕ) (reach : Reach) (root : ℕ) (steps : List Step) → IsReachedHere row reach root steps
+      → gives_reached (table_of tree) state reach row ≡ true → HasValue inner root steps
+  component-has row reach root steps borne is =
+      let has = reached-has (all_parts tree) (table_of tree) (are-rows tree) caller state store knows borne.selectors row borne.way steps reach borne.reached
+      borne.of_row is in
+      (has.0, borne.same ∙ has.1)
+
+  -- that it is defined
+  defined-given : (bearer : Bearer) (root : ℕ) (steps : List Step) → IsBorneHere bearer root steps → is_defined_borne tree state bearer ≡ true
+      → HasValue inner root steps
+  defined-given (Passed own) root steps borne is = (borne.0, borne.1)
+  defined-given (Reached row reach) root steps borne is = component-has row reach root steps borne is
+
+  -- that it is, between two limits
+  reached-between : (first last : Limit) (low high index : ℤ) → IsLimit outer first low → IsLimit outer last high → low ≤ℤ index
+      → index ≤ℤ high → (row : ℕ) (reach : Reach) (root : ℕ) (steps : List Step) → first_index steps ≡ Some index → IsReachedHere row reach root steps
+      → are_reached tree state first last row reach reach.indexes ≡ true → HasValue inner root steps
+  reached-between first last low high index low_is high_is above below row reach root steps at borne is = by reach.indexes refl is
+    where
+      by : (indexes : List Index) → reach.indexes ≡ indexes → are_reached tree state first last row reach indexes ≡ true → HasValue inner root steps
+      by (own ∷ indexes) own_is is = component-has row reach root steps borne is
+      by [] none is =
+          ⊎_elim (λ whole. component-has row reach root steps borne whole)
+          (λ any.
+          let (one, listed, covers) = any-in (covers_between tree state row first last) (held_in state) any in
+          let has = covered-has tree caller store state knows first last low high index low_is high_is above below row one (borne.way ++ steps)
+          borne.of_row
+          (first-behind_fields borne.selectors borne.way steps (borne.reached.none none) borne.matches ∙ at) covers
+          (held-here tree caller store state knows state knows.holds one listed) in
+          (has.0, borne.same ∙ has.1))
+          (or_cases (gives_reached (table_of tree) state reach row) (list_any (covers_between tree state row first last) (held_in state)) is)
+
+  between-given : (first last : Limit) (low high index : ℤ) → IsLimit outer first low → IsLimit outer last high → low ≤ℤ index
+      → index ≤ℤ high → (bearer : Bearer) (root : ℕ) (steps : List Step) → first_index steps ≡ Some index → IsBorneHere bearer root steps
+      → is_borne_between tree state first last bearer ≡ true → HasValue inner root steps
+  between-given first last low high index low_is high_is above below (Passed own) root steps at borne is = (borne.0, borne.1)
+  between-given first last low high index low_is high_is above below (Reached row reach) root steps at borne is =
+      reached-between first last low high index low_is high_is above below row reach root steps at borne
+      (and_parts (not (is_variable_row tree row)) (are_reached tree state first last row reach reach.indexes) is).1
+
+  -- ---- bounds of the callee
+
+  abbrev HasLimit : ℕ → Limit → Type 0
+  HasLimit root limit = (m : ℤ) × HasNumber inner root m × IsLimit outer limit m
+
+  -- a bound of the callee is a number there, of which its limit tells
+  pub record IsLimitOf (bound : Bound) (limit : Limit) : Type 0 where
+    pub n : ℤ
+    pub is_bound : IsBound inner bound n
+    pub is_limit : IsLimit outer limit n
+
+  number-of : (v : Value) → (n : ℤ) × (v ≡ Number n)
+  number-of (Number n) = (n, refl)
+
+  -- a variable of the callee that is an entire one of the caller's
+  variable-limit : (root other : ℕ) (limit : Limit) → value_at inner root [] ≡ value_at outer other []
+      → limit_of tree state (plus other (pos 0)) ≡ limit → limit.has_value ≡ true → HasLimit root limit
+  variable-limit root other limit same is has =
+      let own = value-here tree caller store state knows state knows.holds (plus other (pos 0)) (ap (λ (l : Limit). l.has_value) is ∙ has) in
+      let m = own.1.0 in
+      let e : own.0 ≡ m = (let s = own.1.2 in omega (arith, ints, s)) in (
+        m,
+        same ∙ own.1.1,
+        subst (λ (l : Limit). IsLimit outer l m) is
+            (subst (λ (n : ℤ). IsLimit outer (limit_of tree state (plus other (pos 0))) n) e
+            (limit-is tree caller store state knows (plus other (pos 0)) own.0 own.1)),
+      )
+
+  abbrev IsOuterHere : ℕ → DeclaredVariable → Type 0
+  IsOuterHere root variable = IsOuter tree pairs number block arguments caller activations from call store actuals are root variable
+
+  abbrev ParameterHere : ℕ → DeclaredVariable → Type 0
+  ParameterHere root variable = IsParameter tree caller store activations block.heading.parameters.items actuals arguments root variable
+
+  -- a variable that is passed tells of its limit only where it is an entire one
+  alone-row : (rows : List ℕ) (reach : Reach) (limit : Limit) → limit_of_variable tree state (map (λ row. Reached row reach) rows) ≡ Some limit
+      → (row : ℕ) × Contains rows row × (is_variable_row tree row ≡ true) × (limit_of tree state (plus row (pos 0)) ≡ limit)
+  alone-row [] reach limit is = absurd (none-some limit is)
+  alone-row (row ∷ other ∷ rows) reach limit is = absurd (none-some limit is)
+  alone-row (row ∷ []) reach limit is =
+      let found = cond_some (is_variable_row tree row) (limit_of tree state (plus row (pos 0))) limit is in
+      (row, (0, omega arith, refl), found.0, found.1)
+
+  variable-passed : (root : ℕ) (outward : IsOutward tree number root) (p : ParameterHere root outward.0) (other : ℕ) (selectors : List Selector)
+      (reach : Reach) (place : Place) (limit : Limit) → p.argument ≡ meaning.OfPlace (Some place)
+      → IsArgument tree caller store outward.0 (OfVariable other selectors reach) (meaning.OfPlace (Some place)) → is_variable_kind outward.0.kind ≡ true
+      → limit_of_variable tree state (bearers_of tree (OfVariable other selectors reach)) ≡ Some limit → limit.has_value ≡ true → HasLimit root limit
+  variable-passed root (variable, is, round, own) p other selectors reach place limit argument_is known kind_is limit_is has =
+      let (row, inside, whole, row_is) = alone-row (rows_accessed tree other selectors) reach limit limit_is in
+      let one = one-there (λ (v : DeclaredVariable). not (is_structured tree.types v.type_id)) (slice_get tree.variables.items row) whole in
+      let entire = variable-row tree other selectors row inside (slice_get_within tree.variables.items row one.0 one.1) in
+      let lies = lies-at tree pairs number block arguments caller activations from call store begun actuals are root variable is kind_is
+      (parameter-block tree pairs number block arguments caller activations from call store actuals are root variable is p) place
+      (p.place_is ∙ ap place_passed argument_is) other selectors reach known in
+      let whole_way = no-way lies.0 (subst (λ (list : List Selector). Matches list lies.0) entire.1 lies.1.matches) in
+      variable-limit root row limit
+      (same-value tree caller callee root other selectors lies.0 variable.type_id lies.1 behind []
+      ∙ caller-kept tree pairs number block arguments caller activations from call store begun actuals are other (lies.0 ++ [])
+      ∙ ap (value_at outer other) whole_way ∙ ap (λ (r : ℕ). value_at outer r []) entire.0)
+      row_is has
+
+  -- a value that is passed
+  value-passed : (root : ℕ) (outward : IsOutward tree number root) (p : ParameterHere root outward.0) (range : Interval) (form : Option Bound) (v : Value)
+      → p.argument ≡ meaning.OfValue v → is_value_kind outward.0.kind ≡ true → LiesIn tree.types outward.0.type_id v → IsIn range v
+      → IsOfForm outer form v → HasLimit root (record { form = form; range = range; has_value = true })
+  value-passed root (variable, is, round, own) p range form v argument_is value lies inside of_form =
+      let ordinal : is_ordinal tree.types variable.type_id ≡ true = ap is_some lies.1 in
+      let got = subst (λ (a : Argument). Received tree activations activations callee root variable a behind) argument_is
+      (value-received tree pairs number block arguments caller activations from call store begun actuals are root variable is p value) in
+      let has = got.has [] (subst (λ (all : List (List Step)). Contains all []) (sym (ordinal_component tree.types variable.type_id ordinal))
+      (0, omega arith, refl)) in
+      let same = (got.gets [] has.0 has.1).1 in
+      let block_is = parameter-block tree pairs number block arguments caller activations from call store actuals are root variable is p in
+      let home = value-home tree pairs number block arguments caller activations from call root variable is block_is value in
+      let m = number-of v in
+      let at : value_at inner root [] ≡ Some (Number m.0) =
+      ap (λ (found : Option Place). part_of behind found []) home ∙ has.1 ∙ ap Some same ∙ ap Some m.1 in (
+        m.0,
+        at,
+        record {
+          of_form = λ b form_is.
+              let formed = subst (λ (f : Option Bound). IsOfForm outer f v) form_is of_form in
+              subst (λ (n : ℤ). IsBound outer b n) (number-same formed.0 m.0 (sym formed.1 ∙ m.1)) formed.2;
+          in_range = subst (IsIn range) m.1 inside;
+        },
+      )
+    where
+      number-same : (a b : ℤ) → Number a ≡ Number b → a ≡ b
+      number-same a b is = cc
+
+  passed-limit : (root : ℕ) (outward : IsOutward tree number root) (p : ParameterHere root outward.0) (limit : Limit) (actual : Actual) (argument : Argument)
+      → p.argument ≡ argument → IsArgument tree caller store outward.0 actual argument → Fits tree activations argument outward.0
+      → limit_of_actual tree state root (Some actual) ≡ Some limit → limit.has_value ≡ true → HasLimit root limit
+  passed-limit root outward p limit (OfValue range form) (meaning.OfValue v) argument_is is fits limit_is has =
+      let same = same_Some (record { form = form; range = range; has_value = true }) limit limit_is in
+      subst (HasLimit root) same (value-passed root outward p range form v argument_is fits.0 fits.1 is.0 is.1)
+  passed-limit root outward p limit (OfValue range form) (meaning.OfRow values) argument_is is fits limit_is has = absurd is
+  passed-limit root outward p limit (OfValue range form) (meaning.OfPlace place) argument_is is fits limit_is has = absurd is
+  passed-limit root outward p limit (OfRows ranges) argument argument_is is fits limit_is has = absurd (none-some limit limit_is)
+  passed-limit root outward p limit (OfVariable other selectors reach) (meaning.OfValue v) argument_is is fits limit_is has = absurd is
+  passed-limit root outward p limit (OfVariable other selectors reach) (meaning.OfRow values) argument_is is fits limit_is has = absurd is
+  passed-limit root outward p limit (OfVariable other selectors reach) (meaning.OfPlace None) argument_is is fits limit_is has = absurd fits
+  passed-limit root outward p limit (OfVariable other selectors reach) (meaning.OfPlace (Some place)) argument_is is fits limit_is has =
+      variable-passed root outward p other selectors reach place limit argument_is is fits.0 limit_is has
+
+  root-limit : (root : ℕ) (limit : Limit) → IsOutward tree number root → limit_of_actual tree state root (actual_of bindings root) ≡ Some limit
+      → limit.has_value ≡ true → HasLimit root limit
+  root-limit root limit outward limit_is has =
+      ⊎_elim
+      (λ (here : IsOuterHere root outward.0).
+      variable-limit root root limit
+      (outer-value tree pairs number block arguments caller activations from call store begun actuals are root outward.0 here [])
+      (same_Some (limit_of tree state (plus root (pos 0))) limit
+      (sym (ap (limit_of_actual tree state root) here.no_actual) ∙ limit_is)) has)
+      (λ (p : ParameterHere root outward.0).
+      passed-limit root outward p limit p.actual p.argument refl p.known p.fits
+      (sym (ap (limit_of_actual tree state root) p.actual_is) ∙ limit_is) has)
+      (outward-cases tree pairs number block arguments caller activations from call store actuals are root outward)
+
+  -- a variable of the callee plus a number
+  plus-limit : (root : ℕ) (k : ℤ) (limit : Limit) → IsOutward tree number root → limit_of_plus tree state bindings root k ≡ Some limit
+      → limit.has_value ≡ true → IsLimitOf (plus root k) limit
+  plus-limit root k limit outward is has = by (limit_of_actual tree state root (actual_of bindings root)) refl is
+    where
+      by : (found : Option Limit) → limit_of_actual tree state root (actual_of bindings root) ≡ found
+          → option_map (limit_moved k) found ≡ Some limit → IsLimitOf (plus root k) limit
+      by None found is = absurd (none-some limit is)
+      by (Some own) found is =
+          let same = same_Some (limit_moved k own) limit is in
+          let at = root-limit root own outward found (ap (λ (l : Limit). l.has_value) same ∙ has) in
+          record {
+            n = at.0 +ℤ k;
+            is_bound = (at.0, at.1, refl);
+            is_limit = subst (λ (l : Limit). IsLimit outer l (at.0 +ℤ k)) same (moved-limit tree caller store state knows k at.0 own at.2);
+          }
+
+  bound-limit : (bound : fact.Bound) (limit : Limit) → ((root : ℕ) → Contains (bound_roots bound) root → IsOutward tree number root)
+      → limit_of_bound tree state bindings bound ≡ Some limit → limit.has_value ≡ true → IsLimitOf (said_bound bound) limit
+  bound-limit (fact.Number n) limit outward is has = record {
+    n = n;
+    is_bound = refl;
+    is_limit = subst (λ (l : Limit). IsLimit outer l n) (same_Some (limit_of tree state (constant n)) limit is)
+        (limit-is tree caller store state knows (constant n) n refl);
+  }
+  bound-limit (fact.Plus root k) limit outward is has = plus-limit root k limit (outward root (0, omega arith, refl)) is has
+
+  -- ---- facts
+
+  all-bearers : (test : Bearer → Bool) (bearers : List Bearer) (bearer : Bearer) → list_all test bearers ≡ true → Contains bearers bearer → test bearer ≡ true
+  all-bearers test bearers bearer all inside =
+      All-contains (λ (b : Bearer). test b ≡ true) bearers bearer (AllPass-from_list_all test bearers all) inside
+
+  borne-at : (path : Path) → IsOutward tree number path.root → (row : ℕ) (steps : List Step) → Contains (rows_named tree path) row → IsOf tree row steps
+      → BorneBy (bearers_named tree bindings path) path.root steps
+  borne-at path outward row steps inside of_row =
+      component-borne tree pairs number block arguments caller activations from call store begun actuals are path outward row steps inside of_row
+
+  -- where two limits are there
+  both-limits : (P : Limit → Limit → Bool) (first last : Option Limit) (test : Option Limit → Option Limit → Bool)
+      → ((a b : Limit) → test (Some a) (Some b) ≡ ((a.has_value && b.has_value) && P a b)) → ((b : Option Limit) → test None b ≡ false)
+      → ((a : Limit) → test (Some a) None ≡ false) → test first last ≡ true
+      → (a : Limit) × (b : Limit) × (first ≡ Some a) × (last ≡ Some b) × (a.has_value ≡ true) × (b.has_value ≡ true) × (P a b ≡ true)
+  both-limits P None last test some none left is = absurd (false≢true (sym (none last) ∙ is))
+  both-limits P (Some a) None test some none left is = absurd (false≢true (sym (left a) ∙ is))
+  both-limits P (Some a) (Some b) test some none left is =
+      let one = and_parts (a.has_value && b.has_value) (P a b) (sym (some a b) ∙ is) in
+      let two = and_parts a.has_value b.has_value one.0 in
+      (a, b, refl, refl, two.0, two.1, one.1)
+
+  order-given : (root other : ℕ) (k : ℤ) → AreOutward tree number (fact.Order root other k) → is_given tree bindings state (fact.Order root other k) ≡ true
+      → HeldHolds (all_parts tree) (Ordered root other k) inner
+  order-given root other k outward is =
+      let (a, b, a_is, b_is, a_has, b_has, below) = both-limits (λ a b. is_at_most state a b) (limit_of_plus tree state bindings root (pos 0))
+      (limit_of_plus tree state bindings other k) (are_ordered state) (λ a b. refl) (λ b. refl) (λ a. refl) is in
+      let first = plus-limit root (pos 0) a (outward root (0, omega arith, refl)) a_is a_has in
+      let last = plus-limit other k b (outward other (1, omega arith, refl)) b_is b_has in
+      let less = limits-hold tree caller store state knows a b first.n last.n first.is_limit last.is_limit below in
+      let m = first.is_bound in
+      let n = last.is_bound in
+      let one = m.2 in
+      let two = n.2 in
+      (m.0, n.0, m.1, n.1, omega (arith, ints, less, one, two))
+
+  abbrev HoldsHere : Claim → Type 0
+  HoldsHere one = Holds (all_parts tree) one inner
+
+  each-row : (rows : List ℕ) (f : ℕ → Claim) → ((row : ℕ) → Contains rows row → HoldsHere (f row)) → All HoldsHere (map f rows)
+  each-row rows f each = All-map HoldsHere f rows (All-weaker (Contains rows) (λ row. HoldsHere (f row)) each rows (All-contains_itself rows))
+
+  -- all of a row
+  whole-given : (row : ℕ) (index : Option OrdinalRange) → ((steps : List Step) → IsOf tree row steps → HasComponent (all_parts tree) inner row steps)
+      → HoldsHere (all_of_row index row)
+  whole-given row None has = has
+  whole-given row (Some range) has = (record { first = range.first; last = range.last } ∷ [], (refl, refl, tt), λ steps index of_row at lie. has steps of_row)
+
+  in-root : (path : Path) (row : ℕ) (steps : List Step) → Contains (rows_named tree path) row → HasValue inner path.root steps
+      → HasComponent (all_parts tree) inner row steps
+  in-root path row steps inside has = subst (λ (r : ℕ). HasValue inner r steps) (sym (named-root tree path row inside)) has
+
+  -- a component between two bounds of the callee
+  stretch-given : (path : Path) (first last : fact.Bound) → AreOutward tree number (fact.Stretch path first last)
+      → is_given tree bindings state (fact.Stretch path first last) ≡ true → (row : ℕ) → Contains (rows_named tree path) row
+      → HoldsHere (stretch_of first last row)
+  stretch-given path first last outward is row inside =
+      let bearers = bearers_named tree bindings path in
+      let (a, b, a_is, b_is, a_has, b_has, either) = both-limits
+      (λ a b. is_at_most state (limit_moved (pos 1) b) a || list_all (is_borne_between tree state a b) bearers)
+      (limit_of_bound tree state bindings first) (limit_of_bound tree state bindings last) (are_borne_between tree state bearers)
+      (λ a b. refl) (λ b. refl) (λ a. refl) is in
+      let low = bound-limit first a
+      (λ r own. outward r (contains-more path.root (bound_roots first ++ bound_roots last) r
+      (Contains-append_left (bound_roots first) (bound_roots last) r own)))
+      a_is a_has in
+      let high = bound-limit last b
+      (λ r own. outward r (contains-more path.root (bound_roots first ++ bound_roots last) r
+      (Contains-append_right (bound_roots first) (bound_roots last) r own)))
+      b_is b_has in
+      let lies = λ (steps : List Step) (index : ℤ) (of_row : IsOf tree row steps) (at : first_index steps ≡ Some index)
+      (above : low.n ≤ℤ index) (below : index ≤ℤ high.n).
+      ⊎_elim
+      (λ (empty : is_at_most state (limit_moved (pos 1) b) a ≡ true).
+      let less = limits-hold tree caller store state knows (limit_moved (pos 1) b) a (high.n +ℤ pos 1) low.n
+      (moved-limit tree caller store state knows (pos 1) high.n b high.is_limit) low.is_limit empty in
+      absurd (omega (arith, ints, less, above, below)))
+      (λ (each : list_all (is_borne_between tree state a b) bearers ≡ true).
+      let borne = borne-at path (outward path.root (0, omega arith, refl)) row steps inside of_row in
+      in-root path row steps inside
+      (between-given a b low.n high.n index low.is_limit high.is_limit above below borne.bearer path.root steps at borne.borne
+      (all-bearers (is_borne_between tree state a b) bearers borne.bearer each borne.inside)))
+      (or_cases (is_at_most state (limit_moved (pos 1) b) a) (list_all (is_borne_between tree state a b) bearers) either) in (
+        record { first = low.n; last = high.n } ∷ [],
+        (low.is_bound, high.is_bound, tt),
+        λ steps index of_row at lie.
+            let within = subst (LieBetween (record { first = low.n; last = high.n } ∷ [])) (first-of steps index at).1 lie in
+            lies steps index of_row at within.0 within.1,
+      )
+
+  claims-given : (one : Fact) → AreOutward tree number one → is_given tree bindings state one ≡ true → All HoldsHere (said tree one)
+  claims-given (fact.Range path range) outward is =
+      each-row (rows_named tree path) (λ row. Range row range)
+      (λ row inside steps v of_row there.
+      let borne = borne-at path (outward path.root (0, omega arith, refl)) row steps inside of_row in
+      range-given borne.bearer path.root steps range v borne.borne
+      (all-bearers (λ bearer. is_included (range_borne state bearer) range) (bearers_named tree bindings path) borne.bearer is borne.inside)
+      (subst (λ (r : ℕ). value_at inner r steps ≡ Some v) (named-root tree path row inside) there))
+  claims-given (fact.Defined path) outward is =
+      each-row (rows_named tree path) (λ row. all_of_row (index_at (rows_of tree) row) row)
+      (λ row inside.
+      whole-given row (index_at (rows_of tree) row)
+      (λ steps of_row.
+      let borne = borne-at path (outward path.root (0, omega arith, refl)) row steps inside of_row in
+      in-root path row steps inside
+      (defined-given borne.bearer path.root steps borne.borne
+      (all-bearers (is_defined_borne tree state) (bearers_named tree bindings path) borne.bearer is borne.inside))))
+  claims-given (fact.Stretch path first last) outward is =
+      each-row (rows_named tree path) (stretch_of first last) (stretch-given path first last outward is)
+  claims-given (fact.Order root other k) outward is =
+      All-cons HoldsHere (Holding (Ordered root other k)) [] (order-given root other k outward is) (All-nil HoldsHere)
+
+  all-given : (facts : List Fact) → ((one : Fact) → Contains facts one → AreOutward tree number one) → list_all (is_given tree bindings state) facts ≡ true
+      → AllHold tree facts callee behind
+  all-given [] outward given = All-nil HoldsHere
+  all-given (one ∷ facts) outward given =
+      let parts = and_parts (is_given tree bindings state one) (list_all (is_given tree bindings state) facts) given in
+      All-append HoldsHere (said tree one) (all_said tree facts) (claims-given one (outward one (0, omega arith, refl)) parts.0)
+      (all-given facts (λ other inside. outward other (contains-more one facts other inside)) parts.1)
+
+  -- what is given where a block is called holds where it begins
+  pub given-hold : (facts : List Fact) → ((one : Fact) → Contains facts one → AreOutward tree number one) → are_given tree bindings state facts ≡ true
+      → AllHold tree facts callee behind
+  given-hold facts outward given =
+      ⊎_elim (λ dead. absurd (false≢true (sym (alive (all_parts tree) (length tree.variables.items) caller state store knows) ∙ dead)))
+      (λ all. all-given facts outward all) (or_cases (is_dead state) (list_all (is_given tree bindings state) facts) given)

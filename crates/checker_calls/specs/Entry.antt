@@ -1,0 +1,148 @@
+-- The facts that hold where a called block begins, as they are given where it is called (ISO 7185:1990, 6.6.3): each
+-- formal parameter stands for its actual one. It does not say what the block goes by then.
+use Rattle.std.specs.Prelude.{ℕ, ℤ, pos, Bool, true, false, not, ◌&&◌, ◌||◌, List, [], ◌∷◌, Option, Some, None, nat_eq}
+use Rattle.std.specs.Prelude.{if◌then◌else◌, option_map}
+use Rattle.std.specs.List.{list_all, list_any}
+use Rattle.typed_tree.specs.declared.tree.Tree.{Tree}
+use Rattle.domain.specs.Interval.{Interval, is_included}
+use Rattle.domain.specs.Facts as fact
+use Rattle.checker_state.specs.Bounds.{Bound, constant, plus, raised_bound}
+use Rattle.checker_state.specs.State.{Dead, Held, Live, Ordered, Span, State, Stretched, at_most, bound_range}
+use Rattle.checker_state.specs.State.{has_value}
+use Rattle.checker_state.specs.State.{is_below, is_dead, moved, range_of}
+use Rattle.checker_state.specs.Stores.{Index, Reach, gives_reached}
+use Rattle.checker_loops.specs.Loops.{table_of}
+use Rattle.checker_rows.specs.Rows.{is_variable_row}
+use Rattle.checker_calls.specs.Actuals.{Actual, OfValue, OfRows, OfVariable, Bearer, Passed, Reached, Binding}
+use Rattle.checker_calls.specs.Actuals.{actual_of, bearers_named, bearers_of}
+
+-- ---- what bears a leaf
+
+-- where its values lie
+abbrev pub range_borne : State → Bearer → Interval
+range_borne state (Passed range) = range
+range_borne state (Reached row reach) = range_of state row
+
+-- it is known to be defined
+abbrev pub is_defined_borne : Tree → State → Bearer → Bool
+is_defined_borne tree state (Passed range) = true
+is_defined_borne tree state (Reached row reach) = gives_reached (table_of tree) state reach row
+
+-- ---- bounds
+
+-- what a bound of the callee is where it is called: a bound form, if there is one; where it lies; whether it is known
+-- to have a value
+pub record Limit : Type 0 where
+  pub form : Option Bound
+  pub range : Interval
+  pub has_value : Bool
+
+-- one of a bound form
+abbrev pub limit_of : Tree → State → Bound → Limit
+limit_of tree state bound = record {
+  form = Some bound;
+  range = bound_range state bound;
+  has_value = has_value (table_of tree) state bound;
+}
+
+-- greater by a number
+abbrev pub limit_moved : ℤ → Limit → Limit
+limit_moved n limit = record {
+  form = option_map (raised_bound n) limit.form;
+  range = moved n limit.range;
+  has_value = limit.has_value;
+}
+
+-- a variable of the callee that stands in a bound: only an entire variable can, or a value
+abbrev pub limit_of_variable : Tree → State → List Bearer → Option Limit
+limit_of_variable tree state (Reached row reach ∷ []) =
+    if is_variable_row tree row then Some (limit_of tree state (plus row (pos 0))) else None
+limit_of_variable tree state bearers = None
+
+abbrev pub limit_of_actual : Tree → State → ℕ → Option Actual → Option Limit
+limit_of_actual tree state root None = Some (limit_of tree state (plus root (pos 0)))
+limit_of_actual tree state root (Some (OfValue range form)) =
+    Some (record { form = form; range = range; has_value = true })
+limit_of_actual tree state root (Some (OfRows ranges)) = None
+limit_of_actual tree state root (Some (OfVariable other selectors reach)) =
+    limit_of_variable tree state (bearers_of tree (OfVariable other selectors reach))
+
+-- a variable of the callee plus a number
+abbrev pub limit_of_plus : Tree → State → List Binding → ℕ → ℤ → Option Limit
+limit_of_plus tree state bindings root n =
+    option_map (limit_moved n) (limit_of_actual tree state root (actual_of bindings root))
+
+-- a bound of the callee
+abbrev pub limit_of_bound : Tree → State → List Binding → fact.Bound → Option Limit
+limit_of_bound tree state bindings (fact.Number n) = Some (limit_of tree state (constant n))
+limit_of_bound tree state bindings (fact.Plus root n) = limit_of_plus tree state bindings root n
+
+-- two forms are there, and the first is known to be at most the second
+abbrev pub forms_at_most : State → Option Bound → Option Bound → Bool
+forms_at_most state (Some a) (Some b) = at_most state a b
+forms_at_most state a b = false
+
+-- the first is known to be at most the second, by forms or by ranges
+abbrev pub is_at_most : State → Limit → Limit → Bool
+is_at_most state a b = forms_at_most state a.form b.form || is_below a.range b.range
+
+-- ---- what is given
+
+-- a span that is held has all between two limits
+abbrev pub has_between : Tree → State → Limit → Limit → List Span → Bool
+has_between tree state first last (span ∷ []) =
+    is_at_most state (limit_of tree state span.first) first && is_at_most state last (limit_of tree state span.last)
+has_between tree state first last spans = false
+
+-- what is held of a row has
+abbrev pub covers_between : Tree → State → ℕ → Limit → Limit → Held → Bool
+covers_between tree state row first last (Stretched stretch) =
+    nat_eq stretch.row row && has_between tree state first last stretch.spans
+covers_between tree state row first last (Ordered root other number) = false
+
+abbrev pub held_in : State → List Held
+held_in Dead = []
+held_in (Live known) = known.held
+
+-- the components of a row between two limits are known to be defined, where all of it is passed; or where a part is
+abbrev pub are_reached : Tree → State → Limit → Limit → ℕ → Reach → List Index → Bool
+are_reached tree state first last row reach [] =
+    gives_reached (table_of tree) state reach row || list_any (covers_between tree state row first last) (held_in state)
+are_reached tree state first last row reach (index ∷ indexes) = gives_reached (table_of tree) state reach row
+
+-- the row of a variable that is no structured one is its own: it has no elements
+abbrev pub is_borne_between : Tree → State → Limit → Limit → Bearer → Bool
+is_borne_between tree state first last (Passed range) = true
+is_borne_between tree state first last (Reached row reach) =
+    not (is_variable_row tree row) && are_reached tree state first last row reach reach.indexes
+
+-- of each bearer the components between two limits are: both have values, and there is none between, or they are
+abbrev pub are_borne_between : Tree → State → List Bearer → Option Limit → Option Limit → Bool
+are_borne_between tree state bearers (Some first) (Some last) =
+    (first.has_value && last.has_value)
+    && (is_at_most state (limit_moved (pos 1) last) first
+    || list_all (is_borne_between tree state first last) bearers)
+are_borne_between tree state bearers first last = false
+
+-- two limits have values, and the first is at most the second
+abbrev pub are_ordered : State → Option Limit → Option Limit → Bool
+are_ordered state (Some first) (Some last) =
+    (first.has_value && last.has_value) && is_at_most state first last
+are_ordered state first last = false
+
+-- a fact of the callee holds where it is called
+abbrev pub is_given : Tree → List Binding → State → fact.Fact → Bool
+is_given tree bindings state (fact.Range path range) =
+    list_all (λ bearer. is_included (range_borne state bearer) range) (bearers_named tree bindings path)
+is_given tree bindings state (fact.Defined path) =
+    list_all (is_defined_borne tree state) (bearers_named tree bindings path)
+is_given tree bindings state (fact.Stretch path first last) =
+    are_borne_between tree state (bearers_named tree bindings path)
+    (limit_of_bound tree state bindings first) (limit_of_bound tree state bindings last)
+is_given tree bindings state (fact.Order root other number) =
+    are_ordered state (limit_of_plus tree state bindings root (pos 0))
+    (limit_of_plus tree state bindings other number)
+
+-- each fact of the callee holds where it is called; at a dead point each does
+abbrev pub are_given : Tree → List Binding → State → List fact.Fact → Bool
+are_given tree bindings state facts = is_dead state || list_all (is_given tree bindings state) facts

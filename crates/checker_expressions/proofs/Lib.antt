@@ -1,0 +1,15 @@
+pub mod Keeping
+pub mod Sound
+pub mod SoundOperations
+pub mod Forms
+pub mod EffectsKept
+pub mod SoundRows
+pub mod Fitting
+pub mod SoundAccesses
+pub mod EffectsCalls
+pub mod Effects
+pub mod Entered
+pub mod SoundCalls
+pub mod SoundExpressions
+pub mod Begun
+pub mod CallLaws

@@ -1,0 +1,4 @@
+//! The walk of the checker over an expression.
+#![tactic(auto)]
+
+pub mod fault;

@@ -1,0 +1,9 @@
+use Rattle.std.proofs.Common.{◌∙◌, sym, ap, [], Some}
+use Rattle.checker_rows.proofs.Variables.{all_of_part, part_under, under_of}
+use Rattle.checker_rows.proofs.rows.Rows.of_variable.Goals as goal
+
+pub returns : goal.returns
+returns c =
+    let tree = c.args.self.now in
+    c.span.ensures ∙ sym (all_of_part tree.types (Some c.variable.result)) ∙ ap (λ part. part_under tree.types [] (Some part)) c.variable.ensures.part
+    ∙ sym (under_of tree c.args.root [])

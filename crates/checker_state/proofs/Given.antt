@@ -1,0 +1,175 @@
+-- Claims that a state gives hold where it holds.
+use Rattle.std.proofs.Common.{arith, ◌≡◌, ⊎_elim, ◌∙◌, sym, ap, refl, subst, ℕ, ℤ, pos, ◌+ℤ◌, ◌≤ℤ◌, true, ◌&&◌, ◌||◌, nat_eq, nat_lt}
+use Rattle.std.proofs.Common.{List, [], ◌∷◌, Option, Some, None}
+use Rattle.std.specs.List.{list_any}
+use Rattle.std.proofs.lemmas.Int.{ints}
+use Rattle.std.proofs.lemmas.Bool.{and_parts, eqb-true, ltb-true, or_cases}
+use Rattle.types.specs.declared.form.OrdinalRange.{OrdinalRange}
+use Rattle.types.specs.declared.form.Step.{Step}
+use Rattle.types.specs.declared.form.Step.TheVariants as step
+use Rattle.meaning.specs.declared.store.Value.TheVariants.{Number}
+use Rattle.meaning.specs.Store.{Environment, Store}
+use Rattle.checker_rows.specs.Rows.{Parts, first_index}
+use Rattle.checker_state.specs.Bounds.{Bound, plus}
+use Rattle.checker_state.specs.State.{Claim, Dead, Defined, Facts, Held, Holds as Holding, Live, Ordered, Range, Span, State, Stretch, Stretched, Table, all_of}
+use Rattle.checker_state.specs.State.{covers, gives, gives_claim, gives_stretch, has_number, has_span, has_value, has_values, have_spans, have_values, is_empty}
+use Rattle.checker_state.specs.State.{is_spanned, is_whole, le, row_at, state_gives}
+use Rattle.checker_state.specs.Holds.{AreBounds, AreDefined, FactsHold, HasNumber, HasValue, HeldHolds, Holds, IsBound, IsBoundBy, IsWhole, LieBetween, Moment}
+use Rattle.checker_state.specs.Holds.{Numbers, StateHolds, StretchHolds, indexes_of, moment}
+use Rattle.checker_state.specs.Knows.{AreRows, Shows}
+use Rattle.checker_state.specs.Laws.{GivenHolds}
+use Rattle.checker_state.proofs.Bounds.{IsTold, le-is, lies_below-is, told-of}
+use Rattle.checker_state.proofs.Lists.{any-in}
+use Rattle.checker_state.proofs.Ranged.{included-in}
+use Rattle.checker_state.proofs.Rows.{whole-own}
+
+-- ---- stretches that others cover
+
+-- the first index is the first of the indexes
+pub first-of : (steps : List Step) (index : ℤ) → first_index steps ≡ Some index → (rest : List ℤ) × (indexes_of steps ≡ index ∷ rest)
+first-of [] index is = absurd (cc)
+first-of (step.Element i ∷ steps) index is = (indexes_of steps, ap (λ (n : ℤ). n ∷ indexes_of steps) (let same : i ≡ index = cc in same))
+first-of (step.Field position ∷ steps) index is = first-of steps index is
+
+module _ (rows : List Parts) (m : Moment) (known : Facts) (told : IsTold rows m known) where
+  -- indexes that lie between the numbers of spans lie between those of spans that have them
+  spans-have : (wanted held : List Span) (between around : List Numbers) (indexes : List ℤ) → have_spans known wanted held ≡ true
+      → AreBounds m wanted between → AreBounds m held around → LieBetween between indexes → LieBetween around indexes
+  spans-have wanted [] between [] indexes is inner outer lie = tt
+  spans-have wanted [] between (one ∷ around) indexes is inner outer lie = absurd outer
+  spans-have wanted (span ∷ held) between [] indexes is inner outer lie = absurd outer
+  spans-have [] (span ∷ held) between (own ∷ around) indexes is inner outer lie = absurd (cc)
+  spans-have (one ∷ wanted) (span ∷ held) [] (own ∷ around) indexes is inner outer lie = absurd inner
+  spans-have (one ∷ wanted) (span ∷ held) (first ∷ between) (own ∷ around) [] is inner outer lie = absurd lie
+  spans-have (one ∷ wanted) (span ∷ held) (first ∷ between) (own ∷ around) (index ∷ indexes) is inner outer lie =
+      let parts = and_parts (has_span known one span) (have_spans known wanted held) is in
+      let both = and_parts (le known span.first one.first) (le known one.last span.last) parts.0 in
+      let below : own.first ≤ℤ first.first = le-is rows m known told span.first one.first own.first first.first outer.0 inner.0 both.0 in
+      let above : first.last ≤ℤ own.last = le-is rows m known told one.last span.last first.last own.last inner.1 outer.1 both.1 in
+      let low = lie.0 in
+      let high = lie.1 in (
+        omega (arith, ints),
+        omega (arith, ints),
+        spans-have wanted held between around indexes parts.1 inner.2 outer.2 lie.2,
+      )
+
+  -- no index lies in spans of which one is empty
+  none-between : (spans : List Span) (numbers : List Numbers) (indexes : List ℤ) → list_any (is_empty known) spans ≡ true → AreBounds m spans numbers
+      → LieBetween numbers indexes → ⊥
+  none-between [] numbers indexes is are lie = cc
+  none-between (span ∷ spans) [] indexes is are lie = are
+  none-between (span ∷ spans) (one ∷ numbers) [] is are lie = lie
+  none-between (span ∷ spans) (one ∷ numbers) (index ∷ indexes) is are lie =
+      let low = lie.0 in
+      let high = lie.1 in
+      ⊎_elim
+      (λ empty.
+      let below = lies_below-is rows m known told span.last span.first one.last one.first are.1 are.0 empty in
+      omega (arith, ints))
+      (λ later. none-between spans numbers indexes later are.2 lie.2) (or_cases (is_empty known span) (list_any (is_empty known) spans) is)
+
+  -- the components of a stretch that what is held covers
+  covered : (wanted : Stretch) (numbers : List Numbers) → AreBounds m wanted.spans numbers → list_any (covers known wanted) known.held ≡ true
+      → AreDefined rows wanted.row numbers m
+  covered wanted numbers are is = let found = any-in (covers known wanted) known.held is in by found.0 (told.held found.0 found.1) found.2
+    where
+      by : (one : Held) → HeldHolds rows one m → covers known wanted one ≡ true → AreDefined rows wanted.row numbers m
+      by (Ordered root other number) holds is = absurd (cc)
+      by (Stretched stretch) (around, around_are, each) is =
+          let parts = and_parts (nat_eq wanted.row stretch.row) (have_spans known wanted.spans stretch.spans) is in
+          subst (λ row. AreDefined rows row numbers m) (sym (eqb-true wanted.row stretch.row parts.0))
+          (λ steps index of_row first lie. each steps index of_row first
+          (spans-have wanted.spans stretch.spans numbers around (indexes_of steps) parts.1 are around_are lie))
+
+-- ---- what is given
+
+module _ (rows : List Parts) (table : Table) (are : AreRows rows table) (env : Environment) (shows : Shows table.variables env) (store : Store) (known : Facts)
+    (holds : FactsHold rows known (moment env store)) where
+  abbrev m : Moment
+  m = moment env store
+
+  told : IsTold rows m known
+  told = told-of rows table are env shows store known holds
+
+  number-of : (root : ℕ) → HasValue m root [] → (n : ℤ) × HasNumber m root n
+  number-of root (Number n, is) = (n, is)
+
+  -- a variable that has a number
+  pub number-is : (root : ℕ) → has_number table (Live known) root ≡ true → (n : ℤ) × HasNumber m root n
+  number-is root is =
+      let parts = and_parts (nat_lt root table.variables) (row_at known root).is_defined is in
+      number-of root (whole-own rows table are m root (ltb-true root table.variables parts.0) (holds.defined root parts.1))
+
+  value-by : (root : Option ℕ) (k : ℤ) → (bound : Bound) → bound.root ≡ root → has_value table (Live known) bound ≡ true → (n : ℤ) × IsBoundBy m root k n
+  value-by None k bound root_is is = (k, refl)
+  value-by (Some root) k bound root_is is =
+      let has = number-is root (sym (ap (λ (r : Option ℕ). has_value table (Live known) (record { root = r; number = k })) root_is) ∙ is) in
+      (has.0 +ℤ k, (has.0, has.1, refl))
+
+  -- a bound that has a value is a number
+  pub value-is : (bound : Bound) → has_value table (Live known) bound ≡ true → (n : ℤ) × IsBound m bound n
+  value-is bound is = value-by bound.root bound.number bound refl is
+
+  values-are : (spans : List Span) → have_values table (Live known) spans ≡ true → (numbers : List Numbers) × AreBounds m spans numbers
+  values-are [] is = ([], tt)
+  values-are (span ∷ spans) is =
+      let parts = and_parts (has_values table (Live known) span) (have_values table (Live known) spans) is in
+      let both = and_parts (has_value table (Live known) span.first) (has_value table (Live known) span.last) parts.0 in
+      let first = value-is span.first both.0 in
+      let last = value-is span.last both.1 in
+      let rest = values-are spans parts.1 in
+      (record { first = first.0; last = last.0 } ∷ rest.0, (first.1, last.1, rest.1))
+
+  spanned-whole : (row : ℕ) (index : Option OrdinalRange) → table.index row ≡ index → is_spanned known row index ≡ true → IsWhole rows row m
+  spanned-whole row None index_is is = absurd (cc)
+  spanned-whole row (Some range) index_is is = λ steps of_row.
+      let (index, first, low, high) = are.indexes row range index_is steps of_row in
+      let all = first-of steps index first in
+      covered rows m known told (all_of row range) (record { first = range.first; last = range.last } ∷ []) (refl, refl, tt) is steps index of_row first
+      (subst (LieBetween (record { first = range.first; last = range.last } ∷ [])) (sym all.1) (low, high, tt))
+
+  -- each component of a row
+  pub whole-holds : (row : ℕ) → is_whole table known row ≡ true → IsWhole rows row m
+  whole-holds row is =
+      ⊎_elim (λ own. holds.defined row own) (λ spanned. spanned-whole row (table.index row) refl spanned)
+      (or_cases (row_at known row).is_defined (is_spanned known row (table.index row)) is)
+
+  stretch-given : (stretch : Stretch) → gives_stretch table known stretch ≡ true → StretchHolds rows stretch m
+  stretch-given stretch is =
+      let empty = list_any (is_empty known) stretch.spans in
+      let whole = is_whole table known stretch.row in
+      let any = list_any (covers known stretch) known.held in
+      let parts = and_parts (have_values table (Live known) stretch.spans) (empty || (whole || any)) is in
+      let values = values-are stretch.spans parts.0 in (
+        values.0,
+        values.1,
+        λ steps index of_row first lie.
+            ⊎_elim (λ none. absurd (none-between rows m known told stretch.spans values.0 (indexes_of steps) none values.1 lie))
+            (λ rest. ⊎_elim (λ all. whole-holds stretch.row all steps of_row)
+            (λ some. covered rows m known told stretch values.0 values.1 some steps index of_row first lie) (or_cases whole any rest))
+            (or_cases empty (whole || any) parts.1),
+      )
+
+  pub held-given : (one : Held) → gives table known one ≡ true → HeldHolds rows one m
+  held-given (Stretched stretch) is = stretch-given stretch is
+  held-given (Ordered root other number) is =
+      let below = le known (plus root (pos 0)) (plus other number) in
+      let one = and_parts (has_number table (Live known) root) (has_number table (Live known) other && below) is in
+      let two = and_parts (has_number table (Live known) other) below one.1 in
+      let x = number-is root one.0 in
+      let y = number-is other two.0 in
+      let less = le-is rows m known told (plus root (pos 0)) (plus other number) (x.0 +ℤ pos 0) (y.0 +ℤ number) (x.0, x.1, refl) (y.0, y.1, refl) two.1 in
+      (x.0, y.0, x.1, y.1, omega (arith, ints, less))
+
+  pub claim-given : (claim : Claim) → gives_claim table known claim ≡ true → Holds rows claim m
+  claim-given (Range row range) is = λ steps v of_row there. included-in (row_at known row).range range v is (holds.ranges row steps v of_row there)
+  claim-given (Defined row) is = whole-holds row is
+  claim-given (Holding one) is = held-given one is
+
+state-given : (rows : List Parts) (table : Table) → AreRows rows table → (env : Environment) → Shows table.variables env → (store : Store) (state : State)
+    (claim : Claim) → StateHolds rows state (moment env store) → state_gives table state claim ≡ true → Holds rows claim (moment env store)
+state-given rows table are env shows store Dead claim holds is = absurd holds
+state-given rows table are env shows store (Live known) claim holds is = claim-given rows table are env shows store known holds claim is
+
+pub given-holds : GivenHolds
+given-holds rows table are env state store claim known is = state-given rows table are env known.shows store state claim known.holds is

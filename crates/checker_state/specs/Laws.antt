@@ -1,0 +1,100 @@
+-- What holds of states at the moments of a run: where a state holds, those hold that follow from it, over an
+-- assignment, a condition, stores of components, the turns of a loop, and where two ways meet (ISO 7185:1990, 6.5.1,
+-- 6.7.2.3, 6.7.2.5, 6.8). They do not say that a state which follows is the best that could be known.
+use Rattle.std.specs.Prelude.{◌≡◌, ℕ, ℤ, ◌<◌, ◌≤◌, true, List, [], Option, Some, Contains}
+use Rattle.std.specs.List.{All}
+use Rattle.typed_tree.specs.declared.tree.Expr.{Expr}
+use Rattle.domain.specs.Interval.{Interval}
+use Rattle.meaning.specs.declared.store.Value.{Value}
+use Rattle.meaning.specs.Effect as effect
+use Rattle.meaning.specs.Effect.{Gives}
+use Rattle.meaning.specs.Meaning.{Surroundings, is_so, value_of}
+use Rattle.meaning.specs.Store.{Environment, Store}
+use Rattle.checker_rows.specs.Rows.{Parts}
+use Rattle.checker_state.specs.Bounds.{Bound}
+use Rattle.checker_state.specs.State.{Claim, State, Table, state_gives}
+use Rattle.checker_state.specs.Joins.{joined_states}
+use Rattle.checker_state.specs.Changes.{assigned}
+use Rattle.checker_state.specs.Conditions.{bound_form, branched}
+use Rattle.checker_state.specs.Loops.{head, replaced, with_undefined}
+use Rattle.checker_state.specs.Stores.{Reach, all_stored}
+use Rattle.checker_state.specs.Holds.{HasNumber, Holds, IsBound, IsIn, moment, value_at}
+use Rattle.checker_state.specs.Knows.{AreEntire, AreRows, AreStored, AreUntouched, InLimits, IsFormApart, IsKept}
+use Rattle.checker_state.specs.Knows.{IsLooseIn, IsOfForm, IsReach, IsReachApart, Knows, OneChanges}
+
+-- where two ways meet, what is known behind them holds, whichever was taken
+pub record JoinHolds : Type 0 where
+  pub from_one : (rows : List Parts) (table : Table) → AreRows rows table
+      → (env : Environment) (one other : State) (store : Store) → Knows rows table.variables env one store
+      → Knows rows table.variables env (joined_states table one other) store
+  pub from_other : (rows : List Parts) (table : Table) → AreRows rows table
+      → (env : Environment) (one other : State) (store : Store) → Knows rows table.variables env other store
+      → Knows rows table.variables env (joined_states table one other) store
+
+-- claims that a state gives hold where it does
+abbrev pub GivenHolds : Type 0
+GivenHolds =
+    (rows : List Parts) (table : Table) → AreRows rows table
+    → (env : Environment) (state : State) (store : Store) (claim : Claim) → Knows rows table.variables env state store
+    → state_gives table state claim ≡ true → Holds rows claim (moment env store)
+
+-- the value of an expression of a bound form is its bound
+abbrev pub FormsTell : Type 0
+FormsTell =
+    (expression : Expr) (env : Surroundings) (s t : effect.State) (v : Value) → value_of expression env s ≡ Gives v t
+    → IsOfForm (moment env.visible t.store) (bound_form expression) v
+
+-- after a value was written to a variable, which its aliases may have then too, and no other changed, what is known
+-- after its assignment holds
+abbrev pub AssignmentsHold : Type 0
+AssignmentsHold =
+    (rows : List Parts) (table : Table) → AreRows rows table
+    → (env : Environment) (aliases : List ℕ) (state : State) (before after : Store) (root : ℕ) (range : Interval)
+    (form : Option Bound) (v : Value)
+    → root < table.variables → OneChanges env root aliases before after
+    → value_at (moment env after) root [] ≡ Some v → Knows rows table.variables env state before
+    → IsLooseIn rows env aliases state after → IsIn range v → IsOfForm (moment env before) form v
+    → IsFormApart aliases form → Knows rows table.variables env (assigned root range form state) after
+
+-- where a condition had a truth value, what is known of that branch holds
+abbrev pub ConditionsTell : Type 0
+ConditionsTell =
+    (rows : List Parts) (table : Table) → AreRows rows table
+    → (env : Surroundings) (condition : Expr) (s t : effect.State) (v : Value) (range : Interval) (state : State)
+    → value_of condition env s ≡ Gives v t → IsIn range v → Knows rows table.variables env.visible state t.store
+    → Knows rows table.variables env.visible (branched (is_so v) condition range state) t.store
+
+-- what is known at the head of a loop holds after any turns, if the claims do
+abbrev pub HeadsHold : Type 0
+HeadsHold =
+    (rows : List Parts) (table : Table) → AreRows rows table
+    → (env : Environment) (limits : ℕ → Interval) (roots touched controls : List ℕ) (claims : List Claim)
+    (state : State) (before after : Store)
+    → IsKept env roots controls before after → AreUntouched rows env touched before after
+    → AreEntire rows table.variables controls → InLimits rows limits touched env after
+    → All (λ claim. Holds rows claim (moment env after)) claims → Knows rows table.variables env state before
+    → Knows rows table.variables env (head limits roots touched controls claims state) after
+
+-- behind a loop
+pub record LeavingHolds : Type 0 where
+  -- where a variable is its bound
+  pub of_bound : (rows : List Parts) (roots : ℕ) (env : Environment) (state : State) (store : Store) (root : ℕ)
+      (bound : Option Bound) (x : ℤ) → HasNumber (moment env store) root x
+      → ((b : Bound) → bound ≡ Some b → IsBound (moment env store) b x) → Knows rows roots env state store
+      → Knows rows roots env (replaced root bound state) store
+  -- where a variable became undefined, and no other changed
+  pub of_undefined : (rows : List Parts) (table : Table) → AreRows rows table
+      → (env : Environment) (state : State) (root : ℕ) (before after : Store) → root < table.variables
+      → OneChanges env root [] before after → ((v : Value) → value_at (moment env after) root [] ≡ Some v → ⊥)
+      → Knows rows table.variables env state before → Knows rows table.variables env (with_undefined root state) after
+
+-- after values were stored to components, what is known behind the stores holds
+abbrev pub StoresHold : Type 0
+StoresHold =
+    (rows : List Parts) (table : Table) → AreRows rows table
+    → (env : Environment) (aliases : List ℕ) (state : State) (reach : Reach) (stores : List (ℕ × Interval))
+    (before after : Store)
+    → ((one : ℕ × Interval) → Contains stores one → table.variables ≤ one.0) → IsReach env before reach
+    → IsReachApart aliases reach → AreStored rows env aliases reach stores before after
+    → IsLooseIn rows env aliases state after → Knows rows table.variables env state before
+    → Knows rows table.variables env (all_stored reach stores state) after

@@ -1,0 +1,14 @@
+pub mod Bounds
+pub mod State
+pub mod Joins
+pub mod Changes
+pub mod Forms
+pub mod Conditions
+pub mod Loops
+pub mod Stores
+pub mod Holds
+pub mod Knows
+pub mod Laws
+pub mod View
+pub mod Trail
+pub mod Meets

@@ -1,0 +1,269 @@
+-- What a checker knows at a point of a program (ISO 7185:1990, 6.5.1: a variable is undefined or has a value): of each
+-- row of components the range of their values and whether all are defined, and what it holds besides: orders of
+-- variables, and stretches of rows that are defined; and which facts that gives. It does not say how such a state comes
+-- about, nor what it means for a run.
+use Rattle.std.specs.Prelude.{ℕ, ℤ, pos, ◌+ℤ◌, int_le, Bool, true, false, not, ◌&&◌, ◌||◌, List, [], ◌∷◌, Option}
+use Rattle.std.specs.Prelude.{Some, None, if◌then◌else◌, nat_eq, nat_lt, slice_index_or, slice_set}
+use Rattle.std.specs.List.{list_any}
+use Rattle.std.specs.Cmp.Lexicographic.{slice_cmp}
+use Rattle.std.specs.Ordering.{int_cmp, nat_cmp, ordering_then}
+use Rattle.std.specs.declared.cmp.Ordering.{Ordering}
+use Rattle.std.specs.declared.cmp.Ordering.TheVariants.{Less, Equal, Greater}
+use Rattle.types.specs.declared.form.OrdinalRange.{OrdinalRange}
+use Rattle.domain.specs.Interval.{Interval, is_included, is_vacant, vacant}
+use Rattle.checker_state.specs.Bounds.{Bound, bound_order, constant, is_at_most, is_variable, plus, raised_bound}
+
+-- ---- states
+
+-- what is known of a row: its values lie in a range, and perhaps each of its components is defined
+pub record RowState : Type 0 where
+  pub range : Interval
+  pub is_defined : Bool
+
+-- the indexes between two bounds
+pub record Span : Type 0 where
+  pub first : Bound
+  pub last : Bound
+
+-- the components of a row whose first indexes lie in spans, the first index in the first span, and so on; an index
+-- behind the last span is any
+pub record Stretch : Type 0 where
+  pub row : ℕ
+  pub spans : List Span
+
+-- what is held besides: a stretch is defined; or two variables are, and the first is at most the other plus a number
+pub data Held : Type 0 where
+  Stretched : Stretch → Held
+  Ordered : (root other : ℕ) → ℤ → Held
+
+-- what is known of each row, by its number, and what is held, in its order, each once
+pub record Facts : Type 0 where
+  pub rows : List RowState
+  pub held : List Held
+
+-- no run comes here, or what is known where one does
+pub data State : Type 0 where
+  Dead : State
+  Live : Facts → State
+
+-- a row that is not there: none of its components has a value
+abbrev pub no_row : RowState
+no_row = record { range = vacant; is_defined = false }
+
+abbrev pub row_at : Facts → ℕ → RowState
+row_at known row = slice_index_or known.rows row no_row
+
+-- of rows whose components have these values, nothing else is known
+abbrev pub of_types : List RowState → State
+of_types rows = Live (record { rows = rows; held = [] })
+
+-- no run comes here
+abbrev pub is_dead : State → Bool
+is_dead Dead = true
+is_dead (Live known) = false
+
+-- where the values of a row lie; a variable has the row of its root number
+abbrev pub range_of : State → ℕ → Interval
+range_of Dead row = vacant
+range_of (Live known) row = (row_at known row).range
+
+-- each component of a row is known to be defined
+abbrev pub is_defined : State → ℕ → Bool
+is_defined Dead row = true
+is_defined (Live known) row = (row_at known row).is_defined
+
+-- what is known of a row from here on
+abbrev pub with_row : ℕ → RowState → Facts → Facts
+with_row row known facts = record facts { rows = slice_set facts.rows row known }
+
+-- each component of a row is defined from here on
+abbrev pub with_defined : ℕ → State → State
+with_defined row Dead = Dead
+with_defined row (Live known) = Live (with_row row (record (row_at known row) { is_defined = true }) known)
+
+-- the values of a row lie in a range from here on
+abbrev pub with_range : ℕ → Interval → State → State
+with_range row range Dead = Dead
+with_range row range (Live known) = Live (with_row row (record (row_at known row) { range = range }) known)
+
+-- a variable has a value of a range from here on
+abbrev pub with_value : ℕ → Interval → State → State
+with_value root range state = with_defined root (with_range root range state)
+
+-- no run goes on from an empty range
+abbrev pub unless_empty : Interval → State → State
+unless_empty range state = if is_vacant range then Dead else state
+
+-- ---- the order of what is held: that of a certificate's facts, by row numbers
+
+abbrev pub span_order : Span → Span → Ordering
+span_order a b = ordering_then (bound_order a.first b.first) (bound_order a.last b.last)
+
+abbrev pub held_order : Held → Held → Ordering
+held_order (Stretched a) (Stretched b) = ordering_then (nat_cmp a.row b.row) (slice_cmp span_order a.spans b.spans)
+held_order (Stretched a) (Ordered root other number) = Less
+held_order (Ordered root other number) (Stretched b) = Greater
+held_order (Ordered a b m) (Ordered c d n) =
+    ordering_then (nat_cmp a c) (ordering_then (nat_cmp b d) (int_cmp m n))
+
+-- one comes before, or is, or comes behind the first of a list
+abbrev pub put : Ordering → Held → Held → (rest longer : List Held) → List Held
+put Less one first rest longer = one ∷ first ∷ rest
+put Equal one first rest longer = first ∷ rest
+put Greater one first rest longer = first ∷ longer
+
+-- one more in its place, unless it is held
+abbrev pub with_one : Held → List Held → List Held
+with_one one [] = one ∷ []
+with_one one (first ∷ rest) = put (held_order one first) one first rest (with_one one rest)
+
+-- more, each in its place
+abbrev pub with_more : (more : List Held) → List Held → List Held
+with_more [] held = held
+with_more (one ∷ more) held = with_more more (with_one one held)
+
+-- ---- what is known of bounds
+
+-- a range whose numbers are greater by a number
+abbrev pub moved : ℤ → Interval → Interval
+moved n range = record { first = range.first +ℤ n; last = range.last +ℤ n }
+
+-- where the value of a variable lies, if there is one, plus a number
+abbrev pub bound_range_by : State → Option ℕ → ℤ → Interval
+bound_range_by state None n = record { first = n; last = n }
+bound_range_by state (Some root) n = moved n (range_of state root)
+
+-- where a bound lies
+abbrev pub bound_range : State → Bound → Interval
+bound_range state bound = bound_range_by state bound.root bound.number
+
+-- each number of a range is at most each of another, and neither is empty
+abbrev pub is_below : Interval → Interval → Bool
+is_below a b = not (is_vacant a || is_vacant b) && int_le a.last b.first
+
+-- what is held says that a bound is at most another
+abbrev pub says_at_most : Bound → Bound → Held → Bool
+says_at_most a b (Stretched stretch) = false
+says_at_most a b (Ordered root other number) =
+    is_variable root a.root && (is_variable other b.root && int_le (number +ℤ a.number) b.number)
+
+-- a bound is known to be at most another: by itself, by ranges, or by an order
+abbrev pub le : Facts → Bound → Bound → Bool
+le known a b =
+    is_at_most a b
+    || (is_below (bound_range (Live known) a) (bound_range (Live known) b)
+    || list_any (says_at_most a b) known.held)
+
+-- the same at any point: at a dead one, each is
+abbrev pub at_most : State → Bound → Bound → Bool
+at_most Dead a b = true
+at_most (Live known) a b = le known a b
+
+-- a bound is known to lie below another
+abbrev pub lies_below : Facts → Bound → Bound → Bool
+lies_below known a b = le known (raised_bound (pos 1) a) b
+
+-- a bound is known to be the one behind another
+abbrev pub is_next : Facts → Bound → Bound → Bool
+is_next known a b = lies_below known a b && le known b (raised_bound (pos 1) a)
+
+-- ---- what is given
+
+-- no index lies in a span, since its last bound lies below its first
+abbrev pub is_empty : Facts → Span → Bool
+is_empty known span = lies_below known span.last span.first
+
+-- a span has all that another has
+abbrev pub has_span : Facts → (wanted held : Span) → Bool
+has_span known wanted held = le known held.first wanted.first && le known wanted.last held.last
+
+-- spans have all that others have: an index behind the last of them is any
+abbrev pub have_spans : Facts → (wanted held : List Span) → Bool
+have_spans known wanted [] = true
+have_spans known [] (span ∷ held) = false
+have_spans known (one ∷ wanted) (span ∷ held) = has_span known one span && have_spans known wanted held
+
+-- what is held has all of a stretch
+abbrev pub covers : Facts → Stretch → Held → Bool
+covers known wanted (Stretched stretch) =
+    nat_eq wanted.row stretch.row && have_spans known wanted.spans stretch.spans
+covers known wanted (Ordered root other number) = false
+
+-- the span of all values of an index
+abbrev pub all_indexes : OrdinalRange → Span
+all_indexes range = record { first = constant range.first; last = constant range.last }
+
+-- the stretch of all first indexes of a row
+abbrev pub all_of : ℕ → OrdinalRange → Stretch
+all_of row range = record { row = row; spans = all_indexes range ∷ [] }
+
+-- what is held has all first indexes of a row, if it has one
+abbrev pub is_spanned : Facts → ℕ → Option OrdinalRange → Bool
+is_spanned known row None = false
+is_spanned known row (Some range) = list_any (covers known (all_of row range)) known.held
+
+-- what is told of the rows of a program: how many variables have one of their own, which come first; and where the
+-- first index on the way to the components of each row lies, if there is one
+pub record Table : Type 0 where
+  pub variables : ℕ
+  pub index : ℕ → Option OrdinalRange
+
+module _ (table : Table) where
+  -- a variable that is there is known to be defined
+  abbrev pub has_number : State → ℕ → Bool
+  has_number Dead root = true
+  has_number (Live known) root = nat_lt root table.variables && (row_at known root).is_defined
+
+  -- the variable of a bound, if it has one, is
+  abbrev pub has_value_by : State → Option ℕ → Bool
+  has_value_by state None = true
+  has_value_by state (Some root) = has_number state root
+
+  abbrev pub has_value : State → Bound → Bool
+  has_value state bound = has_value_by state bound.root
+
+  -- the bounds of a span have values
+  abbrev pub has_values : State → Span → Bool
+  has_values state span = has_value state span.first && has_value state span.last
+
+  -- those of each
+  abbrev pub have_values : State → List Span → Bool
+  have_values state [] = true
+  have_values state (span ∷ spans) = has_values state span && have_values state spans
+
+  -- each component of a row is known to be defined: by the row, or since all its first indexes are held
+  abbrev pub is_whole : Facts → ℕ → Bool
+  is_whole known row = (row_at known row).is_defined || is_spanned known row (table.index row)
+
+  -- a stretch is known to be defined: its bounds have values, and no index lies in it, or all of its row is defined, or
+  -- what is held has all of it
+  abbrev pub gives_stretch : Facts → Stretch → Bool
+  gives_stretch known stretch =
+      have_values (Live known) stretch.spans
+      && (list_any (is_empty known) stretch.spans
+      || (is_whole known stretch.row || list_any (covers known stretch) known.held))
+
+  -- what is known gives what may be held: of an order that both variables are defined, and that the first is at most
+  -- the other plus the number
+  abbrev pub gives : Facts → Held → Bool
+  gives known (Stretched stretch) = gives_stretch known stretch
+  gives known (Ordered root other number) =
+      has_number (Live known) root
+      && (has_number (Live known) other && le known (plus root (pos 0)) (plus other number))
+
+-- what may be said of rows: their values lie in a range, each component is defined, or what may be held
+pub data Claim : Type 0 where
+  Range : (row : ℕ) → Interval → Claim
+  Defined : (row : ℕ) → Claim
+  Holds : Held → Claim
+
+module _ (table : Table) where
+  abbrev pub gives_claim : Facts → Claim → Bool
+  gives_claim known (Range row range) = is_included (row_at known row).range range
+  gives_claim known (Defined row) = is_whole table known row
+  gives_claim known (Holds held) = gives table known held
+
+  -- a state gives it: a dead one gives each
+  abbrev pub state_gives : State → Claim → Bool
+  state_gives Dead claim = true
+  state_gives (Live known) claim = gives_claim known claim

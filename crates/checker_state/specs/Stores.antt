@@ -1,0 +1,143 @@
+-- What is known after values were stored to components of structured variables (ISO 7185:1990, 6.4.3, 6.5.3). It does
+-- not say which components an access leads to.
+use Rattle.std.specs.Prelude.{ℕ, ℤ, Bool, true, false, ◌||◌, List, [], ◌∷◌, Option, Some, None, if◌then◌else◌, filter}
+use Rattle.std.specs.Prelude.{nat_eq}
+use Rattle.std.specs.List.{filter_map}
+use Rattle.types.specs.declared.form.OrdinalRange.{OrdinalRange}
+use Rattle.domain.specs.Interval.{Interval, joined}
+use Rattle.checker_state.specs.Bounds.{Bound, constant}
+use Rattle.checker_state.specs.State.{Claim, Dead, Defined, Facts, Held, Holds, Live, Ordered, Span, State, Stretch}
+use Rattle.checker_state.specs.State.{Stretched, Table, all_of, is_dead, is_next, range_of, state_gives}
+use Rattle.checker_state.specs.State.{with_defined, with_more, with_range}
+use Rattle.meaning.specs.Integers.{is_integer_number}
+
+-- an index by its value: its form, and where it lies
+pub record Index : Type 0 where
+  pub form : Option Bound
+  pub range : Interval
+
+-- what an access reaches of the rows under it: of each the components of these first indexes; all of these, or some
+pub record Reach : Type 0 where
+  pub indexes : List Index
+  pub is_all : Bool
+
+-- all of each row
+abbrev pub entire : Reach
+entire = record { indexes = []; is_all = true }
+
+-- it is all of each row
+abbrev pub is_entire_by : Bool → List Index → Bool
+is_entire_by is_all [] = is_all
+is_entire_by is_all (index ∷ indexes) = false
+
+abbrev pub is_entire : Reach → Bool
+is_entire reach = is_entire_by reach.is_all reach.indexes
+
+-- ---- what is defined
+
+-- the stretch of a single first index
+abbrev pub at_index : ℕ → Bound → Stretch
+at_index row index = record { row = row; spans = record { first = index; last = index } ∷ [] }
+
+-- that each component of a row is defined: of one with indexes, all first indexes are
+abbrev pub all_of_row : Option OrdinalRange → ℕ → Claim
+all_of_row None row = Defined row
+all_of_row (Some range) row = Holds (Stretched (all_of row range))
+
+-- a bound of a number, if it is one that bounds have
+abbrev pub bound_of_number : ℤ → Option Bound
+bound_of_number n = if is_integer_number n then Some (constant n) else None
+
+abbrev pub stretch_between : ℕ → Option Bound → Option Bound → Option Stretch
+stretch_between row (Some first) (Some last) =
+    Some (record { row = row; spans = record { first = first; last = last } ∷ [] })
+stretch_between row first last = None
+
+-- the stretch of first indexes in a range, if its ends are numbers that bounds have
+abbrev pub range_stretch : ℕ → Interval → Option Stretch
+range_stretch row range = stretch_between row (bound_of_number range.first) (bound_of_number range.last)
+
+module _ (table : Table) where
+  -- the components of a first index are defined, by its form or by where it lies
+  abbrev pub gives_some : State → Option Stretch → Bool
+  gives_some state None = is_dead state
+  gives_some state (Some stretch) = state_gives table state (Holds (Stretched stretch))
+
+  abbrev pub gives_form : State → ℕ → Option Bound → Bool
+  gives_form state row None = false
+  gives_form state row (Some form) = state_gives table state (Holds (Stretched (at_index row form)))
+
+  abbrev pub gives_index : State → ℕ → Index → Bool
+  gives_index state row one = gives_form state row one.form || gives_some state (range_stretch row one.range)
+
+  abbrev pub gives_indexes : State → ℕ → List Index → Bool
+  gives_indexes state row [] = state_gives table state (all_of_row (table.index row) row)
+  gives_indexes state row (one ∷ more) = gives_index state row one
+
+  -- what an access reaches in a row is defined
+  abbrev pub gives_reached : State → Reach → ℕ → Bool
+  gives_reached state reach row = gives_indexes state row reach.indexes
+
+-- ---- stores
+
+-- a span with an index more, if that lies just behind it or before it
+abbrev pub longer_span : Facts → Bound → Span → Option Span
+longer_span known one span =
+    if is_next known span.last one then Some (record span { last = one })
+    else if is_next known one span.first then Some (record span { first = one }) else None
+
+abbrev pub longer_of : ℕ → Option Span → Option Held
+longer_of row None = None
+longer_of row (Some span) = Some (Stretched (record { row = row; spans = span ∷ [] }))
+
+-- a stretch of first indexes that another makes longer
+abbrev pub longer_by : Facts → ℕ → Bound → List Span → Option Held
+longer_by known row one (span ∷ []) = longer_of row (longer_span known one span)
+longer_by known row one spans = None
+
+-- what is held of a row that a first index makes longer
+abbrev pub longer : Facts → ℕ → Bound → Held → Option Held
+longer known row one (Stretched stretch) =
+    if nat_eq stretch.row row then longer_by known row one stretch.spans else None
+longer known row one (Ordered root other number) = None
+
+abbrev pub is_none : Option Held → Bool
+is_none None = true
+is_none (Some held) = false
+
+-- stretches that became longer, or else that of the index alone
+abbrev pub or_alone : ℕ → Bound → List Held → List Held
+or_alone row one [] = Stretched (at_index row one) ∷ []
+or_alone row one (held ∷ more) = held ∷ more
+
+-- the components of a first index are defined from here on: each stretch that it makes longer becomes so, or else there
+-- is that of the index alone
+abbrev pub with_element : ℕ → Bound → State → State
+with_element row one Dead = Dead
+with_element row one (Live known) = Live (record known {
+  held = with_more (or_alone row one (filter_map (longer known row one) known.held))
+      (filter (λ held. is_none (longer known row one held)) known.held);
+})
+
+abbrev pub with_some_element : ℕ → Option Bound → State → State
+with_some_element row None state = state
+with_some_element row (Some one) state = with_element row one state
+
+-- components of a row may have a value of a range from here on
+abbrev pub with_joined : ℕ → Interval → State → State
+with_joined row range state = with_range row (joined (range_of state row) range) state
+
+-- values of a range were stored to what these first indexes lead to in a row: all of that, or some
+abbrev pub stored_at : Bool → List Index → ℕ → Interval → State → State
+stored_at true [] row range state = with_defined row (with_range row range state)
+stored_at true (one ∷ []) row range state = with_some_element row one.form (with_joined row range state)
+stored_at is_all indexes row range state = with_joined row range state
+
+-- values of a range were stored to what an access reaches in a row
+abbrev pub stored : Reach → ℕ → Interval → State → State
+stored reach row range state = stored_at reach.is_all reach.indexes row range state
+
+-- the same of several rows, each with its range
+abbrev pub all_stored : Reach → List (ℕ × Interval) → State → State
+all_stored reach [] state = state
+all_stored reach (one ∷ more) state = all_stored reach more (stored reach one.0 one.1 state)
