@@ -32,7 +32,7 @@ use Rattle.typing.specs.Outcomes.{IsFault}
 use Rattle.typing.proofs.Rows.{behind_nothing}
 use Rattle.typing.proofs.Written.{typing_actual}
 use Rattle.expression_resolver.specs.declared.typed.Reached.{Reached}
-use Rattle.expression_resolver.specs.Accesses.{look_reached, reached}
+use Rattle.expression_resolver.specs.Accesses.{FindsVariable, look_reached, reached}
 use Rattle.expression_resolver.specs.Made.{fitted}
 use Rattle.expression_resolver.proofs.Fitting.{value_fits, value_stops}
 use Rattle.expression_resolver.proofs.Selecting.{look_made, reached_then}
@@ -109,7 +109,7 @@ module _ (type_id : TypeId) (w : Written) (callee position : ℕ) (s : Passed) w
 -- ---- variables
 
 module _ (name : Name) (selectors : List Selector) (indexes : List Written) (wanted : TypeId) (callee position : ℕ) where
-  abbrev behind_component : ℕ × TypeId → List TreeSelector × TypeId → Passing (Unit {0})
+  abbrev pub behind_component : ℕ × TypeId → List TreeSelector × TypeId → Passing (Unit {0})
   behind_component variable component =
       by_types (λ types. passable types wanted variable.1 component.0 component.1 name.place)
       >> mark (ForVariable wanted variable.0 component.0 (index_count component.0) callee position)
@@ -121,50 +121,18 @@ module _ (name : Name) (selectors : List Selector) (indexes : List Written) (wan
   abbrev behind_name : Denotation → Passing (Unit {0})
   behind_name d = given (as_variable name.place d) >>= behind_variable
 
-  module _ (d : Denotation) (variable : ℕ × TypeId) (old first : Passed) (finds : find name old ≡ Ok (after d [] first))
-      (is : as_variable name.place d ≡ Ok variable) where
-    abbrev behind_reached : Checked (After (List TreeSelector × TypeId)) → Checked (After (Unit {0}))
-    behind_reached outcome = and_then outcome (λ a. behind_marks a.look (behind_component variable a.answer a.passed))
-
-    goes : passed_variable name selectors indexes wanted callee position old ≡ behind_reached (reached name.place variable selectors indexes first)
-    unfolding passed_variable
-    goes =
-        ap (λ r. and_then r (λ a. behind_marks a.look (behind_name a.answer a.passed))) finds
-        ∙ ap (λ r. behind_marks [] (and_then (and_then r (λ a. Ok (after a [] first)))
-        (λ a. behind_marks a.look (behind_variable a.answer a.passed)))) is
-        ∙ behind_nothing (behind_marks [] (behind_variable variable first))
-        ∙ behind_nothing (behind_variable variable first)
-        ∙ reached_then name.place variable selectors indexes (behind_component variable) first
-
-    -- it is refused
-    pub variable_stops : (why : TypeFault) → IsFault (reached name.place variable selectors indexes first) why
-        → IsFault (passed_variable name selectors indexes wanted callee position old) why
-    variable_stops why (inl memory) = inl memory
-    variable_stops why (inr stops) = inr (goes ∙ ap behind_reached stops)
-
-    module _ (component : List TreeSelector × TypeId) (look : Look) (now : Passed)
-        (passes : reached name.place variable selectors indexes first ≡ Ok (after component look now)) where
-      tested : passed_variable name selectors indexes wanted callee position old
-          ≡ behind_marks look (and_then (and_then (passable now.types wanted variable.1 component.0 component.1 name.place) (λ a. Ok (after a [] now)))
-          (λ a. behind_marks a.look (mark (ForVariable wanted variable.0 component.0 (index_count component.0) callee position) a.passed)))
-      tested = goes ∙ ap behind_reached passes
-
-      -- what is accessed isn't passed
-      pub component_stops : (why : TypeFault) → passable now.types wanted variable.1 component.0 component.1 name.place ≡ Err why
-          → passed_variable name selectors indexes wanted callee position old ≡ Err why
-      component_stops why stops =
-          tested
-          ∙ ap (λ r. behind_marks look (and_then (and_then r (λ a. Ok (after a [] now)))
-          (λ a. behind_marks a.look (mark (ForVariable wanted variable.0 component.0 (index_count component.0) callee position) a.passed)))) stops
-
-      -- it is
-      pub variable_passes : passable now.types wanted variable.1 component.0 component.1 name.place ≡ Ok tt
-          → passed_variable name selectors indexes wanted callee position old
-          ≡ Ok (after tt (look ++ (ForVariable wanted variable.0 component.0 (index_count component.0) callee position ∷ [])) now)
-      variable_passes fits =
-          tested
-          ∙ ap (λ r. behind_marks look (and_then (and_then r (λ a. Ok (after a [] now)))
-          (λ a. behind_marks a.look (mark (ForVariable wanted variable.0 component.0 (index_count component.0) callee position) a.passed)))) fits
+  -- it goes on behind what is reached
+  pub access_goes : (old first : Passed) (variable : ℕ × TypeId) → FindsVariable name old (Ok variable) first
+      → passed_variable name selectors indexes wanted callee position old
+      ≡ (reached name.place variable selectors indexes >>= behind_component variable) first
+  unfolding passed_variable
+  access_goes old first variable (d, finds, is) =
+      ap (λ r. and_then r (λ a. behind_marks a.look (behind_name a.answer a.passed))) finds
+      ∙ ap (λ r. behind_marks [] (and_then (and_then r (λ a. Ok (after a [] first)))
+      (λ a. behind_marks a.look (behind_variable a.answer a.passed)))) is
+      ∙ behind_nothing (behind_marks [] (behind_variable variable first))
+      ∙ behind_nothing (behind_variable variable first)
+      ∙ reached_then name.place variable selectors indexes (behind_component variable) first
 
 -- as it is made
 pub variable_made : (wanted : TypeId) (made : Reached) (callee position : ℕ) → index_count made.access.selectors.items ≡ length made.indexes.items

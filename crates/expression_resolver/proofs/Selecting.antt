@@ -43,7 +43,7 @@ use Rattle.expression_resolver.specs.declared.typed.Selection.{Selection}
 use Rattle.expression_resolver.specs.declared.typed.Value.TheVariants.{Whole as WholeOf}
 use Rattle.expression_resolver.specs.Made.{look_value}
 use Rattle.expression_resolver.specs.Accesses.{begun, value, valued, look_selection, left_behind, on, reached, IsCounted, IsNothing, IsFieldBehind}
-use Rattle.expression_resolver.specs.Accesses.{IsElementBehind, IsOneBehind, SelectsField, SelectsElement, SelectsOne}
+use Rattle.expression_resolver.specs.Accesses.{FindsVariable, IsElementBehind, IsOneBehind, SelectsField, SelectsElement, SelectsOne}
 
 -- ---- forms that are passed one after another
 
@@ -59,11 +59,14 @@ module _ {A B : Type 0} (f g : A → Passing B) (same : (a : A) → (s : Passed)
 
 -- ---- a variable
 
+abbrev pub behind_variable : ℕ → TypeId → List Selector → List Written → ℕ × Option ℕ → Passing Typed
+behind_variable root type_id selectors indexes sites = selected [] type_id selectors indexes >>= value root sites
+
 module _ (root : ℕ) (type_id : TypeId) (selectors : List Selector) (indexes : List Written) (place : Place) (lead : Option SiteKind) (old : Passed) where
   abbrev rest : ℕ × Option ℕ → Passing Typed
-  rest sites = selected [] type_id selectors indexes >>= value root sites
+  rest = behind_variable root type_id selectors indexes
 
-  entered_first : accessed root type_id selectors indexes place lead old ≡ (begun place lead >>= rest) old
+  pub entered_first : accessed root type_id selectors indexes place lead old ≡ (begun place lead >>= rest) old
   unfolding accessed begun value
   entered_first = sym (
       then_assoc (site kind.UndefinedVariable place) (λ defined. behind lead place >>= (λ id. enter_as Access >> pure (defined, id))) rest old
@@ -76,46 +79,18 @@ module _ (root : ℕ) (type_id : TypeId) (selectors : List Selector) (indexes : 
       (behind lead place) s)
       (site kind.UndefinedVariable place) old)
 
-  -- it can't be entered
-  pub variable_stops : (why : TypeFault) → IsFault (begun place lead old) why → IsFault (accessed root type_id selectors indexes place lead old) why
-  variable_stops why (inl memory) = inl memory
-  variable_stops why (inr stops) = inr (
-      entered_first ∙ ap (λ r. and_then r (λ a. behind_marks a.look (rest a.answer a.passed))) stops)
-
-  module _ (sites : ℕ × Option ℕ) (number : ℕ) (there : Passed) (enters : begun place lead old ≡ Ok (after sites (Access number ∷ []) there)) where
-    behind_variable : accessed root type_id selectors indexes place lead old ≡ behind_marks (Access number ∷ []) (rest sites there)
-    behind_variable = entered_first ∙ ap (λ r. and_then r (λ a. behind_marks a.look (rest a.answer a.passed))) enters
-
-    -- one of its selectors is refused
-    pub selectors_stop : (why : TypeFault) → IsFault (selected [] type_id selectors indexes there) why
-        → IsFault (accessed root type_id selectors indexes place lead old) why
-    selectors_stop why (inl memory) = inl memory
-    selectors_stop why (inr stops) = inr (
-        behind_variable
-        ∙ ap (λ r. behind_marks (Access number ∷ []) (and_then r (λ a. behind_marks a.look (value root sites a.answer a.passed)))) stops)
-
-    -- its component is selected
-    pub component_is : (component : List TreeSelector × TypeId) (look : Look) (now : Passed)
-        → selected [] type_id selectors indexes there ≡ Ok (after component look now)
-        → accessed root type_id selectors indexes place lead old ≡ behind_marks (Access number ∷ look) (value root sites component now)
-    component_is component look now passes =
-        behind_variable
-        ∙ ap (λ r. behind_marks (Access number ∷ []) (and_then r (λ a. behind_marks a.look (value root sites a.answer a.passed)))) passes
-        ∙ behind_both (Access number ∷ []) look (value root sites component now)
-
 -- a component of a variable, by what its name denotes
-module _ (name : Name) (selectors : List Selector) (indexes : List Written) (lead : Option SiteKind) (old first : Passed) (d : Denotation)
-    (variable : ℕ × TypeId) (finds : find name old ≡ Ok (after d [] first)) (is : as_variable name.place d ≡ Ok variable) where
-  abbrev behind_name : ℕ × TypeId → Passing Typed
-  behind_name v = accessed v.0 v.1 selectors indexes name.place lead
-
-  pub component_goes : component name selectors indexes lead old ≡ accessed variable.0 variable.1 selectors indexes name.place lead first
-  unfolding component
-  component_goes =
-      ap (λ r. and_then r (λ a. behind_marks a.look ((given (as_variable name.place a.answer) >>= behind_name) a.passed))) finds
-      ∙ ap (λ r. behind_marks [] (and_then (and_then r (λ a. Ok (after a [] first))) (λ a. behind_marks a.look (behind_name a.answer a.passed)))) is
-      ∙ behind_nothing (behind_marks [] (behind_name variable first))
-      ∙ behind_nothing (behind_name variable first)
+pub component_begins : (name : Name) (selectors : List Selector) (indexes : List Written) (lead : Option SiteKind) (old first : Passed) (variable : ℕ × TypeId)
+    → FindsVariable name old (Ok variable) first
+    → component name selectors indexes lead old ≡ (begun name.place lead >>= behind_variable variable.0 variable.1 selectors indexes) first
+unfolding component
+component_begins name selectors indexes lead old first variable (d, finds, is) =
+    let behind_name : ℕ × TypeId → Passing Typed = λ v. accessed v.0 v.1 selectors indexes name.place lead in
+    ap (λ r. and_then r (λ a. behind_marks a.look ((given (as_variable name.place a.answer) >>= behind_name) a.passed))) finds
+    ∙ ap (λ r. behind_marks [] (and_then (and_then r (λ a. Ok (after a [] first))) (λ a. behind_marks a.look (behind_name a.answer a.passed)))) is
+    ∙ behind_nothing (behind_marks [] (behind_name variable first))
+    ∙ behind_nothing (behind_name variable first)
+    ∙ entered_first variable.0 variable.1 selectors indexes name.place lead first
 
 -- what stands behind a variable that is reached
 pub reached_then : {B : Type 0} (place : Place) (variable : ℕ × TypeId) (selectors : List Selector) (indexes : List Written)

@@ -20,14 +20,13 @@ use Rattle.typed_tree.specs.Accesses.{index_count}
 use Rattle.typed_tree.specs.Look.{Access, ForVariable, look_expr, look_passed}
 use Rattle.typing.proofs.Selectors.{index_passes}
 use Rattle.expression_resolver.specs.Accesses.{value, look_reached, look_selection, SelectsOne}
-use Rattle.expression_resolver.proofs.Selecting.{component_goes, component_is, elements_take_one, element_selects, field_selects, selectors_stop}
-use Rattle.expression_resolver.proofs.Selecting.{variable_stops}
+use Rattle.expression_resolver.proofs.Selecting.{component_begins, elements_take_one, element_selects, field_selects}
 use Rattle.expression_resolver.proofs.Chains.{first_stops, first_goes_on, chain_begun, relation_begun}
 use Rattle.expression_resolver.proofs.Named.{name_is, name_stops, routine_denoted}
 use Rattle.expression_resolver.proofs.Actuals.{ArePassedFrom, one_passed}
 use Rattle.expression_resolver.proofs.Calls.{actual_stops, call_made, count_stops, value_is, value_stops}
-use Rattle.expression_resolver.proofs.PassedForms.{component_stops, ordinal_passes, ordinal_stops, other_kind, to_none, to_value, to_variable}
-use Rattle.expression_resolver.proofs.PassedForms.{value_by_kind, variable_made, variable_passes, variable_stops as access_stops}
+use Rattle.expression_resolver.proofs.PassedForms.{access_goes, ordinal_passes, ordinal_stops, other_kind, to_none, to_value, to_variable}
+use Rattle.expression_resolver.proofs.PassedForms.{value_by_kind, variable_made}
 use Rattle.expression_resolver.proofs.expressions.+expressions.Goals as goal
 
 -- ---- a name
@@ -121,56 +120,21 @@ expression-returns-in_ok-left-in-Relation t c =
 
 pub component-returns-in_err-entered : goal.component-returns-in_err-entered
 component-returns-in_err-entered t c =
-    let name = c.args.name.now in
-    let selectors = c.args.selectors.now in
-    let indexes = map expression c.args.indexes.now in
-    let old = c.args.typer.now in
-    let first = c.variable.new.typer in
-    let root = c.in_ok-root.root in
-    let type_id = c.in_ok-root.type_id in
-    let found = c.in_ok-root.ensures in
-    let why = c.in_err-entered.field-0.0 in
-    let stops : IsFault (spec.component name selectors indexes c.args.lead old) why =
-    subst (λ o. IsFault o why) (sym (component_goes name selectors indexes c.args.lead old first found.0 (root, type_id) found.1 found.2))
-    (variable_stops root type_id selectors indexes name.place c.args.lead first why c.in_err-entered.ensures) in
-    search rules
+    let begins = component_begins c.args.name.now c.args.selectors.now (map expression c.args.indexes.now) c.args.lead c.args.typer.now
+    c.variable.new.typer (c.in_ok-root.root, c.in_ok-root.type_id) c.in_ok-root.ensures in
+    search (rules, begins)
 
 pub component-returns-in_err-selection : goal.component-returns-in_err-selection
 component-returns-in_err-selection t c =
-    let name = c.args.name.now in
-    let selectors = c.args.selectors.now in
-    let indexes = map expression c.args.indexes.now in
-    let old = c.args.typer.now in
-    let first = c.variable.new.typer in
-    let root = c.in_ok-root.root in
-    let type_id = c.in_ok-root.type_id in
-    let found = c.in_ok-root.ensures in
-    let e = c.in_ok-entered.entered in
-    let why = c.in_err-selection.field-0.0 in
-    let stops : IsFault (spec.component name selectors indexes c.args.lead old) why =
-    subst (λ o. IsFault o why) (sym (component_goes name selectors indexes c.args.lead old first found.0 (root, type_id) found.1 found.2))
-    (selectors_stop root type_id selectors indexes name.place c.args.lead first (e.defined, e.site) e.number c.enter.new.typer c.in_ok-entered.ensures.0 why
-    c.in_err-selection.ensures.made) in
-    search rules
+    let begins = component_begins c.args.name.now c.args.selectors.now (map expression c.args.indexes.now) c.args.lead c.args.typer.now
+    c.variable.new.typer (c.in_ok-root.root, c.in_ok-root.type_id) c.in_ok-root.ensures in
+    search (rules, begins)
 
 pub component-returns : goal.component-returns
 component-returns t c =
-    let name = c.args.name.now in
-    let selectors = c.args.selectors.now in
-    let indexes = map expression c.args.indexes.now in
-    let first = c.variable.new.typer in
-    let root = c.in_ok-root.root in
-    let type_id = c.in_ok-root.type_id in
-    let found = c.in_ok-root.ensures in
-    let e = c.in_ok-entered.entered in
-    let made = c.in_ok-selection.selection in
-    let now = c.selected.new.typer in
-    component_goes name selectors indexes c.args.lead c.args.typer.now first found.0 (root, type_id) found.1 found.2
-    ∙ component_is root type_id selectors indexes name.place c.args.lead first (e.defined, e.site) e.number c.enter.new.typer
-    c.in_ok-entered.ensures.0 (made.selectors.items, made.type_id) (look_selection made) now c.in_ok-selection.ensures.made
-    ∙ ap (λ r. behind_marks (Access e.number ∷ look_selection made) (value r (e.defined, e.site) (made.selectors.items, made.type_id) now))
-    (sym c.in_ok-entered.ensures.1)
-    ∙ c.accessed_value.ensures
+    let begins = component_begins c.args.name.now c.args.selectors.now (map expression c.args.indexes.now) c.args.lead c.args.typer.now
+    c.variable.new.typer (c.in_ok-root.root, c.in_ok-root.type_id) c.in_ok-root.ensures in
+    search (rules, begins)
 
 -- an element is selected
 pub select_element-returns : goal.select_element-returns
@@ -300,48 +264,22 @@ passed_ordinal-returns t c = λ callee position.
 
 pub passed_access-returns-in_err-reached : goal.passed_access-returns-in_err-reached
 passed_access-returns-in_err-reached t c = λ callee position.
-    let name = c.args.name.now in
-    let selectors = c.args.selectors.now in
-    let indexes = map expression c.args.indexes.now in
-    let old = c.args.typer.now in
-    let why = c.in_err-reached.field-0.0 in
-    let stops : IsFault (spec.passed_variable name selectors indexes c.args.wanted callee position old) why =
-    access_stops name selectors indexes c.args.wanted callee position c.in_ok-root.ensures.0 (c.in_ok-root.root, c.in_ok-root.type_id) old
-    c.variable.new.typer c.in_ok-root.ensures.1 c.in_ok-root.ensures.2 why c.in_err-reached.ensures.made in
-    search rules
+    let goes = access_goes c.args.name.now c.args.selectors.now (map expression c.args.indexes.now) c.args.wanted callee position c.args.typer.now
+    c.variable.new.typer (c.in_ok-root.root, c.in_ok-root.type_id) c.in_ok-root.ensures in
+    search (rules, goes)
 
 pub passed_access-returns-in_err-passable : goal.passed_access-returns-in_err-passable
 passed_access-returns-in_err-passable t c = λ callee position.
-    let made = c.in_ok-reached.reached in
-    let name = c.args.name.now in
-    let selectors = c.args.selectors.now in
-    let indexes = map expression c.args.indexes.now in
-    let old = c.args.typer.now in
-    let now = c.reach.new.typer in
-    let why = c.in_err-passable.field-0.0 in
-    let is : spec.passable now.types c.args.wanted c.in_ok-root.type_id made.access.selectors.items made.type_id name.place ≡ Err why = search rules in
-    let stops : spec.passed_variable name selectors indexes c.args.wanted callee position old ≡ Err why =
-    component_stops name selectors indexes c.args.wanted callee position c.in_ok-root.ensures.0 (c.in_ok-root.root, c.in_ok-root.type_id) old
-    c.variable.new.typer c.in_ok-root.ensures.1 c.in_ok-root.ensures.2 (made.access.selectors.items, made.type_id) (look_reached made) now
-    c.in_ok-reached.ensures.made why is in
-    search rules
+    let goes = access_goes c.args.name.now c.args.selectors.now (map expression c.args.indexes.now) c.args.wanted callee position c.args.typer.now
+    c.variable.new.typer (c.in_ok-root.root, c.in_ok-root.type_id) c.in_ok-root.ensures in
+    search (rules, goes)
 
 pub passed_access-returns : goal.passed_access-returns
-passed_access-returns t c =
-    let made = c.in_ok-reached.reached in
-    let access = made.access in
-    let selectors = access.selectors.items in
-    let name = c.args.name.now in
-    let wanted = c.args.wanted in
-    let now = c.reach.new.typer in
-    let fits : spec.passable now.types wanted c.in_ok-root.type_id selectors made.type_id name.place ≡ Ok tt = search rules in
-    λ callee position.
-    variable_passes name c.args.selectors.now (map expression c.args.indexes.now) wanted callee position c.in_ok-root.ensures.0
-    (c.in_ok-root.root, c.in_ok-root.type_id) c.args.typer.now c.variable.new.typer c.in_ok-root.ensures.1 c.in_ok-root.ensures.2
-    (selectors, made.type_id) (look_reached made) now c.in_ok-reached.ensures.made fits
-    ∙ ap (λ root. Ok (after tt (look_reached made ++ (ForVariable wanted root selectors (index_count selectors) callee position ∷ [])) now))
-    (sym c.in_ok-reached.ensures.root)
-    ∙ ap (λ look. Ok (after tt look now)) (variable_made wanted made callee position c.in_ok-reached.ensures.counted)
+passed_access-returns t c = λ callee position.
+    let goes = access_goes c.args.name.now c.args.selectors.now (map expression c.args.indexes.now) c.args.wanted callee position c.args.typer.now
+    c.variable.new.typer (c.in_ok-root.root, c.in_ok-root.type_id) c.in_ok-root.ensures in
+    let looks = variable_made c.args.wanted c.in_ok-reached.reached callee position c.in_ok-reached.ensures.counted in
+    search (rules, goes, looks)
 
 pub passed_variable-returns-in-Component : goal.passed_variable-returns-in-Component
 passed_variable-returns-in-Component t c =
