@@ -28,13 +28,12 @@ use Rattle.typing.specs.Passing.{Passed, Passing, Checked, After, after, and_the
 use Rattle.typing.specs.Steps.{enter_as, find, may_change, variable_at}
 use Rattle.typing.specs.Expressions.{Written, actual, as_variable, expression, passable, passed_ordinal, passed_to, passed_value, passed_variable}
 use Rattle.typing.specs.Expressions.{passed_whole, selected, tests_structured, unless_width, written_actual}
-use Rattle.typing.specs.Outcomes.{IsFault}
 use Rattle.typing.proofs.Rows.{behind_nothing}
 use Rattle.typing.proofs.Written.{typing_actual}
 use Rattle.expression_resolver.specs.declared.typed.Reached.{Reached}
 use Rattle.expression_resolver.specs.Accesses.{FindsVariable, look_reached, reached}
 use Rattle.expression_resolver.specs.Made.{fitted}
-use Rattle.expression_resolver.proofs.Fitting.{value_fits, value_stops}
+use Rattle.expression_resolver.proofs.Fitting.{by_value}
 use Rattle.expression_resolver.proofs.Selecting.{look_made, reached_then}
 
 -- ---- by what the formal one is
@@ -95,16 +94,11 @@ module _ (type_id : TypeId) (w : Written) (callee position : ℕ) (s : Passed) w
       ap (λ b. behind_marks [] ((if b then passed_whole else passed_ordinal) type_id w callee position s)) is
       ∙ behind_nothing ((if structured then passed_whole else passed_ordinal) type_id w callee position s)
 
-  -- a value of an ordinal type is refused
-  pub ordinal_stops : (why : TypeFault) → IsFault (fitted type_id w.first w s) why → IsFault (passed_ordinal type_id w callee position s) why
+  -- a value of an ordinal type, and then its mark
+  pub ordinal_goes : passed_ordinal type_id w callee position s
+      ≡ (fitted type_id w.first w >>= (λ fits. mark (ForValue fits callee position))) s
   unfolding passed_ordinal
-  ordinal_stops why stops = value_stops type_id w.first w (λ fits. ForValue fits callee position) s why stops
-
-  -- it fits
-  pub ordinal_passes : (fits : RangeTest) (look : Look) (now : Passed) → fitted type_id w.first w s ≡ Ok (after fits look now)
-      → passed_ordinal type_id w callee position s ≡ Ok (after tt (look ++ (ForValue fits callee position ∷ [])) now)
-  unfolding passed_ordinal
-  ordinal_passes fits look now passes = value_fits type_id w.first w (λ test. ForValue test callee position) s fits look now passes
+  ordinal_goes = by_value type_id w.first w (λ fits. ForValue fits callee position) s
 
 -- ---- variables
 

@@ -25,7 +25,7 @@ use Rattle.expression_resolver.proofs.Chains.{first_stops, first_goes_on, chain_
 use Rattle.expression_resolver.proofs.Named.{name_is, name_stops, routine_denoted}
 use Rattle.expression_resolver.proofs.Actuals.{ArePassedFrom, one_passed}
 use Rattle.expression_resolver.proofs.Calls.{actual_stops, call_made, count_stops, value_is, value_stops}
-use Rattle.expression_resolver.proofs.PassedForms.{access_goes, ordinal_passes, ordinal_stops, other_kind, to_none, to_value, to_variable}
+use Rattle.expression_resolver.proofs.PassedForms.{access_goes, ordinal_goes, other_kind, to_none, to_value, to_variable}
 use Rattle.expression_resolver.proofs.PassedForms.{value_by_kind, variable_made}
 use Rattle.expression_resolver.proofs.expressions.+expressions.Goals as goal
 
@@ -240,25 +240,13 @@ passed_value-returns-else-is_structured t c =
 
 pub passed_ordinal-returns-in_err-value : goal.passed_ordinal-returns-in_err-value
 passed_ordinal-returns-in_err-value t c = λ callee position.
-    let type_id = c.args.type_id in
-    let w = expression c.args.written.now in
-    let s = c.args.typer.now in
-    let why = c.in_err-value.field-0.0 in
-    let stops : IsFault (spec.passed_ordinal type_id w callee position s) why =
-    ordinal_stops type_id w callee position s why
-    (subst (λ place. IsFault (fitted type_id place w s) why) c.first_place.ensures c.in_err-value.ensures) in
-    search rules
+    let goes = ordinal_goes c.args.type_id (expression c.args.written.now) callee position c.args.typer.now in
+    search (rules, goes)
 
 pub passed_ordinal-returns : goal.passed_ordinal-returns
 passed_ordinal-returns t c = λ callee position.
-    let type_id = c.args.type_id in
-    let w = expression c.args.written.now in
-    let s = c.args.typer.now in
-    let made = c.in_ok-value.field-0 in
-    let now = c.fitted.new.typer in
-    ordinal_passes type_id w callee position s made.fits (look_expr made.value) now
-    (subst (λ place. fitted type_id place w s ≡ Ok (after made.fits (look_expr made.value) now)) c.first_place.ensures c.in_ok-value.ensures)
-    ∙ ap (λ look. Ok (after tt look now)) (sym (look_passed_value made.value made.fits callee position))
+    let goes = ordinal_goes c.args.type_id (expression c.args.written.now) callee position c.args.typer.now in
+    search (rules, goes, look_passed_value)
 
 -- ---- variables for variable parameters
 
