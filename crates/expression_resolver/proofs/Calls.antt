@@ -38,7 +38,7 @@ module _ (place : Place) (id : Option ℕ) where
   by_found s None = refl
   by_found s (Some variable) = refl
 
-  value_by_host : (root : Option ℕ) (s : Passed) → value_of root s ≡ by_host (result_host place root s)
+  pub value_by_host : (root : Option ℕ) (s : Passed) → value_of root s ≡ by_host (result_host place root s)
   unfolding variable_at
   value_by_host None s = by_found s None
   value_by_host (Some n) s = by_found s (slice_get s.variables n)

@@ -11,7 +11,8 @@ use Rattle.typed_tree.proofs.Looks.{look_function_call, look_passed_value}
 use Rattle.typed_tree.specs.Look.{Begins}
 use Rattle.typing.specs.Passing.{after, behind_marks}
 use Rattle.typing.specs.Expressions.{Written, expression, written_actual, written_link, chain_behind, relation_behind}
-use Rattle.typing.specs.Steps.{program_heading}
+use Rattle.typing.specs.Steps.{heading_at, program_heading}
+use Rattle.typing.proofs.Rows.{behind_both}
 use Rattle.typing.proofs.Written.{typing_component}
 use Rattle.typing.specs.Expressions as spec
 use Rattle.typing.specs.Outcomes.{IsFault, Makes}
@@ -24,7 +25,7 @@ use Rattle.expression_resolver.proofs.Selecting.{component_begins, elements_take
 use Rattle.expression_resolver.proofs.Chains.{first_stops, first_goes_on, chain_begun, relation_begun}
 use Rattle.expression_resolver.proofs.Named.{name_is, name_stops, routine_denoted}
 use Rattle.expression_resolver.proofs.Actuals.{ArePassedFrom, one_passed}
-use Rattle.expression_resolver.proofs.Calls.{actual_stops, call_made, count_stops, value_is, value_stops}
+use Rattle.expression_resolver.proofs.Calls.{value_by_host}
 use Rattle.expression_resolver.proofs.PassedForms.{access_goes, ordinal_goes, other_kind, to_none, to_value, to_variable}
 use Rattle.expression_resolver.proofs.PassedForms.{value_by_kind, variable_made}
 use Rattle.expression_resolver.proofs.expressions.+expressions.Goals as goal
@@ -59,46 +60,22 @@ expression-returns-in_default t c =
 
 pub expression-returns-in_err-left-in-Chain : goal.expression-returns-in_err-left-in-Chain
 expression-returns-in_err-left-in-Chain t c =
-    let w = c.args.written.now in
-    let s = c.args.typer.now in
-    let first = c.deref-in-Chain.result.now in
-    let why = c.in_err-left-in-Chain.field-0.0 in
-    let begun = chain_begun w c.args.lead s c.in-Chain.first c.in-Chain.rest first c.in-Chain.is c.deref-in-Chain.ensures in
-    let stops : IsFault ((expression w).typing c.args.lead s) why =
-    first_stops w (expression first) (chain_behind (expression first).first (map written_link c.in-Chain.rest.items)) c.args.lead s begun why
-    c.in_err-left-in-Chain.ensures in
-    search rules
+    let it = c.in-Chain in
+    let begun = chain_begun c.args.written.now c.args.lead c.args.typer.now it.first it.rest c.deref-in-Chain.result.now it.is c.deref-in-Chain.ensures in
+    search (rules, begun)
 
 pub expression-returns-in_ok-left-in-Chain : goal.expression-returns-in_ok-left-in-Chain
 expression-returns-in_ok-left-in-Chain t c =
-    let w = c.args.written.now in
-    let s = c.args.typer.now in
-    let first = c.deref-in-Chain.result.now in
-    let left = c.in_ok-left-in-Chain.left in
-    let now = c.expression.new.typer in
-    let begun = chain_begun w c.args.lead s c.in-Chain.first c.in-Chain.rest first c.in-Chain.is c.deref-in-Chain.ensures in
-    let at : (expression first).first ≡ c.first_place.result =
-    ap (λ e. (expression e).first) (c.deref-in-Chain.ensures ∙ sym c.deref-in-Chain-2.ensures) ∙ sym c.first_place.ensures in
-    subst (λ o. MakesTyped o c.chain.result c.chain.new.typer)
-    (sym (first_goes_on w (expression first) (chain_behind (expression first).first (map written_link c.in-Chain.rest.items)) c.args.lead s begun
-    (typed_of left) (look_value left.value) now c.in_ok-left-in-Chain.ensures
-    ∙ ap (λ p. behind_marks (Begins ∷ look_value left.value) (chain_behind p (map written_link c.in-Chain.rest.items) (typed_of left) now)) at
-    ∙ ap (λ l. behind_marks (Begins ∷ look_value left.value) (chain_behind c.first_place.result (map written_link l) (typed_of left) now))
-    (sym c.deref-in-Chain-3.ensures.value)))
-    c.chain.ensures
+    let it = c.in-Chain in
+    let begun = chain_begun c.args.written.now c.args.lead c.args.typer.now it.first it.rest c.deref-in-Chain.result.now it.is c.deref-in-Chain.ensures in
+    search (rules, begun, behind_both)
 
 pub expression-returns-in_err-left-in-Relation : goal.expression-returns-in_err-left-in-Relation
 expression-returns-in_err-left-in-Relation t c =
-    let w = c.args.written.now in
-    let s = c.args.typer.now in
     let r = c.in-Relation in
-    let operand = c.deref-in-Relation.result.now in
-    let why = c.in_err-left-in-Relation.field-0.0 in
-    let begun = relation_begun w c.args.lead s r.left r.operator r.place r.right operand r.is c.deref-in-Relation.ensures in
-    let stops : IsFault ((expression w).typing c.args.lead s) why =
-    first_stops w (expression operand) (relation_behind r.operator r.place (expression r.right.value)) c.args.lead s begun why
-    c.in_err-left-in-Relation.ensures in
-    search rules
+    let begun = relation_begun c.args.written.now c.args.lead c.args.typer.now r.left r.operator r.place r.right c.deref-in-Relation.result.now r.is
+    c.deref-in-Relation.ensures in
+    search (rules, begun)
 
 pub expression-returns-in_ok-left-in-Relation : goal.expression-returns-in_ok-left-in-Relation
 expression-returns-in_ok-left-in-Relation t c =
@@ -284,68 +261,27 @@ passed_variable-returns-in-Component t c =
 -- ---- calls
 
 pub function_value-returns-in_err-type_id : goal.function_value-returns-in_err-type_id
+unfolding spec.function_value
 function_value-returns-in_err-type_id t c =
-    let why = c.in_err-type_id.field-0.0 in
-    let is : c.args.is_function ≡ true = search rules in
-    let actuals = map written_actual c.args.actuals.now in
-    let stops : IsFault (spec.function_value c.args.block c.args.is_function c.args.place actuals c.args.lead c.args.typer.now) why = inr (
-    ap (λ f. spec.function_value c.args.block f c.args.place actuals c.args.lead c.args.typer.now) is
-    ∙ value_stops c.args.block c.args.place actuals c.args.lead c.args.typer.now c.pass.new.self c.behind.new.self c.in_ok-site.site
-    c.pass.ensures c.in_ok-site.ensures c.in_ok-made.made.root _ c.routine_call.new.typer c.in_ok-made.ensures why c.in_err-type_id.ensures) in
-    search rules
+    let by = value_by_host c.args.place c.in_ok-site.site c.in_ok-made.made.root c.routine_call.new.typer in
+    search (rules, by)
 
 pub function_value-returns : goal.function_value-returns
+unfolding spec.function_value
 function_value-returns t c =
-    let is : c.args.is_function ≡ true = search rules in
-    let actuals = map written_actual c.args.actuals.now in
-    let made = c.in_ok-made.made in
-    ap (λ f. spec.function_value c.args.block f c.args.place actuals c.args.lead c.args.typer.now) is
-    ∙ value_is c.args.block c.args.place actuals c.args.lead c.args.typer.now c.pass.new.self c.behind.new.self c.in_ok-site.site
-    c.pass.ensures c.in_ok-site.ensures made.root _ c.routine_call.new.typer c.in_ok-made.ensures c.in_ok-type_id.type_id c.in_ok-type_id.ensures
-    ∙ ap (λ look. Ok (after (spec.typed c.in_ok-type_id.type_id c.in_ok-site.site) look c.routine_call.new.typer))
-    (sym (look_function_call made.call made.actuals))
+    let by = value_by_host c.args.place c.in_ok-site.site c.in_ok-made.made.root c.routine_call.new.typer in
+    search (rules, by, look_function_call)
 
 pub routine_call-returns-in_err-found : goal.routine_call-returns-in_err-found
-routine_call-returns-in_err-found t c =
-    let why = c.in_err-found.field-0.0 in
-    let actuals = c.args.actuals.now in
-    let formals = (get_or c.enter.new.self.headings c.args.block program_heading).parameters in
-    let refused : (why ≡ fault.Memory) ⊎ (spec.are_as_many c.args.place (length (map written_actual actuals)) (length formals) ≡ Err why) =
-    subst (λ n. (why ≡ fault.Memory) ⊎ (spec.are_as_many c.args.place n (length formals) ≡ Err why)) (sym (length-map actuals written_actual))
-    c.in_err-found.ensures.found in
-    let stops : IsFault (spec.routine_call c.args.is_function c.args.block c.args.place (map written_actual actuals) c.args.typer.now) why =
-    count_stops c.args.is_function c.args.block c.args.place (map written_actual actuals) c.args.typer.now c.enter.new.self c.in_ok-number.number
-    c.in_ok-number.ensures why refused in
-    search rules
+unfolding spec.routine_call heading_at
+routine_call-returns-in_err-found t c = search (rules, length-map)
 
 pub routine_call-returns-in_err-passed : goal.routine_call-returns-in_err-passed
+unfolding spec.routine_call heading_at
 routine_call-returns-in_err-passed t c =
-    let why = c.in_err-passed.field-0.0 in
-    let actuals = c.args.actuals.now in
-    let there = c.enter.new.self in
-    let formals = (get_or there.headings c.args.block program_heading).parameters in
-    let many : spec.are_as_many c.args.place (length (map written_actual actuals)) (length formals) ≡ Ok tt =
-    ap (λ n. spec.are_as_many c.args.place n (length formals)) (length-map actuals written_actual) ∙ c.in_ok-found.ensures.found.fits in
-    let refused : IsFault (spec.actuals_for formals (map written_actual actuals) c.args.block 0 there) why =
-    subst (λ roots. IsFault (spec.actuals_for roots (map written_actual actuals) c.args.block 0 there) why)
-    (c.deref.ensures.value ∙ sym c.in_ok-found.ensures.found.parameters) (c.in_err-passed.ensures.made c.args.block) in
-    let stops : IsFault (spec.routine_call c.args.is_function c.args.block c.args.place (map written_actual actuals) c.args.typer.now) why =
-    actual_stops c.args.is_function c.args.block c.args.place (map written_actual actuals) c.args.typer.now there c.in_ok-number.number
-    c.in_ok-number.ensures many why refused in
-    search rules
+    let stops = c.in_err-passed.ensures.made c.args.block in
+    search (rules, length-map, stops)
 
 pub routine_call-returns : goal.routine_call-returns
-routine_call-returns t c =
-    let actuals = c.args.actuals.now in
-    let there = c.enter.new.self in
-    let passed = c.in_ok-passed.passed in
-    let now = c.actuals_for.new.typer in
-    let found = c.in_ok-found.ensures.found in
-    let formals = (get_or there.headings c.args.block program_heading).parameters in
-    let many : spec.are_as_many c.args.place (length (map written_actual actuals)) (length formals) ≡ Ok tt =
-    ap (λ n. spec.are_as_many c.args.place n (length formals)) (length-map actuals written_actual) ∙ found.fits in
-    call_made c.args.is_function c.args.block c.args.place (map written_actual actuals) c.args.typer.now there c.in_ok-number.number
-    c.in_ok-number.ensures many c.in_ok-found.found.root found.result passed.items
-    (c.in_ok-passed.ensures.counted ∙ sym (length-map actuals written_actual)) now
-    (ap (λ roots. spec.actuals_for roots (map written_actual actuals) c.args.block 0 there) (found.parameters ∙ sym c.deref.ensures.value)
-    ∙ c.in_ok-passed.ensures.made c.args.block)
+unfolding spec.routine_call heading_at
+routine_call-returns t c = search (rules, length-map)
