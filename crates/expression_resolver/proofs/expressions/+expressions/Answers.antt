@@ -1,6 +1,6 @@
 use Rattle.std.proofs.lemmas.Bool.Decides.{nat_tests}
 use Rattle.std.proofs.Common.{rules, ◌≡◌, ◌<◌, ◌+◌, [], ◌∷◌, ◌++◌, ◌⊎◌, ap₂, get_or, length, map, sym, ap, subst, ◌∙◌, arith, inr, true, false}
-use Rattle.std.proofs.Common.{is_some, Some, None, Ok, Err}
+use Rattle.std.proofs.Common.{is_some, refl, Some, None, Ok, Err}
 use Rattle.std.specs.Prelude.{slice_get}
 use Rattle.std.proofs.lemmas.List.{length-map}
 use Rattle.syntax_tree.specs.declared.Expr.TheViews.{out-Actual}
@@ -12,7 +12,7 @@ use Rattle.typed_tree.specs.Look.{Begins}
 use Rattle.typing.specs.Passing.{after, behind_marks}
 use Rattle.typing.specs.Expressions.{Written, expression, written_actual, written_link, chain_behind, relation_behind}
 use Rattle.typing.specs.Steps.{heading_at, program_heading}
-use Rattle.typing.proofs.Rows.{behind_both}
+use Rattle.typing.proofs.Rows.{behind_both, behind_nothing}
 use Rattle.typing.proofs.Written.{typing_component}
 use Rattle.typing.specs.Expressions as spec
 use Rattle.typing.specs.Outcomes.{IsFault, Makes}
@@ -22,8 +22,8 @@ use Rattle.typed_tree.specs.Look.{Access, ForVariable, look_expr, look_passed}
 use Rattle.typing.proofs.Selectors.{index_passes}
 use Rattle.expression_resolver.specs.Accesses.{value, look_reached, look_selection, SelectsOne}
 use Rattle.expression_resolver.proofs.Selecting.{component_begins, elements_take_one, element_selects, field_selects}
-use Rattle.expression_resolver.proofs.Chains.{first_stops, first_goes_on, chain_begun, relation_begun}
-use Rattle.expression_resolver.proofs.Named.{name_is, name_stops, routine_denoted}
+use Rattle.expression_resolver.proofs.Chains.{chain_begun, relation_begun}
+use Rattle.expression_resolver.proofs.Named.{named_is}
 use Rattle.expression_resolver.proofs.Actuals.{ArePassedFrom, one_passed}
 use Rattle.expression_resolver.proofs.Calls.{value_by_host}
 use Rattle.expression_resolver.proofs.PassedForms.{access_goes, ordinal_goes, other_kind, to_none, to_value, to_variable}
@@ -34,27 +34,19 @@ use Rattle.expression_resolver.proofs.expressions.+expressions.Goals as goal
 
 pub expression-returns-in_err-denotation-in-Name : goal.expression-returns-in_err-denotation-in-Name
 expression-returns-in_err-denotation-in-Name t c =
-    let why = c.in_err-denotation-in-Name.field-0.0 in
-    let stops : IsFault ((expression c.args.written.now).typing c.args.lead c.args.typer.now) why =
-    name_stops c.args.written.now c.in-Name.name c.in-Name.is c.args.lead c.args.typer.now why c.in_err-denotation-in-Name.ensures in
-    search rules
+    let named = named_is c.args.written.now c.in-Name.name c.in-Name.is c.args.lead c.args.typer.now in
+    search (rules, named)
 
 pub expression-returns-in-Routine : goal.expression-returns-in-Routine
+unfolding spec.denoted
 expression-returns-in-Routine t c =
-    let place = c.in-Name.name.place in
-    subst (λ o. MakesTyped o c.function_value.result c.function_value.new.typer)
-    (sym (name_is c.args.written.now c.in-Name.name c.in-Name.is c.args.lead c.args.typer.now c.in_ok-denotation-in-Name.denotation c.find.new.self
-    c.in_ok-denotation-in-Name.ensures
-    ∙ routine_denoted c.in_ok-denotation-in-Name.denotation place c.args.lead c.find.new.self c.in-Routine.block c.in-Routine.is_function
-    c.in-Routine.is))
-    c.function_value.ensures
+    let named = named_is c.args.written.now c.in-Name.name c.in-Name.is c.args.lead c.args.typer.now in
+    search (rules, named, behind_nothing)
 
 pub expression-returns-in_default : goal.expression-returns-in_default
 expression-returns-in_default t c =
-    subst (λ o. MakesTyped o c.denoted.result c.denoted.new.typer)
-    (sym (name_is c.args.written.now c.in-Name.name c.in-Name.is c.args.lead c.args.typer.now c.in_ok-denotation-in-Name.denotation
-    c.find.new.self c.in_ok-denotation-in-Name.ensures))
-    c.denoted.ensures
+    let named = named_is c.args.written.now c.in-Name.name c.in-Name.is c.args.lead c.args.typer.now in
+    search (rules, named, behind_nothing)
 
 -- ---- chains and relations
 
@@ -73,25 +65,16 @@ expression-returns-in_ok-left-in-Chain t c =
 pub expression-returns-in_err-left-in-Relation : goal.expression-returns-in_err-left-in-Relation
 expression-returns-in_err-left-in-Relation t c =
     let r = c.in-Relation in
-    let begun = relation_begun c.args.written.now c.args.lead c.args.typer.now r.left r.operator r.place r.right c.deref-in-Relation.result.now r.is
-    c.deref-in-Relation.ensures in
+    let begun = relation_begun c.args.written.now c.args.lead c.args.typer.now r.left r.operator r.place r.right c.deref-in-Relation.result.now
+    r.right.value r.is c.deref-in-Relation.ensures refl in
     search (rules, begun)
 
 pub expression-returns-in_ok-left-in-Relation : goal.expression-returns-in_ok-left-in-Relation
 expression-returns-in_ok-left-in-Relation t c =
-    let w = c.args.written.now in
-    let s = c.args.typer.now in
     let r = c.in-Relation in
-    let operand = c.deref-in-Relation.result.now in
-    let left = c.in_ok-left-in-Relation.left in
-    let now = c.expression-in-Relation.new.typer in
-    let begun = relation_begun w c.args.lead s r.left r.operator r.place r.right operand r.is c.deref-in-Relation.ensures in
-    subst (λ o. MakesTyped o c.relation.result c.relation.new.typer)
-    (sym (first_goes_on w (expression operand) (relation_behind r.operator r.place (expression r.right.value)) c.args.lead s begun
-    (typed_of left) (look_value left.value) now c.in_ok-left-in-Relation.ensures
-    ∙ ap (λ e. behind_marks (Begins ∷ look_value left.value) (relation_behind r.operator r.place (expression e) (typed_of left) now))
-    (sym c.deref-in-Relation-2.ensures)))
-    c.relation.ensures
+    let begun = relation_begun c.args.written.now c.args.lead c.args.typer.now r.left r.operator r.place r.right c.deref-in-Relation.result.now
+    c.deref-in-Relation-2.result.now r.is c.deref-in-Relation.ensures c.deref-in-Relation-2.ensures in
+    search (rules, begun, behind_both)
 
 -- ---- a component
 
