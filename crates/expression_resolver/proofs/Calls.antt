@@ -1,23 +1,14 @@
 -- Calls and the values of functions: how their typing goes on from that of their actual parameters.
-use Rattle.std.proofs.Common.{◌≡◌, ℕ, List, [], ◌∷◌, ◌++◌, length, get_or, Bool, true, Option, Some, None, Ok, Err, inl, inr, refl, sym, ap, ◌∙◌}
-use Rattle.std.proofs.Common.{append-nil}
-use Rattle.std.proofs.Common.{◌⊎◌}
-use Rattle.std.proofs.lemmas.List.{length-map}
+use Rattle.std.proofs.Common.{◌≡◌, ℕ, [], Option, Some, None, Ok, refl}
 use Rattle.std.specs.Prelude.{slice_get}
 use Rattle.place.specs.declared.Place.{Place}
 use Rattle.types.specs.declared.form.TypeId.{TypeId}
-use Rattle.typed_tree.specs.declared.fault.TypeFault.{TypeFault}
-use Rattle.typed_tree.specs.declared.fault.TypeFault.TheVariants as fault
-use Rattle.typed_tree.specs.declared.site.SiteKind.{SiteKind}
-use Rattle.typed_tree.specs.declared.tree.Passed.{Passed as PassedOne}
 use Rattle.typed_tree.specs.declared.tree.Variable.{Variable}
-use Rattle.typed_tree.specs.Look.{Look, Called, Calls, look_call, look_passed}
 use Rattle.typing.specs.declared.typed.Typed.{Typed}
-use Rattle.typing.specs.Passing.{Passed, Passing, Checked, After, Headed, after, and_then, behind_marks, given, mark, pure, ◌>>=◌, ◌>>◌}
-use Rattle.typing.specs.Steps.{enter, heading_at, host_type, pass, program_heading, variable_at}
-use Rattle.typing.specs.Expressions.{WrittenActual, actuals_for, are_as_many, behind, function_value, or_no_result, result_variable, routine_call, typed}
-use Rattle.typing.specs.Outcomes.{IsFault}
-use Rattle.expression_resolver.specs.Made.{host_found, look_actuals}
+use Rattle.typing.specs.Passing.{Passed, Passing, Checked, After, after, and_then, behind_marks, given, pure, ◌>>=◌}
+use Rattle.typing.specs.Steps.{host_type, variable_at}
+use Rattle.typing.specs.Expressions.{or_no_result, result_variable, typed}
+use Rattle.expression_resolver.specs.Made.{host_found}
 use Rattle.expression_resolver.proofs.Results.{result_host}
 
 -- ---- the value of a function

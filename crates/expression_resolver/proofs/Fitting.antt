@@ -7,7 +7,7 @@ use Rattle.typed_tree.specs.declared.site.SiteKind.TheVariants as kind
 use Rattle.typed_tree.specs.declared.tree.Fitted.{Fitted}
 use Rattle.typed_tree.specs.declared.tree.RangeTest.{RangeTest}
 use Rattle.typed_tree.specs.Look.{Mark, look_expr}
-use Rattle.typing.specs.Passing.{Passed, Passing, after, and_then, behind_marks, mark, pure, ◌>>=◌, ◌>>?◌}
+use Rattle.typing.specs.Passing.{Passed, Passing, and_then, behind_marks, mark, pure, ◌>>=◌, ◌>>?◌}
 use Rattle.typing.specs.Steps.{or_mismatch, site}
 use Rattle.typing.specs.Expressions.{Written, fitting}
 use Rattle.typing.specs.Outcomes.{Makes}

@@ -1,33 +1,28 @@
 use Rattle.std.proofs.lemmas.Bool.Decides.{nat_tests}
-use Rattle.std.proofs.Common.{rules, ◌≡◌, ◌<◌, ◌+◌, [], ◌∷◌, ◌++◌, ◌⊎◌, ap₂, get_or, length, map, sym, ap, subst, ◌∙◌, arith, inr, true, false}
-use Rattle.std.proofs.Common.{is_some, refl, Some, None, Ok, Err}
-use Rattle.std.specs.Prelude.{slice_get}
+use Rattle.std.proofs.Common.{rules, ◌≡◌, ◌<◌, ◌+◌, ap₂, length, map, sym, ap, subst, ◌∙◌, arith, false}
+use Rattle.std.proofs.Common.{is_some, refl}
 use Rattle.std.proofs.lemmas.List.{length-map}
 use Rattle.syntax_tree.specs.declared.Expr.TheViews.{out-Actual}
-use Rattle.types.specs.Types.{is_structured}
-use Rattle.typed_tree.specs.declared.fault.TypeFault.TheVariants as fault
-use Rattle.typed_tree.specs.WellFormed.{is_variable_kind}
 use Rattle.typed_tree.proofs.Looks.{look_function_call, look_passed_value}
-use Rattle.typed_tree.specs.Look.{Begins}
-use Rattle.typing.specs.Passing.{after, behind_marks}
+use Rattle.typing.specs.Passing.{behind_marks}
 use Rattle.typing.specs.Expressions.{Written, expression, written_actual, written_link, chain_behind, relation_behind}
-use Rattle.typing.specs.Steps.{heading_at, program_heading}
+use Rattle.typing.specs.Steps.{heading_at, variable_at}
 use Rattle.typing.proofs.Rows.{behind_both, behind_nothing}
-use Rattle.typing.proofs.Written.{typing_component}
+use Rattle.typing.specs.Expressions.{tests_structured}
+use Rattle.typing.proofs.Written.{typing_actual, typing_component}
 use Rattle.typing.specs.Expressions as spec
-use Rattle.typing.specs.Outcomes.{IsFault, Makes}
-use Rattle.expression_resolver.specs.Made.{fitted, typed_of, look_value, MakesTyped}
+use Rattle.typing.specs.Outcomes.{Makes}
 use Rattle.typed_tree.specs.Accesses.{index_count}
-use Rattle.typed_tree.specs.Look.{Access, ForVariable, look_expr, look_passed}
+use Rattle.typed_tree.specs.Look.{look_expr, look_passed}
 use Rattle.typing.proofs.Selectors.{index_passes}
-use Rattle.expression_resolver.specs.Accesses.{value, look_reached, look_selection, SelectsOne}
+use Rattle.expression_resolver.specs.Accesses.{SelectsOne}
 use Rattle.expression_resolver.proofs.Selecting.{component_begins, elements_take_one, element_selects, field_selects}
 use Rattle.expression_resolver.proofs.Chains.{chain_begun, relation_begun}
 use Rattle.expression_resolver.proofs.Named.{named_is}
 use Rattle.expression_resolver.proofs.Actuals.{ArePassedFrom, one_passed}
 use Rattle.expression_resolver.proofs.Calls.{value_by_host}
-use Rattle.expression_resolver.proofs.PassedForms.{access_goes, ordinal_goes, other_kind, to_none, to_value, to_variable}
-use Rattle.expression_resolver.proofs.PassedForms.{value_by_kind, variable_made}
+use Rattle.expression_resolver.proofs.PassedForms.{access_goes, no_width, ordinal_goes, other_kind}
+use Rattle.expression_resolver.proofs.PassedForms.{variable_made}
 use Rattle.expression_resolver.proofs.expressions.+expressions.Goals as goal
 
 -- ---- a name
@@ -135,34 +130,31 @@ select-returns-in-Some t c =
 -- ---- actual parameters
 
 pub actual-returns-in-None : goal.actual-returns-in-None
-actual-returns-in-None t c =
-    let none : is_some (out-Actual c.args.written.now).width ≡ false = search rules in
-    let found : slice_get c.args.typer.now.variables c.args.root ≡ None = search rules in
-    λ callee position. inr (
-    to_none c.args.written.now c.args.root callee position c.args.typer.now none found
-    ∙ ap (λ place. Err (fault.WrongParameters place)) (sym c.first_place-place.ensures))
+unfolding spec.actual variable_at
+actual-returns-in-None t c = λ callee position.
+    let read = typing_actual c.args.written.now in
+    let free : is_some (out-Actual c.args.written.now).width ≡ false = search rules in
+    let bare = no_width (expression (out-Actual c.args.written.now).value).first (out-Actual c.args.written.now).width free in
+    search (rules, read, bare, behind_nothing)
 
 pub actual-returns-in-VariableParameter : goal.actual-returns-in-VariableParameter
-actual-returns-in-VariableParameter t c =
-    let formal = c.in-Some.formal in
-    let none : is_some (out-Actual c.args.written.now).width ≡ false = search rules in
-    let found : slice_get c.args.typer.now.variables c.args.root ≡ Some formal = search rules in
-    let is : is_variable_kind formal.kind ≡ true = ap is_variable_kind c.in-VariableParameter.is in
-    λ callee position.
-    subst (λ o. Makes (λ _. tt) (λ made. look_passed made callee position) o c.passed_variable.result c.passed_variable.new.typer)
-    (sym (to_variable c.args.written.now c.args.root callee position c.args.typer.now none formal found is))
-    (c.passed_variable.ensures callee position)
+unfolding spec.actual variable_at
+actual-returns-in-VariableParameter t c = λ callee position.
+    let read = typing_actual c.args.written.now in
+    let free : is_some (out-Actual c.args.written.now).width ≡ false = search rules in
+    let bare = no_width (expression (out-Actual c.args.written.now).value).first (out-Actual c.args.written.now).width free in
+    let made = c.passed_variable.ensures callee position in
+    search (rules, read, bare, made, behind_nothing)
 
 pub actual-returns-in_default : goal.actual-returns-in_default
-actual-returns-in_default t c =
-    let formal = c.in-Some.formal in
-    let none : is_some (out-Actual c.args.written.now).width ≡ false = search rules in
-    let found : slice_get c.args.typer.now.variables c.args.root ≡ Some formal = search rules in
-    let is : is_variable_kind formal.kind ≡ false = other_kind formal.kind c.in_default.not-VariableParameter in
-    λ callee position.
-    subst (λ o. Makes (λ _. tt) (λ made. look_passed made callee position) o c.passed_value.result c.passed_value.new.typer)
-    (sym (to_value c.args.written.now c.args.root callee position c.args.typer.now none formal found is))
-    (c.passed_value.ensures callee position)
+unfolding spec.actual variable_at
+actual-returns-in_default t c = λ callee position.
+    let read = typing_actual c.args.written.now in
+    let free : is_some (out-Actual c.args.written.now).width ≡ false = search rules in
+    let bare = no_width (expression (out-Actual c.args.written.now).value).first (out-Actual c.args.written.now).width free in
+    let other = other_kind c.in-Some.formal.kind c.in_default.not-VariableParameter in
+    let made = c.passed_value.ensures callee position in
+    search (rules, read, bare, other, made, behind_nothing)
 
 -- one more is made
 pub actuals_for-loop-i-preserved : goal.actuals_for-loop-i-preserved
@@ -183,20 +175,16 @@ actuals_for-loop-i-preserved t c =
 -- ---- values for value parameters
 
 pub passed_value-returns-then-is_structured : goal.passed_value-returns-then-is_structured
-passed_value-returns-then-is_structured t c =
-    let is : is_structured c.args.typer.now.types c.args.type_id ≡ true = search rules in
-    λ callee position.
-    subst (λ o. Makes (λ _. tt) (λ made. look_passed made callee position) o c.passed_whole.result c.passed_whole.new.typer)
-    (sym (value_by_kind c.args.type_id (expression c.args.written.now) callee position c.args.typer.now true is))
-    (c.passed_whole.ensures callee position)
+unfolding spec.passed_value tests_structured
+passed_value-returns-then-is_structured t c = λ callee position.
+    let made = c.passed_whole.ensures callee position in
+    search (rules, made, behind_nothing)
 
 pub passed_value-returns-else-is_structured : goal.passed_value-returns-else-is_structured
-passed_value-returns-else-is_structured t c =
-    let is : is_structured c.args.typer.now.types c.args.type_id ≡ false = search rules in
-    λ callee position.
-    subst (λ o. Makes (λ _. tt) (λ made. look_passed made callee position) o c.passed_ordinal.result c.passed_ordinal.new.typer)
-    (sym (value_by_kind c.args.type_id (expression c.args.written.now) callee position c.args.typer.now false is))
-    (c.passed_ordinal.ensures callee position)
+unfolding spec.passed_value tests_structured
+passed_value-returns-else-is_structured t c = λ callee position.
+    let made = c.passed_ordinal.ensures callee position in
+    search (rules, made, behind_nothing)
 
 pub passed_ordinal-returns-in_err-value : goal.passed_ordinal-returns-in_err-value
 passed_ordinal-returns-in_err-value t c = λ callee position.
