@@ -6,11 +6,11 @@ use Rattle.typed_tree.specs.declared.fault.TypeFault.{TypeFault}
 use Rattle.typed_tree.specs.declared.site.SiteKind.TheVariants as kind
 use Rattle.typed_tree.specs.declared.tree.Fitted.{Fitted}
 use Rattle.typed_tree.specs.declared.tree.RangeTest.{RangeTest}
-use Rattle.typed_tree.specs.Look.{Look, Mark, look_expr}
-use Rattle.typing.specs.Passing.{Passed, Passing, after, and_then, behind_marks, mark, pure, ◌>>=◌, ◌>>?◌}
+use Rattle.typed_tree.specs.Look.{Mark, look_expr}
+use Rattle.typing.specs.Passing.{Passed, Passing, and_then, behind_marks, mark, pure, ◌>>=◌, ◌>>?◌}
 use Rattle.typing.specs.Steps.{or_mismatch, site}
 use Rattle.typing.specs.Expressions.{Written, fitting}
-use Rattle.typing.specs.Outcomes.{IsFault, Makes}
+use Rattle.typing.specs.Outcomes.{Makes}
 use Rattle.typing.proofs.Rows.{then_assoc}
 use Rattle.expression_resolver.specs.Made.{MakesFitted, fitted}
 use Rattle.expression_resolver.proofs.Selecting.{same_behind}
@@ -22,7 +22,7 @@ module _ (type_id : TypeId) (place : Place) (w : Written) (does : RangeTest → 
       site kind.Subrange place >>= (λ id. (w.typing None >>? (λ types t. or_mismatch place (fitting types type_id t)))
       >>= (λ range. mark (does (record { site = id; range = range }))))
 
-  by_value : marked old ≡ (fitted type_id place w >>= (λ fits. mark (does fits))) old
+  pub by_value : marked old ≡ (fitted type_id place w >>= (λ fits. mark (does fits))) old
   unfolding fitted
   by_value = sym (
       then_assoc (site kind.Subrange place)
@@ -37,17 +37,8 @@ module _ (type_id : TypeId) (place : Place) (w : Written) (does : RangeTest → 
       (λ range. pure (record { site = id; range = range })) (λ fits. mark (does fits)) s)
       (site kind.Subrange place) old)
 
-  -- the value is refused
-  pub value_stops : (why : TypeFault) → IsFault (fitted type_id place w old) why → IsFault (marked old) why
-  value_stops why (inl memory) = inl memory
-  value_stops why (inr stops) = inr (by_value ∙ ap (λ r. and_then r (λ a. behind_marks a.look (mark (does a.answer) a.passed))) stops)
-
-  -- it fits
-  pub value_fits : (fits : RangeTest) (look : Look) (now : Passed) → fitted type_id place w old ≡ Ok (after fits look now)
-      → marked old ≡ Ok (after tt (look ++ (does fits ∷ [])) now)
-  value_fits fits look now passes = by_value ∙ ap (λ r. and_then r (λ a. behind_marks a.look (mark (does a.answer) a.passed))) passes
-
   pub value_marked : (result : Result Fitted TypeFault) (new : Passed) → MakesFitted (fitted type_id place w old) result new
       → Makes (λ _. tt) (λ made. look_expr made.value ++ (does made.fits ∷ [])) (marked old) result new
-  value_marked (Ok made) new passes = value_fits made.fits (look_expr made.value) new passes
-  value_marked (Err why) new stops = value_stops why stops
+  value_marked (Ok made) new passes = by_value ∙ ap (λ r. and_then r (λ a. behind_marks a.look (mark (does a.answer) a.passed))) passes
+  value_marked (Err why) new (inl memory) = inl memory
+  value_marked (Err why) new (inr stops) = inr (by_value ∙ ap (λ r. and_then r (λ a. behind_marks a.look (mark (does a.answer) a.passed))) stops)

@@ -1,49 +1,41 @@
 -- Accesses: how their typing goes on from that of a variable, of its selectors and of its value.
-use Rattle.std.proofs.Common.{◌≡◌, ℕ, suc, ◌+◌, ◌<◌, ◌≤◌, Bool, true, false, List, [], ◌∷◌, ◌++◌, map, length, drop, get_or, Option, Ok, Err, Result}
-use Rattle.std.proofs.Common.{inl, inr, refl, sym, ap, ap₂, subst, ◌∙◌, if◌then◌else◌, Vec, append-nil, length-append, arith}
+use Rattle.std.proofs.Common.{◌≡◌, ℕ, suc, ◌+◌, ◌<◌, ◌≤◌, Bool, List, [], ◌∷◌, ◌++◌, map, length, drop, get_or, Option, Ok, Err, Result}
+use Rattle.std.proofs.Common.{inr, refl, sym, ap, ap₂, subst, ◌∙◌, Vec, append-nil, length-append, arith}
 use Rattle.std.specs.Prelude.{flat_map}
 use Rattle.std.specs.declared.alloc.Global.{Global}
 use Rattle.std.proofs.lemmas.List.{drop_more, at_drop_all}
 use Rattle.std.proofs.lemmas.List.Folds.{flat_map-map}
 use Rattle.std.proofs.lemmas.Grind.{flat_map-append}
-use Rattle.std.proofs.lemmas.List.{length-map}
 use Rattle.place.specs.declared.Place.{Place}
 use Rattle.syntax_tree.specs.declared.Name.{Name}
 use Rattle.syntax_tree.specs.declared.Expr.{Expr as SyntaxExpr}
 use Rattle.syntax_tree.specs.declared.Selector.{Selector}
 use Rattle.syntax_tree.specs.declared.Selector.TheVariants as select
 use Rattle.types.specs.declared.form.TypeId.{TypeId}
-use Rattle.scopes.specs.declared.denotation.Denotation.{Denotation}
-use Rattle.types.specs.Types.{is_structured, host_of, cells_of}
 use Rattle.typed_tree.specs.declared.fault.TypeFault.{TypeFault}
 use Rattle.typed_tree.specs.declared.fault.TypeFault.TheVariants as fault
 use Rattle.typed_tree.specs.declared.site.SiteKind.{SiteKind}
 use Rattle.typed_tree.specs.declared.site.SiteKind.TheVariants as kind
 use Rattle.typed_tree.specs.declared.tree.Access.{Access as VariableAccess}
 use Rattle.typed_tree.specs.declared.tree.Expr.{Expr}
-use Rattle.typed_tree.specs.declared.tree.Expr.TheVariants as form
-use Rattle.typed_tree.specs.declared.tree.Whole.TheVariants as whole
 use Rattle.typed_tree.specs.declared.tree.RangeTest.{RangeTest}
 use Rattle.typed_tree.specs.declared.tree.Selector.{Selector as TreeSelector}
 use Rattle.typed_tree.specs.declared.tree.Selector.TheVariants as tree
 use Rattle.typed_tree.specs.Accesses.{index_count}
 use Rattle.typed_tree.specs.Entries.{joined}
-use Rattle.typed_tree.specs.Look.{Look, Mark, Access, Value, WholeValue, look_expr, look_access}
-use Rattle.typed_tree.proofs.Looks.{look_variable}
+use Rattle.typed_tree.specs.Look.{Look, Mark, Access, look_expr, look_access}
 use Rattle.typing.specs.declared.typed.Typed.{Typed}
 use Rattle.typing.specs.Passing.{Passed, Passing, Checked, After, after, and_then, behind_marks, given, pure, ◌>>=◌, ◌>>◌}
-use Rattle.typing.specs.Steps.{find, may_change, site, enter_as, host_type}
+use Rattle.typing.specs.Steps.{may_change, site, enter_as}
 use Rattle.typing.specs.Expressions.{as_variable, component}
-use Rattle.typing.specs.Expressions.{Written, behind, selected, accessed, tests_structured, ordinal_value, whole_value, typed, typed_variable, expression}
+use Rattle.typing.specs.Expressions.{Written, behind, selected, accessed, expression}
 use Rattle.typing.specs.Outcomes.{IsFault}
-use Rattle.typing.proofs.Rows.{behind_nothing, behind_both, then_assoc}
+use Rattle.typing.proofs.Rows.{behind_nothing, then_assoc}
 use Rattle.typing.proofs.Selectors.{IsSelectedFrom, selectors_begin, selector_next, selector_stops, selectors_end}
 use Rattle.expression_resolver.specs.declared.typed.Entered.{Entered}
 use Rattle.expression_resolver.specs.declared.typed.Selection.{Selection}
-use Rattle.expression_resolver.specs.declared.typed.Value.TheVariants.{Whole as WholeOf}
-use Rattle.expression_resolver.specs.Made.{look_value}
 use Rattle.expression_resolver.specs.Accesses.{begun, value, valued, look_selection, left_behind, on, reached, IsCounted, IsNothing, IsFieldBehind}
-use Rattle.expression_resolver.specs.Accesses.{IsElementBehind, IsOneBehind, SelectsField, SelectsElement, SelectsOne}
+use Rattle.expression_resolver.specs.Accesses.{FindsVariable, IsElementBehind, IsOneBehind, SelectsField, SelectsElement, SelectsOne}
 
 -- ---- forms that are passed one after another
 
@@ -59,11 +51,14 @@ module _ {A B : Type 0} (f g : A → Passing B) (same : (a : A) → (s : Passed)
 
 -- ---- a variable
 
+abbrev pub behind_variable : ℕ → TypeId → List Selector → List Written → ℕ × Option ℕ → Passing Typed
+behind_variable root type_id selectors indexes sites = selected [] type_id selectors indexes >>= value root sites
+
 module _ (root : ℕ) (type_id : TypeId) (selectors : List Selector) (indexes : List Written) (place : Place) (lead : Option SiteKind) (old : Passed) where
   abbrev rest : ℕ × Option ℕ → Passing Typed
-  rest sites = selected [] type_id selectors indexes >>= value root sites
+  rest = behind_variable root type_id selectors indexes
 
-  entered_first : accessed root type_id selectors indexes place lead old ≡ (begun place lead >>= rest) old
+  pub entered_first : accessed root type_id selectors indexes place lead old ≡ (begun place lead >>= rest) old
   unfolding accessed begun value
   entered_first = sym (
       then_assoc (site kind.UndefinedVariable place) (λ defined. behind lead place >>= (λ id. enter_as Access >> pure (defined, id))) rest old
@@ -76,46 +71,18 @@ module _ (root : ℕ) (type_id : TypeId) (selectors : List Selector) (indexes : 
       (behind lead place) s)
       (site kind.UndefinedVariable place) old)
 
-  -- it can't be entered
-  pub variable_stops : (why : TypeFault) → IsFault (begun place lead old) why → IsFault (accessed root type_id selectors indexes place lead old) why
-  variable_stops why (inl memory) = inl memory
-  variable_stops why (inr stops) = inr (
-      entered_first ∙ ap (λ r. and_then r (λ a. behind_marks a.look (rest a.answer a.passed))) stops)
-
-  module _ (sites : ℕ × Option ℕ) (number : ℕ) (there : Passed) (enters : begun place lead old ≡ Ok (after sites (Access number ∷ []) there)) where
-    behind_variable : accessed root type_id selectors indexes place lead old ≡ behind_marks (Access number ∷ []) (rest sites there)
-    behind_variable = entered_first ∙ ap (λ r. and_then r (λ a. behind_marks a.look (rest a.answer a.passed))) enters
-
-    -- one of its selectors is refused
-    pub selectors_stop : (why : TypeFault) → IsFault (selected [] type_id selectors indexes there) why
-        → IsFault (accessed root type_id selectors indexes place lead old) why
-    selectors_stop why (inl memory) = inl memory
-    selectors_stop why (inr stops) = inr (
-        behind_variable
-        ∙ ap (λ r. behind_marks (Access number ∷ []) (and_then r (λ a. behind_marks a.look (value root sites a.answer a.passed)))) stops)
-
-    -- its component is selected
-    pub component_is : (component : List TreeSelector × TypeId) (look : Look) (now : Passed)
-        → selected [] type_id selectors indexes there ≡ Ok (after component look now)
-        → accessed root type_id selectors indexes place lead old ≡ behind_marks (Access number ∷ look) (value root sites component now)
-    component_is component look now passes =
-        behind_variable
-        ∙ ap (λ r. behind_marks (Access number ∷ []) (and_then r (λ a. behind_marks a.look (value root sites a.answer a.passed)))) passes
-        ∙ behind_both (Access number ∷ []) look (value root sites component now)
-
 -- a component of a variable, by what its name denotes
-module _ (name : Name) (selectors : List Selector) (indexes : List Written) (lead : Option SiteKind) (old first : Passed) (d : Denotation)
-    (variable : ℕ × TypeId) (finds : find name old ≡ Ok (after d [] first)) (is : as_variable name.place d ≡ Ok variable) where
-  abbrev behind_name : ℕ × TypeId → Passing Typed
-  behind_name v = accessed v.0 v.1 selectors indexes name.place lead
-
-  pub component_goes : component name selectors indexes lead old ≡ accessed variable.0 variable.1 selectors indexes name.place lead first
-  unfolding component
-  component_goes =
-      ap (λ r. and_then r (λ a. behind_marks a.look ((given (as_variable name.place a.answer) >>= behind_name) a.passed))) finds
-      ∙ ap (λ r. behind_marks [] (and_then (and_then r (λ a. Ok (after a [] first))) (λ a. behind_marks a.look (behind_name a.answer a.passed)))) is
-      ∙ behind_nothing (behind_marks [] (behind_name variable first))
-      ∙ behind_nothing (behind_name variable first)
+pub component_begins : (name : Name) (selectors : List Selector) (indexes : List Written) (lead : Option SiteKind) (old first : Passed) (variable : ℕ × TypeId)
+    → FindsVariable name old (Ok variable) first
+    → component name selectors indexes lead old ≡ (begun name.place lead >>= behind_variable variable.0 variable.1 selectors indexes) first
+unfolding component
+component_begins name selectors indexes lead old first variable (d, finds, is) =
+    let behind_name : ℕ × TypeId → Passing Typed = λ v. accessed v.0 v.1 selectors indexes name.place lead in
+    ap (λ r. and_then r (λ a. behind_marks a.look ((given (as_variable name.place a.answer) >>= behind_name) a.passed))) finds
+    ∙ ap (λ r. behind_marks [] (and_then (and_then r (λ a. Ok (after a [] first))) (λ a. behind_marks a.look (behind_name a.answer a.passed)))) is
+    ∙ behind_nothing (behind_marks [] (behind_name variable first))
+    ∙ behind_nothing (behind_name variable first)
+    ∙ entered_first variable.0 variable.1 selectors indexes name.place lead first
 
 -- what stands behind a variable that is reached
 pub reached_then : {B : Type 0} (place : Place) (variable : ℕ × TypeId) (selectors : List Selector) (indexes : List Written)
@@ -136,71 +103,6 @@ pub look_made : (access : VariableAccess) (indexes : Vec Expr Global) (does : Ma
     → look_access access indexes.items does ≡ Access access.number ∷ (flat_map look_expr indexes.items ++ (does ∷ []))
 look_made access indexes does =
     ap (λ rows. Access access.number ∷ (rows ++ (does ∷ []))) (flat_map-map (λ (row : Look). row) look_expr indexes.items)
-
-module _ (entered : Entered) (made : Selection) (s : Passed) where
-  by_kind : (structured : Bool) → is_structured s.types made.type_id ≡ structured
-      → valued entered made s
-      ≡ behind_marks (Access entered.number ∷ look_selection made)
-      ((if structured then whole_value else ordinal_value) entered.root made.selectors.items made.type_id entered.defined entered.site s)
-  unfolding value tests_structured
-  by_kind structured is =
-      ap (λ b. behind_marks (Access entered.number ∷ look_selection made)
-      (behind_marks [] ((if b then whole_value else ordinal_value) entered.root made.selectors.items made.type_id entered.defined entered.site s))) is
-      ∙ ap (behind_marks (Access entered.number ∷ look_selection made))
-      (behind_nothing ((if structured then whole_value else ordinal_value) entered.root made.selectors.items made.type_id entered.defined entered.site s))
-
-  pub ordinal_is : is_structured s.types made.type_id ≡ false
-      → valued entered made s
-      ≡ Ok (after (typed (host_of s.types made.type_id) entered.site)
-      (Access entered.number ∷ (look_selection made
-      ++ (Value entered.root made.selectors.items (index_count made.selectors.items) entered.defined ∷ []))) s)
-  unfolding ordinal_value host_type
-  ordinal_is is = by_kind false is
-
-  pub whole_is : is_structured s.types made.type_id ≡ true
-      → valued entered made s
-      ≡ Ok (after (typed_variable made.type_id (cells_of s.types made.type_id) entered.site)
-      (Access entered.number ∷ (look_selection made
-      ++ (WholeValue entered.root made.selectors.items (index_count made.selectors.items) made.type_id (cells_of s.types made.type_id) entered.defined
-      ∷ []))) s)
-  unfolding whole_value
-  whole_is is = by_kind true is
-
-  -- how it is made
-  abbrev made_access : VariableAccess
-  made_access = record { number = entered.number; root = entered.root; selectors = made.selectors }
-
-  module _ (counted : IsCounted made) where
-    pub ordinal_made : (host : TypeId) → is_structured s.types made.type_id ≡ false → host ≡ host_of s.types made.type_id
-        → valued entered made s
-        ≡ Ok (after (typed host entered.site) (look_expr (form.Variable made_access made.indexes entered.defined)) s)
-    ordinal_made host is same =
-        ordinal_is is
-        ∙ ap (λ id. Ok (after (typed id entered.site)
-        (Access entered.number ∷ (look_selection made
-        ++ (Value entered.root made.selectors.items (index_count made.selectors.items) entered.defined ∷ []))) s)) (sym same)
-        ∙ ap (λ count. Ok (after (typed host entered.site)
-        (Access entered.number ∷ (look_selection made ++ (Value entered.root made.selectors.items count entered.defined ∷ []))) s)) counted
-        ∙ ap (λ look. Ok (after (typed host entered.site) look s))
-        (sym (look_variable made_access made.indexes entered.defined
-        ∙ look_made made_access made.indexes (Value entered.root made.selectors.items (length made.indexes.items) entered.defined)))
-
-    pub whole_made : (cells : ℕ) → is_structured s.types made.type_id ≡ true → cells ≡ cells_of s.types made.type_id
-        → valued entered made s
-        ≡ Ok (after (typed_variable made.type_id cells entered.site)
-        (look_value (WholeOf (whole.Variable made_access made.type_id cells entered.defined) made.indexes)) s)
-    whole_made cells is same =
-        whole_is is
-        ∙ ap (λ n. Ok (after (typed_variable made.type_id n entered.site)
-        (Access entered.number ∷ (look_selection made
-        ++ (WholeValue entered.root made.selectors.items (index_count made.selectors.items) made.type_id n entered.defined ∷ []))) s)) (sym same)
-        ∙ ap (λ count. Ok (after (typed_variable made.type_id cells entered.site)
-        (Access entered.number ∷ (look_selection made
-        ++ (WholeValue entered.root made.selectors.items count made.type_id cells entered.defined ∷ []))) s))
-        (counted ∙ sym (length-map made.indexes.items look_expr))
-        ∙ ap (λ look. Ok (after (typed_variable made.type_id cells entered.site) look s))
-        (sym (look_made made_access made.indexes
-        (WholeValue entered.root made.selectors.items (length (map look_expr made.indexes.items)) made.type_id cells entered.defined)))
 
 -- nothing was selected
 pub nothing_valued : (entered : Entered) (made : Selection) (type_id : TypeId) (s : Passed) → IsNothing type_id made

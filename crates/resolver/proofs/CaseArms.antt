@@ -110,17 +110,9 @@ module _ (type_id : TypeId) (seen : List ℤ) (constants : List Constant) (arm :
     arm
     case_arms type_id (seen ++ row) more
 
-  row_refused : (why : TypeFault) → constant_row type_id seen [] constants now ≡ Err why → this_arm ≡ Err why
-  row_refused why stops = ap (λ r. and_then r (λ a. behind_marks a.look (behind_row a.answer a.passed))) stops
-
   module _ (row : List ℤ) (there : Passed) (passes : constant_row type_id seen [] constants now ≡ Ok (after row [] there)) where
     row_passes : this_arm ≡ behind_marks [] (behind_row row there)
     row_passes = ap (λ r. and_then r (λ a. behind_marks a.look (behind_row a.answer a.passed))) passes
-
-    arm_refused : (why : TypeFault) → arm there ≡ Err why → this_arm ≡ Err why
-    arm_refused why stops =
-        row_passes
-        ∙ ap (λ r. behind_marks [] (behind_marks (Arm row ∷ []) (and_then r (λ a. behind_marks a.look (case_arms type_id (seen ++ row) more a.passed))))) stops
 
     arm_passes : (look : Look) (new : Passed) → arm there ≡ Ok (after tt look new)
         → this_arm ≡ behind_marks (Arm row ∷ look) (case_arms type_id (seen ++ row) more new)
@@ -183,27 +175,14 @@ module _ (type_id : TypeId) (constants : List (Vec Constant Global)) (written : 
     -- the next one
     module _ (constants_row : Vec Constant Global) (arm : SyntaxStmt) (row_is : slice_get constants i ≡ Some constants_row) (within : i < length written)
         (arm_is : arm ≡ get_or written i arm) where
-      goes : case_arms type_id [] written_arms old
+      pub arm_goes : case_arms type_id [] written_arms old
           ≡ behind_marks done (case_arms type_id seen ((constants_row.items, statement arm) ∷ drop (i + 1) written_arms) now)
-      goes =
+      arm_goes =
           left.goes_on
           ∙ ap (λ l. behind_marks done (case_arms type_id seen l now))
           (next_arm constants (map statement written) i constants_row (statement arm) row_is (arm_at written i arm within arm_is))
 
-      pub stops_at_row : (why : TypeFault) → IsFault (constant_row type_id seen [] constants_row.items now) why
-          → IsFault (case_arms type_id [] written_arms old) why
-      stops_at_row why (inl memory) = inl memory
-      stops_at_row why (inr stops) = inr (
-          goes ∙ ap (behind_marks done) (row_refused type_id seen constants_row.items (statement arm) (drop (i + 1) written_arms) now why stops))
-
       module _ (row : Vec ℤ Global) (there : Passed) (passes : constant_row type_id seen [] constants_row.items now ≡ Ok (after row.items [] there)) where
-        pub stops_at_arm : (why : TypeFault) → IsFault (statement arm there) why → IsFault (case_arms type_id [] written_arms old) why
-        stops_at_arm why (inl memory) = inl memory
-        stops_at_arm why (inr stops) = inr (
-            goes
-            ∙ ap (behind_marks done)
-            (arm_refused type_id seen constants_row.items (statement arm) (drop (i + 1) written_arms) now row.items there passes why stops))
-
         pub arm_made : (made : Stmt) (new : Passed) (all_rows : List (Vec ℤ Global)) (all_seen : List ℤ) (all_arms : List Stmt)
             → all_rows ≡ rows ++ row ∷ [] → all_seen ≡ seen ++ row.items → all_arms ≡ arms ++ made ∷ []
             → statement arm there ≡ Ok (after tt (look_stmt made) new) → AreLeftFrom (i + 1) all_rows all_seen all_arms new
@@ -223,7 +202,7 @@ module _ (type_id : TypeId) (constants : List (Vec Constant Global)) (written : 
                 ≡ behind_marks (arms_look (rows ++ row ∷ []) (map look_stmt (arms ++ made ∷ [])))
                 (case_arms type_id (seen ++ row.items) (drop (i + 1) written_arms) new)
             goes_further =
-                goes
+                arm_goes
                 ∙ ap (behind_marks done)
                 (arm_passes type_id seen constants_row.items (statement arm) (drop (i + 1) written_arms) now row.items there passes (look_stmt made) new is)
                 ∙ behind_both done (Arm row.items ∷ look_stmt made) (case_arms type_id (seen ++ row.items) (drop (i + 1) written_arms) new)

@@ -1,4 +1,4 @@
--- Assignments: how their typing goes on from that of their targets and of their values, and how targets look.
+-- Targets of assignments: how their typing goes on from what is reached, and how they look.
 use Rattle.std.proofs.Common.{◌≡◌, ℕ, Bool, true, false, List, [], ◌∷◌, ◌++◌, Result, Ok, Err, IfOk, length, inl, inr, sym, ap, ap₂, ◌∙◌, if◌then◌else◌}
 use Rattle.place.specs.declared.Place.{Place}
 use Rattle.syntax_tree.specs.declared.Name.{Name}
@@ -20,23 +20,8 @@ use Rattle.typing.proofs.Rows.{behind_nothing, behind_both}
 use Rattle.expression_resolver.specs.declared.typed.Reached.{Reached}
 use Rattle.expression_resolver.specs.Accesses.{look_reached, reached}
 use Rattle.expression_resolver.specs.Made.{copied as value_copied, fitted}
-use Rattle.expression_resolver.proofs.Fitting.{value_fits, value_stops}
 use Rattle.expression_resolver.proofs.Selecting.{look_made, reached_then}
 use Rattle.resolver.specs.Made.{MakesTarget, accessed_of, look_target, target_look}
-
--- ---- values of ordinal types
-
-module _ (to : Accessed) (becomes : Place) (value : Written) (old : Passed) where
-  pub assigned_stops : (why : TypeFault) → IsFault (fitted to.type_id becomes value old) why → IsFault (assigned to becomes value old) why
-  unfolding assigned
-  assigned_stops why stops = value_stops to.type_id becomes value (λ fits. Fits to.root to.selectors fits) old why stops
-
-  pub assigned_fits : (fits : RangeTest) (look : Look) (now : Passed) → fitted to.type_id becomes value old ≡ Ok (after fits look now)
-      → assigned to becomes value old ≡ Ok (after tt (look ++ (Fits to.root to.selectors fits ∷ [])) now)
-  unfolding assigned
-  assigned_fits fits look now passes = value_fits to.type_id becomes value (λ test. Fits to.root to.selectors test) old fits look now passes
-
--- ---- targets
 
 -- the mark of what is reached
 mark_counted : (structured : Bool) (made : Reached) (root : ℕ) → made.access.root ≡ root

@@ -1,176 +1,95 @@
 use Rattle.std.proofs.lemmas.Bool.Decides.{nat_tests}
-use Rattle.std.proofs.Common.{rules, ◌≡◌, ◌<◌, ◌+◌, [], ◌∷◌, ◌++◌, ◌⊎◌, ap₂, get_or, length, map, sym, ap, subst, ◌∙◌, arith, inr, true, false}
-use Rattle.std.proofs.Common.{is_some, Some, None, Ok, Err}
-use Rattle.std.specs.Prelude.{slice_get}
+use Rattle.std.proofs.Common.{rules, ◌≡◌, ◌<◌, ◌+◌, ap₂, length, map, sym, ap, subst, ◌∙◌, arith, false}
+use Rattle.std.proofs.Common.{is_some, refl}
 use Rattle.std.proofs.lemmas.List.{length-map}
 use Rattle.syntax_tree.specs.declared.Expr.TheViews.{out-Actual}
-use Rattle.types.specs.Types.{is_structured}
-use Rattle.typed_tree.specs.declared.fault.TypeFault.TheVariants as fault
-use Rattle.typed_tree.specs.WellFormed.{is_variable_kind}
 use Rattle.typed_tree.proofs.Looks.{look_function_call, look_passed_value}
-use Rattle.typed_tree.specs.Look.{Begins}
-use Rattle.typing.specs.Passing.{after, behind_marks}
+use Rattle.typing.specs.Passing.{behind_marks}
 use Rattle.typing.specs.Expressions.{Written, expression, written_actual, written_link, chain_behind, relation_behind}
-use Rattle.typing.specs.Steps.{program_heading}
-use Rattle.typing.proofs.Written.{typing_component}
+use Rattle.typing.specs.Steps.{heading_at, variable_at}
+use Rattle.typing.proofs.Rows.{behind_both, behind_nothing}
+use Rattle.typing.specs.Expressions.{tests_structured}
+use Rattle.typing.proofs.Written.{typing_actual, typing_component}
 use Rattle.typing.specs.Expressions as spec
-use Rattle.typing.specs.Outcomes.{IsFault, Makes}
-use Rattle.expression_resolver.specs.Made.{fitted, typed_of, look_value, MakesTyped}
+use Rattle.typing.specs.Outcomes.{Makes}
 use Rattle.typed_tree.specs.Accesses.{index_count}
-use Rattle.typed_tree.specs.Look.{Access, ForVariable, look_expr, look_passed}
+use Rattle.typed_tree.specs.Look.{look_expr, look_passed}
 use Rattle.typing.proofs.Selectors.{index_passes}
-use Rattle.expression_resolver.specs.Accesses.{value, look_reached, look_selection, SelectsOne}
-use Rattle.expression_resolver.proofs.Selecting.{component_goes, component_is, elements_take_one, element_selects, field_selects, selectors_stop}
-use Rattle.expression_resolver.proofs.Selecting.{variable_stops}
-use Rattle.expression_resolver.proofs.Chains.{first_stops, first_goes_on, chain_begun, relation_begun}
-use Rattle.expression_resolver.proofs.Named.{name_is, name_stops, routine_denoted}
+use Rattle.expression_resolver.specs.Accesses.{SelectsOne}
+use Rattle.expression_resolver.proofs.Selecting.{component_begins, elements_take_one, element_selects, field_selects}
+use Rattle.expression_resolver.proofs.Chains.{chain_begun, relation_begun}
+use Rattle.expression_resolver.proofs.Named.{named_is}
 use Rattle.expression_resolver.proofs.Actuals.{ArePassedFrom, one_passed}
-use Rattle.expression_resolver.proofs.Calls.{actual_stops, call_made, count_stops, value_is, value_stops}
-use Rattle.expression_resolver.proofs.PassedForms.{component_stops, ordinal_passes, ordinal_stops, other_kind, to_none, to_value, to_variable}
-use Rattle.expression_resolver.proofs.PassedForms.{value_by_kind, variable_made, variable_passes, variable_stops as access_stops}
+use Rattle.expression_resolver.proofs.Calls.{value_by_host}
+use Rattle.expression_resolver.proofs.PassedForms.{access_goes, no_width, ordinal_goes, other_kind}
+use Rattle.expression_resolver.proofs.PassedForms.{variable_made}
 use Rattle.expression_resolver.proofs.expressions.+expressions.Goals as goal
 
 -- ---- a name
 
 pub expression-returns-in_err-denotation-in-Name : goal.expression-returns-in_err-denotation-in-Name
 expression-returns-in_err-denotation-in-Name t c =
-    let why = c.in_err-denotation-in-Name.field-0.0 in
-    let stops : IsFault ((expression c.args.written.now).typing c.args.lead c.args.typer.now) why =
-    name_stops c.args.written.now c.in-Name.name c.in-Name.is c.args.lead c.args.typer.now why c.in_err-denotation-in-Name.ensures in
-    search rules
+    let named = named_is c.args.written.now c.in-Name.name c.in-Name.is c.args.lead c.args.typer.now in
+    search (rules, named)
 
 pub expression-returns-in-Routine : goal.expression-returns-in-Routine
+unfolding spec.denoted
 expression-returns-in-Routine t c =
-    let place = c.in-Name.name.place in
-    subst (λ o. MakesTyped o c.function_value.result c.function_value.new.typer)
-    (sym (name_is c.args.written.now c.in-Name.name c.in-Name.is c.args.lead c.args.typer.now c.in_ok-denotation-in-Name.denotation c.find.new.self
-    c.in_ok-denotation-in-Name.ensures
-    ∙ routine_denoted c.in_ok-denotation-in-Name.denotation place c.args.lead c.find.new.self c.in-Routine.block c.in-Routine.is_function
-    c.in-Routine.is))
-    c.function_value.ensures
+    let named = named_is c.args.written.now c.in-Name.name c.in-Name.is c.args.lead c.args.typer.now in
+    search (rules, named, behind_nothing)
 
 pub expression-returns-in_default : goal.expression-returns-in_default
 expression-returns-in_default t c =
-    subst (λ o. MakesTyped o c.denoted.result c.denoted.new.typer)
-    (sym (name_is c.args.written.now c.in-Name.name c.in-Name.is c.args.lead c.args.typer.now c.in_ok-denotation-in-Name.denotation
-    c.find.new.self c.in_ok-denotation-in-Name.ensures))
-    c.denoted.ensures
+    let named = named_is c.args.written.now c.in-Name.name c.in-Name.is c.args.lead c.args.typer.now in
+    search (rules, named, behind_nothing)
 
 -- ---- chains and relations
 
 pub expression-returns-in_err-left-in-Chain : goal.expression-returns-in_err-left-in-Chain
 expression-returns-in_err-left-in-Chain t c =
-    let w = c.args.written.now in
-    let s = c.args.typer.now in
-    let first = c.deref-in-Chain.result.now in
-    let why = c.in_err-left-in-Chain.field-0.0 in
-    let begun = chain_begun w c.args.lead s c.in-Chain.first c.in-Chain.rest first c.in-Chain.is c.deref-in-Chain.ensures in
-    let stops : IsFault ((expression w).typing c.args.lead s) why =
-    first_stops w (expression first) (chain_behind (expression first).first (map written_link c.in-Chain.rest.items)) c.args.lead s begun why
-    c.in_err-left-in-Chain.ensures in
-    search rules
+    let it = c.in-Chain in
+    let begun = chain_begun c.args.written.now c.args.lead c.args.typer.now it.first it.rest c.deref-in-Chain.result.now it.is c.deref-in-Chain.ensures in
+    search (rules, begun)
 
 pub expression-returns-in_ok-left-in-Chain : goal.expression-returns-in_ok-left-in-Chain
 expression-returns-in_ok-left-in-Chain t c =
-    let w = c.args.written.now in
-    let s = c.args.typer.now in
-    let first = c.deref-in-Chain.result.now in
-    let left = c.in_ok-left-in-Chain.left in
-    let now = c.expression.new.typer in
-    let begun = chain_begun w c.args.lead s c.in-Chain.first c.in-Chain.rest first c.in-Chain.is c.deref-in-Chain.ensures in
-    let at : (expression first).first ≡ c.first_place.result =
-    ap (λ e. (expression e).first) (c.deref-in-Chain.ensures ∙ sym c.deref-in-Chain-2.ensures) ∙ sym c.first_place.ensures in
-    subst (λ o. MakesTyped o c.chain.result c.chain.new.typer)
-    (sym (first_goes_on w (expression first) (chain_behind (expression first).first (map written_link c.in-Chain.rest.items)) c.args.lead s begun
-    (typed_of left) (look_value left.value) now c.in_ok-left-in-Chain.ensures
-    ∙ ap (λ p. behind_marks (Begins ∷ look_value left.value) (chain_behind p (map written_link c.in-Chain.rest.items) (typed_of left) now)) at
-    ∙ ap (λ l. behind_marks (Begins ∷ look_value left.value) (chain_behind c.first_place.result (map written_link l) (typed_of left) now))
-    (sym c.deref-in-Chain-3.ensures.value)))
-    c.chain.ensures
+    let it = c.in-Chain in
+    let begun = chain_begun c.args.written.now c.args.lead c.args.typer.now it.first it.rest c.deref-in-Chain.result.now it.is c.deref-in-Chain.ensures in
+    search (rules, begun, behind_both)
 
 pub expression-returns-in_err-left-in-Relation : goal.expression-returns-in_err-left-in-Relation
 expression-returns-in_err-left-in-Relation t c =
-    let w = c.args.written.now in
-    let s = c.args.typer.now in
     let r = c.in-Relation in
-    let operand = c.deref-in-Relation.result.now in
-    let why = c.in_err-left-in-Relation.field-0.0 in
-    let begun = relation_begun w c.args.lead s r.left r.operator r.place r.right operand r.is c.deref-in-Relation.ensures in
-    let stops : IsFault ((expression w).typing c.args.lead s) why =
-    first_stops w (expression operand) (relation_behind r.operator r.place (expression r.right.value)) c.args.lead s begun why
-    c.in_err-left-in-Relation.ensures in
-    search rules
+    let begun = relation_begun c.args.written.now c.args.lead c.args.typer.now r.left r.operator r.place r.right c.deref-in-Relation.result.now
+    r.right.value r.is c.deref-in-Relation.ensures refl in
+    search (rules, begun)
 
 pub expression-returns-in_ok-left-in-Relation : goal.expression-returns-in_ok-left-in-Relation
 expression-returns-in_ok-left-in-Relation t c =
-    let w = c.args.written.now in
-    let s = c.args.typer.now in
     let r = c.in-Relation in
-    let operand = c.deref-in-Relation.result.now in
-    let left = c.in_ok-left-in-Relation.left in
-    let now = c.expression-in-Relation.new.typer in
-    let begun = relation_begun w c.args.lead s r.left r.operator r.place r.right operand r.is c.deref-in-Relation.ensures in
-    subst (λ o. MakesTyped o c.relation.result c.relation.new.typer)
-    (sym (first_goes_on w (expression operand) (relation_behind r.operator r.place (expression r.right.value)) c.args.lead s begun
-    (typed_of left) (look_value left.value) now c.in_ok-left-in-Relation.ensures
-    ∙ ap (λ e. behind_marks (Begins ∷ look_value left.value) (relation_behind r.operator r.place (expression e) (typed_of left) now))
-    (sym c.deref-in-Relation-2.ensures)))
-    c.relation.ensures
+    let begun = relation_begun c.args.written.now c.args.lead c.args.typer.now r.left r.operator r.place r.right c.deref-in-Relation.result.now
+    c.deref-in-Relation-2.result.now r.is c.deref-in-Relation.ensures c.deref-in-Relation-2.ensures in
+    search (rules, begun, behind_both)
 
 -- ---- a component
 
 pub component-returns-in_err-entered : goal.component-returns-in_err-entered
 component-returns-in_err-entered t c =
-    let name = c.args.name.now in
-    let selectors = c.args.selectors.now in
-    let indexes = map expression c.args.indexes.now in
-    let old = c.args.typer.now in
-    let first = c.variable.new.typer in
-    let root = c.in_ok-root.root in
-    let type_id = c.in_ok-root.type_id in
-    let found = c.in_ok-root.ensures in
-    let why = c.in_err-entered.field-0.0 in
-    let stops : IsFault (spec.component name selectors indexes c.args.lead old) why =
-    subst (λ o. IsFault o why) (sym (component_goes name selectors indexes c.args.lead old first found.0 (root, type_id) found.1 found.2))
-    (variable_stops root type_id selectors indexes name.place c.args.lead first why c.in_err-entered.ensures) in
-    search rules
+    let begins = component_begins c.args.name.now c.args.selectors.now (map expression c.args.indexes.now) c.args.lead c.args.typer.now
+    c.variable.new.typer (c.in_ok-root.root, c.in_ok-root.type_id) c.in_ok-root.ensures in
+    search (rules, begins)
 
 pub component-returns-in_err-selection : goal.component-returns-in_err-selection
 component-returns-in_err-selection t c =
-    let name = c.args.name.now in
-    let selectors = c.args.selectors.now in
-    let indexes = map expression c.args.indexes.now in
-    let old = c.args.typer.now in
-    let first = c.variable.new.typer in
-    let root = c.in_ok-root.root in
-    let type_id = c.in_ok-root.type_id in
-    let found = c.in_ok-root.ensures in
-    let e = c.in_ok-entered.entered in
-    let why = c.in_err-selection.field-0.0 in
-    let stops : IsFault (spec.component name selectors indexes c.args.lead old) why =
-    subst (λ o. IsFault o why) (sym (component_goes name selectors indexes c.args.lead old first found.0 (root, type_id) found.1 found.2))
-    (selectors_stop root type_id selectors indexes name.place c.args.lead first (e.defined, e.site) e.number c.enter.new.typer c.in_ok-entered.ensures.0 why
-    c.in_err-selection.ensures.made) in
-    search rules
+    let begins = component_begins c.args.name.now c.args.selectors.now (map expression c.args.indexes.now) c.args.lead c.args.typer.now
+    c.variable.new.typer (c.in_ok-root.root, c.in_ok-root.type_id) c.in_ok-root.ensures in
+    search (rules, begins)
 
 pub component-returns : goal.component-returns
 component-returns t c =
-    let name = c.args.name.now in
-    let selectors = c.args.selectors.now in
-    let indexes = map expression c.args.indexes.now in
-    let first = c.variable.new.typer in
-    let root = c.in_ok-root.root in
-    let type_id = c.in_ok-root.type_id in
-    let found = c.in_ok-root.ensures in
-    let e = c.in_ok-entered.entered in
-    let made = c.in_ok-selection.selection in
-    let now = c.selected.new.typer in
-    component_goes name selectors indexes c.args.lead c.args.typer.now first found.0 (root, type_id) found.1 found.2
-    ∙ component_is root type_id selectors indexes name.place c.args.lead first (e.defined, e.site) e.number c.enter.new.typer
-    c.in_ok-entered.ensures.0 (made.selectors.items, made.type_id) (look_selection made) now c.in_ok-selection.ensures.made
-    ∙ ap (λ r. behind_marks (Access e.number ∷ look_selection made) (value r (e.defined, e.site) (made.selectors.items, made.type_id) now))
-    (sym c.in_ok-entered.ensures.1)
-    ∙ c.accessed_value.ensures
+    let begins = component_begins c.args.name.now c.args.selectors.now (map expression c.args.indexes.now) c.args.lead c.args.typer.now
+    c.variable.new.typer (c.in_ok-root.root, c.in_ok-root.type_id) c.in_ok-root.ensures in
+    search (rules, begins)
 
 -- an element is selected
 pub select_element-returns : goal.select_element-returns
@@ -211,34 +130,31 @@ select-returns-in-Some t c =
 -- ---- actual parameters
 
 pub actual-returns-in-None : goal.actual-returns-in-None
-actual-returns-in-None t c =
-    let none : is_some (out-Actual c.args.written.now).width ≡ false = search rules in
-    let found : slice_get c.args.typer.now.variables c.args.root ≡ None = search rules in
-    λ callee position. inr (
-    to_none c.args.written.now c.args.root callee position c.args.typer.now none found
-    ∙ ap (λ place. Err (fault.WrongParameters place)) (sym c.first_place-place.ensures))
+unfolding spec.actual variable_at
+actual-returns-in-None t c = λ callee position.
+    let read = typing_actual c.args.written.now in
+    let free : is_some (out-Actual c.args.written.now).width ≡ false = search rules in
+    let bare = no_width (expression (out-Actual c.args.written.now).value).first (out-Actual c.args.written.now).width free in
+    search (rules, read, bare, behind_nothing)
 
 pub actual-returns-in-VariableParameter : goal.actual-returns-in-VariableParameter
-actual-returns-in-VariableParameter t c =
-    let formal = c.in-Some.formal in
-    let none : is_some (out-Actual c.args.written.now).width ≡ false = search rules in
-    let found : slice_get c.args.typer.now.variables c.args.root ≡ Some formal = search rules in
-    let is : is_variable_kind formal.kind ≡ true = ap is_variable_kind c.in-VariableParameter.is in
-    λ callee position.
-    subst (λ o. Makes (λ _. tt) (λ made. look_passed made callee position) o c.passed_variable.result c.passed_variable.new.typer)
-    (sym (to_variable c.args.written.now c.args.root callee position c.args.typer.now none formal found is))
-    (c.passed_variable.ensures callee position)
+unfolding spec.actual variable_at
+actual-returns-in-VariableParameter t c = λ callee position.
+    let read = typing_actual c.args.written.now in
+    let free : is_some (out-Actual c.args.written.now).width ≡ false = search rules in
+    let bare = no_width (expression (out-Actual c.args.written.now).value).first (out-Actual c.args.written.now).width free in
+    let made = c.passed_variable.ensures callee position in
+    search (rules, read, bare, made, behind_nothing)
 
 pub actual-returns-in_default : goal.actual-returns-in_default
-actual-returns-in_default t c =
-    let formal = c.in-Some.formal in
-    let none : is_some (out-Actual c.args.written.now).width ≡ false = search rules in
-    let found : slice_get c.args.typer.now.variables c.args.root ≡ Some formal = search rules in
-    let is : is_variable_kind formal.kind ≡ false = other_kind formal.kind c.in_default.not-VariableParameter in
-    λ callee position.
-    subst (λ o. Makes (λ _. tt) (λ made. look_passed made callee position) o c.passed_value.result c.passed_value.new.typer)
-    (sym (to_value c.args.written.now c.args.root callee position c.args.typer.now none formal found is))
-    (c.passed_value.ensures callee position)
+unfolding spec.actual variable_at
+actual-returns-in_default t c = λ callee position.
+    let read = typing_actual c.args.written.now in
+    let free : is_some (out-Actual c.args.written.now).width ≡ false = search rules in
+    let bare = no_width (expression (out-Actual c.args.written.now).value).first (out-Actual c.args.written.now).width free in
+    let other = other_kind c.in-Some.formal.kind c.in_default.not-VariableParameter in
+    let made = c.passed_value.ensures callee position in
+    search (rules, read, bare, other, made, behind_nothing)
 
 -- one more is made
 pub actuals_for-loop-i-preserved : goal.actuals_for-loop-i-preserved
@@ -259,89 +175,47 @@ actuals_for-loop-i-preserved t c =
 -- ---- values for value parameters
 
 pub passed_value-returns-then-is_structured : goal.passed_value-returns-then-is_structured
-passed_value-returns-then-is_structured t c =
-    let is : is_structured c.args.typer.now.types c.args.type_id ≡ true = search rules in
-    λ callee position.
-    subst (λ o. Makes (λ _. tt) (λ made. look_passed made callee position) o c.passed_whole.result c.passed_whole.new.typer)
-    (sym (value_by_kind c.args.type_id (expression c.args.written.now) callee position c.args.typer.now true is))
-    (c.passed_whole.ensures callee position)
+unfolding spec.passed_value tests_structured
+passed_value-returns-then-is_structured t c = λ callee position.
+    let made = c.passed_whole.ensures callee position in
+    search (rules, made, behind_nothing)
 
 pub passed_value-returns-else-is_structured : goal.passed_value-returns-else-is_structured
-passed_value-returns-else-is_structured t c =
-    let is : is_structured c.args.typer.now.types c.args.type_id ≡ false = search rules in
-    λ callee position.
-    subst (λ o. Makes (λ _. tt) (λ made. look_passed made callee position) o c.passed_ordinal.result c.passed_ordinal.new.typer)
-    (sym (value_by_kind c.args.type_id (expression c.args.written.now) callee position c.args.typer.now false is))
-    (c.passed_ordinal.ensures callee position)
+unfolding spec.passed_value tests_structured
+passed_value-returns-else-is_structured t c = λ callee position.
+    let made = c.passed_ordinal.ensures callee position in
+    search (rules, made, behind_nothing)
 
 pub passed_ordinal-returns-in_err-value : goal.passed_ordinal-returns-in_err-value
 passed_ordinal-returns-in_err-value t c = λ callee position.
-    let type_id = c.args.type_id in
-    let w = expression c.args.written.now in
-    let s = c.args.typer.now in
-    let why = c.in_err-value.field-0.0 in
-    let stops : IsFault (spec.passed_ordinal type_id w callee position s) why =
-    ordinal_stops type_id w callee position s why
-    (subst (λ place. IsFault (fitted type_id place w s) why) c.first_place.ensures c.in_err-value.ensures) in
-    search rules
+    let goes = ordinal_goes c.args.type_id (expression c.args.written.now) callee position c.args.typer.now in
+    search (rules, goes)
 
 pub passed_ordinal-returns : goal.passed_ordinal-returns
 passed_ordinal-returns t c = λ callee position.
-    let type_id = c.args.type_id in
-    let w = expression c.args.written.now in
-    let s = c.args.typer.now in
-    let made = c.in_ok-value.field-0 in
-    let now = c.fitted.new.typer in
-    ordinal_passes type_id w callee position s made.fits (look_expr made.value) now
-    (subst (λ place. fitted type_id place w s ≡ Ok (after made.fits (look_expr made.value) now)) c.first_place.ensures c.in_ok-value.ensures)
-    ∙ ap (λ look. Ok (after tt look now)) (sym (look_passed_value made.value made.fits callee position))
+    let goes = ordinal_goes c.args.type_id (expression c.args.written.now) callee position c.args.typer.now in
+    search (rules, goes, look_passed_value)
 
 -- ---- variables for variable parameters
 
 pub passed_access-returns-in_err-reached : goal.passed_access-returns-in_err-reached
 passed_access-returns-in_err-reached t c = λ callee position.
-    let name = c.args.name.now in
-    let selectors = c.args.selectors.now in
-    let indexes = map expression c.args.indexes.now in
-    let old = c.args.typer.now in
-    let why = c.in_err-reached.field-0.0 in
-    let stops : IsFault (spec.passed_variable name selectors indexes c.args.wanted callee position old) why =
-    access_stops name selectors indexes c.args.wanted callee position c.in_ok-root.ensures.0 (c.in_ok-root.root, c.in_ok-root.type_id) old
-    c.variable.new.typer c.in_ok-root.ensures.1 c.in_ok-root.ensures.2 why c.in_err-reached.ensures.made in
-    search rules
+    let goes = access_goes c.args.name.now c.args.selectors.now (map expression c.args.indexes.now) c.args.wanted callee position c.args.typer.now
+    c.variable.new.typer (c.in_ok-root.root, c.in_ok-root.type_id) c.in_ok-root.ensures in
+    search (rules, goes)
 
 pub passed_access-returns-in_err-passable : goal.passed_access-returns-in_err-passable
 passed_access-returns-in_err-passable t c = λ callee position.
-    let made = c.in_ok-reached.reached in
-    let name = c.args.name.now in
-    let selectors = c.args.selectors.now in
-    let indexes = map expression c.args.indexes.now in
-    let old = c.args.typer.now in
-    let now = c.reach.new.typer in
-    let why = c.in_err-passable.field-0.0 in
-    let is : spec.passable now.types c.args.wanted c.in_ok-root.type_id made.access.selectors.items made.type_id name.place ≡ Err why = search rules in
-    let stops : spec.passed_variable name selectors indexes c.args.wanted callee position old ≡ Err why =
-    component_stops name selectors indexes c.args.wanted callee position c.in_ok-root.ensures.0 (c.in_ok-root.root, c.in_ok-root.type_id) old
-    c.variable.new.typer c.in_ok-root.ensures.1 c.in_ok-root.ensures.2 (made.access.selectors.items, made.type_id) (look_reached made) now
-    c.in_ok-reached.ensures.made why is in
-    search rules
+    let goes = access_goes c.args.name.now c.args.selectors.now (map expression c.args.indexes.now) c.args.wanted callee position c.args.typer.now
+    c.variable.new.typer (c.in_ok-root.root, c.in_ok-root.type_id) c.in_ok-root.ensures in
+    search (rules, goes)
 
 pub passed_access-returns : goal.passed_access-returns
-passed_access-returns t c =
-    let made = c.in_ok-reached.reached in
-    let access = made.access in
-    let selectors = access.selectors.items in
-    let name = c.args.name.now in
-    let wanted = c.args.wanted in
-    let now = c.reach.new.typer in
-    let fits : spec.passable now.types wanted c.in_ok-root.type_id selectors made.type_id name.place ≡ Ok tt = search rules in
-    λ callee position.
-    variable_passes name c.args.selectors.now (map expression c.args.indexes.now) wanted callee position c.in_ok-root.ensures.0
-    (c.in_ok-root.root, c.in_ok-root.type_id) c.args.typer.now c.variable.new.typer c.in_ok-root.ensures.1 c.in_ok-root.ensures.2
-    (selectors, made.type_id) (look_reached made) now c.in_ok-reached.ensures.made fits
-    ∙ ap (λ root. Ok (after tt (look_reached made ++ (ForVariable wanted root selectors (index_count selectors) callee position ∷ [])) now))
-    (sym c.in_ok-reached.ensures.root)
-    ∙ ap (λ look. Ok (after tt look now)) (variable_made wanted made callee position c.in_ok-reached.ensures.counted)
+passed_access-returns t c = λ callee position.
+    let goes = access_goes c.args.name.now c.args.selectors.now (map expression c.args.indexes.now) c.args.wanted callee position c.args.typer.now
+    c.variable.new.typer (c.in_ok-root.root, c.in_ok-root.type_id) c.in_ok-root.ensures in
+    let looks = variable_made c.args.wanted c.in_ok-reached.reached callee position c.in_ok-reached.ensures.counted in
+    search (rules, goes, looks)
 
 pub passed_variable-returns-in-Component : goal.passed_variable-returns-in-Component
 passed_variable-returns-in-Component t c =
@@ -358,68 +232,27 @@ passed_variable-returns-in-Component t c =
 -- ---- calls
 
 pub function_value-returns-in_err-type_id : goal.function_value-returns-in_err-type_id
+unfolding spec.function_value
 function_value-returns-in_err-type_id t c =
-    let why = c.in_err-type_id.field-0.0 in
-    let is : c.args.is_function ≡ true = search rules in
-    let actuals = map written_actual c.args.actuals.now in
-    let stops : IsFault (spec.function_value c.args.block c.args.is_function c.args.place actuals c.args.lead c.args.typer.now) why = inr (
-    ap (λ f. spec.function_value c.args.block f c.args.place actuals c.args.lead c.args.typer.now) is
-    ∙ value_stops c.args.block c.args.place actuals c.args.lead c.args.typer.now c.pass.new.self c.behind.new.self c.in_ok-site.site
-    c.pass.ensures c.in_ok-site.ensures c.in_ok-made.made.root _ c.routine_call.new.typer c.in_ok-made.ensures why c.in_err-type_id.ensures) in
-    search rules
+    let by = value_by_host c.args.place c.in_ok-site.site c.in_ok-made.made.root c.routine_call.new.typer in
+    search (rules, by)
 
 pub function_value-returns : goal.function_value-returns
+unfolding spec.function_value
 function_value-returns t c =
-    let is : c.args.is_function ≡ true = search rules in
-    let actuals = map written_actual c.args.actuals.now in
-    let made = c.in_ok-made.made in
-    ap (λ f. spec.function_value c.args.block f c.args.place actuals c.args.lead c.args.typer.now) is
-    ∙ value_is c.args.block c.args.place actuals c.args.lead c.args.typer.now c.pass.new.self c.behind.new.self c.in_ok-site.site
-    c.pass.ensures c.in_ok-site.ensures made.root _ c.routine_call.new.typer c.in_ok-made.ensures c.in_ok-type_id.type_id c.in_ok-type_id.ensures
-    ∙ ap (λ look. Ok (after (spec.typed c.in_ok-type_id.type_id c.in_ok-site.site) look c.routine_call.new.typer))
-    (sym (look_function_call made.call made.actuals))
+    let by = value_by_host c.args.place c.in_ok-site.site c.in_ok-made.made.root c.routine_call.new.typer in
+    search (rules, by, look_function_call)
 
 pub routine_call-returns-in_err-found : goal.routine_call-returns-in_err-found
-routine_call-returns-in_err-found t c =
-    let why = c.in_err-found.field-0.0 in
-    let actuals = c.args.actuals.now in
-    let formals = (get_or c.enter.new.self.headings c.args.block program_heading).parameters in
-    let refused : (why ≡ fault.Memory) ⊎ (spec.are_as_many c.args.place (length (map written_actual actuals)) (length formals) ≡ Err why) =
-    subst (λ n. (why ≡ fault.Memory) ⊎ (spec.are_as_many c.args.place n (length formals) ≡ Err why)) (sym (length-map actuals written_actual))
-    c.in_err-found.ensures.found in
-    let stops : IsFault (spec.routine_call c.args.is_function c.args.block c.args.place (map written_actual actuals) c.args.typer.now) why =
-    count_stops c.args.is_function c.args.block c.args.place (map written_actual actuals) c.args.typer.now c.enter.new.self c.in_ok-number.number
-    c.in_ok-number.ensures why refused in
-    search rules
+unfolding spec.routine_call heading_at
+routine_call-returns-in_err-found t c = search (rules, length-map)
 
 pub routine_call-returns-in_err-passed : goal.routine_call-returns-in_err-passed
+unfolding spec.routine_call heading_at
 routine_call-returns-in_err-passed t c =
-    let why = c.in_err-passed.field-0.0 in
-    let actuals = c.args.actuals.now in
-    let there = c.enter.new.self in
-    let formals = (get_or there.headings c.args.block program_heading).parameters in
-    let many : spec.are_as_many c.args.place (length (map written_actual actuals)) (length formals) ≡ Ok tt =
-    ap (λ n. spec.are_as_many c.args.place n (length formals)) (length-map actuals written_actual) ∙ c.in_ok-found.ensures.found.fits in
-    let refused : IsFault (spec.actuals_for formals (map written_actual actuals) c.args.block 0 there) why =
-    subst (λ roots. IsFault (spec.actuals_for roots (map written_actual actuals) c.args.block 0 there) why)
-    (c.deref.ensures.value ∙ sym c.in_ok-found.ensures.found.parameters) (c.in_err-passed.ensures.made c.args.block) in
-    let stops : IsFault (spec.routine_call c.args.is_function c.args.block c.args.place (map written_actual actuals) c.args.typer.now) why =
-    actual_stops c.args.is_function c.args.block c.args.place (map written_actual actuals) c.args.typer.now there c.in_ok-number.number
-    c.in_ok-number.ensures many why refused in
-    search rules
+    let stops = c.in_err-passed.ensures.made c.args.block in
+    search (rules, length-map, stops)
 
 pub routine_call-returns : goal.routine_call-returns
-routine_call-returns t c =
-    let actuals = c.args.actuals.now in
-    let there = c.enter.new.self in
-    let passed = c.in_ok-passed.passed in
-    let now = c.actuals_for.new.typer in
-    let found = c.in_ok-found.ensures.found in
-    let formals = (get_or there.headings c.args.block program_heading).parameters in
-    let many : spec.are_as_many c.args.place (length (map written_actual actuals)) (length formals) ≡ Ok tt =
-    ap (λ n. spec.are_as_many c.args.place n (length formals)) (length-map actuals written_actual) ∙ found.fits in
-    call_made c.args.is_function c.args.block c.args.place (map written_actual actuals) c.args.typer.now there c.in_ok-number.number
-    c.in_ok-number.ensures many c.in_ok-found.found.root found.result passed.items
-    (c.in_ok-passed.ensures.counted ∙ sym (length-map actuals written_actual)) now
-    (ap (λ roots. spec.actuals_for roots (map written_actual actuals) c.args.block 0 there) (found.parameters ∙ sym c.deref.ensures.value)
-    ∙ c.in_ok-passed.ensures.made c.args.block)
+unfolding spec.routine_call heading_at
+routine_call-returns t c = search (rules, length-map)

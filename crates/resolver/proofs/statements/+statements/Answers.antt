@@ -5,7 +5,7 @@ use Rattle.typing.specs.Passing.{after, each}
 use Rattle.typing.specs.Statements.{statement, constant_row, case_arms}
 use Rattle.syntax_tree.specs.Places.{arms_of}
 use Rattle.typing.specs.Outcomes.{IsFault}
-use Rattle.resolver.proofs.CaseArms.{stands_at, stops_at_row, stops_at_arm, arm_made, arm_left_out, arms_begin, arms_end}
+use Rattle.resolver.proofs.CaseArms.{stands_at, arm_goes, arm_made, arm_left_out, arms_end}
 use Rattle.resolver.proofs.MadeRows.{row_goes_on, row_stops}
 use Rattle.resolver.proofs.statements.+statements.Goals as goal
 use Rattle.resolver.proofs.statements.+statements.Goals.{case_arms-in-Some+in_ok-constant_row+in_ok-statement, case_arms-in_default}
@@ -35,38 +35,22 @@ statements-returns-in_err-statement t c =
 -- the constants before the next one are refused
 pub case_arms-returns-in_err-constant_row : goal.case_arms-returns-in_err-constant_row
 case_arms-returns-in_err-constant_row t c =
-    let why = c.in_err-constant_row.field-0.0 in
-    let type_id = c.args.type_id in
-    let constants = c.args.constants.now in
-    let written = c.args.written.now in
-    let old = c.args.typer.now in
     let here = c.loop-index in
-    let now = here.typer in
-    let there : here.index < length constants = grind (arith, nat_tests, c.in-Some.ensures.lookup.0) in
-    let stops : IsFault (case_arms type_id [] (arms_of constants (map statement written)) old) why =
-    stops_at_row type_id constants written old here.index here.rows.items here.seen.keys here.arms.items now here.invariant.from
-    c.in-Some.row.now c.index-written-index.result (stands_at constants here.index _ c.in-Some.row.now there c.in-Some.ensures.lookup.1)
-    c.loop-index-test.true c.index-written-index.is why
-    (subst (λ l. IsFault (constant_row type_id here.seen.keys [] l now) why) c.deref.ensures.value c.in_err-constant_row.ensures) in
-    search rules
+    let there : here.index < length c.args.constants.now = grind (arith, nat_tests, c.in-Some.ensures.lookup.0) in
+    let goes = arm_goes c.args.type_id c.args.constants.now c.args.written.now c.args.typer.now here.index here.rows.items here.seen.keys here.arms.items
+    here.typer here.invariant.from c.in-Some.row.now c.index-written-index.result
+    (stands_at c.args.constants.now here.index _ c.in-Some.row.now there c.in-Some.ensures.lookup.1) c.loop-index-test.true c.index-written-index.is in
+    search (rules, goes)
 
 -- the next one is refused
 pub case_arms-returns-in_err-statement : goal.case_arms-returns-in_err-statement
 case_arms-returns-in_err-statement t c =
-    let why = c.in_err-statement.field-0.0 in
-    let type_id = c.args.type_id in
-    let constants = c.args.constants.now in
-    let written = c.args.written.now in
-    let old = c.args.typer.now in
     let here = c.loop-index in
-    let now = here.typer in
-    let there : here.index < length constants = grind (arith, nat_tests, c.in-Some.ensures.lookup.0) in
-    let stops : IsFault (case_arms type_id [] (arms_of constants (map statement written)) old) why =
-    stops_at_arm type_id constants written old here.index here.rows.items here.seen.keys here.arms.items now here.invariant.from
-    c.in-Some.row.now c.index-written-index.result (stands_at constants here.index _ c.in-Some.row.now there c.in-Some.ensures.lookup.1)
-    c.loop-index-test.true c.index-written-index.is c.in_ok-constant_row.field-0 c.constant_row.new.typer
-    (ap (λ l. constant_row type_id here.seen.keys [] l now) (sym c.deref.ensures.value) ∙ c.in_ok-constant_row.ensures.0) why c.in_err-statement.ensures in
-    search rules
+    let there : here.index < length c.args.constants.now = grind (arith, nat_tests, c.in-Some.ensures.lookup.0) in
+    let goes = arm_goes c.args.type_id c.args.constants.now c.args.written.now c.args.typer.now here.index here.rows.items here.seen.keys here.arms.items
+    here.typer here.invariant.from c.in-Some.row.now c.index-written-index.result
+    (stands_at c.args.constants.now here.index _ c.in-Some.row.now there c.in-Some.ensures.lookup.1) c.loop-index-test.true c.index-written-index.is in
+    search (rules, goes)
 
 -- all are made
 pub case_arms-returns : goal.case_arms-returns
