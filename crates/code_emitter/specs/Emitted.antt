@@ -1,5 +1,5 @@
--- The list of a code that grows: its instructions, or why there are none; and what it gets, behind what is there. It does
--- not say when memory runs out.
+-- The list of a code that grows: its instructions, or why there are none; and what it gets, behind what is there. It
+-- does not say when memory runs out.
 use Rattle.std.specs.Prelude.{◌≡◌, ℕ, Bool, true, false, ◌||◌, nat_lt, List, [], ◌∷◌, ◌++◌, length, slice_set}
 use Rattle.std.specs.Prelude.{Option, Some, None, Result, Ok, Err}
 use Rattle.pcode_assembler.specs.declared.instr.Instr.{Instr}

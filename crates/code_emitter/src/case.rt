@@ -33,8 +33,8 @@ pub fn emit_case(code: &mut Emitter, scope: &Scope, head: &CaseHead, arms: &Vec<
     index.max(inside.saturating_add(1).max(3))
 }
 
-/// The arms of a case statement, each behind its row of constants; and where the jumps out of the statement stand, which
-/// are set later.
+/// The arms of a case statement, each behind its row of constants; and where the jumps out of the statement stand,
+/// which are set later.
 #[cycle(emit_stmt)]
 fn emit_arms(
     code: &mut Emitter,

@@ -54,7 +54,8 @@ use Rattle.typed_tree.specs.WellFormed.{length_of}
 use Rattle.code_scheme.specs.Scopes.{Scope, block_scope, count, holding, other_cells, routine_or_none, row_length, variable_home}
 use Rattle.code_scheme.specs.Code.{At, By, Placed, Reached, address_code, address_of, arms_code, assign_code, block_code, blocks_code, compare_code, copy_code}
 use Rattle.code_scheme.specs.Code.{calculation_code, call_code, dyadic_code, range_check, write_code}
-use Rattle.code_scheme.specs.Code.{end_code, expr_code, expr_step, fetch_code, field_code, index_codes, joined, line_end_code, link_code, link_step, monadic_code}
+use Rattle.code_scheme.specs.Code.{end_code, expr_code, expr_step, fetch_code, field_code, index_codes, joined, line_end_code, link_code, link_step}
+use Rattle.code_scheme.specs.Code.{monadic_code}
 use Rattle.code_scheme.specs.Code.{next_instr, order_instr, parameter_code, passed_code, passed_step, placed, reached, reached_from, relation_instr, row_code}
 use Rattle.code_scheme.specs.Code.{selectors_code, stmt_code, stmt_step, store_code, variable_code, whole_code, width_code, write_instr, written_code}
 

@@ -31,8 +31,8 @@ row_length n = min n 65536
 abbrev pub links : ℕ → ℕ
 links n = min n 15
 
--- where code runs: the variables by root, and the routines by the number of their block; the level of its own block; and
--- where in the frame the next cell lies that is held above the variables and above those that are held already
+-- where code runs: the variables by root, and the routines by the number of their block; the level of its own block;
+-- and where in the frame the next cell lies that is held above the variables and above those that are held already
 pub record Scope : Type 0 where
   pub homes : List Home
   pub routines : List Routine

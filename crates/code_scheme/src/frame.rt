@@ -1,4 +1,5 @@
-ghost use Rattle.std.specs.Prelude.{◌≡◌, ◌<◌, ◌+◌, ◌++◌, ◌∷◌, [], ℕ, List, IfOk, OnOk, if◌then◌else◌, length, slice_get};
+ghost use Rattle.std.specs.Prelude.{◌≡◌, ◌<◌, ◌+◌, ◌++◌, ◌∷◌, [], ℕ, List, IfOk, OnOk, if◌then◌else◌, length};
+ghost use Rattle.std.specs.Prelude.{slice_get};
 ghost use Rattle.typed_tree.specs.declared.tree.Variable.{Variable as Declared};
 ghost use Rattle.typed_tree.specs.WellFormed.{is_parameter_kind, is_variable_kind};
 ghost use Rattle.code_scheme.specs.Frames.{frame_at as frame_in, start_with, AreCounted};

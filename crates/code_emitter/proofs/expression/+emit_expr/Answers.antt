@@ -173,7 +173,8 @@ pub emit_selectors-returns-clause-emits : goal.emit_selectors-returns-clause-emi
 emit_selectors-returns-clause-emits t c =
     let selectors = c.args.selectors.now in
     let codes = index_codes c.args.scope.now (drop c.loop-selector.next c.args.indexes.now) in
-    left_none c.loop-selector.invariant.emits (ap (λ ss. selectors_code ss codes) (drop_all c.loop-selector.selector-index selectors c.loop-selector-test.false))
+    left_none c.loop-selector.invariant.emits
+    (ap (λ ss. selectors_code ss codes) (drop_all c.loop-selector.selector-index selectors c.loop-selector-test.false))
 
 pub emit_selectors-returns-clause-needs : goal.emit_selectors-returns-clause-needs
 emit_selectors-returns-clause-needs t c =

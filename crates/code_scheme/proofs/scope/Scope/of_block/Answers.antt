@@ -10,7 +10,8 @@ returns c = λ homes counts.
     let tree = c.args.tree.now in
     let number = c.args.number in
     let frame = c.frame_at-frame.ensures ∙ counts number in
-    let routines = ap (λ bs. routines_by bs c.args.frames.now 0 bs) c.as_slice.ensures.value ∙ known_are_numbered tree c.args.frames.now counts 0 tree.blocks.items in
+    let routines = ap (λ bs. routines_by bs c.args.frames.now 0 bs) c.as_slice.ensures.value
+    ∙ known_are_numbered tree c.args.frames.now counts 0 tree.blocks.items in
     let level : c.level_of.result ≡ block_level tree number = search rules in
     let next : c.min-next.result ≡ count (4 + parameter_cells tree number + other_cells tree number) =
     omega (
