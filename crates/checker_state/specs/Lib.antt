@@ -10,3 +10,4 @@ pub mod Holds
 pub mod View
 pub mod Trail
 pub mod Meets
+pub mod Terms

@@ -4,6 +4,7 @@
 mod bound;
 mod changes;
 mod conditions;
+mod ends;
 mod forms;
 mod gives;
 mod held;
@@ -17,6 +18,7 @@ mod term;
 mod trail;
 
 pub use bound::Bound;
+pub use ends::Ends;
 pub use forms::{bound_form, entire};
 pub use held::{Claim, Held, Order, Span, Stretch};
 pub use state::State;
