@@ -1,7 +1,7 @@
 -- Lists of what is held: which of them passes a test, where one comes among them, and what is left of them.
 use Rattle.std.proofs.Common.{arith, ◌≡◌, ◌∙◌, sym, ap, ap₂, refl, subst, ℕ, zero, suc, ◌+◌, ◌<◌, ◌≤◌, Bool, true, false, cond, ◌||◌, List, [], ◌∷◌, ◌++◌}
 use Rattle.std.proofs.Common.{append_assoc, append-nil, length, map, set, take, drop, drop-cons, get_or, Option, Some, None, filter, pos}
-use Rattle.std.specs.List.{cons_option, filter_map, insert, list_any, remove}
+use Rattle.std.specs.List.{Contains, cons_option, filter_map, insert, list_any, remove}
 use Rattle.std.specs.declared.cmp.Ordering.{Ordering}
 use Rattle.std.specs.declared.cmp.Ordering.TheVariants.{Less, Equal, Greater}
 use Rattle.std.proofs.Math.ListN.{get_or-map}
@@ -197,3 +197,9 @@ taken-step zero [] = refl
 taken-step zero (one ∷ held) = refl
 taken-step (suc place) [] = refl
 taken-step (suc place) (one ∷ held) = ap (λ (rest : List Held). one ∷ rest) (taken-step place held)
+
+-- the same as one of a list is in it
+pub contains-there : (held : List KeptHeld) (i : ℕ) (next one : KeptHeld) → i < length held → next ≡ get_or held i next
+    → said_held one ≡ said_held next → Contains (said_all held) (said_held one)
+contains-there held i next one inside is same =
+    subst (λ (h : Held). Contains (said_all held) h) (sym same) (i, said-inside held i inside, said-there held i next inside is)

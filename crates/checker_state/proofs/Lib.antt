@@ -24,3 +24,5 @@ pub mod Turns
 pub mod Elements
 pub mod Arrivals
 pub mod Meeting
+pub mod HeldOrders
+pub mod HeldGiven

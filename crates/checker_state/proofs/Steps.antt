@@ -244,13 +244,13 @@ equal-moves {a = a} root other n form first second form_is differ first_is secon
     ∙ ap (λ (of : Option ℕ). with_equal_to root of n (seen a)) (sym form_is))
 
 -- the same is held at a place as before
-pub same-stays : (place : ℕ) (was now : KeptHeld) (state : Kept) → now ≡ was → was ≡ get_or state.known.held.items place was
+pub same-stays : (place : ℕ) (was now : KeptHeld) (state : Kept) → said_held now ≡ said_held was → was ≡ get_or state.known.held.items place was
     → Moves (over_held (λ held. set held place (said_held now))) state state
 same-stays place was now state same is =
     let held = state.known.held.items in
     held-stays (λ held. set held place (said_held now)) state
-    (sym (map-set said_held held place now)
-    ∙ ap said_all (ap (set held place) (same ∙ is) ∙ set-get_or held place was))
+    (ap (set (said_all held) place) same ∙ sym (map-set said_held held place was)
+    ∙ ap said_all (ap (set held place) is ∙ set-get_or held place was))
 
 -- ---- the last one goes
 

@@ -12,3 +12,4 @@ pub mod Laws
 pub mod View
 pub mod Trail
 pub mod Meets
+pub mod Terms

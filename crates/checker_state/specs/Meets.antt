@@ -12,7 +12,9 @@ use Rattle.checker_state.specs.declared.state.State.{State as Kept}
 use Rattle.checker_state.specs.declared.trail.Change.{Change}
 use Rattle.checker_state.specs.declared.trail.Change.TheVariants as change
 use Rattle.checker_state.specs.Joins.{joined_states}
-use Rattle.checker_state.specs.State.{Facts, RowState, State, Table, gives, is_whole, row_at}
+use Rattle.checker_state.specs.State.{Facts, Held, Ordered, RowState, State, Stretched, Table, gives, has_number}
+use Rattle.checker_state.specs.State.{have_values}
+use Rattle.checker_state.specs.State.{is_whole, row_at}
 use Rattle.checker_state.specs.Trail.{Core, Goes, core, seen, seen_core, viewed, with_state}
 use Rattle.checker_state.specs.View.{said_held, said_row, table_of}
 
@@ -62,6 +64,13 @@ joined_at table one other = (
 abbrev pub with_rows : List (ℕ × Row) → State → State
 with_rows [] state = state
 with_rows (one ∷ rows) state = with_rows rows (with_state one.0 (said_row one.1) state)
+
+-- ---- what is held on both ways
+
+-- the variables are defined on which it rests
+abbrev pub has_its_values : Table → State → Held → Bool
+has_its_values table state (Stretched stretch) = have_values table state stretch.spans
+has_its_values table state (Ordered root other number) = has_number table state root && has_number table state other
 
 -- ---- what is told
 

@@ -7,7 +7,7 @@ use Rattle.checker_rows.specs.Rows.{Row, index_at, rows_of}
 use Rattle.checker_state.specs.declared.bound.Bound.{Bound as KeptBound}
 use Rattle.checker_state.specs.declared.bound.Rebinding.{Rebinding}
 use Rattle.checker_state.specs.declared.bound.Rebinding.TheVariants as rebinding
-use Rattle.checker_state.specs.declared.term.Ends.{Ends}
+use Rattle.checker_state.specs.declared.ends.Ends.{Ends}
 use Rattle.checker_state.specs.declared.term.Term.{Term}
 use Rattle.checker_state.specs.declared.known.Row.{Row as KeptRow}
 use Rattle.checker_state.specs.declared.held.Span.{Span as KeptSpan}
@@ -19,7 +19,8 @@ use Rattle.checker_state.specs.declared.held.Held.{Held as KeptHeld}
 use Rattle.checker_state.specs.declared.held.Held.TheVariants as kept
 use Rattle.checker_state.specs.declared.stores.Index.{Index as KeptIndex}
 use Rattle.checker_state.specs.declared.stores.Reach.{Reach as KeptReach}
-use Rattle.checker_state.specs.Bounds.{Bound, raised_bound}
+use Rattle.checker_state.specs.Bounds.{Bound}
+use Rattle.checker_state.specs.Terms.{IsWithin, bound_of_parts}
 use Rattle.checker_state.specs.State.{Claim, Defined, Held, Holds, Ordered, Range, RowState, Span, Stretch, Stretched}
 use Rattle.checker_state.specs.State.{Table}
 use Rattle.checker_state.specs.Stores.{Index, Reach}
@@ -37,26 +38,14 @@ said_form (Some bound) = Some (said_bound bound)
 
 -- what a bound in a test says
 abbrev pub said_term : Term → Bound
-said_term term = raised_bound term.by (said_bound term.bound)
-
--- a number lies between another and its negative
-abbrev pub IsWithin : ℤ → ℤ → Type 0
-IsWithin limit number = (neg_ℤ limit ≤ℤ number) × (number ≤ℤ limit)
-
--- a number that is far from the greatest of 64 bits
-abbrev pub IsNear : ℤ → Type 0
-IsNear z = IsWithin (pos 4611686035607257088) z
-
--- a number from which those of 32 bits lead to none beyond 64 bits
-abbrev pub IsFar : ℤ → Type 0
-IsFar z = IsWithin (pos 9223372032559808511) z
+said_term term = bound_of_parts term.root term.number
 
 -- the ends of a range
 pub record AreEnds (ends : Ends) (range : Interval) : Type 0 where
   pub first_is : ends.first ≡ range.first
   pub last_is : ends.last ≡ range.last
-  pub first_near : IsWithin (pos 4611686022722355199) ends.first
-  pub last_near : IsWithin (pos 4611686022722355199) ends.last
+  pub first_near : IsWithin (pos 4611686027017322495) ends.first
+  pub last_near : IsWithin (pos 4611686027017322495) ends.last
 
 -- ---- rows
 

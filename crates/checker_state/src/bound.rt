@@ -1,9 +1,9 @@
 ghost use Rattle.std.specs.Prelude.{◌≡◌};
-ghost use Rattle.std.specs.Bool.{OnTrue};
 ghost use Rattle.checker_state.specs.Bounds.{bound_order, constant, is_variable, moved_bound, plus, variable_order};
 ghost use Rattle.checker_state.specs.Changes.{bound_rests_on, changed_bound_by};
 ghost use Rattle.checker_state.specs.Stores.{bound_of_number};
-ghost use Rattle.checker_state.specs.View.{IsFar, bound_by, said_bound, said_form};
+ghost use Rattle.checker_state.specs.Terms.{IsFar};
+ghost use Rattle.checker_state.specs.View.{bound_by, said_bound, said_form};
 
 use std::cmp::Ordering;
 
@@ -103,13 +103,6 @@ impl Bound {
         self.moved(-i64::from(form.number))
     }
 
-    /// Whether it is the same as another.
-    pub(crate) fn is_same(self, other: Bound) -> bool
-        ensures { OnTrue result (self ≡ other) }
-    {
-        is_same_variable(self.root, other.root) && self.number == other.number
-    }
-
     /// How it stands to another in the order of bounds.
     pub(crate) fn compare(self, other: Bound) -> Ordering
         ensures { result ≡ bound_order (said_bound self) (said_bound other) }
@@ -136,15 +129,5 @@ fn compare_variables(one: Option<u32>, other: Option<u32>) -> Ordering
         (None, Some(_)) => Ordering::Less,
         (Some(_), None) => Ordering::Greater,
         (Some(root), Some(another)) => root.cmp(&another),
-    }
-}
-
-fn is_same_variable(one: Option<u32>, other: Option<u32>) -> bool
-    ensures { OnTrue result (one ≡ other) }
-{
-    match (one, other) {
-        (None, None) => true,
-        (Some(root), Some(another)) => root == another,
-        _ => false,
     }
 }

@@ -7,14 +7,15 @@ ghost use Rattle.checker_state.specs.Conditions.{related_forms, single_refined, 
 ghost use Rattle.checker_state.specs.Conditions.{unlike, with_different, with_le, with_order, without_first};
 ghost use Rattle.checker_state.specs.Conditions.{without_last};
 ghost use Rattle.checker_state.specs.State.{Dead, bound_range};
+ghost use Rattle.checker_state.specs.Terms.{IsFar, IsNear};
 ghost use Rattle.checker_state.specs.Trail.{Moves, seen};
-ghost use Rattle.checker_state.specs.View.{AreEnds, IsFar, IsNear, said_bound, said_form};
+ghost use Rattle.checker_state.specs.View.{AreEnds, said_bound, said_form};
 
 use crate::bound::Bound;
+use crate::ends::{Ends, difference, sum};
 use crate::forms::bound_form;
 use crate::held::Order;
 use crate::state::State;
-use crate::term::{Ends, difference, sum};
 use domain::interval::Interval;
 use typed_tree::calls::holds_call;
 use typed_tree::tree::{Calculation, Dyadic, Expr, Link, Monadic, Relation};
@@ -232,7 +233,7 @@ impl<'a> State<'a> {
     }
 
     /// The ends of the range in which a bound lies.
-    fn ends(&self, bound: Bound) -> Ends
+    pub fn ends(&self, bound: Bound) -> Ends
         ensures { AreEnds result (bound_range (seen self.now) (said_bound bound)) }
     {
         match bound.root {

@@ -5,15 +5,17 @@ ghost use Rattle.checker_state.specs.State.{Live, bound_range, covers, gives, gi
 ghost use Rattle.checker_state.specs.State.{has_span, has_value, has_values, have_spans, have_values, is_empty};
 ghost use Rattle.checker_state.specs.State.{is_next};
 ghost use Rattle.checker_state.specs.State.{is_spanned, is_whole, le, lies_below, says_at_most};
+ghost use Rattle.checker_state.specs.Meets.{has_its_values};
 ghost use Rattle.checker_state.specs.Trail.{core, viewed};
 ghost use Rattle.checker_state.specs.View.{AreEnds, inner_spans, said_bound, said_claim, said_held, said_order};
 ghost use Rattle.checker_state.specs.View.{said_span};
 ghost use Rattle.checker_state.specs.View.{said_spans, said_stretch, said_term, table_of};
 
 use crate::bound::Bound;
+use crate::ends::Ends;
 use crate::held::{Claim, Held, Order, Span, Stretch};
 use crate::known::Known;
-use crate::term::{Ends, Term};
+use crate::term::Term;
 use checker_rows::Rows;
 use domain::Domain;
 use types::OrdinalRange;
@@ -44,9 +46,9 @@ impl Known {
     fn ends(&self, term: Term) -> Ends
         ensures { AreEnds result (bound_range (Live (viewed (core self.now))) (said_term term)) }
     {
-        match term.root() {
-            None => Ends::of(term.number()),
-            Some(root) => Ends::moved(self.row(root as usize).range, term.number()),
+        match term.root {
+            None => Ends::of(term.number),
+            Some(root) => Ends::moved(self.row(root as usize).range, term.number),
         }
     }
 
@@ -61,14 +63,14 @@ impl Known {
     fn lies_below(&self, one: Bound, other: Bound) -> bool
         ensures { result ≡ lies_below (viewed (core self.now)) (said_bound one) (said_bound other) }
     {
-        self.le(Term::raised(one, 1), Term::of(other))
+        self.le(Term::of(one).moved(1), Term::of(other))
     }
 
     // Whether a bound is known to be at most the one behind another.
     fn is_beside(&self, next: Bound, one: Bound) -> bool
         ensures { result ≡ le (viewed (core self.now)) (said_bound next) (raised_bound (pos 1) (said_bound one)) }
     {
-        self.le(Term::of(next), Term::raised(one, 1))
+        self.le(Term::of(next), Term::of(one).moved(1))
     }
 
     /// Whether a bound is known to be the one behind another.
@@ -220,6 +222,18 @@ impl Known {
         match held {
             Held::Stretched(stretch) => self.gives_stretch(table, *stretch),
             Held::Ordered(order) => self.gives_order(table, *order),
+        }
+    }
+
+    /// Whether the variables are defined on which it rests.
+    pub(crate) fn has_its_values(&self, table: &Rows, held: &Held) -> bool
+        ensures { result ≡ has_its_values (table_of table.now) (Live (viewed (core self.now))) (said_held held.now) }
+    {
+        match held {
+            Held::Stretched(stretch) => self.have_values(table, *stretch),
+            Held::Ordered(order) => {
+                self.has_number(table, order.root) && self.has_number(table, order.other)
+            }
         }
     }
 

@@ -1,4 +1,4 @@
-ghost use Rattle.std.specs.Prelude.{◌≡◌, ◌+ℤ◌, neg_ℤ};
+ghost use Rattle.std.specs.Prelude.{◌≡◌, ◌+ℤ◌, neg_ℤ, pos};
 ghost use Rattle.std.specs.Bool.{OnTrue};
 ghost use Rattle.std.specs.Cmp.Lexicographic.{slice_cmp};
 ghost use Rattle.checker_state.specs.Bounds.{plus};
@@ -6,6 +6,7 @@ ghost use Rattle.checker_state.specs.Changes.{all_with_bounds, changed_order, in
 ghost use Rattle.checker_state.specs.Changes.{stretch_of, unless_resting, with_bounds};
 ghost use Rattle.checker_state.specs.State.{Ordered, Stretched, all_of, held_order, says_at_most, span_order};
 ghost use Rattle.checker_state.specs.Stores.{at_index, stretch_between};
+ghost use Rattle.checker_state.specs.Terms.{IsWithin};
 ghost use Rattle.checker_state.specs.View.{bound_by, held_by, inner_spans, said_bound, said_form, said_held};
 ghost use Rattle.checker_state.specs.View.{said_more, said_ordered, said_span, said_span_form, said_spans};
 ghost use Rattle.checker_state.specs.View.{said_stretch, said_stretch_form, said_stretched, said_term};
@@ -61,12 +62,6 @@ pub enum Claim {
 }
 
 impl Span {
-    fn is_same(self, other: Span) -> bool
-        ensures { OnTrue result (self ≡ other) }
-    {
-        self.first.is_same(other.first) && self.last.is_same(other.last)
-    }
-
     // What becomes of it.
     fn by(self, how: Rebinding) -> Option<Span>
         ensures { said_span_form result ≡ with_bounds (bound_by how) (said_span self) }
@@ -86,14 +81,6 @@ impl Span {
 }
 
 impl Stretch {
-    fn is_same(&self, other: &Stretch) -> bool
-        ensures { OnTrue result (self.now ≡ other.now) }
-    {
-        self.row == other.row
-            && self.span.is_same(other.span)
-            && is_same_inner(self.inner, other.inner)
-    }
-
     /// That of a single first index.
     pub fn at(row: usize, index: Bound) -> Stretch
         ensures { said_stretch result ≡ at_index row (said_bound index) }
@@ -168,12 +155,6 @@ impl Stretch {
 }
 
 impl Order {
-    fn is_same(&self, other: &Order) -> bool
-        ensures { OnTrue result (self.now ≡ other.now) }
-    {
-        self.root == other.root && self.other == other.other && self.number == other.number
-    }
-
     /// An order, if its number is one that facts have.
     pub(crate) fn new(root: u32, other: u32, number: i64) -> Option<Order>
         ensures { said_ordered result ≡ ordered root other number }
@@ -212,7 +193,12 @@ impl Order {
     fn raised(self, root: u32, by: i32) -> Option<Order>
         ensures { said_ordered result ≡ raised root by self.root self.other self.number }
     {
-        let number = raised_number(root == self.root, root == self.other, by, self.number);
+        let number = raised_number(
+            root == self.root,
+            root == self.other,
+            i64::from(by),
+            self.number,
+        );
         Order::new(self.root, self.other, number)
     }
 
@@ -260,10 +246,10 @@ impl Order {
         ensures { result ≡ says_at_most (said_term left) (said_term right)
             (Ordered self.now.root self.now.other self.now.number) }
     {
-        match (left.root(), right.root()) {
+        match (left.root, right.root) {
             (Some(root), Some(other)) => {
                 let sum = self.number_with(left);
-                root == self.root && other == self.other && sum <= right.number()
+                root == self.root && other == self.other && sum <= right.number
             }
             _ => false,
         }
@@ -273,7 +259,7 @@ impl Order {
     fn number_with(&self, term: Term) -> i64
         ensures { result ≡ self.now.number +ℤ (said_term term).number }
     {
-        i64::from(self.number) + term.number()
+        i64::from(self.number) + term.number
     }
 
     fn compare(&self, other: &Order) -> Ordering
@@ -290,11 +276,10 @@ impl Order {
 impl Held {
     /// Whether it is the same as another.
     pub(crate) fn is_same(&self, other: &Held) -> bool
-        ensures { OnTrue result (self.now ≡ other.now) }
+        ensures { OnTrue result (said_held self.now ≡ said_held other.now) }
     {
-        match (self, other) {
-            (Held::Stretched(one), Held::Stretched(another)) => one.is_same(another),
-            (Held::Ordered(one), Held::Ordered(another)) => one.is_same(another),
+        match self.compare(other) {
+            Ordering::Equal => true,
             _ => false,
         }
     }
@@ -338,16 +323,6 @@ impl Held {
     }
 }
 
-fn is_same_inner(one: Option<Span>, other: Option<Span>) -> bool
-    ensures { OnTrue result (one ≡ other) }
-{
-    match (one, other) {
-        (None, None) => true,
-        (Some(span), Some(another)) => span.is_same(another),
-        _ => false,
-    }
-}
-
 // How inner spans stand to one another: none comes first.
 fn compare_inner(one: Option<Span>, other: Option<Span>) -> Ordering
     ensures { result ≡ slice_cmp span_order (inner_spans one) (inner_spans other) }
@@ -361,15 +336,15 @@ fn compare_inner(one: Option<Span>, other: Option<Span>) -> Ordering
 }
 
 // The number of an order after a variable rose by a number that stands to the left, or to the right.
-fn raised_number(left: bool, right: bool, by: i32, number: i32) -> i64
+fn raised_number(left: bool, right: bool, by: i64, number: i32) -> i64
+    requires { IsWithin (pos 2147483648) by }
     ensures { result ≡ raised_number left right by number }
 {
-    let by = i64::from(by);
     let number = i64::from(number);
-    if left {
-        if right { number } else { number + by }
-    } else {
-        if right { number - by } else { number }
+    match (left, right) {
+        (true, false) => number + by,
+        (false, true) => number - by,
+        _ => number,
     }
 }
 
@@ -377,11 +352,5 @@ fn raised_number(left: bool, right: bool, by: i32, number: i32) -> i64
 fn lowered_number(left: bool, right: bool, own: i32, number: i32) -> i64
     ensures { result ≡ raised_number left right (neg_ℤ own) number }
 {
-    let own = i64::from(own);
-    let number = i64::from(number);
-    if left {
-        if right { number } else { number - own }
-    } else {
-        if right { number + own } else { number }
-    }
+    raised_number(left, right, -i64::from(own), number)
 }

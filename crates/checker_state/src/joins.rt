@@ -1,4 +1,5 @@
-ghost use Rattle.std.specs.Prelude.{◌≡◌, ◌++◌, ℕ, List, IfOk, false, filter, length, map};
+ghost use Rattle.std.specs.Prelude.{◌≡◌, ◌++◌, ℕ, Contains, List, IfOk, false, filter, length, map};
+ghost use Rattle.std.specs.Bool.{OnTrue};
 ghost use Rattle.checker_state.specs.declared.state.State.{State as Kept};
 ghost use Rattle.checker_state.specs.Joins.{joined_states};
 ghost use Rattle.checker_state.specs.State.{gives};
@@ -14,6 +15,7 @@ use crate::trail::{Branch, Change, Mark};
 use checker_rows::Rows;
 use domain::Domain;
 use std::alloc::{AllocError, Global};
+use std::cmp::Ordering;
 
 /// What is known of a row at the end of a way, and whether each of its components is known to be defined there.
 #[derive(Clone, Copy)]
@@ -115,7 +117,7 @@ impl Known {
     {
         let mut kept = Vec::new(alloc);
         for held in asked {
-            kept.push(self.gives(table, held))?;
+            kept.push(self.keeps(table, held))?;
         }
         let held = Vec::from_slice(alloc, &self.held)?;
         let mut rows = Vec::new(alloc);
@@ -166,12 +168,39 @@ impl Known {
     {
         let mut found = Vec::new(alloc);
         for held in asked {
-            if !self.gives(table, held) {
+            if !self.keeps(table, held) {
                 continue;
             }
             found.push(*held)?;
         }
         Ok(found)
+    }
+
+    // Whether what is held elsewhere is given: what is held here too is, where its variables are defined.
+    fn keeps(&self, table: &Rows, held: &Held) -> bool
+        ensures { result ≡ gives (table_of table.now) (viewed (core self.now)) (said_held held.now) }
+    {
+        if self.finds(held) {
+            return self.has_its_values(table, held);
+        }
+        self.gives(table, held)
+    }
+
+    // Looks for it by halves.
+    fn finds(&self, one: &Held) -> bool
+        ensures { OnTrue result (Contains (map said_held self.now.held.items) (said_held one.now)) }
+    {
+        let mut first = 0;
+        let mut end = self.held.len();
+        while first < end {
+            let middle = first + (end - first) / 2;
+            match one.compare(&self.held[middle]) {
+                Ordering::Less => end = middle,
+                Ordering::Equal => return true,
+                Ordering::Greater => first = middle + 1,
+            }
+        }
+        false
     }
 
     // What is known of rows here and at the end of another way.

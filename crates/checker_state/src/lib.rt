@@ -4,6 +4,7 @@
 mod bound;
 mod changes;
 mod conditions;
+mod ends;
 mod forms;
 mod gives;
 mod held;
@@ -19,6 +20,7 @@ mod trail;
 mod value;
 
 pub use bound::Bound;
+pub use ends::Ends;
 pub use forms::{bound_form, entire};
 pub use held::{Claim, Held, Order, Span, Stretch};
 pub use state::State;

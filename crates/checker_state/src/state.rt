@@ -1,13 +1,16 @@
 ghost use Rattle.std.specs.Prelude.{◌≡◌, false, length, true};
 ghost use Rattle.checker_state.specs.declared.state.State.{State as Kept};
-ghost use Rattle.checker_state.specs.State.{Dead, State as Seen, is_dead, is_defined, range_of, unless_empty};
-ghost use Rattle.checker_state.specs.State.{with_defined, with_range};
+ghost use Rattle.checker_state.specs.State.{Dead, State as Seen, at_most, has_value, is_dead, is_defined, range_of};
+ghost use Rattle.checker_state.specs.State.{unless_empty, with_defined, with_range};
 ghost use Rattle.checker_state.specs.Trail.{Comes, Core, EndsAt, Goes, IsCut, Leaves, Makes, Moves, TakesBack, core};
 ghost use Rattle.checker_state.specs.Trail.{seen};
 ghost use Rattle.checker_state.specs.Trail.{with_state};
-ghost use Rattle.checker_state.specs.View.{said_row};
+ghost use Rattle.checker_state.specs.View.{said_bound, said_row, said_term, table_of};
 
+use crate::bound::Bound;
+use crate::held::Held;
 use crate::known::{Known, Row};
+use crate::term::Term;
 use crate::trail::{Branch, Change, Mark};
 use checker_rows::Rows;
 use domain::Domain;
@@ -63,6 +66,34 @@ impl<'a> State<'a> {
         ensures { result ≡ is_defined (seen self.now) row }
     {
         self.known.is_dead || self.known.row(row).is_defined
+    }
+
+    /// Whether the variable of a bound, if it has one, is there and known to be defined.
+    pub fn has_value(&self, bound: Bound) -> bool
+        ensures { result ≡ has_value (table_of self.now.table.now) (seen self.now) (said_bound bound) }
+    {
+        self.known.is_dead || self.known.has_value(self.table, bound)
+    }
+
+    /// Whether a bound is known to be at most another; at a dead point each is.
+    pub fn knows_at_most(&self, left: Term, right: Term) -> bool
+        ensures { result ≡ at_most (seen self.now) (said_term left) (said_term right) }
+    {
+        self.known.is_dead || self.known.le(left, right)
+    }
+
+    /// What is held beside rows.
+    pub fn held(&self) -> &[Held]
+        ensures { result.now ≡ self.now.known.held.items }
+    {
+        self.known.held.as_slice()
+    }
+
+    /// The rows of the program.
+    pub fn table(&self) -> &'a Rows<'a>
+        ensures { result.now ≡ self.now.table.now }
+    {
+        self.table
     }
 
     /// Each component of a row is defined from here on.

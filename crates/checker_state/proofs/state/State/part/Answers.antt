@@ -5,7 +5,7 @@ use Rattle.checker_state.specs.Conditions.{unlike}
 use Rattle.checker_state.specs.State.{State, bound_range}
 use Rattle.checker_state.specs.Trail.{seen}
 use Rattle.checker_state.specs.View.{AreEnds, said_bound}
-use Rattle.checker_state.specs.declared.term.Ends.{Ends}
+use Rattle.checker_state.specs.declared.ends.Ends.{Ends}
 use Rattle.checker_state.proofs.Ways.{moves-as, moves-then}
 use Rattle.checker_state.proofs.state.State.part.Goals as goal
 
