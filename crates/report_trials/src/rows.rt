@@ -1,4 +1,4 @@
-use crate::shown::{refusal_told, stop_told, visits};
+use crate::shown::{refusal_told, repeated, stop_told, visits};
 use certificate::fault::ReadFault;
 use pcode_assembler::code::{Point, Site};
 use report::fault::Fault;
@@ -102,6 +102,14 @@ fn sentence_of(alloc: Global, visits: Result<u64, Fault>) -> Result<String, Faul
 fn faults_have_their_sentences(rt: HostRuntime) -> Result<(), Fail> {
     all_hold(rt.alloc(), &SENTENCES, source_sentence)?;
     all_hold(rt.alloc(), &CERTIFICATE_SENTENCES, certificate_sentence)
+}
+
+#[test]
+fn deep_nesting_has_its_sentence(rt: HostRuntime) -> Result<(), Fail> {
+    let source = repeated(rt.alloc(), &[("program p; begin ", 1), ("begin ", 127)])?;
+    let told = sentence_of(rt.alloc(), visits(rt.alloc(), &source, None))?;
+    assert_eq!(rt; told.as_str(), "1:779: nested deeper than 128");
+    Ok(())
 }
 
 const SET_MEMBER: Site = Site {
