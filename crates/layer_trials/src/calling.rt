@@ -1,23 +1,11 @@
 //! Calls and returns of routines on the machine. What each row has to give was worked out by hand from the machine's
 //! table.
 
-use crate::assembling::assembled;
+use crate::assembling::{RunRow, assembled, row_told};
 use std::alloc::Global;
 use std::test::Fail;
 use test_words::machines::run_told;
 use test_words::rows::all_hold;
-
-/// A code, the cells of the store and a budget.
-type RunRow = (&'static str, u32, u64);
-
-fn row_told(alloc: Global, row: &RunRow) -> Result<String, Fail> {
-    run_told(
-        alloc,
-        &assembled(alloc, row.0)?,
-        row.1.max(1).min(4194304),
-        row.2,
-    )
-}
 
 /// `procedure down(n); begin write(n); if n <> 0 then down(n - 1) end`, and a call of it with 3. The program's frame
 /// has the cells 0 to 3, those of the calls begin at the cells 4, 9, 14 and 19, and the last needs the cells up to 29.
@@ -35,6 +23,9 @@ const PRODUCT: &str = "ent 0 6; mst 0; ldc 5; cup 1 7; ldc 1; wri; stp; \
     ent 0 7; lod 0 4; fjp 18; lod 0 4; mst 1; lod 0 4; ldc 1; sbi; cup 1 7; mpi; ret 1; \
     ldc 1; ret 1";
 
+/// A call that is the last instruction.
+const LAST: &str = "ent 0 6; ujp 7; ent 0 2; ldc 7; ldc 1; wri; ret 0; mst 0; cup 0 2";
+
 /// A routine that calls itself for ever, in frames of 4 cells.
 const ENDLESS: &str = "ent 0 4; mst 0; cup 0 3; ent 0 4; mst 1; cup 0 3";
 
@@ -51,22 +42,8 @@ static RUNS: [(RunRow, &str); 13] = [
     ((ENDLESS, 4000100, 300), "more"),
     ((ENDLESS, 4000100, 18446744073709551615), "full"),
     // A call that is the last instruction returns out of the code; that is told at the return, not at the call.
-    (
-        (
-            "ent 0 6; ujp 7; ent 0 2; ldc 7; ldc 1; wri; ret 0; mst 0; cup 0 2",
-            20,
-            100,
-        ),
-        "7M2",
-    ),
-    (
-        (
-            "ent 0 6; ujp 7; ent 0 2; ldc 7; ldc 1; wri; ret 0; mst 0; cup 0 2",
-            20,
-            8,
-        ),
-        "7more",
-    ),
+    ((LAST, 20, 100), "7M2"),
+    ((LAST, 20, 8), "7more"),
     (
         (
             "ent 0 6; ujp 7; ent 0 2; ldc 7; ldc 1; wri; ret 0; mst 0; cup 0 2; stp",

@@ -6,19 +6,10 @@ use types::{
     laws,
 };
 
-/// A subrange of integer.
-fn subrange(first: i32, last: i32) -> TypeForm {
-    TypeForm::Subrange {
-        host: TypeTable::INTEGER,
-        first,
-        last,
-    }
-}
-
 /// An array over an index type.
-fn array(packed: bool, index: TypeId, element: TypeId) -> TypeForm {
+fn array(index: TypeId, element: TypeId) -> TypeForm {
     TypeForm::Array {
-        packed,
+        packed: false,
         index,
         element,
     }
@@ -28,40 +19,6 @@ fn array(packed: bool, index: TypeId, element: TypeId) -> TypeForm {
 fn field(alloc: Global, name: &str, type_id: TypeId) -> Result<Field, AllocError> {
     let name = Vec::from_slice(alloc, name.as_bytes())?;
     Ok(Field { name, type_id })
-}
-
-/// Whether an enumeration and its subrange are compatible with each other, and not with integer.
-fn enumerations_hold(table: &mut TypeTable) -> Result<bool, TypeRefusal> {
-    let color = table.add(TypeForm::Enumeration { last: 2 })?;
-    let warm = table.add(TypeForm::Subrange {
-        host: color,
-        first: 0,
-        last: 1,
-    })?;
-    Ok(
-        table.is_ordinal(color)
-            && table.host(warm).same(color)
-            && table.compatible(color, warm)
-            && table.assignable(warm, color)
-            && !table.compatible(warm, TypeTable::INTEGER),
-    )
-}
-
-/// Whether strings are compatible by their length alone.
-fn strings_hold(table: &mut TypeTable) -> Result<bool, TypeRefusal> {
-    let ten = table.add(subrange(1, 10))?;
-    let five = table.add(subrange(1, 5))?;
-    let name = table.add(array(true, ten, TypeTable::CHAR))?;
-    let street = table.add(array(true, ten, TypeTable::CHAR))?;
-    let code = table.add(array(true, five, TypeTable::CHAR))?;
-    Ok(
-        table.is_string(name)
-            && matches!(table.string_length(street), Some(10))
-            && table.compatible(name, street)
-            && !name.same(street)
-            && !table.compatible(name, code)
-            && !table.is_ordinal(name),
-    )
 }
 
 /// Whether these steps lead to the component at a place of a type.
@@ -82,7 +39,7 @@ fn leads(
 
 /// Whether a record has its fields, and takes the cells of them all.
 fn records_hold(alloc: Global, table: &mut TypeTable) -> Result<bool, TypeRefusal> {
-    let row = table.add(array(false, TypeTable::BOOLEAN, TypeTable::INTEGER))?;
+    let row = table.add(array(TypeTable::BOOLEAN, TypeTable::INTEGER))?;
     let record = record(alloc, table, row)?;
     let found = table.field(record, b"row");
     Ok(
@@ -109,10 +66,14 @@ fn record(alloc: Global, table: &mut TypeTable, row: TypeId) -> Result<TypeId, T
 
 /// Whether an array has its elements, one after another, negative indexes first.
 fn elements_hold(alloc: Global, table: &mut TypeTable) -> Result<bool, TypeRefusal> {
-    let below = table.add(subrange(-2, 0))?;
-    let row = table.add(array(false, TypeTable::BOOLEAN, TypeTable::CHAR))?;
+    let below = table.add(TypeForm::Subrange {
+        host: TypeTable::INTEGER,
+        first: -2,
+        last: 0,
+    })?;
+    let row = table.add(array(TypeTable::BOOLEAN, TypeTable::CHAR))?;
     let record = record(alloc, table, row)?;
-    let list = table.add(array(false, below, record))?;
+    let list = table.add(array(below, record))?;
     let elements = table.element(list);
     Ok(
         matches!(elements, Some(ArrayElement { index, range: OrdinalRange { first: -2, last: 0 }, type_id, cells: 3 })
@@ -147,21 +108,9 @@ fn empty_fields_hold(alloc: Global, table: &mut TypeTable) -> Result<bool, TypeR
     Ok(table.cells(nothing) == 0 && leads(alloc, table, record, 0, &[Step::Field(1)])?)
 }
 
-/// Whether forms that break a rule are refused, and leave no type behind.
-fn refusals_hold(table: &mut TypeTable) -> bool {
-    let turned = table.add(subrange(2, 1));
-    let wide = table.add(array(false, TypeTable::INTEGER, TypeTable::BOOLEAN));
-    matches!(turned, Err(TypeRefusal::FirstAboveLast))
-        && matches!(wide, Err(TypeRefusal::TooManyCells))
-        && table.form(TypeId { index: 3 }).is_none()
-}
-
 #[test]
-fn declared_types_are_as_they_should_be(rt: HostRuntime) -> Result<(), Fail> {
+fn components_lie_as_they_should(rt: HostRuntime) -> Result<(), Fail> {
     let mut table = TypeTable::required(rt.alloc())?;
-    assert!(rt; refusals_hold(&mut table));
-    assert!(rt; matches!(enumerations_hold(&mut table), Ok(true)));
-    assert!(rt; matches!(strings_hold(&mut table), Ok(true)));
     assert!(rt; matches!(records_hold(rt.alloc(), &mut table), Ok(true)));
     assert!(rt; matches!(elements_hold(rt.alloc(), &mut table), Ok(true)));
     assert!(rt; matches!(empty_fields_hold(rt.alloc(), &mut table), Ok(true)));

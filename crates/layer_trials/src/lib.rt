@@ -9,8 +9,6 @@ mod assembling;
 #[cfg(test)]
 mod calling;
 #[cfg(test)]
-mod certificates;
-#[cfg(test)]
 mod checking;
 #[cfg(test)]
 mod declared_types;
@@ -21,28 +19,18 @@ mod lexemes;
 #[cfg(test)]
 mod meanings;
 #[cfg(test)]
-mod ordinals;
-#[cfg(test)]
 mod ranges;
 #[cfg(test)]
 mod removal;
 #[cfg(test)]
-mod resolving;
-#[cfg(test)]
-mod routines;
-#[cfg(test)]
 mod rows_of_cells;
 #[cfg(test)]
 mod running;
-#[cfg(test)]
-mod scoping;
 #[cfg(test)]
 mod sources;
 #[cfg(test)]
 mod sparse_lists;
 #[cfg(test)]
 mod stretches;
-#[cfg(test)]
-mod structured_types;
 #[cfg(test)]
 mod syntax;

@@ -1,4 +1,4 @@
-use crate::sources::{fault_told, resolved, tree_of};
+use crate::sources::{resolved, tree_of};
 use interpreter::interpret;
 use meaning::laws;
 use meaning::outcome::{Ending, Outcome};
@@ -9,11 +9,9 @@ use typed_tree::tree::Tree;
 
 /// What a run of a program writes, and behind it how it ends: nothing where it finishes, `!0` where it errs at its
 /// first site, ` more` where its turns are used up.
-fn statements_told(alloc: Global, statements: &&str) -> Result<String, AllocError> {
-    match tree_of(alloc, "x: integer", statements) {
-        Ok(tree) => tree_told(alloc, &tree, 0),
-        Err(fault) => fault_told(alloc, fault),
-    }
+fn statements_told(alloc: Global, statements: &str) -> Result<String, Fail> {
+    let tree = tree_of(alloc, "x: integer", statements)?;
+    Ok(tree_told(alloc, &tree, 0)?)
 }
 
 fn tree_told(alloc: Global, tree: &Tree, turns: u64) -> Result<String, AllocError> {
@@ -35,28 +33,40 @@ fn word_of(ending: Ending) -> &'static str {
 }
 
 /// The operands of the tables, in order: about 0 and the root of maxint, and the ends of integer.
-const OPERANDS: [i32; 7] = [-2147483647, -1, 0, 1, 46340, 46341, 2147483647];
+const OPERANDS: &[i32] = &[-2147483647, -1, 0, 1, 46340, 46341, 2147483647];
 
 /// What an operator gives in a width of 1, for each left operand in order with each right operand in order.
-fn operator_told(alloc: Global, operator: &&str) -> Result<String, AllocError> {
+fn operator_told(alloc: Global, operator: &&str) -> Result<String, Fail> {
     let mut told = String::new(alloc);
-    for place in 0..49usize {
-        let (left, right) = (OPERANDS[place / 7], OPERANDS[place % 7]);
-        told.push_str(operated(alloc, left, operator, right)?.as_str())?;
+    for left in OPERANDS {
+        for right in OPERANDS {
+            told.push_str(operated(alloc, *left, operator, *right)?.as_str())?;
+            told.push(' ')?;
+        }
+    }
+    Ok(told)
+}
+
+/// The same of a relation, in a word for each left operand.
+fn relation_told(alloc: Global, relation: &&str) -> Result<String, Fail> {
+    let mut told = String::new(alloc);
+    for left in OPERANDS {
+        for right in OPERANDS {
+            told.push_str(operated(alloc, *left, relation, *right)?.as_str())?;
+        }
         told.push(' ')?;
     }
     Ok(told)
 }
 
-fn operated(alloc: Global, left: i32, operator: &str, right: i32) -> Result<String, AllocError> {
+fn operated(alloc: Global, left: i32, operator: &str, right: i32) -> Result<String, Fail> {
     let statement = format!(in alloc; "write(({left}) {operator} ({right}):1)")?;
-    statements_told(alloc, &statement.as_str())
+    statements_told(alloc, statement.as_str())
 }
 
 /// Products as python3 tells, with none outside integer; quotients: python3's floor of the magnitudes, with the sign
-/// put back, and none by 0; moduli as python3's % tells, with none by what is less than 1. By hand: the operands stand
-/// in order, so they are related as their positions are.
-static OPERATORS: [(&str, &str); 9] = [
+/// put back, and none by 0; moduli as python3's % tells, with none by what is less than 1.
+static OPERATORS: [(&str, &str); 3] = [
     (
         "*",
         "!0 2147483647 0 -2147483647 !0 !0 !0 \
@@ -87,83 +97,50 @@ static OPERATORS: [(&str, &str); 9] = [
         !0 !0 !0 0 1 0 46341 \
         !0 !0 !0 0 41707 41707 0 ",
     ),
+];
+
+/// By hand: the operands stand in order, so they are related as their positions are.
+static RELATIONS: [(&str, &str); 6] = [
     (
         "=",
-        "t f f f f f f \
-        f t f f f f f \
-        f f t f f f f \
-        f f f t f f f \
-        f f f f t f f \
-        f f f f f t f \
-        f f f f f f t ",
+        "tffffff ftfffff fftffff ffftfff fffftff ffffftf fffffft ",
     ),
     (
         "<>",
-        "f t t t t t t \
-        t f t t t t t \
-        t t f t t t t \
-        t t t f t t t \
-        t t t t f t t \
-        t t t t t f t \
-        t t t t t t f ",
+        "ftttttt tfttttt ttftttt tttfttt ttttftt tttttft ttttttf ",
     ),
     (
         "<",
-        "f t t t t t t \
-        f f t t t t t \
-        f f f t t t t \
-        f f f f t t t \
-        f f f f f t t \
-        f f f f f f t \
-        f f f f f f f ",
+        "ftttttt ffttttt ffftttt ffffttt ffffftt fffffft fffffff ",
     ),
     (
         ">",
-        "f f f f f f f \
-        t f f f f f f \
-        t t f f f f f \
-        t t t f f f f \
-        t t t t f f f \
-        t t t t t f f \
-        t t t t t t f ",
+        "fffffff tffffff ttfffff tttffff ttttfff tttttff ttttttf ",
     ),
     (
         "<=",
-        "t t t t t t t \
-        f t t t t t t \
-        f f t t t t t \
-        f f f t t t t \
-        f f f f t t t \
-        f f f f f t t \
-        f f f f f f t ",
+        "ttttttt ftttttt ffttttt ffftttt ffffttt ffffftt fffffft ",
     ),
     (
         ">=",
-        "t f f f f f f \
-        t t f f f f f \
-        t t t f f f f \
-        t t t t f f f \
-        t t t t t f f \
-        t t t t t t f \
-        t t t t t t t ",
+        "tffffff ttfffff tttffff ttttfff tttttff ttttttf ttttttt ",
     ),
 ];
 
 #[test]
 fn operators_give_what_the_tables_say(rt: HostRuntime) -> Result<(), Fail> {
-    all_hold(rt.alloc(), &OPERATORS, operator_told)
+    all_hold(rt.alloc(), &OPERATORS, operator_told)?;
+    all_hold(rt.alloc(), &RELATIONS, relation_told)
 }
 
 /// Declarations, statements and turns.
 type CallRow = (&'static str, &'static str, u64);
 
-fn call_told(alloc: Global, row: &CallRow) -> Result<String, AllocError> {
+fn call_told(alloc: Global, row: &CallRow) -> Result<String, Fail> {
     let (declarations, statements, turns) = *row;
     let source = format!(in alloc; "program p(output); {declarations} begin {statements} end.")?;
-    match resolved(alloc, source.as_str()) {
-        Ok(tree) => tree_told(alloc, &tree, turns),
-        Err(fault) => fault_told(alloc, fault),
-    }
+    let tree = resolved(alloc, source.as_str())?;
+    Ok(tree_told(alloc, &tree, turns)?)
 }
 
 const DIGIT: &str = "procedure digit(n: integer); begin write(n:1) end;";

@@ -1,7 +1,8 @@
+use crate::assembling::instructions;
 use check_remover::remove::remove;
 use pcode_assembler::code::{Code, Site};
 use pcode_assembler::instr::Instr;
-use std::alloc::{AllocError, Global};
+use std::alloc::Global;
 use std::test::Fail;
 use test_words::machines::run_told;
 use test_words::rows::all_hold;
@@ -22,42 +23,21 @@ const FITS: Site = Site {
 
 const SITES: [Site; 2] = [OVERFLOW, FITS];
 
-const SUM: Instr = Instr::CheckSum { site: 0 };
-
-const IN_RANGE: Instr = Instr::CheckRange {
-    site: 1,
-    low: 1,
-    high: 9,
-};
-
 /// A number that neither check lets pass: with the range's check gone the sum's stops the run, and with both gone the
 /// sum is written.
-const WHOLE: &[Instr] = &[
-    Instr::Enter {
-        variables: 0,
-        evaluation: 2,
-    },
-    Instr::LoadConstant { value: 2147483647 },
-    IN_RANGE,
-    Instr::LoadConstant { value: 2 },
-    SUM,
-    Instr::Add,
-    Instr::LoadConstant { value: 1 },
-    Instr::WriteInteger,
-    Instr::Stop,
-];
+const WHOLE: &str = "ent 0 2; ldc 2147483647; chk 1 9; ldc 2; cka; adi; ldc 1; wri; stp";
 
-fn code_of(alloc: Global, instructions: &[Instr]) -> Result<Code, AllocError> {
+fn code_of(alloc: Global, text: &str) -> Result<Code, Fail> {
     Ok(Code {
         sites: SITES.to_vec(alloc)?,
         points: Vec::new(alloc),
-        instructions: instructions.to_vec(alloc)?,
+        instructions: instructions(alloc, text)?,
     })
 }
 
-/// What is left of instructions where these sites are open.
-fn rest(alloc: Global, instructions: &[Instr], open_sites: &[Site]) -> Result<Code, AllocError> {
-    remove(alloc, &code_of(alloc, instructions)?, open_sites)
+/// What is left of a code where these sites are open.
+fn rest(alloc: Global, text: &str, open_sites: &[Site]) -> Result<Code, Fail> {
+    Ok(remove(alloc, &code_of(alloc, text)?, open_sites)?)
 }
 
 /// How many instructions are left of the whole, and what they do.
@@ -80,17 +60,10 @@ fn checks_of_open_sites_stay(rt: HostRuntime) -> Result<(), Fail> {
 }
 
 /// A jump to a check at the end, behind a check of the other site.
-const CHECKS_LAST: &[Instr] = &[Instr::Jump { target: 2 }, SUM, IN_RANGE];
+const CHECKS_LAST: &str = "ujp 2; cka; chk 1 9";
 
 /// The same with a call.
-const CALLS_LAST: &[Instr] = &[
-    Instr::CallProcedure {
-        length: 3,
-        target: 2,
-    },
-    SUM,
-    IN_RANGE,
-];
+const CALLS_LAST: &str = "cup 3 2; cka; chk 1 9";
 
 fn word_of(instruction: Instr) -> &'static str {
     match instruction {
@@ -108,7 +81,7 @@ fn word_of(instruction: Instr) -> &'static str {
 }
 
 /// What is left of the last checks and the jump or the call to them.
-fn last_told(alloc: Global, row: &LastRow) -> Result<String, AllocError> {
+fn last_told(alloc: Global, row: &LastRow) -> Result<String, Fail> {
     let code = rest(alloc, row.0, row.1)?;
     let mut told = String::new(alloc);
     for instruction in &code.instructions {
@@ -117,8 +90,8 @@ fn last_told(alloc: Global, row: &LastRow) -> Result<String, AllocError> {
     Ok(told)
 }
 
-/// Instructions, and the open sites.
-type LastRow = (&'static [Instr], &'static [Site]);
+/// A code, and the open sites.
+type LastRow = (&'static str, &'static [Site]);
 
 static JUMPS: [(LastRow, &str); 6] = [
     ((CHECKS_LAST, &[OVERFLOW]), "jump to 2; sum; "),
@@ -135,27 +108,8 @@ fn jumps_are_moved_over_removed_checks(rt: HostRuntime) -> Result<(), Fail> {
 }
 
 /// A routine, behind a check, that writes its own return.
-const RETURN_SHOWN: &[Instr] = &[
-    Instr::Enter {
-        variables: 0,
-        evaluation: 7,
-    },
-    Instr::LoadConstant { value: 5 },
-    IN_RANGE,
-    Instr::MarkStack { level: 0 },
-    Instr::CallProcedure {
-        length: 0,
-        target: 6,
-    },
-    Instr::Stop,
-    Instr::Load {
-        level: 0,
-        offset: 2,
-    },
-    Instr::LoadConstant { value: 1 },
-    Instr::WriteInteger,
-    Instr::Return { results: 0 },
-];
+const RETURN_SHOWN: &str =
+    "ent 0 7; ldc 5; chk 1 9; mst 0; cup 0 6; stp; lod 0 2; ldc 1; wri; ret 0";
 
 fn return_told(alloc: Global, open_sites: &&[Site]) -> Result<String, Fail> {
     run_told(alloc, &rest(alloc, RETURN_SHOWN, open_sites)?, 11, 100)

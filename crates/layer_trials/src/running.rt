@@ -1,45 +1,15 @@
-use pcode_assembler::code::Code;
-use pcode_assembler::instr::Instr;
+use crate::assembling::{RunRow, assembled, row_told};
 use stack_machine::bytes::{Counted, Feed};
 use stack_machine::laws;
 use stack_machine::machine::Machine;
 use std::alloc::{AllocError, Global};
 use std::io;
 use std::test::Fail;
-use test_words::machines::{CHECKED, run_told, word_of};
+use test_words::machines::{run_told, word_of};
 use test_words::rows::all_hold;
 
-fn code_of(alloc: Global, instructions: &[Instr]) -> Result<Code, AllocError> {
-    Ok(Code {
-        sites: vec![in alloc; CHECKED]?,
-        points: Vec::new(alloc),
-        instructions: instructions.to_vec(alloc)?,
-    })
-}
-
-const ENTER: Instr = Instr::Enter {
-    variables: 0,
-    evaluation: 2,
-};
-
-fn number(value: i32) -> Instr {
-    Instr::LoadConstant { value }
-}
-
-const SEVEN: Instr = Instr::LoadConstant { value: 7 };
-
 /// `7` in a width of 3, and a line end.
-const LINE: &[Instr] = &[
-    ENTER,
-    SEVEN,
-    Instr::LoadConstant { value: 3 },
-    Instr::WriteInteger,
-    Instr::WriteLine,
-    Instr::Stop,
-];
-
-/// Instructions, the cells of the store and a budget.
-type RunRow = (&'static [Instr], u32, u64);
+const LINE: &str = "ent 0 2; ldc 7; ldc 3; wri; wln; stp";
 
 /// Runs that finish, find the store full, use up their budget, or end in an error or a fault.
 static RUNS: [(RunRow, &str); 8] = [
@@ -48,42 +18,13 @@ static RUNS: [(RunRow, &str); 8] = [
     ((LINE, 6, 5), "  7\nmore"),
     ((LINE, 3, 0), "full"),
     (
-        (
-            &[
-                ENTER,
-                Instr::LoadConstant { value: 2147483647 },
-                Instr::LoadConstant { value: 1 },
-                Instr::CheckSum { site: 0 },
-                Instr::Add,
-                Instr::Stop,
-            ],
-            6,
-            100,
-        ),
+        ("ent 0 2; ldc 2147483647; ldc 1; cka; adi; stp", 6, 100),
         "error",
     ),
-    ((&[ENTER, Instr::Add], 6, 100), "M1"),
-    ((&[SEVEN], 6, 100), "M2"),
-    (
-        (
-            &[
-                ENTER,
-                Instr::Load {
-                    level: 0,
-                    offset: 2,
-                },
-                Instr::Negate,
-            ],
-            6,
-            100,
-        ),
-        "M3",
-    ),
+    (("ent 0 2; adi", 6, 100), "M1"),
+    (("ldc 7", 6, 100), "M2"),
+    (("ent 0 2; lod 0 2; ngi", 6, 100), "M3"),
 ];
-
-fn row_told(alloc: Global, row: &RunRow) -> Result<String, Fail> {
-    run_told(alloc, &code_of(alloc, row.0)?, row.1.max(1).min(6), row.2)
-}
 
 #[test]
 fn runs_to_each_kind_of_stop(rt: HostRuntime) -> Result<(), Fail> {
@@ -117,15 +58,15 @@ impl io::Write for Narrow {
 }
 
 /// What is run, and how many bytes the writer takes at a time and in all.
-type NarrowRow = (&'static [Instr], usize, usize);
+type NarrowRow = (&'static str, usize, usize);
 
-/// Runs instructions over a narrow writer, and tells how the run stops.
+/// Runs a code over a narrow writer, and tells how the run stops.
 fn run_to(
     alloc: Global,
-    instructions: &[Instr],
+    text: &str,
     narrow: Narrow,
-) -> Result<(Counted<Narrow>, &'static str), AllocError> {
-    let code = code_of(alloc, instructions)?;
+) -> Result<(Counted<Narrow>, &'static str), Fail> {
+    let code = assembled(alloc, text)?;
     let mut machine = Machine::new(alloc, 6)?;
     let mut reader = Counted::new(io::empty());
     let mut writer = Counted::new(narrow);
@@ -134,7 +75,7 @@ fn run_to(
 }
 
 /// How many bytes were taken, and the last of them, what each call offered, how often the writer failed, and the stop.
-fn narrow_told(alloc: Global, row: &NarrowRow) -> Result<String, AllocError> {
+fn narrow_told(alloc: Global, row: &NarrowRow) -> Result<String, Fail> {
     let narrow = Narrow {
         at_once: row.1,
         in_all: row.2,
@@ -142,7 +83,7 @@ fn narrow_told(alloc: Global, row: &NarrowRow) -> Result<String, AllocError> {
         offered: Vec::new(alloc),
     };
     let (writer, word) = run_to(alloc, row.0, narrow)?;
-    writer_told(alloc, &writer, word)
+    Ok(writer_told(alloc, &writer, word)?)
 }
 
 fn writer_told(alloc: Global, writer: &Counted<Narrow>, word: &str) -> Result<String, AllocError> {
@@ -152,27 +93,14 @@ fn writer_told(alloc: Global, writer: &Counted<Narrow>, word: &str) -> Result<St
     format!(in alloc; "{count} {last:?} of {offered:?}, failures: {failures} {word}")
 }
 
-/// `7` in a width of 5000.
-const WIDE: &[Instr] = &[
-    ENTER,
-    SEVEN,
-    Instr::LoadConstant { value: 5000 },
-    Instr::WriteInteger,
-    Instr::Stop,
-];
+/// `7` in a width of 5000, and of 10000.
+const WIDE: &str = "ent 0 2; ldc 7; ldc 5000; wri; stp";
 
-/// `7` in a width of 10000.
-const WIDER: &[Instr] = &[
-    ENTER,
-    SEVEN,
-    Instr::LoadConstant { value: 10000 },
-    Instr::WriteInteger,
-    Instr::Stop,
-];
+const WIDER: &str = "ent 0 2; ldc 7; ldc 10000; wri; stp";
 
-const ONE_LINE: &[Instr] = &[ENTER, Instr::WriteLine, Instr::Stop];
+const ONE_LINE: &str = "ent 0 2; wln; stp";
 
-const TWO_LINES: &[Instr] = &[ENTER, Instr::WriteLine, Instr::WriteLine, Instr::Stop];
+const TWO_LINES: &str = "ent 0 2; wln; wln; stp";
 
 /// The machine writes in pieces of 4096 bytes and the rest at the stop; what a call leaves is offered again.
 static NARROW: [(NarrowRow, &str); 5] = [
@@ -197,6 +125,9 @@ fn writes_in_pieces_until_the_writer_fails(rt: HostRuntime) -> Result<(), Fail> 
     all_hold(rt.alloc(), &NARROW, narrow_told)
 }
 
+/// Operators, and numbers left and right of them.
+type OperatorRow = (&'static str, &'static [i32], &'static [i32]);
+
 /// What each of some operators makes of a number and another, for each of the first and each of the second ones; an
 /// operator of one operand takes the second. Where the run doesn't finish, how it stops.
 fn operators_told(alloc: Global, row: &OperatorRow) -> Result<String, Fail> {
@@ -211,36 +142,23 @@ fn operators_told(alloc: Global, row: &OperatorRow) -> Result<String, Fail> {
 
 fn tell_operators(
     alloc: Global,
-    operators: &[Instr],
+    operators: &str,
     (left, right): (i32, i32),
     told: &mut String,
 ) -> Result<(), Fail> {
-    for operator in operators {
-        told.push_str(operated(alloc, *operator, left, right)?.as_str())?;
+    for operator in operators.split(' ') {
+        told.push_str(operated(alloc, operator, left, right)?.as_str())?;
         told.push(' ')?;
     }
     Ok(())
 }
 
-type OperatorRow = (&'static [Instr], &'static [i32], &'static [i32]);
-
-fn operated(alloc: Global, operator: Instr, left: i32, right: i32) -> Result<String, Fail> {
-    let code = [
-        Instr::Enter {
-            variables: 0,
-            evaluation: 3,
-        },
-        number(left),
-        number(right),
-        operator,
-        number(1),
-        Instr::WriteInteger,
-        Instr::Stop,
-    ];
-    run_told(alloc, &code_of(alloc, &code)?, 7, 100)
+fn operated(alloc: Global, operator: &str, left: i32, right: i32) -> Result<String, Fail> {
+    let text = format!(in alloc; "ent 0 3; ldc {left}; ldc {right}; {operator}; ldc 1; wri; stp")?;
+    run_told(alloc, &assembled(alloc, text.as_str())?, 7, 100)
 }
 
-const OF_TWO: &[Instr] = &[Instr::Multiply, Instr::Divide, Instr::Modulo];
+const OF_TWO: &str = "mpi dvi mod";
 
 const FACTORS: &[i32] = &[-2147483647, -1, 1, 46340, 46341, 2147483647];
 
@@ -313,14 +231,11 @@ static ARITHMETIC: [(OperatorRow, &str); 12] = [
         1 1 0 ",
     ),
     // What isn't a divisor.
-    ((&[Instr::Divide], DIVIDENDS, &[0]), "M4 M4 M4 M4 M4 "),
-    ((&[Instr::Modulo], DIVIDENDS, &[0]), "M4 M4 M4 M4 M4 "),
-    ((&[Instr::Modulo], DIVIDENDS, &[-1]), "M4 M4 M4 M4 M4 "),
-    ((&[Instr::Modulo], DIVIDENDS, &[-46341]), "M4 M4 M4 M4 M4 "),
-    (
-        (&[Instr::Modulo], DIVIDENDS, &[-2147483648]),
-        "M4 M4 M4 M4 M4 ",
-    ),
+    (("dvi", DIVIDENDS, &[0]), "M4 M4 M4 M4 M4 "),
+    (("mod", DIVIDENDS, &[0]), "M4 M4 M4 M4 M4 "),
+    (("mod", DIVIDENDS, &[-1]), "M4 M4 M4 M4 M4 "),
+    (("mod", DIVIDENDS, &[-46341]), "M4 M4 M4 M4 M4 "),
+    (("mod", DIVIDENDS, &[-2147483648]), "M4 M4 M4 M4 M4 "),
 ];
 
 #[test]
@@ -330,7 +245,7 @@ fn multiplies_and_divides(rt: HostRuntime) -> Result<(), Fail> {
 
 const ASCENDING: &[i32] = &[-2147483647, -1, 0, 1, 46340, 46341, 2147483647];
 
-const OF_ONE: &[Instr] = &[Instr::Absolute, Instr::Square, Instr::Odd];
+const OF_ONE: &str = "abi sqi odd";
 
 /// Each of the ascending numbers in a line: its absolute value, its square of 32 bits, and whether it is odd. Worked
 /// out by python3 over whole numbers of any size. The least number of 32 bits has no positive.
@@ -345,8 +260,8 @@ static SINGLE: [(OperatorRow, &str); 3] = [
         46341 -2147479015 1 \
         2147483647 1 1 ",
     ),
-    ((&[Instr::Absolute], &[0], &[-2147483648]), "-2147483648 "),
-    ((&[Instr::Divide], &[-2147483648], &[-1]), "-2147483648 "),
+    (("abi", &[0], &[-2147483648]), "-2147483648 "),
+    (("dvi", &[-2147483648], &[-1]), "-2147483648 "),
 ];
 
 #[test]
@@ -354,80 +269,56 @@ fn takes_absolute_values_squares_and_parity(rt: HostRuntime) -> Result<(), Fail>
     all_hold(rt.alloc(), &SINGLE, operators_told)
 }
 
-/// Each relation of each of the ascending numbers, a line each, to each of them. Worked out by hand.
-static RELATIONS: [(OperatorRow, &str); 6] = [
+/// What a relation gives of each of the ascending numbers, a word each, with each of them.
+fn relation_told(alloc: Global, relation: &&'static str) -> Result<String, Fail> {
+    let mut told = String::new(alloc);
+    for left in ASCENDING {
+        for right in ASCENDING {
+            told.push_str(operated(alloc, relation, *left, *right)?.as_str())?;
+        }
+        told.push(' ')?;
+    }
+    Ok(told)
+}
+
+/// The numbers stand in order, so they are related as their positions are.
+static RELATIONS: [(&str, &str); 6] = [
     (
-        (&[Instr::Equal], ASCENDING, ASCENDING),
-        "1 0 0 0 0 0 0 \
-        0 1 0 0 0 0 0 \
-        0 0 1 0 0 0 0 \
-        0 0 0 1 0 0 0 \
-        0 0 0 0 1 0 0 \
-        0 0 0 0 0 1 0 \
-        0 0 0 0 0 0 1 ",
+        "equ",
+        "1000000 0100000 0010000 0001000 0000100 0000010 0000001 ",
     ),
     (
-        (&[Instr::NotEqual], ASCENDING, ASCENDING),
-        "0 1 1 1 1 1 1 \
-        1 0 1 1 1 1 1 \
-        1 1 0 1 1 1 1 \
-        1 1 1 0 1 1 1 \
-        1 1 1 1 0 1 1 \
-        1 1 1 1 1 0 1 \
-        1 1 1 1 1 1 0 ",
+        "neq",
+        "0111111 1011111 1101111 1110111 1111011 1111101 1111110 ",
     ),
     (
-        (&[Instr::Less], ASCENDING, ASCENDING),
-        "0 1 1 1 1 1 1 \
-        0 0 1 1 1 1 1 \
-        0 0 0 1 1 1 1 \
-        0 0 0 0 1 1 1 \
-        0 0 0 0 0 1 1 \
-        0 0 0 0 0 0 1 \
-        0 0 0 0 0 0 0 ",
+        "les",
+        "0111111 0011111 0001111 0000111 0000011 0000001 0000000 ",
     ),
     (
-        (&[Instr::LessOrEqual], ASCENDING, ASCENDING),
-        "1 1 1 1 1 1 1 \
-        0 1 1 1 1 1 1 \
-        0 0 1 1 1 1 1 \
-        0 0 0 1 1 1 1 \
-        0 0 0 0 1 1 1 \
-        0 0 0 0 0 1 1 \
-        0 0 0 0 0 0 1 ",
+        "leq",
+        "1111111 0111111 0011111 0001111 0000111 0000011 0000001 ",
     ),
     (
-        (&[Instr::Greater], ASCENDING, ASCENDING),
-        "0 0 0 0 0 0 0 \
-        1 0 0 0 0 0 0 \
-        1 1 0 0 0 0 0 \
-        1 1 1 0 0 0 0 \
-        1 1 1 1 0 0 0 \
-        1 1 1 1 1 0 0 \
-        1 1 1 1 1 1 0 ",
+        "grt",
+        "0000000 1000000 1100000 1110000 1111000 1111100 1111110 ",
     ),
     (
-        (&[Instr::GreaterOrEqual], ASCENDING, ASCENDING),
-        "1 0 0 0 0 0 0 \
-        1 1 0 0 0 0 0 \
-        1 1 1 0 0 0 0 \
-        1 1 1 1 0 0 0 \
-        1 1 1 1 1 0 0 \
-        1 1 1 1 1 1 0 \
-        1 1 1 1 1 1 1 ",
+        "geq",
+        "1000000 1100000 1110000 1111000 1111100 1111110 1111111 ",
     ),
 ];
 
 #[test]
 fn compares(rt: HostRuntime) -> Result<(), Fail> {
-    all_hold(rt.alloc(), &RELATIONS, operators_told)
+    all_hold(rt.alloc(), &RELATIONS, relation_told)
 }
 
-const JOINS: &[Instr] = &[Instr::And, Instr::Or];
+const JOINS: &str = "and ior";
 
 /// 0 is false, and all else is true.
 static TRUTHS: [(OperatorRow, &str); 7] = [
-    ((&[Instr::Not], &[0], &[0, 1, 2, -1]), "1 0 0 0 "),
+    (("not", &[0], &[0, 1, 2, -1]), "1 0 0 0 "),
     ((JOINS, &[0], &[0]), "0 0 "),
     ((JOINS, &[0], &[1]), "0 1 "),
     ((JOINS, &[1], &[0]), "0 1 "),
@@ -442,30 +333,24 @@ fn joins_truths(rt: HostRuntime) -> Result<(), Fail> {
 }
 
 /// What a run of one instruction over two numbers writes, and how it stops.
-fn two_told(alloc: Global, row: &(Instr, i32, i32)) -> Result<String, Fail> {
+fn two_told(alloc: Global, row: &(&'static str, i32, i32)) -> Result<String, Fail> {
     let (instruction, first, second) = *row;
-    let code = [
-        ENTER,
-        number(first),
-        number(second),
-        instruction,
-        Instr::Stop,
-    ];
-    run_told(alloc, &code_of(alloc, &code)?, 6, 100)
+    let text = format!(in alloc; "ent 0 2; ldc {first}; ldc {second}; {instruction}; stp")?;
+    run_told(alloc, &assembled(alloc, text.as_str())?, 6, 100)
 }
 
 /// Truth values in their widths.
-static BOOLEANS: [((Instr, i32, i32), &str); 10] = [
-    ((Instr::WriteBoolean, 1, 5), " true"),
-    ((Instr::WriteBoolean, 1, 2), "tr"),
-    ((Instr::WriteBoolean, 1, 7), "   true"),
-    ((Instr::WriteBoolean, 1, 0), ""),
-    ((Instr::WriteBoolean, 1, -1), ""),
-    ((Instr::WriteBoolean, -3, 4), "true"),
-    ((Instr::WriteBoolean, 0, 5), "false"),
-    ((Instr::WriteBoolean, 0, 2), "fa"),
-    ((Instr::WriteBoolean, 0, 7), "  false"),
-    ((Instr::WriteBoolean, 0, 0), ""),
+static BOOLEANS: [((&str, i32, i32), &str); 10] = [
+    (("wrb", 1, 5), " true"),
+    (("wrb", 1, 2), "tr"),
+    (("wrb", 1, 7), "   true"),
+    (("wrb", 1, 0), ""),
+    (("wrb", 1, -1), ""),
+    (("wrb", -3, 4), "true"),
+    (("wrb", 0, 5), "false"),
+    (("wrb", 0, 2), "fa"),
+    (("wrb", 0, 7), "  false"),
+    (("wrb", 0, 0), ""),
 ];
 
 #[test]
@@ -473,31 +358,25 @@ fn writes_booleans(rt: HostRuntime) -> Result<(), Fail> {
     all_hold(rt.alloc(), &BOOLEANS, two_told)
 }
 
-const ZERO: Instr = Instr::CheckZero { site: 0 };
-
-const PRODUCT: Instr = Instr::CheckProduct { site: 0 };
-
-const SQUARE: Instr = Instr::CheckSquare { site: 0 };
-
 /// A check and the two topmost numbers, and whether it stops the run. The check of a square looks at the second alone,
 /// and so does the check for zero.
-static CHECKS: [((Instr, i32, i32), &str); 16] = [
-    ((ZERO, 0, 1), ""),
-    ((ZERO, 0, -1), ""),
-    ((ZERO, 1, 0), "error"),
-    ((PRODUCT, 46340, 46340), ""),
-    ((PRODUCT, 46341, 46341), "error"),
-    ((PRODUCT, -46340, 46340), ""),
-    ((PRODUCT, -46341, 46341), "error"),
-    ((PRODUCT, 2147483647, -1), ""),
-    ((PRODUCT, -2147483648, 1), "error"),
-    ((PRODUCT, 1073741824, -2), "error"),
-    ((PRODUCT, -2147483648, 0), ""),
-    ((SQUARE, 0, 46340), ""),
-    ((SQUARE, 0, -46340), ""),
-    ((SQUARE, 0, 46341), "error"),
-    ((SQUARE, 0, -46341), "error"),
-    ((SQUARE, 0, -2147483648), "error"),
+static CHECKS: [((&str, i32, i32), &str); 16] = [
+    (("ckz", 0, 1), ""),
+    (("ckz", 0, -1), ""),
+    (("ckz", 1, 0), "error"),
+    (("ckm", 46340, 46340), ""),
+    (("ckm", 46341, 46341), "error"),
+    (("ckm", -46340, 46340), ""),
+    (("ckm", -46341, 46341), "error"),
+    (("ckm", 2147483647, -1), ""),
+    (("ckm", -2147483648, 1), "error"),
+    (("ckm", 1073741824, -2), "error"),
+    (("ckm", -2147483648, 0), ""),
+    (("ckq", 0, 46340), ""),
+    (("ckq", 0, -46340), ""),
+    (("ckq", 0, 46341), "error"),
+    (("ckq", 0, -46341), "error"),
+    (("ckq", 0, -2147483648), "error"),
 ];
 
 #[test]

@@ -7,10 +7,6 @@ use test_words::rows::all_hold;
 // The parts of a source, and how often each stands in it.
 type Parts = &'static [(&'static str, usize)];
 
-const LEAST: &str = "program p; begin end.";
-
-const COMPOUND: Parts = &[("program p; begin ", 1), (";", 100_000), (" end.", 1)];
-
 // Sources, and what each does on the machine and by the interpreter. A long chain, a long compound and activations deep
 // in one another use no stack, and output passes its piece.
 static LONG: [(Parts, Parts); 4] = [
@@ -22,7 +18,10 @@ static LONG: [(Parts, Parts); 4] = [
         ],
         &[("|         0\n||0", 1)],
     ),
-    (COMPOUND, &[("|||0", 1)]),
+    (
+        &[("program p; begin ", 1), (";", 100_000), (" end.", 1)],
+        &[("|||0", 1)],
+    ),
     (
         &[
             ("program p(output); begin writeln(1)", 1),
@@ -59,57 +58,38 @@ fn long_sources_run(rt: HostRuntime) -> Result<(), Fail> {
 }
 
 // Sources, and how many statements and expressions they have.
-static VISITS: [(Parts, &str); 9] = [
+static VISITS: [(&str, &str); 8] = [
     // 4 statements, 2 targets, 6 factors, 2 operators and 1 sign.
     (
-        &[(
-            "program p(output); var x, y: integer; begin x := 7; y := x - 10; writeln(x + y, -x) end.",
-            1,
-        )],
+        "program p(output); var x, y: integer; begin x := 7; y := x - 10; writeln(x + y, -x) end.",
         "15",
     ),
-    (&[(LEAST, 1)], "2"),
+    ("program p; begin end.", "2"),
     // 2 statements, 2 values and 1 width.
-    (
-        &[("program p(output); begin write(1:2, true) end.", 1)],
-        "5",
-    ),
+    ("program p(output); begin write(1:2, true) end.", "5"),
     // 2 statements, and `not`, `odd`, a sign and a number.
-    (
-        &[("program p(output); begin write(not odd(-1)) end.", 1)],
-        "6",
-    ),
-    (COMPOUND, "100002"),
+    ("program p(output); begin write(not odd(-1)) end.", "6"),
     // 6 statements, a condition of 3 entries and two of 1, however often they are executed.
     (
-        &[(
-            "program p; begin while 1 > 2 do repeat until true; if false then end.",
-            1,
-        )],
+        "program p; begin while 1 > 2 do repeat until true; if false then end.",
         "11",
     ),
     // 3 statements and 2 bounds: a control variable isn't entered.
     (
-        &[(
-            "program p; var i: integer; begin for i := 1 to 9 do end.",
-            1,
-        )],
+        "program p; var i: integer; begin for i := 1 to 9 do end.",
         "5",
     ),
     // 4 statements, and what is passed.
     (
-        &[(
-            "program p; procedure q(n: integer); begin end; begin q(1) end.",
-            1,
-        )],
+        "program p; procedure q(n: integer); begin end; begin q(1) end.",
         "5",
     ),
     // 4 statements and the index.
-    (&[("program p; begin case 1 of 1: ; 2: end end.", 1)], "5"),
+    ("program p; begin case 1 of 1: ; 2: end end.", "5"),
 ];
 
-fn visits_told(alloc: Global, parts: &Parts) -> Result<String, Fault> {
-    let visits = visits(alloc, &repeated(alloc, parts)?, None)?;
+fn visits_told(alloc: Global, source: &&str) -> Result<String, Fault> {
+    let visits = visits(alloc, source.as_bytes(), None)?;
     Ok(format!(in alloc; "{visits}")?)
 }
 

@@ -59,6 +59,6 @@ fn a_refused_allocation_is_want_of_memory(rt: HostRuntime) -> Result<(), Fail> {
         return Ok(());
     };
     let (source, certificate) = (EVERY_FORM.as_bytes(), Some(CLAIMS.as_bytes()));
-    assert!(rt; is_as_it_should(&run(alloc, source, certificate, true, output, errors)));
+    assert!(rt; is_as_it_should(&run(alloc, source, certificate, output, errors)));
     Ok(())
 }

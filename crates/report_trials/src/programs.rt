@@ -15,12 +15,11 @@ pub(crate) struct Told {
     pub(crate) status: u8,
 }
 
-// Runs the program on a source without input, with standard output and standard error behind what these hold.
+// Runs the program with --go on a source without input, with standard output and standard error behind what these hold.
 pub(crate) fn run(
     alloc: Global,
     source: &[u8],
     certificate: Option<&[u8]>,
-    go: bool,
     output: Vec<u8>,
     errors: Vec<u8>,
 ) -> Told {
@@ -31,7 +30,7 @@ pub(crate) fn run(
         alloc,
         source,
         certificate,
-        go,
+        true,
         &mut reader,
         &mut writer,
         &mut messages,
@@ -41,55 +40,6 @@ pub(crate) fn run(
         errors: messages.into_inner(),
         status,
     }
-}
-
-const OPEN: &str = "program p(output); begin writeln(10 div (7 mod 5)) end.";
-
-const ERRS: &str =
-    "program p(output); var x: integer; begin x := 0; write(1:1); write(10 div x) end.";
-
-// Sources, and whether they are to be run; what is told, the output and the status. By hand: `7 mod 5` is known to be
-// 0 to 4.
-static PROGRAMS: [((&str, bool), &str); 7] = [
-    ((OPEN, false), "1:37: possible error: division by zero\n||1"),
-    (
-        (OPEN, true),
-        "1:37: possible error: division by zero\n|         5\n|1",
-    ),
-    (
-        (ERRS, true),
-        "1:71: possible error: division by zero\n1:71: error: division by zero\n|1|4",
-    ),
-    (("program p(output); begin writeln(1) end.", false), "||0"),
-    (
-        ("program p(output); begin writeln(1) end.", true),
-        "|         1\n|0",
-    ),
-    (("program p; begin ? end.", true), "1:18: refused L1\n||2"),
-    (("program p; begin x end.", false), "1:18: refused S3\n||2"),
-];
-
-fn told_of(alloc: Global, row: &(&str, bool)) -> Result<String, Fail> {
-    let (source, go) = *row;
-    let told = run(
-        alloc,
-        source.as_bytes(),
-        None,
-        go,
-        Vec::new(alloc),
-        Vec::new(alloc),
-    );
-    Ok(format!(in alloc;
-        "{}|{}|{}",
-        text_of(&told.errors),
-        text_of(&told.output),
-        told.status
-    )?)
-}
-
-#[test]
-fn programs_are_told_and_run(rt: HostRuntime) -> Result<(), Fail> {
-    all_hold(rt.alloc(), &PROGRAMS, told_of)
 }
 
 // Refuses the call of a number, from 1, and takes what all others write.

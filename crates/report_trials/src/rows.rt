@@ -1,37 +1,12 @@
-use crate::shown::{refusal, refusal_told, stop_told, visits};
+use crate::shown::{refusal_told, repeated, stop_told, visits};
 use certificate::fault::ReadFault;
-use expression_checker::fault::{CheckFault, Rule};
 use pcode_assembler::code::{Point, Site};
-use place::Place;
 use report::fault::Fault;
 use report::text::fault_text;
 use stack_machine::stop::{InputFault, MachineFault, Stop};
 use std::alloc::Global;
 use std::test::Fail;
 use test_words::rows::all_hold;
-
-const LEAST: &str = "program p; begin end.";
-
-// Certificates of the least program, and the line of their refusal; none at the plain one.
-static CERTIFICATES: [(&str, &str); 8] = [
-    ("pcert 1\n", ""),
-    ("", "certificate:1: refused F1\n"),
-    ("pcert 2\n", "certificate:1: refused F1\n"),
-    ("pcert 1", "certificate:1: refused F5\n"),
-    ("pcert 1\nproc 00\n", "certificate:2: refused F2\n"),
-    ("pcert 1\nproc 0\n", "certificate:2: refused F3\n"),
-    ("pcert 1\nproc 1000000\n", "certificate:2: refused F4\n"),
-    ("pcert 1\nproc 0", "certificate:2: refused F5\n"),
-];
-
-fn certificate_refusal(alloc: Global, certificate: &&str) -> Result<String, Fail> {
-    refusal(alloc, LEAST.as_bytes(), Some(certificate.as_bytes()))
-}
-
-#[test]
-fn certificates_are_read(rt: HostRuntime) -> Result<(), Fail> {
-    all_hold(rt.alloc(), &CERTIFICATES, certificate_refusal)
-}
 
 // Faults in certificates too long to stand here, and the line of their refusal. Line 4294967296 takes 33 bits.
 static LATE_LINES: [(Fault, &str); 3] = [
@@ -58,133 +33,65 @@ fn late_lines_are_numbered(rt: HostRuntime) -> Result<(), Fail> {
     all_hold(rt.alloc(), &LATE_LINES, refusal_told)
 }
 
-const PLACE: Place = Place {
-    line: 3,
-    column: 14,
-};
-
-// The line for each rule that a certificate may break.
-static BROKEN_RULES: [(Fault, &str); 7] = [
+// Sources, and the sentences of their faults.
+static SENTENCES: [(&str, &str); 16] = [
+    ("?", "1:1: a byte that begins no token"),
+    ("{", "1:1: a comment that doesn't close"),
+    ("'", "1:1: a string that doesn't close in its line"),
+    ("''", "1:1: a string without an element"),
+    ("2147483648", "1:1: a number above 2147483647"),
+    ("1a", "1:1: a number that touches a letter"),
     (
-        Fault::Check(CheckFault::Foreign),
-        "certificate refused C1\n",
-    ),
-    (
-        Fault::Check(CheckFault::Broken {
-            rule: Rule::LoopEntry,
-            place: PLACE,
-        }),
-        "3:14: certificate refused C2\n",
-    ),
-    (
-        Fault::Check(CheckFault::Broken {
-            rule: Rule::LoopTurn,
-            place: PLACE,
-        }),
-        "3:14: certificate refused C3\n",
-    ),
-    (
-        Fault::Check(CheckFault::Broken {
-            rule: Rule::Exit,
-            place: PLACE,
-        }),
-        "3:14: certificate refused C4\n",
-    ),
-    (
-        Fault::Check(CheckFault::Broken {
-            rule: Rule::CallEntry,
-            place: PLACE,
-        }),
-        "3:14: certificate refused C5\n",
-    ),
-    (
-        Fault::Check(CheckFault::Broken {
-            rule: Rule::Aliases,
-            place: PLACE,
-        }),
-        "3:14: certificate refused C6\n",
-    ),
-    (
-        Fault::Check(CheckFault::Broken {
-            rule: Rule::Changes,
-            place: PLACE,
-        }),
-        "3:14: certificate refused C7\n",
-    ),
-];
-
-#[test]
-fn broken_rules_are_told(rt: HostRuntime) -> Result<(), Fail> {
-    all_hold(rt.alloc(), &BROKEN_RULES, refusal_told)
-}
-
-// Sources and certificates, and the sentence of the fault.
-static SENTENCES: [((&str, &str), &str); 19] = [
-    (("?", "pcert 1\n"), "1:1: a byte that begins no token"),
-    (("{", "pcert 1\n"), "1:1: a comment that doesn't close"),
-    (
-        ("'", "pcert 1\n"),
-        "1:1: a string that doesn't close in its line",
-    ),
-    (("''", "pcert 1\n"), "1:1: a string without an element"),
-    (
-        ("2147483648", "pcert 1\n"),
-        "1:1: a number above 2147483647",
-    ),
-    (("1a", "pcert 1\n"), "1:1: a number that touches a letter"),
-    (
-        ("'\t'", "pcert 1\n"),
+        "'\t'",
         "1:2: a byte in a string that is no printable character",
     ),
-    (("", "pcert 1\n"), "1:1: no program"),
+    ("", "1:1: no program"),
+    ("nil", "1:1: a form that this language leaves out"),
     (
-        ("nil", "pcert 1\n"),
-        "1:1: a form that this language leaves out",
-    ),
-    (
-        ("program p; var a, a: integer; begin end.", "pcert 1\n"),
+        "program p; var a, a: integer; begin end.",
         "1:19: declared twice in one block",
     ),
     (
-        ("program p; var a: t; t: integer; begin end.", "pcert 1\n"),
+        "program p; var a: t; t: integer; begin end.",
         "1:19: used before its declaration",
     ),
+    ("program p; begin read end.", "1:18: not declared"),
     (
-        ("program p; begin read end.", "pcert 1\n"),
-        "1:18: not declared",
-    ),
-    (
-        (
-            "program p; var a: integer; begin a := integer end.",
-            "pcert 1\n",
-        ),
+        "program p; var a: integer; begin a := integer end.",
         "1:39: types that don't fit",
     ),
+    ("program p; begin integer := 1 end.", "1:18: not a variable"),
     (
-        ("program p; begin integer := 1 end.", "pcert 1\n"),
-        "1:18: not a variable",
-    ),
-    (
-        (
-            "program p; var a: integer; begin a := writeln end.",
-            "pcert 1\n",
-        ),
+        "program p; var a: integer; begin a := writeln end.",
         "1:39: wrong parameters",
     ),
     (
-        ("program p(input); begin end.", "pcert 1\n"),
+        "program p(input); begin end.",
         "1:11: input or output is no program parameter",
     ),
-    ((LEAST, "pcert 2\n"), "certificate:1: no certificate"),
-    (
-        (LEAST, "pcert 1\nproc 0\n"),
-        "certificate:2: a line out of its place",
-    ),
-    ((LEAST, "pcert 1"), "certificate:1: a line without its end"),
 ];
 
-fn sentence_of(alloc: Global, row: &(&str, &str)) -> Result<String, Fault> {
-    match visits(alloc, row.0.as_bytes(), Some(row.1.as_bytes())) {
+fn source_sentence(alloc: Global, source: &&str) -> Result<String, Fault> {
+    sentence_of(alloc, visits(alloc, source.as_bytes(), None))
+}
+
+// The same of certificates of the least program.
+static CERTIFICATE_SENTENCES: [(&str, &str); 3] = [
+    ("pcert 2\n", "certificate:1: no certificate"),
+    (
+        "pcert 1\nproc 0\n",
+        "certificate:2: a line out of its place",
+    ),
+    ("pcert 1", "certificate:1: a line without its end"),
+];
+
+fn certificate_sentence(alloc: Global, certificate: &&str) -> Result<String, Fault> {
+    let source = b"program p; begin end.";
+    sentence_of(alloc, visits(alloc, source, Some(certificate.as_bytes())))
+}
+
+fn sentence_of(alloc: Global, visits: Result<u64, Fault>) -> Result<String, Fault> {
+    match visits {
         Err(Fault::Memory) => Err(Fault::Memory),
         Err(fault) => Ok(format!(in alloc; "{fault}")?),
         Ok(_) => Ok(String::new(alloc)),
@@ -193,15 +100,17 @@ fn sentence_of(alloc: Global, row: &(&str, &str)) -> Result<String, Fault> {
 
 #[test]
 fn faults_have_their_sentences(rt: HostRuntime) -> Result<(), Fail> {
-    all_hold(rt.alloc(), &SENTENCES, sentence_of)
+    all_hold(rt.alloc(), &SENTENCES, source_sentence)?;
+    all_hold(rt.alloc(), &CERTIFICATE_SENTENCES, certificate_sentence)
 }
 
-const INDEX: Site = Site {
-    id: 0,
-    line: 1,
-    column: 58,
-    kind: 1,
-};
+#[test]
+fn deep_nesting_has_its_sentence(rt: HostRuntime) -> Result<(), Fail> {
+    let source = repeated(rt.alloc(), &[("program p; begin ", 1), ("begin ", 127)])?;
+    let told = sentence_of(rt.alloc(), visits(rt.alloc(), &source, None))?;
+    assert_eq!(rt; told.as_str(), "1:779: nested deeper than 128");
+    Ok(())
+}
 
 const SET_MEMBER: Site = Site {
     id: 0,
@@ -210,17 +119,23 @@ const SET_MEMBER: Site = Site {
     kind: 13,
 };
 
+const UNKNOWN: Site = Site {
+    id: 0,
+    line: 1,
+    column: 58,
+    kind: 14,
+};
+
 const POINT: Point = Point {
     id: 0,
     line: 1,
     column: 95,
 };
 
-// Stops, with their lines and their statuses.
-static STOPS: [(Stop, &str); 16] = [
-    (Stop::Finished, "|0"),
-    (Stop::Error(INDEX), "1:58: error: index\n|4"),
+// Stops that no source of today comes to, with their lines and their statuses.
+static STOPS: [(Stop, &str); 13] = [
     (Stop::Error(SET_MEMBER), "1:58: error: set member\n|4"),
+    (Stop::Error(UNKNOWN), "1:58: error: unknown\n|4"),
     (
         Stop::Input {
             point: POINT,
@@ -257,7 +172,6 @@ static STOPS: [(Stop, &str); 16] = [
         "1:95: input: not a character\n|5",
     ),
     (Stop::More, "budget used up\n|3"),
-    (Stop::StoreFull, "store full\n|6"),
     (Stop::Fault(MachineFault::Underflow), "machine fault M1\n|7"),
     (
         Stop::Fault(MachineFault::OutOfBounds),
@@ -269,7 +183,6 @@ static STOPS: [(Stop, &str); 16] = [
         "machine fault M4\n|7",
     ),
     (Stop::ReadFailed, "read failed\n|3"),
-    (Stop::WriteFailed, "write failed\n|3"),
 ];
 
 #[test]
