@@ -14,15 +14,3 @@ pub mod Evaluated
 pub mod Refined
 pub mod Knows
 pub mod OfTree
-pub mod FormsOf
-pub mod Ways
-pub mod Steps
-pub mod HeldLists
-pub mod Tests
-pub mod ConditionsOf
-pub mod Turns
-pub mod Elements
-pub mod Arrivals
-pub mod Meeting
-pub mod HeldOrders
-pub mod HeldGiven

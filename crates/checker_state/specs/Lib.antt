@@ -9,7 +9,3 @@ pub mod Stores
 pub mod Holds
 pub mod Knows
 pub mod Laws
-pub mod View
-pub mod Trail
-pub mod Meets
-pub mod Terms

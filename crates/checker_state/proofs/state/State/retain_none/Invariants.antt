@@ -1,8 +1,0 @@
-use Rattle.std.proofs.Common.{take}
-use Rattle.checker_state.specs.State.{Held}
-use Rattle.std.proofs.Common.{List}
-use Rattle.checker_state.specs.Trail.{Moves, over_held}
-use Rattle.checker_state.proofs.state.State.retain_none.Given as goal
-
-abbrev pub invariant-loop-place : goal.invariant-loop-place
-invariant-loop-place l = Moves (over_held (take l.place)) l.fn.self l.self
