@@ -1,7 +1,3 @@
-pub mod Walk
-pub mod Names
-pub mod NamesView
-pub mod Promise
-pub mod Laws
 pub mod View
-pub mod StoresView
+pub mod Walk
+pub mod Promise

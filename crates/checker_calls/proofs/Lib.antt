@@ -1,4 +1,3 @@
-pub mod Limited
 pub mod Lists
 pub mod Headings
 pub mod Passed
@@ -21,14 +20,6 @@ pub mod CallChanges
 pub mod Reached
 pub mod Fitting
 pub mod Bearers
-pub mod Beginning
-pub mod Bound
-pub mod Mapped
-pub mod Sectioned
-pub mod Spans
-pub mod Stored
-pub mod Told
-pub mod Within
 pub mod Started
 pub mod Borne
 pub mod ExitBearers
@@ -38,7 +29,3 @@ pub mod Given
 pub mod BehindExits
 pub mod Steady
 pub mod RowsBehind
-pub mod KnownRanges
-pub mod LeavesChanged
-pub mod GoneBehind
-pub mod HeldBehind

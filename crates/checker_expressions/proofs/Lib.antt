@@ -11,11 +11,5 @@ pub mod Effects
 pub mod Entered
 pub mod SoundCalls
 pub mod SoundExpressions
-pub mod Counted
-pub mod Flows
+pub mod Begun
 pub mod CallLaws
-pub mod Held
-pub mod Unrolled
-pub mod InTurn
-pub mod RowUses
-pub mod OfCalls

@@ -1,4 +1,2 @@
-pub mod Rules
-pub mod View
-pub mod Visits
 pub mod Walk
+pub mod Visits

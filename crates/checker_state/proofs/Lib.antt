@@ -14,5 +14,3 @@ pub mod Evaluated
 pub mod Refined
 pub mod Knows
 pub mod OfTree
-pub mod FormsOf
-pub mod HeldOrders

@@ -9,5 +9,3 @@ pub mod Stores
 pub mod Holds
 pub mod Knows
 pub mod Laws
-pub mod View
-pub mod Terms

@@ -29,6 +29,7 @@ mod running;
 #[cfg(test)]
 mod sources;
 #[cfg(test)]
+mod sparse_lists;
 #[cfg(test)]
 mod stretches;
 #[cfg(test)]

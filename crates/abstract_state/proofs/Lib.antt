@@ -1,0 +1,17 @@
+pub mod Apart
+pub mod Bounded
+pub mod Chained
+pub mod Changed
+pub mod Given
+pub mod Joins
+pub mod Kept
+pub mod Knows
+pub mod Like
+pub mod Listed
+pub mod Looped
+pub mod Ranged
+pub mod Refined
+pub mod Rows
+pub mod Shapes
+pub mod Steady
+pub mod OnTypes

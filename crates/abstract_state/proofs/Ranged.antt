@@ -1,0 +1,87 @@
+-- Values that lie in ranges: what the tests of values and the operations make of them.
+use Rattle.std.proofs.Common.{arith, ◌≡◌, ℤ, pos, ◌≤ℤ◌, int_le, Bool, true, false, not, refl, subst}
+use Rattle.std.proofs.lemmas.Int.{ints}
+use Rattle.std.proofs.lemmas.Bool.{and_parts, and_from}
+use Rattle.types.specs.declared.form.OrdinalRange.{OrdinalRange}
+use Rattle.domain.specs.Interval as domain
+use Rattle.domain.specs.Interval.{Interval, HasMember, has_number, is_vacant, common, truth_values}
+use Rattle.domain.specs.contracts.interval.IntervalDomain.TheImpl.Laws.{leq_includes-law, meet_has_common-law, meet_has_left-law, meet_has_right-law}
+use Rattle.domain.specs.contracts.interval.IntervalDomain.TheImpl.Laws.{has_present-law}
+use Rattle.meaning.specs.declared.store.Value.{Value}
+use Rattle.meaning.specs.declared.store.Value.TheVariants.{Number}
+use Rattle.meaning.specs.Effect.{is_in}
+use Rattle.meaning.specs.Integers.{is_integer_number, is_within, truth, is_true}
+use Rattle.abstract_state.specs.State.{integer, limits_of}
+use Rattle.abstract_state.specs.declared.known.Known.{Known}
+use Rattle.abstract_state.specs.declared.known.Known.TheVariants.{Ordinal}
+use Rattle.abstract_state.specs.Holds.{IsIn}
+
+-- a value is as it is known
+abbrev pub IsKnown : Known → Value → Type 0
+IsKnown (Ordinal range) v = IsIn range v
+
+-- a range with a number isn't empty
+pub in-present : (range : Interval) (v : Value) → IsIn range v → is_vacant range ≡ false
+in-present range (Number n) inside = has_present-law range n inside
+
+-- a constant is the one number of its range
+pub constant-in : (n : ℤ) → IsIn (record { first = n; last = n }) (Number n)
+constant-in n = (omega (arith, ints), omega (arith, ints))
+
+-- ---- truth values
+
+-- the meaning and the ranges number truth values alike
+same-truth : (b : Bool) → domain.truth b ≡ truth b
+same-truth true = refl
+same-truth false = refl
+
+pub truth-in : (range : Interval) (b : Bool) → HasMember range (domain.truth b) → HasMember range (truth b)
+truth-in range b inside = subst (HasMember range) (same-truth b) inside
+
+pub truth_values-has : (b : Bool) → HasMember truth_values (truth b)
+truth_values-has true = (omega (arith, ints), omega (arith, ints))
+truth_values-has false = (omega (arith, ints), omega (arith, ints))
+
+-- ---- tests
+
+-- the test of a number tells whether it lies in limits
+pub is_within-has : (first last n : ℤ) → is_within first last n ≡ true → HasMember (record { first = first; last = last }) n
+is_within-has first last n passes = (grind (arith, ints), grind (arith, ints))
+
+pub has-is_within : (first last n : ℤ) → HasMember (record { first = first; last = last }) n → is_within first last n ≡ true
+has-is_within first last n inside = grind (arith, ints)
+
+-- the test of a value for a type tells whether it lies in the limits of the type
+pub is_in-integer : (range : OrdinalRange) (v : Value) → is_in range v ≡ true → IsIn integer v
+is_in-integer range (Number n) passes =
+    is_within-has integer.first integer.last n (and_parts (is_integer_number n) (is_within range.first range.last n) passes).0
+
+pub is_in-limits : (range : OrdinalRange) (v : Value) → is_in range v ≡ true → IsIn (limits_of range) v
+is_in-limits range (Number n) passes =
+    let each = and_parts (is_integer_number n) (is_within range.first range.last n) passes in
+    meet_has_common-law integer (record { first = range.first; last = range.last }) n
+    (is_within-has integer.first integer.last n each.0) (is_within-has range.first range.last n each.1)
+
+pub limits-is_in : (range : OrdinalRange) (v : Value) → IsIn (limits_of range) v → is_in range v ≡ true
+limits-is_in range (Number n) inside =
+    let own : Interval = record { first = range.first; last = range.last } in
+    and_from (is_integer_number n) (is_within range.first range.last n)
+    (has-is_within integer.first integer.last n (meet_has_left-law integer own n inside))
+    (has-is_within range.first range.last n (meet_has_right-law integer own n inside))
+
+pub included-in : (range limits : Interval) (v : Value) → domain.is_included range limits ≡ true → IsIn range v → IsIn limits v
+included-in range limits (Number n) included inside = leq_includes-law range limits n included inside
+
+pub common-in : (a b : Interval) (v : Value) → IsIn a v → IsIn b v → IsIn (common a b) v
+common-in a b (Number n) left right = meet_has_common-law a b n left right
+
+-- each number of a range whose first is at least 1 is
+pub first-positive : (range : Interval) (n : ℤ) → int_le (pos 1) range.first ≡ true → HasMember range n → int_le (pos 1) n ≡ true
+first-positive range n first inside = grind (arith, ints)
+
+pub is-positive : (n : ℤ) → int_le (pos 1) n ≡ true → pos 1 ≤ℤ n
+is-positive n passes = grind (arith, ints)
+
+-- no number of a range without 0 is 0
+pub without-zero : (range : Interval) (n : ℤ) → not (has_number range (pos 0)) ≡ true → HasMember range n → is_true n ≡ true
+without-zero range n without inside = grind (arith, ints)

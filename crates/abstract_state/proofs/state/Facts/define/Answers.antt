@@ -1,0 +1,23 @@
+use Rattle.sparse_list.specs.Sparse.{over}
+use Rattle.std.proofs.Common.{map, ◌≡◌, ◌∙◌, ap, set, List, true}
+use Rattle.std.proofs.lemmas.Result.{IfOk-weaker}
+use Rattle.abstract_state.specs.declared.state.Row.{Row}
+use Rattle.abstract_state.specs.State.{with_defined}
+use Rattle.abstract_state.specs.View.{rows_on, type_row}
+use Rattle.abstract_state.proofs.Kept.{defined-set, kept_state}
+use Rattle.abstract_state.proofs.state.Facts.define.Goals as goal
+
+pub returns : goal.returns
+returns c =
+    let limits = c.args.limits.now in
+    let rows = rows_on limits c.args.self.now in
+    let orders = c.args.self.now.orders.items in
+    let new = c.set.new.self in
+    let root = c.args.root in
+    let row : Row = record c.row-row.result { is_defined = true } in
+    let base = map type_row limits in
+    IfOk-weaker c.set.result (λ _. (base : List Row) → over new base ≡ set (over c.args.self.now.rows base) root row)
+    (λ _. kept_state (over new base) orders ≡ with_defined root (kept_state rows orders))
+    (λ _ are. ap (λ (some : List Row). kept_state some orders) (are base)
+    ∙ defined-set rows orders root row (ap (λ (r : Row). record r { is_defined = true }) c.row-row.ensures))
+    c.set.ensures

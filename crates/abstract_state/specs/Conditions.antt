@@ -1,0 +1,198 @@
+-- What is known where a condition had a truth value (ISO 7185:1990, 6.7.2.3, 6.7.2.5, 6.8.3.4). It does not say which
+-- truth value a condition has.
+use Rattle.std.specs.Prelude.{ℕ, ℤ, pos, ◌+ℤ◌, ◌-ℤ◌, int_le, Bool, true, false, not, List, [], ◌∷◌, Option, Some}
+use Rattle.std.specs.Prelude.{if◌then◌else◌, map}
+use Rattle.std.specs.List.{list_all}
+use Rattle.std.specs.Ordering.{int_eq}
+use Rattle.typed_tree.specs.declared.tree.Monadic.{Monadic}
+use Rattle.typed_tree.specs.declared.tree.Monadic.TheVariants as monadic
+use Rattle.typed_tree.specs.declared.tree.Calculation.TheVariants as calculation
+use Rattle.typed_tree.specs.declared.tree.Dyadic.{Dyadic}
+use Rattle.typed_tree.specs.declared.tree.Dyadic.TheVariants as dyadic
+use Rattle.typed_tree.specs.declared.tree.Relation.{Relation}
+use Rattle.typed_tree.specs.declared.tree.Relation.TheVariants as relation
+use Rattle.typed_tree.specs.declared.tree.Expr.{Expr}
+use Rattle.typed_tree.specs.declared.tree.Link.{Link}
+use Rattle.typed_tree.specs.declared.tree.Expr.TheOpen.{Expr-F, Passed-F, Link-F}
+use Rattle.typed_tree.specs.declared.tree.Expr.TheOpen.Expr-F.{Constant, Variable, Monadic as MonadicOf, Chain}
+use Rattle.typed_tree.specs.declared.tree.Expr.TheOpen.Expr-F.{Compare, Call}
+use Rattle.typed_tree.specs.declared.tree.Expr.TheFolds.{fold-Expr, fold-Link}
+use Rattle.typed_tree.specs.Calls.{holds_call}
+use Rattle.domain.specs.Interval.{Interval, always_true, at_least, at_most, never_true}
+use Rattle.domain.specs.Facts.{Bound, Number, Plus}
+use Rattle.abstract_state.specs.State.{State, Dead, bound_range, range_of, unless_empty, with_range}
+use Rattle.abstract_state.specs.Changes.{ordered, with_some}
+use Rattle.abstract_state.specs.Forms.{Form, Literal, Other, Operand, access_form, bound_of, chain_form, sign_form}
+
+-- ---- bounds
+
+-- the values of a variable lie in a range from here on; no run goes on from an empty one
+abbrev pub narrowed : ℕ → Interval → State → State
+narrowed root range state = unless_empty range (with_range root range state)
+
+-- a bound is at most a number, at least a number, or isn't one
+abbrev pub bound_at_most : Bound → ℤ → State → State
+bound_at_most (Number m) n state = if int_le m n then state else Dead
+bound_at_most (Plus root k) n state = narrowed root (at_most (n -ℤ k) (range_of state root)) state
+
+abbrev pub bound_at_least : Bound → ℤ → State → State
+bound_at_least (Number m) n state = if int_le n m then state else Dead
+bound_at_least (Plus root k) n state = narrowed root (at_least (n -ℤ k) (range_of state root)) state
+
+-- a range without a number, where it is the last, or the first
+abbrev pub without_last : ℤ → Interval → Interval
+without_last n range = if int_eq range.last n then at_most (n -ℤ pos 1) range else range
+
+abbrev pub without_first : ℤ → Interval → Interval
+without_first n range = if int_eq range.first n then at_least (n +ℤ pos 1) range else range
+
+abbrev pub bound_isnt : Bound → ℤ → State → State
+bound_isnt (Number m) n state = if int_eq m n then Dead else state
+bound_isnt (Plus root k) n state =
+    narrowed root (without_last (n -ℤ k) (without_first (n -ℤ k) (range_of state root))) state
+
+-- the order of two variables, where both bounds have one: the first plus a number is at most the second
+abbrev pub with_order : Bound → ℤ → Bound → State → State
+with_order (Plus root m) k (Plus other n) state = with_some (ordered root other ((n -ℤ m) -ℤ k)) state
+with_order a k b state = state
+
+-- a bound plus a number is at most another
+abbrev pub with_le : Bound → ℤ → Bound → State → State
+with_le a k b state =
+    bound_at_least b ((bound_range state a).first +ℤ k)
+    (bound_at_most a ((bound_range state b).last -ℤ k) (with_order a k b state))
+
+-- a bound isn't the one number of a range
+abbrev pub unlike : Bound → Interval → State → State
+unlike a range state = if int_eq range.first range.last then bound_isnt a range.first state else state
+
+-- two bounds are different: first an end of the left one is cut off, then one of the right
+abbrev pub with_different : Bound → Bound → State → State
+with_different a b state =
+    let left = unlike a (bound_range state b) state in
+    unlike b (bound_range left a) left
+
+-- a relation of two bounds holds
+abbrev pub related : Relation → Bound → Bound → State → State
+related relation.Equal a b state = with_le b (pos 0) a (with_le a (pos 0) b state)
+related relation.NotEqual a b state = with_different a b state
+related relation.Less a b state = with_le a (pos 1) b state
+related relation.Greater a b state = with_le b (pos 1) a state
+related relation.LessOrEqual a b state = with_le a (pos 0) b state
+related relation.GreaterOrEqual a b state = with_le b (pos 0) a state
+
+-- the relation that holds where another doesn't
+abbrev pub opposite : Relation → Relation
+opposite relation.Equal = relation.NotEqual
+opposite relation.NotEqual = relation.Equal
+opposite relation.Less = relation.GreaterOrEqual
+opposite relation.Greater = relation.LessOrEqual
+opposite relation.LessOrEqual = relation.Greater
+opposite relation.GreaterOrEqual = relation.Less
+
+-- the relation that holds where one had a truth value
+abbrev pub told : Relation → Bool → Relation
+told r truth = if truth then r else opposite r
+
+-- a relation of two operands holds: something is known where both have bound forms
+abbrev pub related_forms : Relation → Option Bound → Option Bound → State → State
+related_forms r (Some a) (Some b) state = related r a b state
+related_forms r left right state = state
+
+-- ---- conditions
+
+-- a condition, or an operand of one: its form, and what is known where it had a truth value
+pub record Condition : Type 0 where
+  pub form : Form
+  pub refined : Bool → State → State
+
+-- an operator of a condition, and its right operand
+pub record Conjunct : Type 0 where
+  pub operation : Dyadic
+  pub right : Condition
+
+-- an operator, and the form of its right operand
+abbrev pub operand_of : Conjunct → Operand
+operand_of conjunct = record { operation = conjunct.operation; form = conjunct.right.form }
+
+-- where the whole has this truth value, each operand has it: `and` that is true, `or` that is false
+abbrev pub takes_both : Bool → Dyadic → Bool
+takes_both true dyadic.And = true
+takes_both false dyadic.Or = true
+takes_both truth operation = false
+
+-- each right operand had a truth value
+abbrev pub all_refined : Bool → List Conjunct → State → State
+all_refined truth [] state = state
+all_refined truth (conjunct ∷ conjuncts) state = all_refined truth conjuncts (conjunct.right.refined truth state)
+
+-- an operation on two operands, perhaps of bound forms, had a truth value: only relations are refined
+abbrev pub operation_refined : Dyadic → Bool → Option Bound → Option Bound → State → State
+operation_refined (dyadic.Relation r) truth left right state = related_forms (told r truth) left right state
+operation_refined operation truth left right state = state
+
+-- a single operator
+abbrev pub single_refined : Bool → Form → List Conjunct → State → State
+single_refined truth left (conjunct ∷ []) state =
+    operation_refined conjunct.operation truth (bound_of left) (bound_of conjunct.right.form) state
+single_refined truth left conjuncts state = state
+
+-- a chain of operators
+abbrev pub chain_refined : Condition → List Conjunct → Bool → State → State
+chain_refined first conjuncts truth state =
+    if list_all (λ conjunct. takes_both truth conjunct.operation) conjuncts
+    then all_refined truth conjuncts (first.refined truth state)
+    else single_refined truth first.form conjuncts state
+
+-- an operation on one operand had a truth value: `not` swaps them
+abbrev pub monadic_refined : Monadic → Condition → Bool → State → State
+monadic_refined (monadic.Plain calculation.Complement) operand truth state = operand.refined (not truth) state
+monadic_refined operation operand truth state = state
+
+abbrev pub link_condition : Link-F Condition (Unit {0}) Conjunct → Conjunct
+link_condition link = record { operation = link.operation; right = link.operand }
+
+-- nothing is known of a condition by the actual parameters of calls in it
+abbrev pub passed_condition : Passed-F Condition (Unit {0}) Conjunct → Unit {0}
+passed_condition actual = tt
+
+abbrev pub condition_step : Expr-F Condition (Unit {0}) Conjunct → Condition
+condition_step (Constant number value) = record { form = Literal value; refined = λ truth state. state }
+condition_step (Variable access indexes defined) =
+    record { form = access_form access.root access.selectors.items; refined = λ truth state. state }
+condition_step (MonadicOf number operation operand) = record {
+  form = sign_form operand.value.form operation;
+  refined = monadic_refined operation operand.value;
+}
+condition_step (Chain first rest) = record {
+  form = chain_form first.value.form (map operand_of rest.items);
+  refined = chain_refined first.value rest.items;
+}
+condition_step (Compare number relation left left_indexes right right_indexes) =
+    record { form = Other; refined = λ truth state. state }
+condition_step (Call call actuals) = record { form = Other; refined = λ truth state. state }
+
+-- an expression as a condition
+abbrev pub condition_of : Expr → Condition
+condition_of = fold-Expr Condition (Unit {0}) Conjunct condition_step passed_condition link_condition
+
+-- an operator and its right operand
+abbrev pub conjunct_of : Link → Conjunct
+conjunct_of = fold-Link Condition (Unit {0}) Conjunct condition_step passed_condition link_condition
+
+-- the bound that an expression is, if it is a bound form
+abbrev pub bound_form : Expr → Option Bound
+bound_form expression = bound_of (condition_of expression).form
+
+-- what is known where a condition had a truth value; a call in it may have changed what it says
+abbrev pub refined : Bool → Expr → State → State
+refined truth condition state =
+    if holds_call condition then state else (condition_of condition).refined truth state
+
+-- no run comes where a condition would have a truth value that its range excludes
+abbrev pub unless_excluded : Bool → Interval → State → State
+unless_excluded truth range state = if (if truth then never_true range else always_true range) then Dead else state
+
+-- what is known on the branch of a condition, by its truth value there and the range of its values
+abbrev pub branched : Bool → Expr → Interval → State → State
+branched truth condition range state = refined truth condition (unless_excluded truth range state)

@@ -1,0 +1,10 @@
+pub mod State
+pub mod Terms
+pub mod Forms
+pub mod Changes
+pub mod Conditions
+pub mod Loops
+pub mod View
+pub mod Holds
+pub mod Knows
+pub mod Laws

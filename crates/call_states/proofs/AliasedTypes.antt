@@ -1,0 +1,341 @@
+-- In a store whose values lie in the types of their places, those of what is visible lie in the limits of its types; stores keep that, and what aliases get
+-- by them is what is stored to places of their types.
+use Rattle.std.proofs.Common.{arith, ◌≡◌, ⊎_elim, inl, inr, ◌∙◌, sym, ap, refl, subst, ℕ, ◌+◌, ◌<◌, Bool, true, false, ◌||◌}
+use Rattle.std.proofs.Common.{nat_eq, List, [], ◌∷◌, ◌++◌, Option, Some, None, length}
+use Rattle.std.specs.List.{Contains}
+use Rattle.std.specs.Option.{option_and_then, option_map}
+use Rattle.std.specs.Prelude.{is_some, slice_get, slice_index_or}
+use Rattle.std.proofs.lemmas.Bool.{both_ways, cases_Bool, eq-eqb, eqb-true, false_from_ne_true}
+use Rattle.std.proofs.lemmas.List.{get_or-map}
+use Rattle.std.proofs.lemmas.List.Folds.{list_any-append}
+use Rattle.std.proofs.lemmas.Option.{get_or_from_slice_get, none-some, same_Some, slice_get_within, slice_get_past}
+use Rattle.types.specs.Forms.{Form}
+use Rattle.types.specs.Types.{is_ordinal, range_of}
+use Rattle.types.specs.declared.form.OrdinalRange.{OrdinalRange}
+use Rattle.types.specs.declared.form.Step.{Step}
+use Rattle.types.specs.declared.form.TypeId.{TypeId}
+use Rattle.typed_tree.specs.WellFormed.{is_round, is_visible, of_one, outline_of}
+use Rattle.typed_tree.specs.declared.tree.Tree.{Tree}
+use Rattle.typed_tree.specs.declared.tree.Variable.{Variable}
+use Rattle.domain.specs.Interval.{Interval, vacant}
+use Rattle.domain.specs.contracts.interval.IntervalDomain.TheImpl.Laws.{meet_has_left-law}
+use Rattle.meaning.specs.declared.store.Value.{Value}
+use Rattle.meaning.specs.declared.store.Value.TheVariants.{Number}
+use Rattle.meaning.specs.Store.{Environment, Place, Store, stored}
+use Rattle.meaning.specs.Store as store
+use Rattle.abstract_state.specs.Holds.{IsIn, part_of, value_at}
+use Rattle.abstract_state.specs.Knows.{IsKept, Shows, moment}
+use Rattle.abstract_state.specs.Loops.{is_among}
+use Rattle.abstract_state.specs.State.{integer}
+use Rattle.abstract_state.proofs.Apart.{part}
+use Rattle.leaf_rows.specs.Limits.{all_limits, limits_at, limits_or_integer, row_limits, type_limits}
+use Rattle.leaf_rows.specs.Rows.{Parts, Row, all_parts, no_parts, rows_of, type_at, values_at}
+use Rattle.leaf_rows.proofs.Accessed.{row-is}
+use Rattle.component_states.specs.Holds.{IsOfRow, component_at}
+use Rattle.structured_states.proofs.Touched.{all_control}
+use Rattle.structured_states.specs.Loops.{Round, all_list, touched}
+use Rattle.structured_states.specs.Pairs.{aliases_of}
+use Rattle.call_states.specs.Aliases.{Stored, same_types, variable_type, variable_values}
+use Rattle.call_states.specs.Environments.{Begun, LiesIn, Proper, Typed, place_type, type_led}
+use Rattle.call_states.proofs.Aliased.{AreAliased}
+use Rattle.call_states.proofs.AliasedStores.{AreWritten, Pairs, all-pass, or-true, value-came}
+pub use Rattle.call_states.proofs.AliasedStores.{stored-of}
+use Rattle.call_states.proofs.PlaceTypes.{IsTypeOf, leaf-typed, part-typed}
+
+-- ---- what is visible
+
+at-some : {A : Type 0} (found : Option A) → (found ≡ None → ⊥) → (one : A) × (found ≡ Some one)
+at-some None some = absurd (some refl)
+at-some (Some one) some = (one, refl)
+
+nothing-at : (found : Option Place) (place : Place) → found ≡ None → found ≡ Some place → ⊥
+nothing-at None place none is = cc
+nothing-at (Some p) place none is = cc
+
+unseen : (found : Option Variable) (test : Variable → Bool) → found ≡ None → of_one test found ≡ true → ⊥
+unseen None test none is = cc
+unseen (Some variable) test none is = cc
+
+module _ (tree : Tree) (pairs : List (ℕ × ℕ)) (block activations : ℕ) (env : Environment) (proper : Proper tree pairs block activations env) where
+  -- what has a place is visible in the block
+  pub seen : (root : ℕ) (place : Place) → env.variables root ≡ Some place → is_visible (outline_of tree) block root ≡ true
+  seen root place at =
+      ⊎_elim (λ (is : is_visible (outline_of tree) block root ≡ true). is)
+      (λ (isnt : is_visible (outline_of tree) block root ≡ false). absurd (nothing-at (env.variables root) place (proper.only root isnt) at))
+      (cases_Bool (is_visible (outline_of tree) block root))
+
+  -- it is declared
+  pub declared : (root : ℕ) → is_visible (outline_of tree) block root ≡ true
+      → (variable : Variable) × (slice_get tree.variables.items root ≡ Some variable)
+  declared root is =
+      at-some (slice_get tree.variables.items root)
+      (λ none. unseen (slice_get tree.variables.items root) (λ variable. is_round (outline_of tree) block variable.block) none is)
+
+  -- and so none has one beyond the variables of the program
+  pub shows : Shows (length tree.variables.items) env
+  shows = record {
+    only = λ root beyond.
+        proper.only root
+        (⊎_elim
+        (λ (is : is_visible (outline_of tree) block root ≡ true).
+        absurd (unseen (slice_get tree.variables.items root) (λ variable. is_round (outline_of tree) block variable.block)
+        (slice_get_past tree.variables.items root beyond) is))
+        (λ isnt. isnt) (cases_Bool (is_visible (outline_of tree) block root)));
+  }
+
+  -- a part of a variable lies at a place of the type to which its steps lead
+  pub part-type : (root : ℕ) (home : Place) (variable : Variable) (steps : List Step) → env.variables root ≡ Some home
+      → slice_get tree.variables.items root ≡ Some variable → place_type tree (part home steps) ≡ type_led tree.types steps variable.type_id
+  part-type root home variable steps at is =
+      part-typed tree home steps ∙ ap (option_and_then (type_led tree.types steps)) (proper.typed root home variable at is)
+
+  -- that of an entire variable is the variable's
+  pub whole-type : (root : ℕ) (home : Place) (own : TypeId) → env.variables root ≡ Some home → place_type tree (part home []) ≡ Some own
+      → variable_type tree root ≡ Some own
+  whole-type root home own at typed =
+      let variable = declared root (seen root home at) in
+      ap (option_map (λ (v : Variable). v.type_id)) variable.1 ∙ sym (part-type root home variable.0 [] at variable.1) ∙ typed
+
+  whole-values : (root : ℕ) (home : Place) (own : TypeId) → env.variables root ≡ Some home → place_type tree (part home []) ≡ Some own
+      → variable_values tree root ≡ range_of tree.types own
+  whole-values root home own at typed = values-by (slice_get tree.variables.items root) own (whole-type root home own at typed)
+    where
+      values-by : (found : Option Variable) (own : TypeId) → option_map (λ (v : Variable). v.type_id) found ≡ Some own
+          → option_and_then (λ (v : Variable). range_of tree.types v.type_id) found ≡ range_of tree.types own
+      values-by None own is = absurd (none-some own is)
+      values-by (Some v) own is = ap (range_of tree.types) (same_Some v.type_id own is)
+
+  -- that of a component of a row is the row's
+  row-typed : (row : ℕ) (steps : List Step) (home : Place) (own : TypeId) → IsOfRow (all_parts tree) row steps
+      → env.variables (slice_index_or (all_parts tree) row no_parts).root ≡ Some home → place_type tree (part home steps) ≡ Some own
+      → (found : Row) × (slice_get (rows_of tree) row ≡ Some found) × IsTypeOf tree.types own found.leaf
+  row-typed row steps home own of_row at typed =
+      let root = (slice_index_or (all_parts tree) row no_parts).root in
+      let is = row-is tree row steps of_row in
+      let e : 0 + is.leaf.root ≡ is.leaf.root = omega arith in
+      let root_is : root ≡ is.leaf.root = ap (λ (p : Parts). p.root) is.parts_are ∙ is.leaf.root_is ∙ e in
+      let declared_is : slice_get tree.variables.items root ≡ Some is.leaf.variable = ap (slice_get tree.variables.items) root_is ∙ is.leaf.variable_is in (
+        is.row,
+        is.is,
+        leaf-typed tree.types steps is.leaf.variable.type_id own is.row.leaf (is.leaf.j, is.leaf.leaf_is) is.named
+            (sym (part-type root home is.leaf.variable steps at declared_is) ∙ typed),
+      )
+
+  row-values : (row : ℕ) (steps : List Step) (home : Place) (own : TypeId) → IsOfRow (all_parts tree) row steps
+      → env.variables (slice_index_or (all_parts tree) row no_parts).root ≡ Some home → place_type tree (part home steps) ≡ Some own
+      → values_at (rows_of tree) row ≡ range_of tree.types own
+  row-values row steps home own of_row at typed =
+      let found = row-typed row steps home own of_row at typed in
+      ap (option_and_then (λ (r : Row). r.leaf.values)) found.1 ∙ sym found.2.values_are
+
+  pub row-type : (row : ℕ) (steps : List Step) (home : Place) (own : TypeId) → IsOfRow (all_parts tree) row steps
+      → env.variables (slice_index_or (all_parts tree) row no_parts).root ≡ Some home → place_type tree (part home steps) ≡ Some own
+      → is_ordinal tree.types own ≡ true → type_at (rows_of tree) row ≡ Some own
+  row-type row steps home own of_row at typed ordinal =
+      let found = row-typed row steps home own of_row at typed in
+      ap (option_and_then (λ (r : Row). r.leaf.type_id)) found.1 ∙ found.2.type_is ordinal
+
+-- ---- values
+
+-- each variable's value lies in the range of its type, and so does that of each component of a row; that of each part of a variable is an integer
+pub record InTypes (tree : Tree) (env : Environment) (store : Store) : Type 0 where
+  pub ranges : (root : ℕ) (v : Value) → value_at (moment env store) root [] ≡ Some v → IsIn (limits_at (all_limits tree) root) v
+  pub components : (row : ℕ) (steps : List Step) (v : Value) → IsOfRow (all_parts tree) row steps
+      → component_at (all_parts tree) (moment env store) row steps ≡ Some v → IsIn (row_limits (rows_of tree) row) v
+  pub integers : (root : ℕ) (steps : List Step) (v : Value) → value_at (moment env store) root steps ≡ Some v → IsIn integer v
+
+-- a value of an ordinal type is an integer
+pub type-integer : (types : List Form) (id : TypeId) (v : Value) → LiesIn types id v → IsIn integer v
+type-integer types id (Number n) (range, is, inside) = meet_has_left-law integer (record { first = range.first; last = range.last }) n inside
+
+lies-in : (types : List Form) (id : TypeId) (values : Option OrdinalRange) (v : Value) → values ≡ range_of types id → LiesIn types id v
+    → IsIn (limits_or_integer values) v
+lies-in types id values v same (range, is, inside) =
+    subst (λ (r : Option OrdinalRange). IsIn (limits_or_integer r) v) (sym (same ∙ is)) inside
+
+-- the limits of a variable that is declared
+pub declared-limits : (tree : Tree) (root : ℕ) (variable : Variable) → slice_get tree.variables.items root ≡ Some variable
+    → limits_at (all_limits tree) root ≡ type_limits tree.types variable
+declared-limits tree root variable is =
+    get_or-map (type_limits tree.types) tree.variables.items root variable vacant (slice_get_within tree.variables.items root variable is)
+    ∙ ap (type_limits tree.types) (get_or_from_slice_get tree.variables.items root variable variable is)
+
+pub values-limits : (tree : Tree) (root : ℕ) (variable : Variable) → slice_get tree.variables.items root ≡ Some variable
+    → limits_at (all_limits tree) root ≡ limits_or_integer (variable_values tree root)
+values-limits tree root variable is =
+    declared-limits tree root variable is
+    ∙ sym (ap (λ (found : Option Variable). limits_or_integer (option_and_then (λ (v : Variable). range_of tree.types v.type_id) found)) is)
+
+pub in-types : (tree : Tree) (pairs : List (ℕ × ℕ)) (block activations : ℕ) (env : Environment) (store : Store)
+    → Proper tree pairs block activations env → Typed tree store → InTypes tree env store
+in-types tree pairs block activations env store proper typed = record {
+  ranges = λ root v is.
+      let at = stored-of store (env.variables root) [] v is in
+      let own = typed (part at.0 []) v at.2 in
+      let variable = declared tree pairs block activations env proper root (seen tree pairs block activations env proper root at.0 at.1) in
+      subst (λ (range : Interval). IsIn range v) (sym (values-limits tree root variable.0 variable.1))
+      (lies-in tree.types own.0 (variable_values tree root) v (whole-values tree pairs block activations env proper root at.0 own.0 at.1 own.1) own.2);
+  components = λ row steps v of_row is.
+      let root = (slice_index_or (all_parts tree) row no_parts).root in
+      let at = stored-of store (env.variables root) steps v is in
+      let own = typed (part at.0 steps) v at.2 in
+      lies-in tree.types own.0 (values_at (rows_of tree) row) v
+      (row-values tree pairs block activations env proper row steps at.0 own.0 of_row at.1 own.1) own.2;
+  integers = λ root steps v is.
+      let at = stored-of store (env.variables root) steps v is in
+      let own = typed (part at.0 steps) v at.2 in
+      type-integer tree.types own.0 v own.2;
+}
+
+-- ---- stores
+
+-- each value that is stored is one of the type of its place
+abbrev pub AreTyped : Tree → Environment → ℕ → Pairs → Type 0
+AreTyped tree env root pairs =
+    (pair : List Step × Value) (place : Place) → Contains pairs pair → store.part (env.variables root) pair.0 ≡ Some place
+    → (own : TypeId) × (place_type tree place ≡ Some own) × LiesIn tree.types own pair.1
+
+module _ (tree : Tree) (env : Environment) (aliases : List ℕ) (root : ℕ) (stores : Pairs) (before after : Store)
+    (written : AreWritten env aliases root stores before after) where
+  pub written-typed : AreTyped tree env root stores → Typed tree before → Typed tree after
+  written-typed each typed place v is =
+      ⊎_elim (λ was. typed place v was)
+      (λ (own : (pair : List Step × Value) × Contains stores pair × (store.part (env.variables root) pair.0 ≡ Some place) × (v ≡ pair.1)).
+      let lies = each own.0 place own.1 own.2 in (lies.0, lies.1, subst (LiesIn tree.types lies.0) (sym own.3) lies.2))
+      (written.came place v is)
+
+  pub written-begun : (activations : ℕ) (home : Place) → env.variables root ≡ Some home → home.activation < activations → Begun activations before
+      → Begun activations after
+  written-begun activations home at young begun place v is =
+      ⊎_elim (λ was. begun place v was)
+      (λ (own : (pair : List Step × Value) × Contains stores pair × (store.part (env.variables root) pair.0 ≡ Some place) × (v ≡ pair.1)).
+      let same : Some (part home own.0.0) ≡ Some place = ap (λ (found : Option Place). store.part found own.0.0) (sym at) ∙ own.2 in
+      let one : part home own.0.0 ≡ place = same_Some (part home own.0.0) place same in
+      subst (λ (p : Place). p.activation < activations) one young)
+      (written.came place v is)
+
+-- ---- what aliases get
+
+-- types that are one are the same
+pub both-same : (one other : Option TypeId) (own : TypeId) → one ≡ Some own → other ≡ Some own → same_types one other ≡ true
+both-same one other own first second =
+    ap (λ (t : Option TypeId). same_types t other) first ∙ ap (same_types (Some own)) second ∙ eq-eqb own.index own.index refl
+
+-- each value that is stored is one of these, for its place
+abbrev pub AreStoredAs : Tree → Environment → ℕ → Pairs → List Stored → Type 0
+AreStoredAs tree env root pairs stored =
+    (pair : List Step × Value) (place : Place) (own : TypeId) → Contains pairs pair → store.part (env.variables root) pair.0 ≡ Some place
+    → place_type tree place ≡ Some own → is_ordinal tree.types own ≡ true
+    → (one : Stored) × Contains stored one × (one.type_id ≡ Some own) × IsIn one.range pair.1
+
+module _ (tree : Tree) (pairs : List (ℕ × ℕ)) (block activations : ℕ) (env : Environment) (proper : Proper tree pairs block activations env)
+    (aliases : List ℕ) (root : ℕ) (stores : Pairs) (before after : Store) (written : AreWritten env aliases root stores before after)
+    (typed : AreTyped tree env root stores) (stored : List Stored) (each : AreStoredAs tree env root stores stored) where
+  abbrev Came : ℕ → List Step → Value → Type 0
+  Came other steps v =
+      (pair : List Step × Value) × Contains stores pair × (store.part (env.variables root) pair.0 ≡ store.part (env.variables other) steps) × (v ≡ pair.1)
+
+  came-as : (other : ℕ) (steps : List Step) (home : Place) (v : Value) (type_id : Option TypeId) → env.variables other ≡ Some home
+      → ((own : TypeId) → place_type tree (part home steps) ≡ Some own → is_ordinal tree.types own ≡ true → type_id ≡ Some own) → Came other steps v
+      → (one : Stored) × Contains stored one × (same_types one.type_id type_id ≡ true) × IsIn one.range v
+  came-as other steps home v type_id at type_is (pair, inside, same, is) =
+      let place_is : store.part (env.variables root) pair.0 ≡ Some (part home steps) = same ∙ ap (λ (found : Option Place). store.part found steps) at in
+      let own = typed pair (part home steps) inside place_is in
+      let ordinal : is_ordinal tree.types own.0 ≡ true = ap is_some own.2.1 in
+      let found = each pair (part home steps) own.0 inside place_is own.1 ordinal in (
+        found.0,
+        found.1,
+        both-same found.0.type_id type_id own.0 found.2 (type_is own.0 own.1 ordinal),
+        subst (IsIn found.0.range) (sym is) found.3,
+      )
+
+  pub are-aliased : AreAliased tree env aliases stored before after
+  are-aliased = record {
+    entire = λ alias v among is. ⊎_elim (λ was. inl was)
+        (λ (own : Came alias [] v).
+        let at = stored-of after (env.variables alias) [] v is in
+        inr (came-as alias [] at.0 v (variable_type tree alias) at.1
+        (λ type_id typed_so ordinal. whole-type tree pairs block activations env proper alias at.0 type_id at.1 typed_so) own))
+        (value-came env aliases root stores before after written alias [] v is);
+    components = λ row steps v among of_row is.
+        let alias = (slice_index_or (all_parts tree) row no_parts).root in
+        ⊎_elim (λ was. inl was)
+        (λ (own : Came alias steps v).
+        let at = stored-of after (env.variables alias) steps v is in
+        inr (came-as alias steps at.0 v (type_at (rows_of tree) row) at.1
+        (λ type_id typed_so ordinal. row-type tree pairs block activations env proper row steps at.0 type_id of_row at.1 typed_so ordinal) own))
+        (value-came env aliases root stores before after written alias steps v is);
+  }
+
+-- ---- loops round a store
+
+-- what a loop's turns change, it touches, and the aliases of that as far as they are visible in a block
+abbrev pub IsClosedIn : Tree → List (ℕ × ℕ) → ℕ → Round → Type 0
+IsClosedIn tree pairs block round =
+    (root alias : ℕ) → is_visible (outline_of tree) block root ≡ true → is_visible (outline_of tree) block alias ≡ true
+    → is_among root (round.controls ++ round.changes) ≡ true → is_among alias (aliases_of pairs root) ≡ true → is_among alias (touched round) ≡ true
+
+changes-touched : (root : ℕ) (round : Round) → is_among root (round.controls ++ round.changes) ≡ true → is_among root (touched round) ≡ true
+changes-touched root round among =
+    let test = λ (other : ℕ). nat_eq other root in
+    let parts = list_any-append test round.controls round.changes in
+    list_any-append test round.controls (round.changes ++ round.aliases)
+    ∙ ap (λ (b : Bool). is_among root round.controls || b) (list_any-append test round.changes round.aliases)
+    ∙ or-three (is_among root round.controls) (is_among root round.changes) (is_among root round.aliases) (sym parts ∙ among)
+  where
+    or-three : (a b c : Bool) → (a || b) ≡ true → (a || (b || c)) ≡ true
+    or-three true b c is = refl
+    or-three false true c is = refl
+    or-three false false c is = absurd (cc)
+
+-- of what a loop lists, or of what controls a for statement in it, it touches all that may get its values
+pub round-kept : (tree : Tree) (pairs : List (ℕ × ℕ)) (block activations : ℕ) (env : Environment) → Proper tree pairs block activations env
+    → (root : ℕ) (home : Place) → env.variables root ≡ Some home → (round : Round) → IsClosedIn tree pairs block round
+    → is_among root (round.controls ++ round.changes) ≡ true → (before after : Store)
+    → IsKept env (root ∷ aliases_of pairs root) [] before after → IsKept env (touched round) round.controls before after
+round-kept tree pairs block activations env proper root home at round closed among before after kept = record {
+  values = λ other apart steps. value-same other apart steps (env.variables other) refl;
+  defined = λ other among steps has. kept.defined other refl steps has;
+}
+  where
+    nothing-same : (other : ℕ) (steps : List Step) (s : Store) → env.variables other ≡ None → value_at (moment env s) other steps ≡ None
+    nothing-same other steps s none = ap (λ (found : Option Place). part_of s found steps) none
+
+    value-same : (other : ℕ) → is_among other (touched round) ≡ false → (steps : List Step) → (found : Option Place) → env.variables other ≡ found
+        → value_at (moment env after) other steps ≡ value_at (moment env before) other steps
+    value-same other apart steps None there = nothing-same other steps after there ∙ sym (nothing-same other steps before there)
+    value-same other apart steps (Some place) there =
+        let visible = seen tree pairs block activations env proper in
+        let differ : nat_eq root other ≡ false =
+        false_from_ne_true (nat_eq root other) (λ same.
+        both_ways (is_among other (touched round)) apart
+        (subst (λ (r : ℕ). is_among r (touched round) ≡ true) (eqb-true root other same) (changes-touched root round among))) in
+        let free : is_among other (aliases_of pairs root) ≡ false =
+        false_from_ne_true (is_among other (aliases_of pairs root)) (λ alias.
+        both_ways (is_among other (touched round)) apart (closed root other (visible root home at) (visible other place there) among alias)) in
+        kept.values other (ap (λ (b : Bool). b || is_among other (aliases_of pairs root)) differ ∙ free) steps
+
+listed-among : (root : ℕ) (round : Round) → is_among root round.changes ≡ true → is_among root (round.controls ++ round.changes) ≡ true
+listed-among root round is =
+    list_any-append (λ (other : ℕ). nat_eq other root) round.controls round.changes
+    ∙ ap (λ (b : Bool). is_among root round.controls || b) is ∙ or-true (is_among root round.controls)
+
+control-among : (root : ℕ) (round : Round) → is_among root round.controls ≡ true → is_among root (round.controls ++ round.changes) ≡ true
+control-among root round is =
+    list_any-append (λ (other : ℕ). nat_eq other root) round.controls round.changes ∙ ap (λ (b : Bool). b || is_among root round.changes) is
+
+module _ (tree : Tree) (pairs : List (ℕ × ℕ)) (block activations : ℕ) (env : Environment) (proper : Proper tree pairs block activations env)
+    (root : ℕ) (home : Place) (at : env.variables root ≡ Some home) (rounds : List Round)
+    (closed : (round : Round) → Contains rounds round → IsClosedIn tree pairs block round) (before after : Store)
+    (kept : IsKept env (root ∷ aliases_of pairs root) [] before after) where
+  -- a store to a variable that each loop lists
+  pub listed-keeps : all_list root rounds ≡ true → (round : Round) → Contains rounds round → IsKept env (touched round) round.controls before after
+  listed-keeps listed round inside =
+      round-kept tree pairs block activations env proper root home at round (closed round inside)
+      (listed-among root round (all-pass (λ (one : Round). is_among root one.changes) rounds round inside listed)) before after kept
+
+  -- or to one that controls a for statement in each
+  pub control-keeps : all_control root rounds ≡ true → (round : Round) → Contains rounds round → IsKept env (touched round) round.controls before after
+  control-keeps controls round inside =
+      round-kept tree pairs block activations env proper root home at round (closed round inside)
+      (control-among root round (all-pass (λ (one : Round). is_among root one.controls) rounds round inside controls)) before after kept

@@ -1,0 +1,192 @@
+-- What is passed to the formal parameters of a block, as the meaning has it, as it fits them, and as the checker knows it.
+use Rattle.std.proofs.Common.{arith, ◌≡◌, sym, refl, subst, ℕ, ◌<◌, ℤ, ◌≤ℤ◌, Bool, true, false, List, [], ◌∷◌, length, map, Option, Some, None}
+use Rattle.std.specs.Prelude.{int_le, nat_lt, neg_ℤ, slice_get, ◌&&◌}
+use Rattle.std.specs.List.{list_all}
+use Rattle.std.proofs.lemmas.Bool.{and_parts}
+use Rattle.std.proofs.lemmas.Int.{ints}
+use Rattle.std.proofs.lemmas.Option.{none-some}
+use Rattle.types.specs.Components.{components_of}
+use Rattle.types.specs.Forms.{Form}
+use Rattle.types.specs.declared.form.Step.{Step}
+use Rattle.types.specs.declared.form.Step.TheVariants as step
+use Rattle.types.specs.declared.form.TypeId.{TypeId}
+use Rattle.types.specs.Types.{is_structured}
+use Rattle.typed_tree.specs.Accesses.{accessed, index_count}
+use Rattle.typed_tree.specs.WellFormed.{Outline, is_value_kind, is_variable_kind, is_well_formed_selector, is_whole}
+use Rattle.typed_tree.specs.declared.tree.Selector.{Selector}
+use Rattle.typed_tree.specs.declared.tree.Selector.TheVariants.{Element, Field}
+use Rattle.typed_tree.specs.declared.tree.Tree.{Tree}
+use Rattle.typed_tree.specs.declared.tree.Variable.{Variable}
+use Rattle.domain.specs.Facts.{Bound}
+use Rattle.domain.specs.Interval.{HasMember, Interval}
+use Rattle.meaning.specs.declared.store.Value.{Value}
+use Rattle.meaning.specs.Integers.{maxint}
+use Rattle.meaning.specs.Meaning as meaning
+use Rattle.meaning.specs.Meaning.{Argument}
+use Rattle.meaning.specs.Store.{Environment, Place, Store, part}
+use Rattle.abstract_state.specs.Holds.{IsBound, IsIn}
+use Rattle.abstract_state.specs.Knows.{IsOfForm, moment}
+use Rattle.abstract_state.specs.State.{integer}
+use Rattle.leaf_rows.specs.Leaves.{Leaf, is_named, leaves_of}
+use Rattle.leaf_rows.specs.Rows.{first_index}
+use Rattle.leaf_rows.proofs.Selected.{Matches}
+use Rattle.component_states.specs.Components.{At, Entire, Index, Inside, Reach}
+use Rattle.call_states.specs.Actuals.{Actual, OfRows, OfValue, OfVariable, after_call, settled, unknown_reach}
+use Rattle.call_states.specs.Environments.{LiesIn, place_type, type_led}
+
+-- ---- what an access reaches
+
+-- the first index on a way is a number of the range, and what its form says
+pub record IsIndexOn (env : Environment) (store : Store) (index : Index) (way : List Step) : Type 0 where
+  pub number : ℤ
+  pub is_first : first_index way ≡ Some number
+  pub in_range : HasMember index.range number
+  pub of_form : (b : Bound) → index.form ≡ Some b → IsBound (moment env store) b number
+
+-- what is reached on a way: by no index, by one, or by more
+abbrev pub IsReachedBy : Environment → Store → List Selector → List Step → Reach → Type 0
+IsReachedBy env store selectors way Entire = index_count selectors ≡ 0
+IsReachedBy env store selectors way (At index) = (index_count selectors ≡ 1) × IsIndexOn env store index way
+IsReachedBy env store selectors way (Inside index) = IsIndexOn env store index way
+
+-- selectors lead to the place of a part of a variable, which is reached as the walk tells
+pub record Leads (env : Environment) (root : ℕ) (selectors : List Selector) (store : Store) (reach : Reach) (place : Option Place) : Type 0 where
+  pub way : List Step
+  pub place_is : place ≡ part (env.variables root) way
+  pub matches : Matches selectors way
+  pub reached : IsReachedBy env store selectors way reach
+
+-- the value of each component of a type lies in the range of the leaf that names it
+abbrev pub LieIn : List Form → TypeId → List Interval → List Value → Type 0
+LieIn types id ranges values =
+    (k j : ℕ) (rest : List Step) (leaf : Leaf) (v : Value) (range : Interval) → slice_get (components_of types id) k ≡ Some rest
+    → slice_get (leaves_of types id) j ≡ Some leaf → is_named leaf.steps rest ≡ true → slice_get values k ≡ Some v → slice_get ranges j ≡ Some range
+    → IsIn range v
+
+-- ---- what fits a formal parameter
+
+-- values are those of the components of a type, each one of its own type
+pub record AreComponentsOf (types : List Form) (id : TypeId) (values : List Value) : Type 0 where
+  pub count : length values ≡ length (components_of types id)
+  pub each : (k : ℕ) (rest : List Step) (v : Value) → slice_get (components_of types id) k ≡ Some rest → slice_get values k ≡ Some v
+      → (own : TypeId) × (type_led types rest id ≡ Some own) × LiesIn types own v
+
+-- what is passed fits a formal parameter: a value of its type, or a variable of its type, in an activation that has begun
+abbrev pub Fits : Tree → ℕ → Argument → Variable → Type 0
+Fits tree activations (meaning.OfValue v) formal = (is_value_kind formal.kind ≡ true) × LiesIn tree.types formal.type_id v
+Fits tree activations (meaning.OfRow values) formal = (is_value_kind formal.kind ≡ true) × AreComponentsOf tree.types formal.type_id values
+Fits tree activations (meaning.OfPlace None) formal = ⊥
+Fits tree activations (meaning.OfPlace (Some place)) formal =
+    (is_variable_kind formal.kind ≡ true) × (place_type tree place ≡ Some formal.type_id) × (place.activation < activations)
+
+-- as many are passed as there are formal parameters, and each fits
+abbrev pub AllFit : Tree → ℕ → List ℕ → List Argument → Type 0
+AllFit tree activations [] [] = Unit {0}
+AllFit tree activations [] (argument ∷ arguments) = ⊥
+AllFit tree activations (root ∷ roots) [] = ⊥
+AllFit tree activations (root ∷ roots) (argument ∷ arguments) =
+    (formal : Variable) × (slice_get tree.variables.items root ≡ Some formal) × Fits tree activations argument formal
+    × AllFit tree activations roots arguments
+
+-- ---- what the checker knows of it
+
+-- what is passed is what the checker knows of the actual parameter of a formal one
+abbrev pub IsArgument : Tree → Environment → Store → Variable → Actual → Argument → Type 0
+IsArgument tree env store formal (OfValue range form) (meaning.OfValue v) = IsIn range v × IsOfForm (moment env store) form v
+IsArgument tree env store formal (OfRows ranges) (meaning.OfRow values) =
+    (is_structured tree.types formal.type_id ≡ true) × (length ranges ≡ length (leaves_of tree.types formal.type_id))
+    × LieIn tree.types formal.type_id ranges values
+IsArgument tree env store formal (OfVariable root selectors reach) (meaning.OfPlace place) =
+    Leads env root selectors store reach place × (accessed tree.variables.items tree.types root selectors ≡ Some formal.type_id)
+    × ((way : List Step) (n : ℤ) → Matches selectors way → first_index way ≡ Some n → HasMember integer n)
+IsArgument tree env store formal actual argument = ⊥
+
+abbrev pub AreArguments : Tree → Environment → Store → List ℕ → List Actual → List Argument → Type 0
+AreArguments tree env store [] [] [] = Unit {0}
+AreArguments tree env store (root ∷ roots) (actual ∷ actuals) (argument ∷ arguments) =
+    (formal : Variable) × (slice_get tree.variables.items root ≡ Some formal) × IsArgument tree env store formal actual argument
+    × AreArguments tree env store roots actuals arguments
+AreArguments tree env store roots actuals arguments = ⊥
+
+whole-between : (first last n : ℤ) → is_whole first ≡ true → is_whole last ≡ true → first ≤ℤ n → n ≤ℤ last → HasMember integer n
+whole-between first last n one two low high =
+    let a = and_parts (int_le (neg_ℤ maxint) first) (int_le first maxint) one in
+    let b = and_parts (int_le (neg_ℤ maxint) last) (int_le last maxint) two in
+    let above : neg_ℤ maxint ≤ℤ first = grind (arith, ints, a.0) in
+    let below : last ≤ℤ maxint = grind (arith, ints, b.1) in
+    (omega (arith, ints), omega (arith, ints))
+
+same-number : (index n : ℤ) → Some index ≡ Some n → index ≡ n
+same-number index n is = cc
+
+-- each index on a way of well formed selectors is an integer
+pub indexes-integer : (outline : Outline) (block : ℕ) (selectors : List Selector) (way : List Step) (n : ℤ)
+    → list_all (is_well_formed_selector outline block) selectors ≡ true → Matches selectors way → first_index way ≡ Some n → HasMember integer n
+indexes-integer outline block [] [] n well matches is = absurd (cc)
+indexes-integer outline block [] (s ∷ way) n well matches is = absurd matches
+indexes-integer outline block (Element fits cells ∷ selectors) [] n well matches is = absurd matches
+indexes-integer outline block (Field position offset ∷ selectors) [] n well matches is = absurd matches
+indexes-integer outline block (Element fits cells ∷ selectors) (step.Field place ∷ way) n well matches is = absurd matches
+indexes-integer outline block (Field position offset ∷ selectors) (step.Element index ∷ way) n well matches is = absurd matches
+indexes-integer outline block (Field position offset ∷ selectors) (step.Field place ∷ way) n well matches is =
+    indexes-integer outline block selectors way n well matches.1 is
+indexes-integer outline block (Element fits cells ∷ selectors) (step.Element index ∷ way) n well matches is =
+    let one = and_parts (nat_lt fits.site outline.sites && (is_whole fits.range.first && is_whole fits.range.last))
+    (list_all (is_well_formed_selector outline block) selectors) well in
+    let two = and_parts (nat_lt fits.site outline.sites) (is_whole fits.range.first && is_whole fits.range.last) one.0 in
+    let three = and_parts (is_whole fits.range.first) (is_whole fits.range.last) two.1 in
+    whole-between fits.range.first fits.range.last n three.0 three.1
+    (subst (λ (m : ℤ). fits.range.first ≤ℤ m) (same-number index n is) matches.0)
+    (subst (λ (m : ℤ). m ≤ℤ fits.range.last) (same-number index n is) matches.1)
+
+-- ---- an actual parameter that was evaluated before a call
+
+module _ (tree : Tree) (env : Environment) (before after : Store) where
+  pub reached-later : (selectors : List Selector) (way : List Step) (reach : Reach) → ((n : ℤ) → first_index way ≡ Some n → HasMember integer n)
+      → IsReachedBy env before selectors way reach → IsReachedBy env after selectors way (unknown_reach reach)
+  reached-later selectors way Entire integers reached = reached
+  reached-later selectors way (At index) integers reached =
+      let on = reached.1 in
+      (reached.0, record { number = on.number; is_first = on.is_first; in_range = integers on.number on.is_first; of_form = λ b is. absurd (none-some b is) })
+  reached-later selectors way (Inside index) integers on =
+      record { number = on.number; is_first = on.is_first; in_range = integers on.number on.is_first; of_form = λ b is. absurd (none-some b is) }
+
+  -- it is still what is known of it then
+  pub after-call_argument : (formal : Variable) (actual : Actual) (argument : Argument) → IsArgument tree env before formal actual argument
+      → IsArgument tree env after formal (after_call actual) argument
+  after-call_argument formal (OfValue range form) (meaning.OfValue v) is = (is.0, tt)
+  after-call_argument formal (OfValue range form) (meaning.OfRow values) is = absurd is
+  after-call_argument formal (OfValue range form) (meaning.OfPlace place) is = absurd is
+  after-call_argument formal (OfRows ranges) (meaning.OfValue v) is = absurd is
+  after-call_argument formal (OfRows ranges) (meaning.OfRow values) is = is
+  after-call_argument formal (OfRows ranges) (meaning.OfPlace place) is = absurd is
+  after-call_argument formal (OfVariable root selectors reach) (meaning.OfValue v) is = absurd is
+  after-call_argument formal (OfVariable root selectors reach) (meaning.OfRow values) is = absurd is
+  after-call_argument formal (OfVariable root selectors reach) (meaning.OfPlace place) (leads, typed, integers) = (
+    record {
+      way = leads.way;
+      place_is = leads.place_is;
+      matches = leads.matches;
+      reached = reached-later selectors leads.way reach (λ n first. integers leads.way n leads.matches first) leads.reached;
+    },
+    typed,
+    integers,
+  )
+
+  pub after-call_arguments : (roots : List ℕ) (actuals : List Actual) (arguments : List Argument) → AreArguments tree env before roots actuals arguments
+      → AreArguments tree env after roots (map after_call actuals) arguments
+  after-call_arguments [] [] [] are = tt
+  after-call_arguments [] [] (argument ∷ arguments) are = absurd are
+  after-call_arguments [] (actual ∷ actuals) arguments are = absurd are
+  after-call_arguments (root ∷ roots) [] arguments are = absurd are
+  after-call_arguments (root ∷ roots) (actual ∷ actuals) [] are = absurd are
+  after-call_arguments (root ∷ roots) (actual ∷ actuals) (argument ∷ arguments) (formal, is, own, others) =
+      (formal, is, after-call_argument formal actual argument own, after-call_arguments roots actuals arguments others)
+
+-- what is known of actual parameters where one of them may hold a call; where none does, nothing changed
+pub settled-arguments : (tree : Tree) (env : Environment) (before after : Store) (holds_call : Bool) (roots : List ℕ) (actuals : List Actual)
+    (arguments : List Argument) → (holds_call ≡ false → after ≡ before) → AreArguments tree env before roots actuals arguments
+    → AreArguments tree env after roots (settled holds_call actuals) arguments
+settled-arguments tree env before after true roots actuals arguments same are = after-call_arguments tree env before after roots actuals arguments are
+settled-arguments tree env before after false roots actuals arguments same are =
+    subst (λ (store : Store). AreArguments tree env store roots actuals arguments) (sym (same refl)) are

@@ -1,0 +1,368 @@
+-- What is known where an activation of a block begins: its own variables and its result are undefined, its value parameters are defined, each other
+-- variable has a value of its type or none, and what is claimed holds.
+use Rattle.std.proofs.Common.{arith, ◌≡◌, ⊎_elim, ◌∙◌, sym, ap, refl, subst, ℕ, zero, suc, ◌+◌, ◌<◌, true, false, cond}
+use Rattle.std.proofs.Common.{◌&&◌, ◌||◌, nat_eq, List, [], ◌∷◌, length, map, Option, Some, None}
+use Rattle.std.specs.Cmp.Lexicographic.{pointwise}
+use Rattle.std.specs.List.{All, Contains}
+use Rattle.std.specs.Prelude.{slice_get, slice_index_or}
+use Rattle.std.proofs.lemmas.Bool.{and_parts, both_ways, cond_both, eq-eqb, eqb-true, false≢true, or_cases, or_left}
+use Rattle.std.proofs.lemmas.List.{get_or-map, length-map}
+use Rattle.std.proofs.lemmas.List.Elements.{All-nil}
+use Rattle.std.proofs.lemmas.Option.{get_or_from_slice_get, none-some, slice_get_within}
+use Rattle.types.specs.Components.{components_of}
+use Rattle.types.specs.Types.{is_ordinal}
+use Rattle.types.specs.declared.form.OrdinalRange.{OrdinalRange}
+use Rattle.types.specs.declared.form.Step.{Step}
+use Rattle.types.proofs.Scalars.{ordinal_component}
+use Rattle.typed_tree.specs.WellFormed.{IsWellFormed, is_local_kind, is_parameter_kind, is_result_kind, is_round, is_value_kind, is_variable_kind, is_visible}
+use Rattle.typed_tree.specs.WellFormed.{Outline, encloses, is_one_of, of_one, outline_of}
+use Rattle.typed_tree.specs.declared.tree.Block.{Block}
+use Rattle.typed_tree.specs.declared.tree.Tree.{Tree}
+use Rattle.typed_tree.specs.declared.tree.Variable.{Variable}
+use Rattle.typed_tree.specs.declared.tree.VariableKind.{VariableKind}
+use Rattle.typed_tree.specs.declared.tree.VariableKind.TheVariants as kind
+use Rattle.domain.specs.Facts.{Fact}
+use Rattle.domain.specs.Interval.{Interval, vacant}
+use Rattle.meaning.specs.declared.store.Value.{Value}
+use Rattle.meaning.specs.Meaning.{Activation, Argument, environment_of, home_of, own_place, place_for, program_activation}
+use Rattle.meaning.specs.Store.{Environment, Place, Store}
+use Rattle.abstract_state.specs.Holds.{HasValue, IsIn, part_of, value_at}
+use Rattle.abstract_state.specs.Knows as entire
+use Rattle.abstract_state.specs.Knows.{moment}
+use Rattle.abstract_state.specs.State as variables
+use Rattle.abstract_state.proofs.Given.{named-entire}
+use Rattle.abstract_state.proofs.Knows.{defined-known}
+use Rattle.abstract_state.proofs.Looped.{claims-known}
+use Rattle.leaf_rows.specs.Limits.{limits_or_integer, type_limits}
+use Rattle.leaf_rows.specs.Rows.{Parts, Row, all_parts, no_parts, parts_of, rows_of, values_at}
+use Rattle.leaf_rows.proofs.Accessed.{IsRow, contains-has, has-contains, indexes-are, row-is}
+use Rattle.component_states.specs.Components.{RowState, no_row, row_at}
+use Rattle.component_states.specs.Holds.{ComponentsHold, Knows}
+use Rattle.component_states.proofs.Looped.{with_claims-hold}
+use Rattle.structured_states.specs.Loops.{component_facts, plain_facts}
+use Rattle.call_states.specs.Environments.{Begun, Proper, Typed, place_type}
+use Rattle.call_states.specs.Starts.{block_start, components_start, is_own, is_passed_value, row_start, values_defined}
+use Rattle.call_states.specs.Starts.{variable_start, variables_start}
+use Rattle.call_states.proofs.AliasedTypes.{InTypes, declared-limits, in-types, seen, stored-of}
+use Rattle.call_states.proofs.Assigned.{Received, received}
+use Rattle.call_states.proofs.Beginning.{own-no_variable}
+use Rattle.call_states.proofs.Callee.{IsCalled, Outer, Own, PassedTo, Seen, activation_of, parameter-listed, seen-as}
+use Rattle.call_states.proofs.Claimed.{AllHold}
+use Rattle.call_states.proofs.Entered.{behind_assignments, distinct, homes, nothing-begun, own-home, own-undefined, own-where, typed-behind, value-not_variable}
+use Rattle.call_states.proofs.Headings.{heading-at, one-there, same-numbers, well-placed}
+use Rattle.call_states.proofs.Passed.{AllFit}
+use Rattle.call_states.proofs.Places.{overlaps-from}
+
+-- ---- a block where it begins
+
+module _ (tree : Tree) (pairs : List (ℕ × ℕ)) (number activations : ℕ) (visible : Environment) (store : Store)
+    (proper : Proper tree pairs number activations visible) (typed : Typed tree store)
+    (undefined : (root : ℕ) (variable : Variable) (rest : List Step) (v : Value) → slice_get tree.variables.items root ≡ Some variable
+    → is_own number variable ≡ true → value_at (moment visible store) root rest ≡ Some v → ⊥)
+    (defined : (root : ℕ) (variable : Variable) (rest : List Step) → slice_get tree.variables.items root ≡ Some variable
+    → is_passed_value number variable ≡ true → Contains (components_of tree.types variable.type_id) rest → HasValue (moment visible store) root rest) where
+  abbrev declared : List Variable
+  declared = tree.variables.items
+
+  in_types : InTypes tree visible store
+  in_types = in-types tree pairs number activations visible store proper typed
+
+  -- a variable with a value is none that is undefined
+  in-start : (root : ℕ) (variable : Variable) (rest : List Step) (v : Value) (limits : Interval) → slice_get declared root ≡ Some variable
+      → value_at (moment visible store) root rest ≡ Some v → IsIn limits v → IsIn (cond (is_own number variable) vacant limits) v
+  in-start root variable rest v limits is at inside =
+      cond_both (is_own number variable) vacant limits (λ range. IsIn range v) (λ own. absurd (undefined root variable rest v is own at)) (λ other. inside)
+
+  -- ---- variables
+
+  range-start : (root : ℕ) (v : Value) → value_at (moment visible store) root [] ≡ Some v
+      → IsIn (slice_index_or (map (variable_start tree number) declared) root vacant) v
+  range-start root v at =
+      let home = stored-of store (visible.variables root) [] v at in
+      let there = seen tree pairs number activations visible proper root home.0 home.1 in
+      let found = one-there (λ (x : Variable). is_round (outline_of tree) number x.block) (slice_get declared root) there in
+      let variable = found.0 in
+      let own : IsIn (type_limits tree.types variable) v =
+      subst (λ (range : Interval). IsIn range v) (declared-limits tree root variable found.1) (in_types.ranges root v at) in
+      subst (λ (range : Interval). IsIn range v)
+      (sym
+      (get_or-map (variable_start tree number) declared root variable vacant (slice_get_within declared root variable found.1)
+      ∙ ap (variable_start tree number) (get_or_from_slice_get declared root variable variable found.1)))
+      (in-start root variable [] v (type_limits tree.types variable) found.1 at own)
+
+  abbrev total : ℕ
+  total = length tree.variables.items
+
+  abbrev IsKnown : variables.State → Type 0
+  IsKnown state = entire.Knows total visible state store
+
+  values-known : (first : ℕ) (more : List Variable)
+      → ((k : ℕ) (variable : Variable) → slice_get more k ≡ Some variable → slice_get declared (first + k) ≡ Some variable)
+      → (state : variables.State) → IsKnown state → IsKnown (values_defined tree number first more state)
+  values-known first [] there state known = known
+  values-known first (variable ∷ more) there state known =
+      values-known (suc first) more
+      (λ k other is. ap (slice_get declared) (let e : suc first + k ≡ first + suc k = omega arith in e) ∙ there (suc k) other is)
+      (cond (is_passed_value number variable && is_ordinal tree.types variable.type_id) (variables.with_defined first state) state)
+      (cond_both (is_passed_value number variable && is_ordinal tree.types variable.type_id) (variables.with_defined first state) state IsKnown
+      (λ both.
+      let parts = and_parts (is_passed_value number variable) (is_ordinal tree.types variable.type_id) both in
+      let is : slice_get declared first ≡ Some variable =
+      ap (slice_get declared) (let e : first ≡ first + 0 = omega arith in e) ∙ there 0 variable refl in
+      defined-known total visible state store first
+      (defined first variable [] is parts.0
+      (subst (λ (all : List (List Step)). Contains all []) (sym (ordinal_component tree.types variable.type_id parts.1)) (0, omega arith, refl))) known)
+      (λ other. known))
+
+  variables-known : IsKnown (variables_start tree number)
+  variables-known =
+      values-known 0 declared (λ k variable is. ap (slice_get declared) (let e : 0 + k ≡ k = omega arith in e) ∙ is)
+      (variables.Live (record { ranges = map (variable_start tree number) declared; facts = [] }))
+      (record {
+        rows_are = (let many = length-map declared (variable_start tree number) in omega (arith, many));
+        hold = record {
+          ranges = λ root steps v named is.
+              range-start root v (subst (λ (s : List Step). value_at (moment visible store) root s ≡ Some v) (named-entire steps named) is);
+          facts = λ fact inside. absurd (omega (arith, inside.1));
+        };
+      })
+
+  -- ---- rows
+
+  -- what is known of a row that has a component
+  row-state : (row : ℕ) (steps : List Step) (is : IsRow tree row steps)
+      → row_at (components_start tree number) row ≡ row_start number is.row (Some is.leaf.variable)
+  row-state row steps is =
+      let own = λ (r : Row). row_start number r (slice_get declared r.root) in
+      let e : 0 + is.leaf.root ≡ is.leaf.root = omega arith in
+      get_or-map own (rows_of tree) row is.row no_row (slice_get_within (rows_of tree) row is.row is.is)
+      ∙ ap own (get_or_from_slice_get (rows_of tree) row is.row is.row is.is)
+      ∙ ap (row_start number is.row) (ap (slice_get declared) (is.leaf.root_is ∙ e) ∙ is.leaf.variable_is)
+
+  row-root : (row : ℕ) (steps : List Step) (is : IsRow tree row steps)
+      → slice_get declared (slice_index_or (all_parts tree) row no_parts).root ≡ Some is.leaf.variable
+  row-root row steps is =
+      let e : 0 + is.leaf.root ≡ is.leaf.root = omega arith in
+      ap (λ (p : Parts). slice_get declared p.root) is.parts_are ∙ ap (slice_get declared) (is.leaf.root_is ∙ e) ∙ is.leaf.variable_is
+
+  components-known : ComponentsHold (all_parts tree) (components_start tree number) (moment visible store)
+  components-known = record {
+    count = (let own = λ (r : Row). row_start number r (slice_get declared r.root) in
+        let one = length-map (rows_of tree) own in
+        let other = length-map (rows_of tree) (parts_of tree) in
+        omega (arith, one, other));
+    ranges = λ row steps v of_row at.
+        let is = row-is tree row steps of_row in
+        let root = (slice_index_or (all_parts tree) row no_parts).root in
+        let values : values_at (rows_of tree) row ≡ is.row.leaf.values =
+        ap (Rattle.std.specs.Option.option_and_then (λ (r : Row). r.leaf.values)) is.is in
+        let own : IsIn (limits_or_integer is.row.leaf.values) v =
+        subst (λ (range : Option OrdinalRange). IsIn (limits_or_integer range) v) values (in_types.components row steps v of_row at) in
+        subst (λ (state : RowState). IsIn state.range v) (sym (row-state row steps is))
+        (in-start root is.leaf.variable steps v (limits_or_integer is.row.leaf.values) (row-root row steps is) at own);
+    defined = λ row defined_is steps of_row.
+        let is = row-is tree row steps of_row in
+        let passed : is_passed_value number is.leaf.variable ≡ true =
+        sym (ap (λ (state : RowState). state.is_defined) (row-state row steps is)) ∙ defined_is in
+        defined (slice_index_or (all_parts tree) row no_parts).root is.leaf.variable steps (row-root row steps is) passed
+        (has-contains (components_of tree.types is.leaf.variable.type_id) steps is.of_type);
+    indexes = λ row range index_is steps of_row.
+        let is = row-is tree row steps of_row in
+        indexes-are tree row steps range of_row
+        (ap (Rattle.std.specs.Option.option_and_then (λ (r : Row). r.leaf.index)) is.is
+        ∙ sym (ap (λ (state : RowState). state.index) (row-state row steps is)) ∙ index_is);
+    stretches = λ stretch inside. absurd (omega (arith, inside.1));
+  }
+
+  -- where what is claimed holds
+  pub start-known : (facts : List Fact) → AllHold tree facts visible store
+      → Knows (all_parts tree) (length tree.variables.items) visible (block_start tree number facts) store
+  start-known facts hold = record {
+    variables = claims-known total visible (plain_facts tree facts) (variables_start tree number) store hold.variables variables-known;
+    components = with_claims-hold (all_parts tree) (moment visible store) (component_facts tree facts) (components_start tree number) hold.components
+        components-known;
+  }
+
+-- ---- a block that is called
+
+argument-at : (tree : Tree) (activations : ℕ) (roots : List ℕ) (arguments : List Argument) → AllFit tree activations roots arguments → (i root : ℕ)
+    → slice_get roots i ≡ Some root → (argument : Argument) × (slice_get arguments i ≡ Some argument)
+argument-at tree activations [] [] fit i root is = absurd (none-some root is)
+argument-at tree activations [] (argument ∷ arguments) fit i root is = absurd fit
+argument-at tree activations (first ∷ roots) [] fit i root is = absurd fit
+argument-at tree activations (first ∷ roots) (argument ∷ arguments) fit zero root is = (argument, refl)
+argument-at tree activations (first ∷ roots) (argument ∷ arguments) fit (suc i) root is = argument-at tree activations roots arguments fit.3 i root is
+
+module _ (tree : Tree) (pairs : List (ℕ × ℕ)) (number : ℕ) (block : Block) (arguments : List Argument) (caller : Environment) (activations from : ℕ)
+    (call : IsCalled tree pairs number block arguments caller activations from) where
+  abbrev callee : Environment
+  callee = environment_of tree (activation_of number block arguments caller activations)
+
+  abbrev behind : Store → Store
+  behind store = behind_assignments tree pairs number block arguments caller activations from call store
+
+  own-place_is : (root : ℕ) (variable : Variable) → slice_get tree.variables.items root ≡ Some variable → variable.block ≡ number
+      → is_variable_kind variable.kind ≡ false → callee.variables root ≡ Some (own_place activations root)
+  own-place_is root variable is own kind_is =
+      own-home tree (activation_of number block arguments caller activations) root variable is own
+      ∙ own-where (activation_of number block arguments caller activations) root variable.kind kind_is
+
+  -- a variable of the block's own has no value
+  pub callee-undefined : (store : Store) → Begun activations store → (root : ℕ) (variable : Variable) (rest : List Step) (v : Value)
+      → slice_get tree.variables.items root ≡ Some variable → is_own number variable ≡ true
+      → value_at (moment callee (behind store)) root rest ≡ Some v → ⊥
+  callee-undefined store begun root variable rest v is own at =
+      let parts = and_parts (nat_eq variable.block number) (is_local_kind variable.kind || is_result_kind variable.kind) own in
+      let kinds = own-no_variable variable.kind parts.1 in
+      let home = own-place_is root variable is (eqb-true variable.block number parts.0) kinds.0 in
+      none-some v
+      (sym (own-undefined tree pairs number block arguments caller activations from call store begun root variable is kinds.1 rest)
+      ∙ sym (ap (λ (found : Option Place). part_of (behind store) found rest) home) ∙ at)
+
+  -- a value parameter has what is passed to it
+  pub callee-received : (store : Store) → Begun activations store → (i root : ℕ) (argument : Argument) (variable : Variable)
+      → slice_get block.heading.parameters.items i ≡ Some root → slice_get arguments i ≡ Some argument → slice_get tree.variables.items root ≡ Some variable
+      → is_value_kind variable.kind ≡ true → Received tree activations activations callee root variable argument (behind store)
+  callee-received store begun i root argument variable root_at argument_at is value =
+      received tree activations activations callee block.heading.parameters.items arguments call.fit
+      (homes tree pairs number block arguments caller activations from call) (distinct tree pairs number block arguments caller activations from call)
+      i root argument variable root_at argument_at is value store
+      (nothing-begun tree pairs number block arguments caller activations from call store begun root)
+
+  pub value-home : (root : ℕ) (variable : Variable) → slice_get tree.variables.items root ≡ Some variable → variable.block ≡ number
+      → is_value_kind variable.kind ≡ true → callee.variables root ≡ Some (own_place activations root)
+  value-home root variable is own value = own-place_is root variable is own (value-not_variable variable.kind value)
+
+  pub callee-defined : (store : Store) → Begun activations store → (root : ℕ) (variable : Variable) (rest : List Step)
+      → slice_get tree.variables.items root ≡ Some variable → is_passed_value number variable ≡ true
+      → Contains (components_of tree.types variable.type_id) rest → HasValue (moment callee (behind store)) root rest
+  callee-defined store begun root variable rest is passed inside =
+      let parts = and_parts (nat_eq variable.block number) (is_value_kind variable.kind) passed in
+      let own = eqb-true variable.block number parts.0 in
+      let listed = contains-has block.heading.parameters.items root
+      (parameter-listed tree call.well number block call.block_is root variable is own
+      (or_left (is_value_kind variable.kind) (is_variable_kind variable.kind) parts.1))
+      in
+      let argument = argument-at tree activations block.heading.parameters.items arguments call.fit listed.0 root listed.1 in
+      let got = callee-received store begun listed.0 root argument.0 variable listed.1 argument.1 is parts.1 in
+      let has = got.has rest inside in
+      (has.0, ap (λ (found : Option Place). part_of (behind store) found rest) (value-home root variable is own parts.1) ∙ has.1)
+
+  -- what is known where a call begins
+  pub called-start : (store : Store) → Typed tree store → Begun activations store → Proper tree pairs number (suc activations) callee → (facts : List Fact)
+      → AllHold tree facts callee (behind store) → Knows (all_parts tree) (length tree.variables.items) callee (block_start tree number facts) (behind store)
+  called-start store typed begun proper facts hold =
+      start-known tree pairs number (suc activations) callee (behind store) proper
+      (typed-behind tree pairs number block arguments caller activations from call store typed) (callee-undefined store begun) (callee-defined store begun)
+      facts hold
+
+-- ---- the program's block
+
+no-place_for : (root : ℕ) (roots : List ℕ) (place : Place) → place_for root roots [] ≡ Some place → ⊥
+no-place_for root [] place is = none-some place is
+no-place_for root (first ∷ roots) place is = none-some place is
+
+-- nothing is claimed
+pub no-claims : (tree : Tree) (env : Environment) (store : Store) → AllHold tree [] env store
+no-claims tree env store = record { variables = All-nil _; components = All-nil _ }
+
+module _ (tree : Tree) (pairs : List (ℕ × ℕ)) (well : IsWellFormed tree) (block : Block) (block_is : slice_get tree.blocks.items 0 ≡ Some block) where
+  abbrev outline : Outline
+  outline = outline_of tree
+
+  abbrev activation : Activation
+  activation = program_activation tree block.heading
+
+  abbrev main : Environment
+  main = environment_of tree activation
+
+  heading-placed : (block.heading.around.items ≡ []) × (block.heading.parameters.items ≡ [])
+  heading-placed =
+      let h = block.heading in
+      let placed = well-placed tree well 0 h (heading-at tree 0 block block_is) in
+      let one = and_parts (pointwise nat_eq h.around.items []) _ placed in
+      let two = and_parts (pointwise nat_eq h.parameters.items []) _ one.1 in
+      (same-numbers h.around.items [] one.0, same-numbers h.parameters.items [] two.0)
+
+  no-parameter : (root : ℕ) (variable : Variable) → slice_get tree.variables.items root ≡ Some variable → variable.block ≡ 0
+      → is_parameter_kind variable.kind ≡ true → ⊥
+  no-parameter root variable is own parameter =
+      let inside = subst (λ (all : List ℕ). Contains all root) heading-placed.1 (parameter-listed tree well 0 block block_is root variable is own parameter) in
+      omega (arith, inside.1)
+
+  main-home : (root : ℕ) (variable : Variable) → slice_get tree.variables.items root ≡ Some variable → variable.block ≡ 0 → (one : VariableKind)
+      → variable.kind ≡ one → home_of activation root one ≡ Some (own_place 0 root)
+  main-home root variable is own kind.VariableParameter kind_is = absurd (no-parameter root variable is own (ap is_parameter_kind kind_is))
+  main-home root variable is own kind.Local kind_is = refl
+  main-home root variable is own kind.ValueParameter kind_is = refl
+  main-home root variable is own kind.Result kind_is = refl
+
+  main-visible : (root : ℕ) → is_visible outline 0 root ≡ true → (place : Place) × (main.variables root ≡ Some place)
+  main-visible root is =
+      let found = one-there (λ (v : Variable). is_round outline 0 v.block) (slice_get tree.variables.items root) is in
+      let round : (nat_eq found.0.block 0 || is_one_of block.heading.around.items found.0.block) ≡ true =
+      sym (ap (of_one (encloses found.0.block 0)) (heading-at tree 0 block block_is)) ∙ found.2 in
+      let own : found.0.block ≡ 0 =
+      ⊎_elim (λ same. eqb-true found.0.block 0 same)
+      (λ among. absurd (false≢true (sym (ap (λ (all : List ℕ). is_one_of all found.0.block) heading-placed.0) ∙ among)))
+      (or_cases (nat_eq found.0.block 0) (is_one_of block.heading.around.items found.0.block) round) in
+      (own_place 0 root, own-home tree activation root found.0 found.1 own ∙ main-home root found.0 found.1 own found.0.kind refl)
+
+  -- what is visible there is the program's own
+  main-own : (root : ℕ) (place : Place) → main.variables root ≡ Some place
+      → (variable : Variable) × (slice_get tree.variables.items root ≡ Some variable) × (variable.block ≡ 0) × (own_place 0 root ≡ place)
+  main-own root place is =
+      let seen = seen-as tree activation root place is in
+      by seen.0 seen.1 seen.2
+    where
+      by : (variable : Variable) → slice_get tree.variables.items root ≡ Some variable → Seen activation root variable place
+          → (variable : Variable) × (slice_get tree.variables.items root ≡ Some variable) × (variable.block ≡ 0) × (own_place 0 root ≡ place)
+      by variable variable_is (Own own kind_is at) = (variable, variable_is, own, at)
+      by variable variable_is (PassedTo own kind_is at) = absurd (no-place_for root block.heading.parameters.items place at)
+      by variable variable_is (Outer other around at) = absurd (none-some place at)
+
+  main-only : (root : ℕ) → is_visible outline 0 root ≡ false → main.variables root ≡ None
+  main-only root hidden = by (main.variables root) refl
+    where
+      by : (found : Option Place) → main.variables root ≡ found → found ≡ None
+      by None is = refl
+      by (Some place) is =
+          let own = main-own root place is in
+          let there : is_visible outline 0 root ≡ true =
+          ap (of_one (λ (v : Variable). is_round outline 0 v.block)) own.1 ∙ ap (of_one (encloses own.0.block 0)) (heading-at tree 0 block block_is)
+          ∙ or_left (nat_eq own.0.block 0) (is_one_of block.heading.around.items own.0.block) (eq-eqb own.0.block 0 own.2) in
+          absurd (both_ways (is_visible outline 0 root) hidden there)
+
+  pub program-proper : Proper tree pairs 0 1 main
+  program-proper = record {
+    types_are = refl;
+    visible = main-visible;
+    only = main-only;
+    typed = λ root place variable place_is is.
+        let own = main-own root place place_is in
+        ap (place_type tree) (sym own.3) ∙ ap (Rattle.std.specs.Option.option_and_then (λ (v : Variable). Some v.type_id)) is;
+    begun = λ root place place_is. subst (λ (p : Place). p.activation < 1) (main-own root place place_is).3 (omega arith);
+    separate = λ a b p q p_is q_is differ over.
+        let one = main-own a p p_is in
+        let other = main-own b q q_is in
+        let same = (overlaps-from p q over).variable in
+        absurd (differ (ap (λ (x : Place). x.variable) one.3 ∙ same ∙ sym (ap (λ (x : Place). x.variable) other.3)));
+  }
+
+  -- what is known where the program begins
+  pub program-start : (facts : List Fact) → AllHold tree facts main [] → Knows (all_parts tree) (length tree.variables.items) main (block_start tree 0 facts) []
+  program-start facts hold =
+      start-known tree pairs 0 1 main [] program-proper (λ place v is. absurd (none-some v is))
+      (λ root variable rest v is own at. none-some v (sym (nothing-there root rest) ∙ at))
+      (λ root variable rest is passed inside.
+      let parts = and_parts (nat_eq variable.block 0) (is_value_kind variable.kind) passed in
+      absurd (no-parameter root variable is (eqb-true variable.block 0 parts.0)
+      (or_left (is_value_kind variable.kind) (is_variable_kind variable.kind) parts.1)))
+      facts hold
+    where
+      nothing-there : (root : ℕ) (rest : List Step) → value_at (moment main []) root rest ≡ None
+      nothing-there root rest = by (main.variables root)
+        where
+          by : (found : Option Place) → part_of [] found rest ≡ None
+          by None = refl
+          by (Some place) = refl

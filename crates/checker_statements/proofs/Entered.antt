@@ -1,0 +1,251 @@
+-- The walk over a program links a state to each of its entries, once and in their order.
+use Rattle.std.proofs.Common.{◌≡◌, ◌∙◌, sym, ap, refl, ℕ, suc, ℤ, true, false, List, [], ◌∷◌, ◌++◌, Option, Some, None, length, map}
+use Rattle.std.specs.Prelude.{flat_map, drop, slice_get}
+use Rattle.typed_tree.specs.declared.tree.Assignment.{Assignment}
+use Rattle.typed_tree.specs.declared.tree.CaseHead.{CaseHead}
+use Rattle.typed_tree.specs.declared.tree.ForHead.{ForHead}
+use Rattle.typed_tree.specs.declared.tree.Selector.{Selector}
+use Rattle.checker_state.specs.Bounds.{Bound}
+use Rattle.typed_tree.specs.declared.tree.Expr.{Expr}
+use Rattle.typed_tree.specs.declared.tree.Stmt.{Stmt}
+use Rattle.typed_tree.specs.declared.tree.Stmt.TheOpen.{Stmt-F}
+use Rattle.typed_tree.specs.declared.tree.Stmt.TheOpen.Stmt-F.{Empty, Assign, Copy, Write, Compound, If, While, Repeat, For, Case}
+use Rattle.typed_tree.specs.declared.tree.Stmt.TheOpen.Stmt-F.{Call as Calling}
+use Rattle.typed_tree.specs.declared.tree.FunctionResult.{FunctionResult}
+use Rattle.typed_tree.specs.Calls.{holds_call}
+use Rattle.typed_tree.specs.declared.tree.Stmt.TheFolds.{map-Stmt, fold-roll-Stmt, ind-Stmt}
+use Rattle.typed_tree.specs.declared.tree.Tree.{Tree}
+use Rattle.typed_tree.specs.declared.tree.Block.{Block}
+use Rattle.typed_tree.specs.Entries.{joined, entries_of_expression, entries_of_parameter, statement_entries, entries_of_block, entries_of_statement, entries_of}
+use Rattle.certificate.specs.declared.Certificate.{Certificate}
+use Rattle.checker_state.specs.declared.value.Known.{Known}
+use Rattle.checker_state.specs.declared.value.Known.TheVariants.{Ordinal}
+use Rattle.checker_statements.specs.Promise.{LinksEntries}
+use Rattle.checker_state.specs.Stores.{Reach}
+use Rattle.checker_state.specs.State.{Dead, State}
+use Rattle.checker_state.specs.Joins.{joined_states}
+use Rattle.checker_calls.specs.Sections.{block_claims_at}
+use Rattle.checker_calls.specs.Starts.{block_start}
+use Rattle.checker_loops.specs.Loops.{claims_at, head_of, round_of, with_own, table_of}
+use Rattle.checker_loops.specs.Ways.{Way, turn_begun, way_of, where_counts}
+use Rattle.std.specs.declared.alloc.Global.{Global}
+use Rattle.std.specs.declared.vec.Vec.{Vec}
+use Rattle.checker_state.specs.Conditions.{bound_form, condition_of}
+use Rattle.checker_state.specs.Forms.{root_of}
+use Rattle.checker_loops.specs.Cases.{arm_start, constants_before}
+use Rattle.place.specs.declared.Place.{Place}
+use Rattle.checker_expressions.specs.Walk.{Context, Walking, ◌>>=◌, access_walk, index_pieces, numbers_of, fitting, value_walk, parameter_walk, whole_walk}
+use Rattle.checker_statements.specs.Walk.{first_context, assign_to, arms_walk, case_walk, for_round, for_turns, for_walk, index_test, loop_walk, steady_in}
+use Rattle.checker_statements.specs.Walk.{tested_way, while_round, repeat_round, statement_step, statement_walk, where_so, all_of, block_walk, blocks_walk}
+use Rattle.checker_statements.specs.Walk.{begin_way, program_walk, reach_stored, result_use}
+use Rattle.checker_expressions.proofs.Entered.{Enters, access-entered, and_no_more, and_then, call-entered, parameter-entered, value-entered, whole-entered}
+
+-- what comes behind the value of an assignment
+abbrev stores : Assignment → Reach → Known → Walking (Unit {0})
+stores assignment reach known =
+    let target = assignment.target in
+    fitting assignment.fits known
+    >>= assign_to assignment.becomes target.root target.selectors.items (reach_stored target.selectors.items (holds_call assignment.value) reach)
+    (bound_form assignment.value)
+
+assigned-silent : (becomes : Place) (root : ℕ) (selectors : List Selector) (reach : Reach) (form : Option Bound) (known : Known)
+    → Enters (assign_to becomes root selectors reach form known) []
+assigned-silent becomes root [] reach form (Ordinal range) context state = refl
+assigned-silent becomes root (selector ∷ selectors) reach form (Ordinal range) context state = refl
+
+stores-silent : (assignment : Assignment) (reach : Reach) (known : Known) → Enters (stores assignment reach known) []
+stores-silent assignment reach (Ordinal range) context state =
+    let target = assignment.target in
+    let passed = fitting assignment.fits (Ordinal range) context state in
+    assigned-silent assignment.becomes target.root target.selectors.items (reach_stored target.selectors.items (holds_call assignment.value) reach)
+    (bound_form assignment.value) passed.value context passed.after
+
+-- walks one after another enter what each enters
+all-entered : {X : Type 0} (walk : X → Walking (Unit {0})) (numbers : X → List ℕ) → ((x : X) → Enters (walk x) (numbers x)) → (xs : List X)
+    → Enters (all_of (map walk xs)) (flat_map numbers xs)
+all-entered walk numbers each [] context state = refl
+all-entered walk numbers each (x ∷ xs) context state =
+    let first = walk x context state in
+    let rest = all_of (map walk xs) context first.after in
+    and_then first.linked rest.linked _ _ (each x context state) (all-entered walk numbers each xs context first.after)
+
+abbrev EnteredStmt : Type 0
+EnteredStmt = (s : Stmt) × Enters (statement_walk s) (entries_of_statement s)
+
+statements-entered : (statements : List EnteredStmt)
+    → Enters (all_of (map statement_walk (map (λ s. s.0) statements))) (joined (map entries_of_statement (map (λ s. s.0) statements)))
+statements-entered [] context state = refl
+statements-entered (statement ∷ statements) context state =
+    let first = statement_walk statement.0 context state in
+    let rest = all_of (map statement_walk (map (λ s. s.0) statements)) context first.after in
+    and_then first.linked rest.linked _ _ (statement.1 context state) (statements-entered statements context first.after)
+
+-- a loop enters what a round of it does
+loop-entered : (number : ℕ) (place : Place) (control : Option ℕ) (round : Walking State) (numbers : List ℕ) → Enters round numbers
+    → Enters (loop_walk number place control round) numbers
+loop-entered number place control round numbers each context state =
+    let claims = claims_at context.claims number in
+    let loop = round_of context.tree context.pairs context.claims number in
+    let own = with_own control loop in
+    let within : Context = record context { rounds = context.rounds ++ loop ∷ [] } in
+    let start = head_of context.tree own claims.facts state in
+    and_no_more (round within start).linked [] numbers (each within start) refl
+
+module _ (head : ForHead) (body : Walking (Unit {0})) (numbers : List ℕ) (each : Enters body numbers) where
+  -- a for enters what its body does
+  for_round-entered : (way : Way) → Enters (for_round way body) numbers
+  for_round-entered way context state =
+      let begun = turn_begun way state in
+      and_no_more (body context begun).linked [] numbers (each context begun) refl
+
+  turns_of-entered : (way : Way) → Enters (for_turns head body way) numbers
+  turns_of-entered way context state =
+      let tested = tested_way way context state in
+      let begun = begin_way tested.value context tested.after in
+      let steady = steady_in context head.loop_number tested.value in
+      loop-entered head.loop_number head.place (Some tested.value.control) (for_round steady body) numbers (for_round-entered steady) context begun.after
+
+  for-entered : (way : Way) → Enters (for_walk head body way) numbers
+  for-entered way context state =
+      let start = where_counts true way state in
+      let turns = for_turns head body way context start in
+      and_no_more (turns.linked ++ []) [] numbers
+      (and_no_more turns.linked [] numbers (turns_of-entered way context start) refl) refl
+
+-- the arms of a case
+arms-entered : (base : State) (index : Option ℕ) (rows : List (Vec ℤ Global)) (arms : List EnteredStmt)
+    → Enters (arms_walk base index rows (map statement_walk (map (λ s. s.0) arms))) (joined (map entries_of_statement (map (λ s. s.0) arms)))
+arms-entered base index rows [] context state = refl
+arms-entered base index rows (arm ∷ arms) context state =
+    let start = arm_start index (slice_get rows 0) base in
+    let first = statement_walk arm.0 context start in
+    let met = joined_states (table_of context.tree) state first.after in
+    let rest = arms_walk base index (drop 1 rows) (map statement_walk (map (λ s. s.0) arms)) context met in
+    and_then first.linked rest.linked _ _ (arm.1 context start) (arms-entered base index (drop 1 rows) arms context met)
+
+case-entered : (head : CaseHead) (arms : List EnteredStmt) (known : Known)
+    → Enters (case_walk head (map statement_walk (map (λ s. s.0) arms)) known) (joined (map entries_of_statement (map (λ s. s.0) arms)))
+case-entered head arms (Ordinal range) context state =
+    let rows = head.constants.items in
+    let inner = map statement_walk (map (λ (s : EnteredStmt). s.0) arms) in
+    let base = index_test head.site (constants_before (length inner) rows) range context state in
+    arms-entered base.value (root_of (condition_of head.index).form) rows arms context base.after
+
+while-entered : (condition : Expr) (body : Walking (Unit {0})) (numbers : List ℕ) → Enters body numbers
+    → Enters (while_round condition body) (entries_of_expression condition ++ numbers)
+while-entered condition body numbers each context state =
+    let first = value_walk condition context state in
+    let start = where_so true condition first.value first.after in
+    and_then first.linked ((body context start).linked ++ []) (entries_of_expression condition) numbers (value-entered condition context state)
+    (and_no_more (body context start).linked [] numbers (each context start) refl)
+
+repeat-entered : (body : Walking (Unit {0})) (condition : Expr) (numbers : List ℕ) → Enters body numbers
+    → Enters (repeat_round body condition) (numbers ++ entries_of_expression condition)
+repeat-entered body condition numbers each context state =
+    let first = body context state in
+    let tested = value_walk condition context first.after in
+    and_then first.linked (tested.linked ++ []) numbers (entries_of_expression condition) (each context state)
+    (and_no_more tested.linked [] (entries_of_expression condition) (value-entered condition context first.after) refl)
+
+statement-parts : (y : Stmt-F EnteredStmt)
+    → Enters (statement_step (map-Stmt Stmt (Walking (Unit {0})) statement_walk (map-Stmt EnteredStmt Stmt (λ s. s.0) y)))
+    (statement_entries (map-Stmt Stmt (List ℕ) entries_of_statement (map-Stmt EnteredStmt Stmt (λ s. s.0) y)))
+statement-parts (Empty number) context state = refl
+statement-parts (Assign assignment) context state =
+    let reached = access_walk assignment.target (index_pieces assignment.indexes.items) context state in
+    let first = value_walk assignment.value context reached.after in
+    let rest = stores assignment reached.value first.value context first.after in
+    ap (λ numbers. assignment.number ∷ numbers)
+    (and_then reached.linked (first.linked ++ rest.linked) _ _ (access-entered assignment.target assignment.indexes.items context state)
+    (and_no_more first.linked rest.linked _ (value-entered assignment.value context reached.after)
+    (stores-silent assignment reached.value first.value context first.after)))
+statement-parts (Copy copying) context state =
+    let reached = access_walk copying.target (index_pieces copying.indexes.items) context state in
+    let first = whole_walk copying.value (index_pieces copying.value_indexes.items) context reached.after in
+    ap (λ numbers. copying.number ∷ numbers)
+    (and_then reached.linked (first.linked ++ []) _ _ (access-entered copying.target copying.indexes.items context state)
+    (and_no_more first.linked [] _ (whole-entered copying.value copying.value_indexes.items context reached.after) refl))
+statement-parts (Write writing) context state =
+    ap (λ numbers. writing.number ∷ numbers) (all-entered parameter_walk entries_of_parameter parameter-entered writing.parameters.items context state)
+statement-parts (Calling calling) context state = call-entered calling.call calling.actuals.items context state
+statement-parts (Compound number statements) context state = ap (λ numbers. number ∷ numbers) (statements-entered statements.items context state)
+statement-parts (If number condition consequence None) context state =
+    let first = value_walk condition context state in
+    let yes = statement_walk consequence.value.0 context (where_so true condition first.value first.after) in
+    ap (λ numbers. number ∷ numbers)
+    (and_then first.linked (yes.linked ++ []) _ _ (value-entered condition context state)
+    (and_then yes.linked [] _ _ (consequence.value.1 context (where_so true condition first.value first.after)) refl))
+statement-parts (If number condition consequence (Some alternative)) context state =
+    let first = value_walk condition context state in
+    let yes = statement_walk consequence.value.0 context (where_so true condition first.value first.after) in
+    let no = statement_walk alternative.value.0 context (where_so false condition first.value first.after) in
+    ap (λ numbers. number ∷ numbers)
+    (and_then first.linked (yes.linked ++ no.linked) _ _ (value-entered condition context state)
+    (and_then yes.linked no.linked _ _ (consequence.value.1 context (where_so true condition first.value first.after))
+    (alternative.value.1 context (where_so false condition first.value first.after))))
+statement-parts (While head body) context state =
+    ap (λ numbers. head.number ∷ numbers) (loop-entered head.loop_number head.place None (while_round head.condition (statement_walk body.value.0))
+    (entries_of_expression head.condition ++ entries_of_statement body.value.0)
+    (while-entered head.condition (statement_walk body.value.0) (entries_of_statement body.value.0) body.value.1) context state)
+statement-parts (Repeat head statements) context state =
+    let inner = map statement_walk (map (λ (s : EnteredStmt). s.0) statements.items) in
+    let numbers = joined (map entries_of_statement (map (λ (s : EnteredStmt). s.0) statements.items)) in
+    ap (λ numbers. head.number ∷ numbers)
+    (loop-entered head.loop_number head.place None (repeat_round (all_of inner) head.condition) (numbers ++ entries_of_expression head.condition)
+    (repeat-entered (all_of inner) head.condition numbers (statements-entered statements.items)) context state)
+statement-parts (For head body) context state =
+    let from = value_walk head.first.value context state in
+    let to = value_walk head.last.value context from.after in
+    let way = way_of head from.value to.value in
+    let rest = for_walk head (statement_walk body.value.0) way context to.after in
+    ap (λ numbers. head.number ∷ numbers)
+    (and_then from.linked (to.linked ++ rest.linked) _ _ (value-entered head.first.value context state)
+    (and_then to.linked rest.linked _ _ (value-entered head.last.value context from.after)
+    (for-entered head (statement_walk body.value.0) (entries_of_statement body.value.0) body.value.1 way context to.after)))
+statement-parts (Case head arms) context state =
+    let inner = map statement_walk (map (λ (s : EnteredStmt). s.0) arms.items) in
+    let first = value_walk head.index context state in
+    let rest = case_walk head inner first.value context first.after in
+    ap (λ numbers. head.number ∷ numbers)
+    (and_then first.linked rest.linked _ _ (value-entered head.index context state)
+    (case-entered head arms.items first.value context first.after))
+
+-- the use of a result enters nothing
+result-silent : (result : Option FunctionResult) → Enters (result_use result) []
+result-silent None context state = refl
+result-silent (Some result) context state = refl
+
+statement-entered : (s : Stmt) → Enters (statement_walk s) (entries_of_statement s)
+statement-entered = ind-Stmt (λ s. Enters (statement_walk s) (entries_of_statement s))
+    (λ x y is context state.
+    ap (λ (walk : Walking (Unit {0})). numbers_of (walk context state).linked)
+    (fold-roll-Stmt (Walking (Unit {0})) statement_step x ∙ ap (λ z. statement_step (map-Stmt Stmt (Walking (Unit {0})) statement_walk z)) (sym is))
+    ∙ statement-parts y context state
+    ∙ ap (λ z. statement_entries (map-Stmt Stmt (List ℕ) entries_of_statement z)) is
+    ∙ sym (fold-roll-Stmt (List ℕ) statement_entries x))
+
+-- the walk over a block
+pub block-entered : (number : ℕ) (block : Block) → Enters (block_walk number block) (entries_of_block block)
+block-entered number block context state =
+    let inside : Context = record context { block = number } in
+    let claims = block_claims_at context.blocks number in
+    let begun = block_start context.tree number claims.entry in
+    let body = statement_walk block.body inside begun in
+    let used = result_use block.heading.result inside body.after in
+    let silent : numbers_of (used.linked ++ []) ≡ [] = and_no_more used.linked [] [] (result-silent block.heading.result inside body.after) refl in
+    and_no_more body.linked (used.linked ++ []) (entries_of_block block) (statement-entered block.body inside begun) silent
+
+-- and that over blocks
+blocks-entered : (number : ℕ) (blocks : List Block) → Enters (blocks_walk number blocks) (flat_map entries_of_block blocks)
+blocks-entered number [] context state = refl
+blocks-entered number (block ∷ blocks) context state =
+    let first = block_walk number block context state in
+    let rest = blocks_walk (suc number) blocks context first.after in
+    and_then first.linked rest.linked _ _ (block-entered number block context state) (blocks-entered (suc number) blocks context first.after)
+
+-- and that over a program
+pub program-entered : (tree : Tree) (certificate : Certificate) → numbers_of (program_walk tree certificate).linked ≡ entries_of tree
+program-entered tree certificate = blocks-entered 0 tree.blocks.items (first_context tree certificate) Dead
+
+pub links_entries : (tree : Tree) (certificate : Certificate) → LinksEntries tree certificate
+links_entries tree certificate = record { of_block = block-entered; of_program = program-entered tree certificate }

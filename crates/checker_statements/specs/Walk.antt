@@ -1,0 +1,453 @@
+-- The walk of the checker over a program, one equation a form: the state after it, the sites that it leaves open, the
+-- rules that are broken, and the state at each entry into a statement or expression (ISO 7185:1990, 6.7, 6.8).
+-- It does not say that a program does what the walk says of it.
+use Rattle.std.specs.Prelude.{ℕ, suc, ℤ, drop, slice_get, Bool, true, false, List, [], ◌∷◌, ◌++◌, Option, Some}
+use Rattle.std.specs.Prelude.{None, if◌then◌else◌, map, length, ◌-◌, ◌&&◌, not}
+use Rattle.std.specs.declared.alloc.Global.{Global}
+use Rattle.std.specs.declared.boxed.Box.{Box}
+use Rattle.std.specs.declared.vec.Vec.{Vec}
+use Rattle.place.specs.declared.Place.{Place}
+use Rattle.certificate.specs.declared.Certificate.{Certificate}
+use Rattle.typed_tree.specs.declared.tree.Tree.{Tree}
+use Rattle.typed_tree.specs.declared.tree.Block.{Block}
+use Rattle.typed_tree.specs.declared.tree.Assignment.{Assignment}
+use Rattle.typed_tree.specs.declared.tree.CaseHead.{CaseHead}
+use Rattle.typed_tree.specs.declared.tree.Copying.{Copying}
+use Rattle.typed_tree.specs.declared.tree.ForHead.{ForHead}
+use Rattle.typed_tree.specs.declared.tree.LoopHead.{LoopHead}
+use Rattle.typed_tree.specs.declared.tree.Selector.{Selector}
+use Rattle.typed_tree.specs.declared.tree.Selector.TheVariants.{Element}
+use Rattle.typed_tree.specs.declared.tree.FunctionResult.{FunctionResult}
+use Rattle.typed_tree.specs.declared.tree.Expr.{Expr}
+use Rattle.typed_tree.specs.declared.tree.Stmt.{Stmt}
+use Rattle.typed_tree.specs.declared.tree.Stmt.TheOpen.{Stmt-F}
+use Rattle.typed_tree.specs.declared.tree.Stmt.TheOpen.Stmt-F.{Empty, Assign, Write, Compound, If, While, Repeat, For}
+use Rattle.typed_tree.specs.declared.tree.Stmt.TheOpen.Stmt-F.{Case, Copy, Call}
+use Rattle.typed_tree.specs.declared.tree.Stmt.TheFolds.{fold-Stmt}
+use Rattle.typed_tree.specs.Calls.{holds_call, whole_holds_call}
+use Rattle.domain.specs.Interval.{Interval, common}
+use Rattle.domain.specs.Numbers.{hull, is_covered}
+use Rattle.domain.specs.Facts.{Fact}
+use Rattle.checker_state.specs.Bounds.{Bound}
+use Rattle.checker_state.specs.declared.value.Known.{Known}
+use Rattle.checker_state.specs.declared.value.Known.TheVariants.{Ordinal}
+use Rattle.checker_rows.specs.Limits.{limits_of}
+use Rattle.checker_state.specs.State.{Dead, State, has_number, range_of, unless_empty}
+use Rattle.checker_state.specs.Joins.{joined_states}
+use Rattle.checker_state.specs.Stores.{Index, Reach, all_stored}
+use Rattle.checker_state.specs.Changes.{assigned}
+use Rattle.checker_state.specs.Conditions.{bound_form, branched, condition_of}
+use Rattle.checker_state.specs.Forms.{root_of}
+use Rattle.checker_state.specs.Loops.{with_undefined}
+use Rattle.checker_rows.specs.Rows.{rows_accessed, rows_of, type_at}
+use Rattle.checker_loops.specs.Cases.{arm_start, constants_before}
+use Rattle.checker_loops.specs.Loops.{Round, all_claims, claims_at, gives_claims}
+use Rattle.checker_loops.specs.Loops.{head_of, round_of, table_of, touched, with_own}
+use Rattle.checker_loops.specs.Ways.{End, Way, entered, met, steady, turn_begun, turn_ended, way_of, way_out}
+use Rattle.checker_loops.specs.Ways.{where_counts, with_values}
+use Rattle.checker_loops.specs.Pairs.{aliases_in}
+use Rattle.checker_calls.specs.Sections.{BlockClaims, all_block_claims, all_pairs, block_claims_at}
+use Rattle.checker_calls.specs.Starts.{block_start}
+use Rattle.checker_calls.specs.Aliases.{Stored, reach_unless_alias, unless_alias, with_aliases_stored}
+use Rattle.checker_calls.specs.Actuals.{unknown_reach}
+use Rattle.checker_expressions.specs.declared.fault.Rule.{Rule}
+use Rattle.checker_expressions.specs.declared.fault.Rule.TheVariants.{LoopEntry, LoopTurn, Exit, Changes}
+use Rattle.checker_expressions.specs.Walk.{Context, Walked, Walking, ◌>>=◌, access_walk, asked, call_walk}
+use Rattle.checker_expressions.specs.Walk.{changed_by, enter, fitting, followed, give, index_pieces}
+use Rattle.checker_expressions.specs.Walk.{left_open}
+use Rattle.checker_expressions.specs.Walk.{may_change, parameter_walk, passed_piece_of, tested, value_walk, whole_walk}
+use Rattle.checker_expressions.specs.Walk.{with_state, within}
+
+-- a variable is changed at a place: each loop round the place lists it, and so does the block, if need be
+abbrev pub change : Place → ℕ → Walking (Unit {0})
+change place root context = asked (may_change context root) Changes place context
+
+-- the aliases of a variable that are visible in the block
+abbrev pub aliases_here : Context → ℕ → List ℕ
+aliases_here context root = aliases_in context.pairs context.block root
+
+-- what is known before a store to a variable of the aliases that may have what is stored
+abbrev pub with_aliases : Context → ℕ → List Stored → State → State
+with_aliases context root stored state =
+    with_aliases_stored context.tree (aliases_here context root) stored state
+
+-- an ordinal of a variable's type
+abbrev pub stored_in : Context → ℕ → Interval → Stored
+stored_in context root range = record { type_id = type_at (rows_of context.tree) root; range = range }
+
+-- the assignment of a value to a variable, perhaps of a bound form
+abbrev pub assign : ℕ → Option Bound → Known → Walking (Unit {0})
+assign root form (Ordinal range) context =
+    changed_by
+    (λ state. assigned root range (unless_alias (aliases_here context root) form)
+    (with_aliases context root (stored_in context root range ∷ []) state)) context
+
+-- the rows of a variable that get values, each with their range
+abbrev pub Stores : Type 0
+Stores = List (ℕ × Interval)
+
+-- ordinals of the types of rows
+abbrev pub stored_in_rows : Context → Stores → List Stored
+stored_in_rows context stores =
+    map (λ one. record { type_id = type_at (rows_of context.tree) one.0; range = one.1 }) stores
+
+-- values are stored to what is reached of a variable
+abbrev pub stores_made : ℕ → Reach → Stores → Walking (Unit {0})
+stores_made root reach stores context =
+    changed_by
+    (λ state. all_stored (reach_unless_alias (aliases_here context root) reach) stores
+    (with_aliases context root (stored_in_rows context stores) state)) context
+
+-- values are stored at a place
+abbrev pub store_to : Place → ℕ → Reach → Stores → Walking (Unit {0})
+store_to place root reach stores = do
+  _ ← change place root
+  stores_made root reach stores
+
+-- the rows under what is accessed
+abbrev pub target_rows : Context → ℕ → List Selector → List ℕ
+target_rows context root selectors = rows_accessed context.tree root selectors
+
+-- the same range for each row
+abbrev pub alike : Interval → List ℕ → Stores
+alike range rows = map (λ row. (row, range)) rows
+
+-- the assignment of a value to a component
+abbrev pub assign_component : Place → ℕ → List Selector → Reach → Known → Walking (Unit {0})
+assign_component place root selectors reach (Ordinal range) context =
+    store_to place root reach (alike range (target_rows context root selectors)) context
+
+-- the assignment of a value to what is accessed
+abbrev pub assign_to : Place → ℕ → List Selector → Reach → Option Bound → Known → Walking (Unit {0})
+assign_to place root [] reach form passed = do
+  _ ← change place root
+  assign root form passed
+assign_to place root (selector ∷ selectors) reach form passed =
+    assign_component place root (selector ∷ selectors) reach passed
+
+-- rows with their ranges
+abbrev pub paired : List ℕ → List Interval → Stores
+paired [] ranges = []
+paired (row ∷ rows) [] = []
+paired (row ∷ rows) (range ∷ ranges) = (row, range) ∷ paired rows ranges
+
+-- components of these ranges are copied to what is accessed
+abbrev pub copy_to : Place → ℕ → List Selector → Reach → List Interval → Walking (Unit {0})
+copy_to place root selectors reach ranges context =
+    store_to place root reach (paired (target_rows context root selectors) ranges) context
+
+-- the start of a block of a number, of which these facts are claimed
+abbrev pub begin : ℕ → List Fact → Walking (Unit {0})
+begin number facts context = with_state (block_start context.tree number facts) context
+
+-- statements, or values that are written, one after another
+abbrev pub all_of : List (Walking (Unit {0})) → Walking (Unit {0})
+all_of [] = give tt
+all_of (statement ∷ statements) = do
+  _ ← statement
+  all_of statements
+
+-- what was reached before a call, perhaps
+abbrev pub reach_before : Bool → Reach → Reach
+reach_before holds_call reach = if holds_call then unknown_reach reach else reach
+
+-- a selector is an index; the last one is
+abbrev pub is_index : Option Selector → Bool
+is_index (Some (Element fits cells)) = true
+is_index selector = false
+
+abbrev pub ends_at_index : List Selector → Bool
+ends_at_index selectors = is_index (slice_get selectors (length selectors - 1))
+
+-- there is an index
+abbrev pub is_some_index : List Index → Bool
+is_some_index [] = false
+is_some_index (index ∷ indexes) = true
+
+-- what is reached where these selectors are stored to: a component of an element isn't all that there is of an index
+abbrev pub reach_of_store : List Selector → Reach → Reach
+reach_of_store selectors reach = if is_some_index reach.indexes && not (ends_at_index selectors)
+    then record reach { is_all = false } else reach
+
+-- the same, where the value may hold a call
+abbrev pub reach_stored : List Selector → Bool → Reach → Reach
+reach_stored selectors holds_call reach = reach_of_store selectors (reach_before holds_call reach)
+
+-- a piece from its entry on
+abbrev pub from_entry : ℕ → Walking (Unit {0}) → Walking (Unit {0})
+from_entry number walking = do
+  _ ← enter number
+  walking
+
+-- an assignment: the target is accessed, and then comes the value
+abbrev pub assignment_walk : Assignment → Walking (Unit {0})
+assignment_walk assignment =
+    let target = assignment.target in do
+      reach ← access_walk target (index_pieces assignment.indexes.items)
+      known ← value_walk assignment.value
+      passed ← fitting assignment.fits known
+      assign_to assignment.becomes target.root target.selectors.items
+          (reach_stored target.selectors.items (holds_call assignment.value) reach) (bound_form assignment.value) passed
+
+-- an assignment of a whole value: the target is accessed, and then come the components, one after another
+abbrev pub copying_walk : Copying → Walking (Unit {0})
+copying_walk copying =
+    let target = copying.target in
+    let hold = whole_holds_call copying.value copying.value_indexes.items in do
+      reach ← access_walk target (index_pieces copying.indexes.items)
+      ranges ← whole_walk copying.value (index_pieces copying.value_indexes.items)
+      copy_to copying.becomes target.root target.selectors.items (reach_stored target.selectors.items hold reach) ranges
+
+-- two pieces of which a run takes one, each walked from its own state; behind them the states are joined
+abbrev pub either_of : Context → Walked (Unit {0}) → Walked (Unit {0}) → Walked (Unit {0})
+either_of context one other =
+    record (followed one other) { after = joined_states (table_of context.tree) one.after other.after }
+
+-- the state where a condition has a truth value
+abbrev pub where_so : Bool → Expr → Known → State → State
+where_so truth condition (Ordinal range) state = branched truth condition range state
+
+-- two ways from a state, each of them taken from what is known there
+abbrev pub parted : (one_state other_state : State → State) → (one other : Walking (Unit {0})) → Walking (Unit {0})
+parted one_state other_state one other context state =
+    either_of context (one context (one_state state)) (other context (other_state state))
+
+-- what is executed where a condition is true, and what is where it is false
+abbrev pub branches : Expr → (consequence alternative : Walking (Unit {0})) → Known → Walking (Unit {0})
+branches condition consequence alternative known =
+    parted (where_so true condition known) (where_so false condition known) consequence alternative
+
+-- a conditional statement: the condition, and then one of its branches
+abbrev pub choice_walk : Expr → (consequence alternative : Walking (Unit {0})) → Walking (Unit {0})
+choice_walk condition consequence alternative = do
+  known ← value_walk condition
+  branches condition consequence alternative known
+
+-- the statement behind `else`, or nothing where there is none
+abbrev pub alternative_walk : Option (Box (Walking (Unit {0})) Global) → Walking (Unit {0})
+alternative_walk None = give tt
+alternative_walk (Some statement) = statement.value
+
+-- the state here
+abbrev pub here : Walking State
+here context state = give state context state
+
+-- a round of a loop: it ends where another round follows, and gives the state where none does
+
+-- a round of a while: the condition, and then perhaps the body
+abbrev pub while_round : Expr → Walking (Unit {0}) → Walking State
+while_round condition body = do
+  known ← value_walk condition
+  tested ← here
+  _ ← with_state (where_so true condition known tested)
+  _ ← body
+  give (where_so false condition known tested)
+
+-- a round of a repeat: the body, and then the condition, which ends it
+abbrev pub repeat_round : Walking (Unit {0}) → Expr → Walking State
+repeat_round body condition = do
+  _ ← body
+  known ← value_walk condition
+  tested ← here
+  _ ← with_state (where_so false condition known tested)
+  give (where_so true condition known tested)
+
+-- the facts of a loop are given at a point
+abbrev pub facts_given : Rule → Place → List Fact → Walking (Unit {0})
+facts_given rule place facts context state = asked (gives_claims context.tree state facts) rule place context state
+
+-- the state at the head of a loop, where a turn begins
+abbrev pub enter_head : Round → List Fact → Walking (Unit {0})
+enter_head round facts context state =
+    with_state (head_of context.tree round facts state) context state
+
+-- inside a loop
+abbrev pub inside : {A : Type 0} → Round → Walking A → Walking A
+inside round walking context = walking (record context { rounds = context.rounds ++ round ∷ [] })
+
+-- a loop with the place of its first word, at its head and round its body: its facts are given where it is entered and
+-- after each turn, and from its head one round is walked
+abbrev pub loop_by : Place → (at_head round_body : Round) → List Fact → Walking State → Walking (Unit {0})
+loop_by place at_head round_body facts walking = do
+  _ ← facts_given LoopEntry place facts
+  _ ← enter_head at_head facts
+  behind ← inside round_body walking
+  _ ← facts_given LoopTurn place facts
+  with_state behind
+
+-- the loop of a number, and of a control variable, if it is a for statement
+abbrev pub loop_walk : ℕ → Place → Option ℕ → Walking State → Walking (Unit {0})
+loop_walk number place control walking context =
+    let loop = round_of context.tree context.pairs context.claims number in
+    loop_by place (with_own control loop) loop (claims_at context.claims number).facts walking context
+
+-- a while, and a repeat
+abbrev pub while_walk : LoopHead → Walking (Unit {0}) → Walking (Unit {0})
+while_walk head body = loop_walk head.loop_number head.place None (while_round head.condition body)
+
+abbrev pub repeat_walk : LoopHead → Walking (Unit {0}) → Walking (Unit {0})
+repeat_walk head body = loop_walk head.loop_number head.place None (repeat_round body head.condition)
+
+-- ---- for statements
+
+-- the test of a bound: where its value lies that passes
+abbrev pub tested_end : State → End → Walking Interval
+tested_end start end = within (limits_of end.fits.range) end.fits.site (met end.form start end.values)
+
+-- the tests of both bounds, by what is known where there are values
+abbrev pub tested_way : Way → Walking Way
+tested_way way = do
+  start ← here
+  first ← tested_end start way.first
+  last ← tested_end start way.last
+  give (with_values first last way)
+
+-- a round of a for: a turn, and then the control variable is the last bound, or has its next value
+abbrev pub for_round : Way → Walking (Unit {0}) → Walking State
+for_round way body = do
+  _ ← changed_by (turn_begun way)
+  _ ← body
+  ended ← here
+  _ ← with_state (turn_ended way ended)
+  give (way_out way ended)
+
+-- the way through the loop of a number, whose turns leave the forms of untouched bounds as they are
+abbrev pub steady_in : Context → ℕ → Way → Way
+steady_in context number way =
+    steady (touched (with_own (Some way.control) (round_of context.tree context.pairs context.claims number))) way
+
+-- the rounds of a for, from its control variable's first value
+abbrev pub rounds_of : ForHead → Walking (Unit {0}) → Way → Walking (Unit {0})
+rounds_of head body way context =
+    loop_walk head.loop_number head.place (Some way.control) (for_round (steady_in context head.loop_number way) body)
+    context
+
+-- the control variable is the first bound, where a first turn may begin
+abbrev pub begin_way : Way → Walking (Unit {0})
+begin_way way context state =
+    assign way.control way.first.form (Ordinal way.first.values) context (entered way state)
+
+-- a for where there are values: the bounds are tested, and the control variable is the first
+abbrev pub for_turns : ForHead → Walking (Unit {0}) → Way → Walking (Unit {0})
+for_turns head body way = do
+  tested ← tested_way way
+  _ ← begin_way tested
+  rounds_of head body tested
+
+-- a for, from the values of its bounds: behind it the control variable is undefined
+abbrev pub for_walk : ForHead → Walking (Unit {0}) → Way → Walking (Unit {0})
+for_walk head body way = do
+  _ ← parted (where_counts true way) (where_counts false way)
+      (for_turns head body way) (give tt)
+  changed_by (with_undefined way.control)
+
+-- a for: its bounds, and then the rest
+abbrev pub bounds_walk : ForHead → Walking (Unit {0}) → Walking (Unit {0})
+bounds_walk head body = do
+  from ← value_walk head.first.value
+  to ← value_walk head.last.value
+  for_walk head body (way_of head from to)
+
+-- ---- case statements
+
+-- no run goes on
+abbrev pub no_more : Walking (Unit {0})
+no_more = with_state Dead
+
+-- the test of an index at a site: what is known where it is one of the constants; no way behind the statement is known
+-- yet
+abbrev pub index_test : ℕ → List ℤ → Interval → Walking State
+index_test site constants range = do
+  _ ← tested (is_covered range constants) site (common range (hull constants))
+  base ← here
+  _ ← no_more
+  give base
+
+-- an arm, from what is known where it is executed; behind it the way meets those through the arms before
+abbrev pub arm_walk : State → Walking (Unit {0}) → Walking (Unit {0})
+arm_walk start arm context behind =
+    record (arm context start) { after = joined_states (table_of context.tree) behind (arm context start).after }
+
+-- the arms, one after another, by the rows of constants
+abbrev pub arms_walk : State → Option ℕ → List (Vec ℤ Global) → List (Walking (Unit {0})) → Walking (Unit {0})
+arms_walk base index rows [] = give tt
+arms_walk base index rows (arm ∷ arms) = do
+  _ ← arm_walk (arm_start index (slice_get rows 0) base) arm
+  arms_walk base index (drop 1 rows) arms
+
+-- a case, from the value of its index
+abbrev pub case_walk : CaseHead → List (Walking (Unit {0})) → Known → Walking (Unit {0})
+case_walk head arms (Ordinal range) = do
+  base ← index_test head.site (constants_before (length arms) head.constants.items) range
+  arms_walk base (root_of (condition_of head.index).form) head.constants.items arms
+
+-- a case: its index, and then an arm
+abbrev pub index_walk : CaseHead → List (Walking (Unit {0})) → Walking (Unit {0})
+index_walk head arms = do
+  known ← value_walk head.index
+  case_walk head arms known
+
+-- one layer of a statement
+abbrev pub statement_step : Stmt-F (Walking (Unit {0})) → Walking (Unit {0})
+statement_step (Empty number) = enter number
+statement_step (Assign assignment) = from_entry assignment.number (assignment_walk assignment)
+statement_step (Copy copying) = from_entry copying.number (copying_walk copying)
+statement_step (Write writing) = from_entry writing.number (all_of (map parameter_walk writing.parameters.items))
+statement_step (Call calling) = call_walk calling.call (map passed_piece_of calling.actuals.items)
+statement_step (Compound number statements) = from_entry number (all_of statements.items)
+statement_step (If number condition consequence alternative) =
+    from_entry number (choice_walk condition consequence.value (alternative_walk alternative))
+statement_step (While head body) = from_entry head.number (while_walk head body.value)
+statement_step (Repeat head statements) = from_entry head.number (repeat_walk head (all_of statements.items))
+statement_step (For head body) = from_entry head.number (bounds_walk head body.value)
+statement_step (Case head arms) = from_entry head.number (index_walk head arms.items)
+
+-- the walk over a statement
+abbrev pub statement_walk : Stmt → Walking (Unit {0})
+statement_walk = fold-Stmt (Walking (Unit {0})) statement_step
+
+-- where a function ends: it has a result, if that is defined; no run goes on from an empty range of it
+abbrev pub result_use : Option FunctionResult → Walking (Unit {0})
+result_use None context state = give tt context state
+result_use (Some result) context state = record {
+  value = tt;
+  after = unless_empty (range_of state result.root) state;
+  open_ids = left_open (has_number (table_of context.tree) state result.root) result.defined;
+  broken = [];
+  linked = [];
+}
+
+-- the walk over a block of a number, by the claims on it: from its start to its end, where its exit facts are given
+abbrev pub block_walk_by : ℕ → Block → BlockClaims → Walking (Unit {0})
+block_walk_by number block claims = do
+  _ ← begin number claims.entry
+  _ ← statement_walk block.body
+  _ ← result_use block.heading.result
+  facts_given Exit block.end claims.exit
+
+-- the same by the claims on all blocks
+abbrev pub block_walk : ℕ → Block → Walking (Unit {0})
+block_walk number block context =
+    block_walk_by number block (block_claims_at context.blocks number) (record context { block = number })
+
+-- the walk over these blocks, of which the first has this number
+abbrev pub blocks_walk : ℕ → List Block → Walking (Unit {0})
+blocks_walk number [] = give tt
+blocks_walk number (block ∷ blocks) = do
+  _ ← block_walk number block
+  blocks_walk (suc number) blocks
+
+-- what the walk over a program by a certificate goes by
+abbrev pub first_context : Tree → Certificate → Context
+first_context tree certificate = record {
+  tree = tree;
+  claims = all_claims tree certificate;
+  blocks = all_block_claims tree certificate;
+  pairs = record { tree = tree; pairs = all_pairs certificate };
+  block = 0;
+  rounds = [];
+}
+
+-- the walk over a program by a certificate, block by block
+abbrev pub program_walk : Tree → Certificate → Walked (Unit {0})
+program_walk tree certificate = blocks_walk 0 tree.blocks.items (first_context tree certificate) Dead

@@ -1,0 +1,4 @@
+//! The walk of the checker over a program, and what it promises.
+#![tactic(auto)]
+
+pub mod laws;

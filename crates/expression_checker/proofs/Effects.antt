@@ -1,0 +1,444 @@
+-- Expressions, actual parameters and values that are written leave what their block doesn't list as it was, where their walk
+-- breaks no rule.
+use Rattle.std.proofs.Common.{◌≡◌, ℕ, ℤ, pos, List, [], ◌∷◌, Option, Some, None, map, refl, sym, ap, subst}
+use Rattle.types.specs.Components.{components_of}
+use Rattle.types.specs.declared.form.Step.TheVariants as step
+use Rattle.typed_tree.specs.declared.tree.Tree.{Tree}
+use Rattle.typed_tree.specs.declared.tree.Access.{Access}
+use Rattle.typed_tree.specs.declared.tree.Call.{Call}
+use Rattle.typed_tree.specs.declared.tree.Selector.{Selector}
+use Rattle.typed_tree.specs.declared.tree.Selector.TheVariants.{Element, Field}
+use Rattle.typed_tree.specs.declared.tree.Whole.{Whole}
+use Rattle.typed_tree.specs.declared.tree.Whole.TheVariants.{Text, Variable as VariableOf}
+use Rattle.typed_tree.specs.declared.tree.Width.{Width}
+use Rattle.typed_tree.specs.declared.tree.WriteParameter.{WriteParameter}
+use Rattle.typed_tree.specs.declared.tree.Written.{Written}
+use Rattle.typed_tree.specs.declared.tree.Written.TheVariants.{Ordinal as OrdinalOf, String}
+use Rattle.typed_tree.specs.declared.tree.Expr.{Expr}
+use Rattle.typed_tree.specs.declared.tree.Link.{Link}
+use Rattle.typed_tree.specs.declared.tree.Passed.{Passed}
+use Rattle.typed_tree.specs.declared.tree.Expr.TheOpen.{Expr-F, Passed-F, Link-F}
+use Rattle.typed_tree.specs.declared.tree.Expr.TheOpen.Expr-F.{Constant, Variable, Monadic as MonadicOf, Chain, Compare, Call as CallOf}
+use Rattle.typed_tree.specs.declared.tree.Expr.TheOpen.Passed-F.{Value as PassedValue, Whole as PassedWhole, Reference}
+use Rattle.typed_tree.specs.declared.tree.Expr.TheFolds.{map-Expr, map-Passed, map-Link, fold-roll-Expr, fold-roll-Passed, fold-roll-Link}
+use Rattle.typed_tree.specs.declared.tree.Expr.TheFolds.{ind-Expr, ind-Passed}
+use Rattle.typed_tree.specs.declared.tree.Expr.TheViews.{roll-Expr, roll-Passed, roll-Link}
+use Rattle.typed_tree.specs.WellFormed.{length_of}
+use Rattle.meaning.specs.declared.store.Value.{Value}
+use Rattle.meaning.specs.declared.store.Value.TheVariants.{Number}
+use Rattle.meaning.specs.Store.{Environment, Place, part}
+use Rattle.meaning.specs.Effect.{Action, give, is_in, is_positive, number_of, require, row_text, text_of, write}
+use Rattle.meaning.specs.Effect as effect
+use Rattle.meaning.specs.Meaning.{Argument, Calls, Combination, Evaluation, Passing, Surroundings, accessed, all_passed, call_of, compared}
+use Rattle.meaning.specs.Meaning.{combined, default_width, in_turn, link_of, link_step, operated, parameter_of, passed_step, passing_of, selected}
+use Rattle.meaning.specs.Meaning.{value_of, value_step, values_of, whole_of, width_of, written_of, OfPlace, OfRow}
+use Rattle.meaning.specs.Meaning as meaning
+use Rattle.abstract_state.specs.Forms.{bound_of}
+use Rattle.abstract_state.specs.declared.known.Known.{Known}
+use Rattle.domain.specs.Interval.{Interval, truth_values}
+use Rattle.component_states.specs.Components.{Reach, Entire}
+use Rattle.call_states.specs.Sections.{BlockClaims}
+use Rattle.call_states.specs.Actuals.{Actual, OfRows, OfValue, OfVariable}
+use Rattle.expression_checker.specs.Walk.{Context, Joint, PassedPiece, Piece, Walking}
+use Rattle.expression_checker.specs.Walk as walk
+use Rattle.expression_checker.proofs.EffectsKept.{CanGive, IsUnder, Keeps, Standing, can-then, given-same, part-under, variable-under}
+use Rattle.expression_checker.proofs.EffectsKept.{keeps-combined, keeps-enter, keeps-fetch, keeps-fetch_all, keeps-give, keeps-operated, keeps-require}
+use Rattle.expression_checker.proofs.EffectsKept.{keeps-then, keeps-valued, keeps-when, keeps-write}
+use Rattle.expression_checker.proofs.EffectsCalls.{AllTied, CallsLeave, DeclareTheirs, Grounds, StandsIn, Ties, Yields, keeps-call, yields-then}
+
+-- ---- where an access leads
+
+module _ (visible : Environment) (calls : Calls) where
+  abbrev around : Surroundings
+  around = record { visible = visible; calls = calls }
+
+  under-selected : (root : ℕ) (selectors : List Selector) (indexes : List Evaluation) (found result : Option Place) → IsUnder visible root found
+      → CanGive (selected selectors indexes around found) result → IsUnder visible root result
+  under-selected root [] indexes found result under given =
+      subst (λ (place : Option Place). IsUnder visible root place) (given-same found result given) under
+  under-selected root (Field position offset ∷ selectors) indexes found result under given =
+      under-selected root selectors indexes (part found (step.Field position ∷ [])) result
+      (part-under visible root found (step.Field position ∷ []) under) given
+  under-selected root (Element fits cells ∷ selectors) [] found result under given =
+      subst (λ (place : Option Place). IsUnder visible root place) (given-same None result given) (λ place is. absurd (cc))
+  under-selected root (Element fits cells ∷ selectors) (index ∷ indexes) found result under given =
+      let at_index = λ (v : Value). part found (step.Element (number_of v) ∷ []) in
+      let one = can-then (index around)
+      (λ v. effect.◌>>=◌ (require (is_in fits.range v) fits.site) (λ _. selected selectors indexes around (at_index v))) result given in
+      let two = can-then (require (is_in fits.range one.0) fits.site) (λ _. selected selectors indexes around (at_index one.0)) result one.2 in
+      under-selected root selectors indexes (at_index one.0) result
+      (part-under visible root found (step.Element (number_of one.0) ∷ []) under) two.2
+
+  -- what is accessed lies under the variable
+  pub under-accessed : (access : Access) (indexes : List Evaluation) (result : Option Place) → CanGive (accessed access indexes around) result
+      → IsUnder visible access.root result
+  under-accessed access indexes result given =
+      let found = visible.variables access.root in
+      let one = can-then (effect.enter access.number visible) (λ _. selected access.selectors.items indexes around found) result given in
+      under-selected access.root access.selectors.items indexes found result (variable-under visible access.root) one.2
+
+module _ (tree : Tree) (blocks : List BlockClaims) (declares : DeclareTheirs tree) (block : ℕ) (at : Standing)
+    (grounds : Grounds tree blocks block at) (calls : Calls) (leave : CallsLeave tree blocks calls) where
+  abbrev here : Surroundings
+  here = record { visible = at.visible; calls = calls }
+
+  abbrev In : Context → Type 0
+  In = StandsIn tree blocks block
+
+  -- an expression leaves what isn't listed
+  abbrev IsKept : Expr → Type 0
+  IsKept e = (context : Context) (known : Known) → In context → Yields context (walk.value_walk e) known → Keeps at (value_of e here)
+
+  -- an actual parameter does, and what is passed lies where the walk says
+  pub record KeepsPassed (actual : Actual) (passing : Passing) : Type 0 where
+    pub kept : Keeps at (passing here)
+    pub tied : (argument : Argument) → CanGive (passing here) argument → Ties at.visible actual argument
+
+  abbrev IsKeptPassed : Passed → Type 0
+  IsKeptPassed p =
+      (context : Context) (actual : Actual) → In context → Yields context (walk.passed_piece_of p).walk actual → KeepsPassed actual (passing_of p)
+
+  abbrev IsKeptLink : Link → Type 0
+  IsKeptLink l =
+      (context : Context) (left known : Known) (v : Value) → In context → Yields context (walk.link_walk l left) known
+      → Keeps at (link_of l here v)
+
+  abbrev KeptExpr : Type 0
+  KeptExpr = (e : Expr) × IsKept e
+
+  abbrev KeptPassed : Type 0
+  KeptPassed = (p : Passed) × IsKeptPassed p
+
+  abbrev KeptLink : Type 0
+  KeptLink = (l : Link) × IsKeptLink l
+
+  abbrev values : List KeptExpr → List Evaluation
+  values indexes = values_of (map (λ e. e.0) indexes)
+
+  abbrev pieces : List KeptExpr → List Piece
+  pieces indexes = map walk.piece_of (map (λ e. e.0) indexes)
+
+  -- ---- accesses
+
+  -- the selectors of the walk don't matter
+  keeps-selected : (selectors others : List Selector) (indexes : List KeptExpr) (found : Option Place) (context : Context) (reach result : Reach)
+      → In context → Yields context (walk.indexes_walk others (pieces indexes) reach) result → Keeps at (selected selectors (values indexes) here found)
+  keeps-selected [] others indexes found context reach result stands yields = keeps-give at found
+  keeps-selected (Field position offset ∷ selectors) others indexes found context reach result stands yields =
+      keeps-selected selectors others indexes (part found (step.Field position ∷ [])) context reach result stands yields
+  keeps-selected (Element fits cells ∷ selectors) others [] found context reach result stands yields = keeps-give at None
+  keeps-selected (Element fits cells ∷ selectors) others (index ∷ indexes) found context reach result stands yields =
+      let piece = walk.piece_of index.0 in
+      let deeper = λ (range : Interval). walk.deeper (record { form = walk.form_before piece.form (pieces indexes); range = range }) reach in
+      let behind = walk.behind_next others in
+      let one = yields-then context piece.walk
+      (λ known. walk.◌>>=◌ (walk.index_test (walk.next_test others) known)
+      (λ range. walk.indexes_walk behind (pieces indexes) (deeper range))) result yields in
+      let two = yields-then context (walk.index_test (walk.next_test others) one.0)
+      (λ range. walk.indexes_walk behind (pieces indexes) (deeper range)) result one.2 in
+      keeps-then at _ _ (index.1 context one.0 stands one.1)
+      (λ v. keeps-then at _ _ (keeps-require at (is_in fits.range v) fits.site)
+      (λ _. keeps-selected selectors behind indexes (part found (step.Element (number_of v) ∷ [])) context (deeper two.0) result stands two.2))
+
+  keeps-accessed : (access : Access) (indexes : List KeptExpr) (context : Context) (reach : Reach) → In context
+      → Yields context (walk.access_walk access (pieces indexes)) reach → Keeps at (accessed access (values indexes) here)
+  keeps-accessed access indexes context reach stands yields =
+      let selectors = access.selectors.items in
+      let one = yields-then context (walk.enter access.number) (λ _. walk.indexes_walk selectors (pieces indexes) Entire) reach yields in
+      keeps-then at _ _ (keeps-enter at access.number at.visible)
+      (λ _. keeps-selected selectors selectors indexes (at.visible.variables access.root) context Entire reach stands one.2)
+
+  keeps-components : (value : Whole) (indexes : List KeptExpr) (context : Context) (ranges : List Interval) → In context
+      → Yields context (walk.whole_walk value (pieces indexes)) ranges → Keeps at (whole_of value (values indexes) here)
+  keeps-components (Text number characters) indexes context ranges stands yields =
+      keeps-then at _ _ (keeps-enter at number at.visible) (λ _. keeps-give at (map (λ c. Number (pos c)) characters.items))
+  keeps-components (VariableOf access type_id cells defined) indexes context ranges stands yields =
+      let one = yields-then context (walk.access_walk access (pieces indexes))
+      (λ reach. walk.whole_use type_id access.root access.selectors.items reach defined) ranges yields in
+      keeps-then at _ _ (keeps-accessed access indexes context one.0 stands one.1)
+      (λ found. keeps-fetch_all at found (components_of at.visible.types type_id) defined)
+
+  -- ---- calls
+
+  keeps-passed : (actuals : List KeptPassed) (context : Context) (known : List Actual) → In context
+      → Yields context (walk.actuals_walk (map walk.passed_piece_of (map (λ p. p.0) actuals))) known
+      → Keeps at (all_passed (map passing_of (map (λ p. p.0) actuals)) here)
+  keeps-passed [] context known stands yields = keeps-give at []
+  keeps-passed (one ∷ rest) context known stands yields =
+      let first = walk.passed_piece_of one.0 in
+      let others = walk.actuals_walk (map walk.passed_piece_of (map (λ p. p.0) rest)) in
+      let here_first = yields-then context first.walk (λ actual. walk.◌>>=◌ others (λ actuals. walk.give (actual ∷ actuals))) known yields in
+      let here_rest = yields-then context others (λ actuals. walk.give (here_first.0 ∷ actuals)) known here_first.2 in
+      keeps-then at _ _ (one.1 context here_first.0 stands here_first.1).kept
+      (λ argument. keeps-then at _ _ (keeps-passed rest context here_rest.0 stands here_rest.1) (λ arguments. keeps-give at (argument ∷ arguments)))
+
+  tied-passed : (actuals : List KeptPassed) (context : Context) (known : List Actual) → In context
+      → Yields context (walk.actuals_walk (map walk.passed_piece_of (map (λ p. p.0) actuals))) known → (arguments : List Argument)
+      → CanGive (all_passed (map passing_of (map (λ p. p.0) actuals)) here) arguments → AllTied at.visible known arguments
+  tied-passed [] context known stands yields arguments given =
+      subst (λ (actuals : List Actual). AllTied at.visible actuals arguments) yields.value_is
+      (subst (λ (all : List Argument). AllTied at.visible [] all) (given-same [] arguments given) tt)
+  tied-passed (one ∷ rest) context known stands yields arguments given =
+      let first = walk.passed_piece_of one.0 in
+      let others = walk.actuals_walk (map walk.passed_piece_of (map (λ p. p.0) rest)) in
+      let here_first = yields-then context first.walk (λ actual. walk.◌>>=◌ others (λ actuals. walk.give (actual ∷ actuals))) known yields in
+      let here_rest = yields-then context others (λ actuals. walk.give (here_first.0 ∷ actuals)) known here_first.2 in
+      let later = all_passed (map passing_of (map (λ p. p.0) rest)) here in
+      let run_first = can-then (passing_of one.0 here) (λ argument. effect.◌>>=◌ later (λ more. give (argument ∷ more))) arguments given in
+      let run_rest = can-then later (λ more. give (run_first.0 ∷ more)) arguments run_first.2 in
+      let tied : AllTied at.visible (here_first.0 ∷ here_rest.0) (run_first.0 ∷ run_rest.0) = (
+        (one.1 context here_first.0 stands here_first.1).tied run_first.0 run_first.1,
+        tied-passed rest context here_rest.0 stands here_rest.1 run_rest.0 run_rest.1,
+      ) in
+      subst (λ (actuals : List Actual). AllTied at.visible actuals arguments) here_rest.2.value_is
+      (subst (λ (all : List Argument). AllTied at.visible (here_first.0 ∷ here_rest.0) all)
+      (given-same (run_first.0 ∷ run_rest.0) arguments run_rest.2) tied)
+
+  keeps-calling : (call : Call) (actuals : List KeptPassed) (context : Context) → In context
+      → Yields context (walk.call_walk call (map walk.passed_piece_of (map (λ p. p.0) actuals))) tt
+      → Keeps at (call_of call (map passing_of (map (λ p. p.0) actuals)) here)
+  keeps-calling call actuals context stands yields =
+      let all = map walk.passed_piece_of (map (λ p. p.0) actuals) in
+      let holds = walk.actuals_hold_call all in
+      let one = yields-then context (walk.enter call.number)
+      (λ _. walk.◌>>=◌ (walk.actuals_walk all) (λ passed. walk.called call holds passed)) tt yields in
+      let two = yields-then context (walk.actuals_walk all) (λ passed. walk.called call holds passed) tt one.2 in
+      keeps-then at _ _ (keeps-enter at call.number at.visible)
+      (λ _. keeps-when at _ _ (keeps-passed actuals context two.0 stands two.1)
+      (λ arguments given. keeps-call tree blocks declares block at grounds context stands calls leave call holds two.0 arguments two.2
+      (tied-passed actuals context two.0 stands two.1 arguments given)))
+
+  -- ---- the forms
+
+  keeps-in_turn : (links : List KeptLink) (context : Context) (left known : Known) (v : Value) → In context
+      → Yields context (walk.in_turn (map (λ joint. joint.combination) (map walk.joint_of (map (λ l. l.0) links))) left) known
+      → Keeps at (in_turn (map link_of (map (λ l. l.0) links)) here v)
+  keeps-in_turn [] context left known v stands yields = keeps-give at v
+  keeps-in_turn (link ∷ links) context left known v stands yields =
+      let others = walk.in_turn (map (λ joint. joint.combination) (map walk.joint_of (map (λ l. l.0) links))) in
+      let one = yields-then context (walk.link_walk link.0 left) others known yields in
+      keeps-then at _ _ (link.1 context left one.0 v stands one.1) (λ w. keeps-in_turn links context one.0 known w stands one.2)
+
+  abbrev bare : Expr-F KeptExpr KeptPassed KeptLink → Expr-F Expr Passed Link
+  bare = map-Expr KeptExpr KeptPassed KeptLink Expr Passed Link (λ e. e.0) (λ p. p.0) (λ l. l.0)
+
+  abbrev bare_passed : Passed-F KeptExpr KeptPassed KeptLink → Passed-F Expr Passed Link
+  bare_passed = map-Passed KeptExpr KeptPassed KeptLink Expr Passed Link (λ e. e.0) (λ p. p.0) (λ l. l.0)
+
+  abbrev bare_link : Link-F KeptExpr KeptPassed KeptLink → Link-F Expr Passed Link
+  bare_link = map-Link KeptExpr KeptPassed KeptLink Expr Passed Link (λ e. e.0) (λ p. p.0) (λ l. l.0)
+
+  abbrev walked : Expr-F Expr Passed Link → Walking Known
+  walked x = walk.walk_step (map-Expr Expr Passed Link Piece PassedPiece Joint walk.piece_of walk.passed_piece_of walk.joint_of x)
+
+  abbrev valued : Expr-F Expr Passed Link → Evaluation
+  valued x = value_step (map-Expr Expr Passed Link Evaluation Passing Combination value_of passing_of link_of x)
+
+  abbrev walked_passed : Passed-F Expr Passed Link → Walking Actual
+  walked_passed x = walk.passed_walk (map-Passed Expr Passed Link Piece PassedPiece Joint walk.piece_of walk.passed_piece_of walk.joint_of x)
+
+  abbrev valued_passed : Passed-F Expr Passed Link → Passing
+  valued_passed x = passed_step (map-Passed Expr Passed Link Evaluation Passing Combination value_of passing_of link_of x)
+
+  abbrev walked_link : Link-F Expr Passed Link → walk.Combination
+  walked_link x = walk.combination_of (map-Link Expr Passed Link Piece PassedPiece Joint walk.piece_of walk.passed_piece_of walk.joint_of x)
+
+  abbrev valued_link : Link-F Expr Passed Link → Combination
+  valued_link x = link_step (map-Link Expr Passed Link Evaluation Passing Combination value_of passing_of link_of x)
+
+  layer : (y : Expr-F KeptExpr KeptPassed KeptLink) (context : Context) (known : Known) → In context → Yields context (walked (bare y)) known
+      → Keeps at (valued (bare y) here)
+  layer (Constant number value) context known stands yields =
+      keeps-then at _ _ (keeps-enter at number at.visible) (λ _. keeps-give at (Number value))
+  layer (Variable access indexes defined) context known stands yields =
+      let one = yields-then context (walk.access_walk access (pieces indexes.items))
+      (λ reach. walk.value_use access.root access.selectors.items reach defined) known yields in
+      keeps-then at _ _ (keeps-accessed access indexes.items context one.0 stands one.1) (λ found. keeps-fetch at found defined)
+  layer (MonadicOf number operation operand) context known stands yields =
+      let inner = walk.value_walk operand.value.0 in
+      let one = yields-then context (walk.enter number) (λ _. walk.◌>>=◌ inner (walk.operated operation)) known yields in
+      let two = yields-then context inner (walk.operated operation) known one.2 in
+      keeps-then at _ _ (keeps-enter at number at.visible)
+      (λ _. keeps-then at _ _ (operand.value.1 context two.0 stands two.1) (λ v. keeps-valued at _ (keeps-operated at operation (number_of v))))
+  layer (Chain first rest) context known stands yields =
+      let others = walk.in_turn (map (λ joint. joint.combination) (map walk.joint_of (map (λ l. l.0) rest.items))) in
+      let one = yields-then context (walk.value_walk first.value.0) others known yields in
+      keeps-then at _ _ (first.value.1 context one.0 stands one.1) (λ v. keeps-in_turn rest.items context one.0 known v stands one.2)
+  layer (Compare number relation left left_indexes right right_indexes) context known stands yields =
+      let related = walk.related_walk number right (pieces right_indexes.items) in
+      let one = yields-then context (walk.whole_walk left (pieces left_indexes.items)) (λ _. related) known yields in
+      let behind = λ (_ : Unit {0}). walk.◌>>=◌ (walk.whole_walk right (pieces right_indexes.items)) (λ _. walk.ordinal truth_values) in
+      let two = yields-then context (walk.enter number) behind known one.2 in
+      let three = yields-then context (walk.whole_walk right (pieces right_indexes.items)) (λ _. walk.ordinal truth_values) known two.2 in
+      keeps-then at _ _ (keeps-components left left_indexes.items context one.0 stands one.1)
+      (λ a. keeps-then at _ _ (keeps-enter at number at.visible)
+      (λ _. keeps-then at _ _ (keeps-components right right_indexes.items context three.0 stands three.1)
+      (λ b. keeps-give at (Number (compared relation a b)))))
+  layer (CallOf call actuals) context known stands yields =
+      let all = map walk.passed_piece_of (map (λ p. p.0) actuals.items) in
+      let one = yields-then context (walk.call_walk call all)
+      (λ _ around. walk.result_walk call (walk.result_of (walk.called_block around call)) around) known yields in
+      keeps-calling call actuals.items context stands one.1
+
+  tie-given : (known actual : Actual) (passed argument : Argument) → known ≡ actual → passed ≡ argument → Ties at.visible known passed
+      → Ties at.visible actual argument
+  tie-given known actual passed argument one two tie =
+      subst (λ (a : Actual). Ties at.visible a argument) one (subst (λ (b : Argument). Ties at.visible known b) two tie)
+
+  passed-layer : (y : Passed-F KeptExpr KeptPassed KeptLink) (context : Context) (actual : Actual) → In context
+      → Yields context (walked_passed (bare_passed y)) actual → KeepsPassed actual (valued_passed (bare_passed y))
+  passed-layer (PassedValue value fits) context actual stands yields =
+      let piece = walk.piece_of value.0 in
+      let last = λ (known : Known). walk.give (OfValue (walk.range_in known) (bound_of piece.form)) in
+      let one = yields-then context piece.walk (λ known. walk.◌>>=◌ (walk.fitting fits known) last) actual yields in
+      let two = yields-then context (walk.fitting fits one.0) last actual one.2 in
+      record {
+        kept = keeps-then at _ _ (value.1 context one.0 stands one.1)
+            (λ v. keeps-then at _ _ (keeps-require at (is_in fits.range v) fits.site) (λ _. keeps-give at (meaning.OfValue v)));
+        tied = λ argument given.
+            let run = can-then (value_of value.0 here)
+            (λ v. effect.◌>>=◌ (require (is_in fits.range v) fits.site) (λ _. give (meaning.OfValue v))) argument given in
+            let last_run = can-then (require (is_in fits.range run.0) fits.site) (λ _. give (meaning.OfValue run.0)) argument run.2 in
+            tie-given (OfValue (walk.range_in two.0) (bound_of piece.form)) actual (meaning.OfValue run.0) argument two.2.value_is
+            (given-same (meaning.OfValue run.0) argument last_run.2) tt;
+      }
+  passed-layer (PassedWhole type_id value indexes) context actual stands yields =
+      let one = yields-then context (walk.whole_walk value (pieces indexes.items)) (λ ranges. walk.give (OfRows ranges)) actual yields in
+      record {
+        kept = keeps-then at _ _ (keeps-components value indexes.items context one.0 stands one.1) (λ row. keeps-give at (OfRow row));
+        tied = λ argument given.
+            let run = can-then (whole_of value (values indexes.items) here) (λ row. give (OfRow row)) argument given in
+            tie-given (OfRows one.0) actual (OfRow run.0) argument one.2.value_is
+            (given-same (OfRow run.0) argument run.2) tt;
+      }
+  passed-layer (Reference type_id access indexes) context actual stands yields =
+      let known = λ (reach : Reach). OfVariable access.root access.selectors.items reach in
+      let one = yields-then context (walk.access_walk access (pieces indexes.items)) (λ reach. walk.give (known reach)) actual yields in
+      record {
+        kept = keeps-then at _ _ (keeps-accessed access indexes.items context one.0 stands one.1) (λ found. keeps-give at (OfPlace found));
+        tied = λ argument given.
+            let run = can-then (accessed access (values indexes.items) here) (λ found. give (OfPlace found)) argument given in
+            tie-given (known one.0) actual (OfPlace run.0) argument one.2.value_is (given-same (OfPlace run.0) argument run.2)
+            (under-accessed at.visible calls access (values indexes.items) run.0 run.1);
+      }
+
+  link-layer : (y : Link-F KeptExpr KeptPassed KeptLink) (context : Context) (left known : Known) (v : Value) → In context
+      → Yields context (walked_link (bare_link y) left) known → Keeps at (valued_link (bare_link y) here v)
+  link-layer y context left known v stands yields =
+      let inner = walk.value_walk y.operand.0 in
+      let one = yields-then context (walk.enter y.number) (λ _. walk.◌>>=◌ inner (walk.combined y.operation left)) known yields in
+      let two = yields-then context inner (walk.combined y.operation left) known one.2 in
+      keeps-then at _ _ (keeps-enter at y.number at.visible)
+      (λ _. keeps-then at _ _ (y.operand.1 context two.0 stands two.1) (λ w. keeps-valued at _ (keeps-combined at y.operation (number_of v) (number_of w))))
+
+  -- ---- the whole
+
+  abbrev IsKeptLayer : Expr-F Expr Passed Link → Type 0
+  IsKeptLayer x = (context : Context) (known : Known) → In context → Yields context (walked x) known → Keeps at (valued x here)
+
+  abbrev IsKeptPassedLayer : Passed-F Expr Passed Link → Type 0
+  IsKeptPassedLayer x =
+      (context : Context) (actual : Actual) → In context → Yields context (walked_passed x) actual → KeepsPassed actual (valued_passed x)
+
+  abbrev IsKeptLinkLayer : Link-F Expr Passed Link → Type 0
+  IsKeptLinkLayer x =
+      (context : Context) (left known : Known) (v : Value) → In context → Yields context (walked_link x left) known
+      → Keeps at (valued_link x here v)
+
+  rolled : (x : Expr-F Expr Passed Link) (y : Expr-F KeptExpr KeptPassed KeptLink) → bare y ≡ x → IsKept (roll-Expr x)
+  rolled x y is context known stands yields =
+      subst (λ (evaluation : Evaluation). Keeps at (evaluation here))
+      (sym (fold-roll-Expr Evaluation Passing Combination value_step passed_step link_step x))
+      (subst IsKeptLayer is (layer y) context known stands
+      (subst (λ (piece : Piece). Yields context piece.walk known)
+      (fold-roll-Expr Piece PassedPiece Joint walk.piece_step walk.passed_step walk.link_step x) yields))
+
+  rolled-passed : (x : Passed-F Expr Passed Link) (y : Passed-F KeptExpr KeptPassed KeptLink) → bare_passed y ≡ x → IsKeptPassed (roll-Passed x)
+  rolled-passed x y is context actual stands yields =
+      subst (λ (passing : Passing). KeepsPassed actual passing)
+      (sym (fold-roll-Passed Evaluation Passing Combination value_step passed_step link_step x))
+      (subst IsKeptPassedLayer is (passed-layer y) context actual stands
+      (subst (λ (piece : PassedPiece). Yields context piece.walk actual)
+      (fold-roll-Passed Piece PassedPiece Joint walk.piece_step walk.passed_step walk.link_step x) yields))
+
+  rolled-link : (x : Link-F Expr Passed Link) (y : Link-F KeptExpr KeptPassed KeptLink) → bare_link y ≡ x → IsKeptLink (roll-Link x)
+  rolled-link x y is context left known v stands yields =
+      subst (λ (combination : Combination). Keeps at (combination here v))
+      (sym (fold-roll-Link Evaluation Passing Combination value_step passed_step link_step x))
+      (subst IsKeptLinkLayer is (link-layer y) context left known v stands
+      (subst (λ (joint : Joint). Yields context (joint.combination left) known)
+      (fold-roll-Link Piece PassedPiece Joint walk.piece_step walk.passed_step walk.link_step x) yields))
+
+  pub value-kept : (e : Expr) → IsKept e
+  value-kept = ind-Expr IsKept IsKeptPassed IsKeptLink rolled rolled-passed rolled-link
+
+  passed-kept : (p : Passed) → IsKeptPassed p
+  passed-kept = ind-Passed IsKept IsKeptPassed IsKeptLink rolled rolled-passed rolled-link
+
+  -- ---- of expressions alone
+
+  abbrev all_kept : List Expr → List KeptExpr
+  all_kept [] = []
+  all_kept (index ∷ indexes) = (index, value-kept index) ∷ all_kept indexes
+
+  all-indexes : (indexes : List Expr) → map (λ e. e.0) (all_kept indexes) ≡ indexes
+  all-indexes [] = refl
+  all-indexes (index ∷ indexes) = ap (λ others. index ∷ others) (all-indexes indexes)
+
+  abbrev actuals_kept : List Passed → List KeptPassed
+  actuals_kept [] = []
+  actuals_kept (one ∷ rest) = (one, passed-kept one) ∷ actuals_kept rest
+
+  all-actuals : (actuals : List Passed) → map (λ p. p.0) (actuals_kept actuals) ≡ actuals
+  all-actuals [] = refl
+  all-actuals (one ∷ rest) = ap (λ others. one ∷ others) (all-actuals rest)
+
+  pub access-kept : (access : Access) (indexes : List Expr) (context : Context) (reach : Reach) → In context
+      → Yields context (walk.access_walk access (walk.index_pieces indexes)) reach → Keeps at (accessed access (values_of indexes) here)
+  access-kept access indexes =
+      subst (λ (all : List Expr). (context : Context) (reach : Reach) → In context
+      → Yields context (walk.access_walk access (walk.index_pieces all)) reach → Keeps at (accessed access (values_of all) here))
+      (all-indexes indexes) (keeps-accessed access (all_kept indexes))
+
+  pub whole-kept : (value : Whole) (indexes : List Expr) (context : Context) (ranges : List Interval) → In context
+      → Yields context (walk.whole_walk value (walk.index_pieces indexes)) ranges → Keeps at (whole_of value (values_of indexes) here)
+  whole-kept value indexes =
+      subst (λ (all : List Expr). (context : Context) (ranges : List Interval) → In context
+      → Yields context (walk.whole_walk value (walk.index_pieces all)) ranges → Keeps at (whole_of value (values_of all) here))
+      (all-indexes indexes) (keeps-components value (all_kept indexes))
+
+  pub call-kept : (call : Call) (actuals : List Passed) (context : Context) → In context
+      → Yields context (walk.call_walk call (map walk.passed_piece_of actuals)) tt → Keeps at (call_of call (map passing_of actuals) here)
+  call-kept call actuals =
+      subst (λ (all : List Passed). (context : Context) → In context
+      → Yields context (walk.call_walk call (map walk.passed_piece_of all)) tt → Keeps at (call_of call (map passing_of all) here))
+      (all-actuals actuals) (keeps-calling call (actuals_kept actuals))
+
+  -- ---- what is written
+
+  width-kept : (width : Option Width) (default : ℤ) (context : Context) → In context → Yields context (walk.width_walk width) tt
+      → Keeps at (width_of width default here)
+  width-kept None default context stands yields = keeps-give at default
+  width-kept (Some width) default context stands yields =
+      let one = yields-then context (walk.value_walk width.value) (λ known. walk.width_test width.site known) tt yields in
+      keeps-then at _ _ (value-kept width.value context one.0 stands one.1)
+      (λ w. keeps-then at _ _ (keeps-require at (is_positive (number_of w)) width.site) (λ _. keeps-give at (number_of w)))
+
+  written-kept : (value : Written) (width : Option Width) (context : Context) → In context → Yields context (walk.written_walk value) tt
+      → Yields context (walk.width_walk width) tt → Keeps at (written_of value width here)
+  written-kept (OrdinalOf value representation) width context stands yields widths =
+      let one = yields-then context (walk.value_walk value) (λ _. walk.give tt) tt yields in
+      keeps-then at _ _ (value-kept value context one.0 stands one.1)
+      (λ v. keeps-then at _ _ (width-kept width (default_width representation) context stands widths)
+      (λ w. keeps-write at (text_of representation (number_of v) w)))
+  written-kept (String value indexes) width context stands yields widths =
+      let one = yields-then context (walk.whole_walk value (walk.index_pieces indexes.items)) (λ _. walk.give tt) tt yields in
+      keeps-then at _ _ (whole-kept value indexes.items context one.0 stands one.1)
+      (λ components. keeps-then at _ _ (width-kept width (pos (length_of value)) context stands widths)
+      (λ w. keeps-write at (row_text components w)))
+
+  pub parameter-kept : (parameter : WriteParameter) (context : Context) → In context → Yields context (walk.parameter_walk parameter) tt
+      → Keeps at (parameter_of parameter here)
+  parameter-kept parameter context stands yields =
+      let one = yields-then context (walk.written_walk parameter.value) (λ _. walk.width_walk parameter.width) tt yields in
+      written-kept parameter.value parameter.width context stands one.1 one.2

@@ -1,0 +1,541 @@
+-- The walk is sound: what a piece of a program does from a state that holds, the walk over that piece foretells.
+use Rattle.std.proofs.Common.{arith, ◌≡◌, ap, ⊎_elim, ◌⊎◌, inl, inr, ◌∙◌, sym, refl, subst, ℕ, ◌<◌, Bool, true, false, ◌||◌, List, [], ◌∷◌, ◌++◌, Option, Some}
+use Rattle.std.proofs.Common.{length}
+use Rattle.std.proofs.Common.{None}
+use Rattle.std.specs.Prelude.{◌≤◌, slice_get}
+use Rattle.std.specs.List.{Contains}
+use Rattle.std.proofs.lemmas.List.Elements.{Contains-append_left, Contains-append_right, Contains-push_cases}
+use Rattle.domain.specs.Interval.{Interval}
+use Rattle.types.specs.Forms.{Form}
+use Rattle.typed_tree.specs.declared.tree.Tree.{Tree}
+use Rattle.typed_tree.specs.declared.tree.Block.{Block}
+use Rattle.typed_tree.specs.declared.tree.FunctionResult.{FunctionResult}
+use Rattle.typed_tree.specs.declared.tree.Variable.{Variable}
+use Rattle.typed_tree.specs.WellFormed.{declarer, is_round, is_visible, of_one, outline_of}
+use Rattle.meaning.specs.declared.outcome.Ending.TheVariants.{Error}
+use Rattle.meaning.specs.declared.store.Value.{Value}
+use Rattle.meaning.specs.Store.{Environment, Place, Store, held, stored}
+use Rattle.meaning.specs.Effect as effect
+use Rattle.meaning.specs.Effect.{Action, Reply, Visit, and_then}
+use Rattle.meaning.specs.Meaning.{Activation, Argument, Calls, assign_all, environment_of}
+use Rattle.abstract_state.specs.declared.known.Known.{Known}
+use Rattle.abstract_state.specs.State as variables
+use Rattle.abstract_state.specs.State.{is_defined, range_of, unless_empty}
+use Rattle.abstract_state.specs.Holds.{IsIn, Separate}
+use Rattle.abstract_state.specs.Knows as entire
+use Rattle.abstract_state.specs.Knows.{moment}
+use Rattle.abstract_state.specs.Loops.{is_among}
+use Rattle.abstract_state.proofs.Ranged.{IsKnown}
+use Rattle.abstract_state.proofs.Knows.{known-holds, read-in, defined-stored, nonempty-known, used-known}
+use Rattle.leaf_rows.specs.Rows.{Parts, all_parts}
+use Rattle.component_states.specs.States.{State, is_dead, over_variables}
+use Rattle.component_states.specs.Holds.{Knows, StateHolds}
+use Rattle.expression_checker.specs.Walk as walk
+use Rattle.expression_checker.specs.Walk.{Breach, Context, Linked, Walked, Walking, followed, left_open}
+use Rattle.expression_checker.specs.Visits.{moment_of, visits_of}
+use Rattle.structured_states.specs.Loops.{Round, touched}
+use Rattle.structured_states.specs.Pairs.{Listed, aliases_of}
+use Rattle.call_states.specs.Environments.{Fine, Leaves as LeavesAll, LeavesPassed, Proper}
+use Rattle.exit_states.specs.Exit.{result_range}
+use Rattle.call_states.specs.Sections.{BlockClaims, block_claims_at}
+use Rattle.call_states.proofs.Claimed.{AllHold}
+use Rattle.call_states.proofs.Passed.{AllFit}
+use Rattle.call_states.proofs.SeenAliases.{listed_pairs}
+pub use Rattle.call_states.proofs.Reached.{alive}
+use Rattle.expression_checker.proofs.Keeping.{Keeps, keeps-itself, keeps-then}
+
+-- what is fixed for a program: the program, the values of its variables' types, the sites that the whole walk leaves open, the states that it links, the
+-- pairs of variables that may share a place, and the claims on each block by its number
+pub record World : Type 0 where
+  pub tree : Tree
+  pub limits : List Interval
+  pub ids : List ℕ
+  pub linked : List Linked
+  pub pairs : List (ℕ × ℕ)
+  pub blocks : List BlockClaims
+
+-- the variables of the program, how many there are, and its types
+abbrev pub declared_in : World → List Variable
+declared_in world = world.tree.variables.items
+
+abbrev pub variables_in : World → ℕ
+variables_in world = length (declared_in world)
+
+abbrev pub types_in : World → List Form
+types_in world = world.tree.types
+
+-- how many sites it has
+abbrev pub sites_in : World → ℕ
+sites_in world = length world.tree.sites.items
+
+-- the components of each of its rows
+abbrev pub parts_in : World → List Parts
+parts_in world = all_parts world.tree
+
+-- its pairs
+abbrev pub listed_in : World → Listed
+listed_in world = listed_pairs world.tree world.pairs
+
+-- a variable is visible in a block of it
+abbrev pub is_seen : World → ℕ → ℕ → Bool
+is_seen world block root = is_visible (outline_of world.tree) block root
+
+-- a piece's walk is part of the world
+pub record IsPartOf {A : Type 0} (world : World) (walked : Walked A) : Type 0 where
+  pub ids : (id : ℕ) → Contains walked.open_ids id → Contains world.ids id
+  pub linked : (one : Linked) → Contains walked.linked one → Contains world.linked one
+
+-- what a loop's turns change, it touches, and the aliases of that as far as they are visible in a block
+abbrev pub IsClosed : World → ℕ → Round → Type 0
+IsClosed world block round =
+    (root alias : ℕ) → is_seen world block root ≡ true → is_seen world block alias ≡ true → is_among root (round.controls ++ round.changes) ≡ true
+    → is_among alias (aliases_of world.pairs root) ≡ true → is_among alias (touched round) ≡ true
+
+-- a walk goes by the world
+pub record Goes (world : World) (context : Context) : Type 0 where
+  pub tree_is : context.tree ≡ world.tree
+  pub limits_are : context.limits ≡ world.limits
+  pub pairs_are : context.pairs ≡ listed_in world
+  pub blocks_are : context.blocks ≡ world.blocks
+  pub closed : (round : Round) → Contains context.rounds round → IsClosed world context.block round
+
+-- a walk goes by the world, and its state holds
+pub record Stands (world : World) (env : Environment) (context : Context) (state : State) (store : Store) : Type 0 where
+  pub goes : Goes world context
+  pub known : Knows (parts_in world) (variables_in world) env state store
+
+-- so a walk stands in a block, where this is visible
+pub record Here (world : World) (block : ℕ) (env : Environment) (context : Context) (state : State) (s : effect.State) : Type 0 where
+  pub block_is : context.block ≡ block
+  pub fine : Fine world.tree s
+  pub proper : Proper world.tree world.pairs block s.activations env
+  pub stands : Stands world env context state s.store
+
+-- a state of the world is linked to the entry, and it holds there
+abbrev pub Meets : World → Visit → Type 0
+Meets world visit = (one : Linked) × Contains world.linked one × (one.number ≡ visit.number) × StateHolds (parts_in world) one.state (moment_of visit)
+
+-- each visit that is new meets a state of the world, and of the variables that are visible there no two share a place but pairs
+abbrev pub New : World → List Visit → List Visit → Type 0
+New world before after =
+    (visit : Visit) → Contains after visit → Contains before visit ⊎ (Meets world visit × Separate visit.environment world.pairs)
+
+-- an error comes at an open site of the world alone
+abbrev pub ErrsWithin : {A : Type 0} → World → Reply A → Type 0
+ErrsWithin world (effect.Gives a s) = Unit {0}
+ErrsWithin world (effect.Stops e s) = (id : ℕ) → e ≡ Error id → Contains world.ids id × (id < sites_in world)
+
+-- behind a state, P is so of a value and of the store; each value there lies in its type and in an activation that has begun
+pub record Behind {A : Type 0} (world : World) (P : A → Store → Type 0) (s : effect.State) (a : A) (t : effect.State) : Type 0 where
+  pub so : P a t.store
+  pub fine : Fine world.tree t
+  pub grown : s.activations ≤ t.activations
+
+-- where the reply gives a value, that is so
+abbrev pub GivesSo : {A : Type 0} → World → (A → Store → Type 0) → effect.State → Reply A → Type 0
+GivesSo world P s (effect.Gives a t) = Behind world P s a t
+GivesSo world P s (effect.Stops e t) = Unit {0}
+
+-- a reply errs at open sites alone, its new visits meet states of the world, and P is so of what it gives
+pub record Good {A : Type 0} (world : World) (P : A → Store → Type 0) (s : effect.State) (reply : Reply A) : Type 0 where
+  pub errs : ErrsWithin world reply
+  pub new : New world s.visited (visits_of reply)
+  pub gives : GivesSo world P s reply
+
+-- a value and the store behind it are as the walk foretells: R ties both to the walk's value, the state behind holds, and
+-- of each loop round the piece nothing changed but what that touches
+pub record IsForetold {A B : Type 0} (world : World) (env : Environment) (R : B → A → Store → Type 0) (context : Context) (walked : Walked B) (start : Store)
+    (a : A) (store : Store) : Type 0 where
+  pub tie : R walked.value a store
+  pub stands : Stands world env context walked.after store
+  pub kept : Keeps env context.rounds start store
+
+-- from each state that holds, where the piece breaks no rule and is part of the world, the replies are as it foretells
+abbrev pub Sound : {A B : Type 0} → World → ℕ → Environment → (B → A → Store → Type 0) → Action A → Walking B → Type 0
+Sound world block env R action walking =
+    (context : Context) (state : State) (s : effect.State) → (walking context state).broken ≡ [] → IsPartOf world (walking context state)
+    → Here world block env context state s
+    → Good world (IsForetold world env R context (walking context state) s.store) s (action s)
+
+-- the same from states of one store
+abbrev pub SoundFrom : {A B : Type 0} → World → ℕ → Environment → Store → (B → A → Store → Type 0) → Action A → Walking B → Type 0
+SoundFrom world block env store R action walking =
+    (context : Context) (state : State) (s : effect.State) → s.store ≡ store → (walking context state).broken ≡ []
+    → IsPartOf world (walking context state) → Here world block env context state s
+    → Good world (IsForetold world env R context (walking context state) s.store) s (action s)
+
+-- a piece leaves the store as it is
+abbrev pub Leaves : {A : Type 0} → Action A → Type 0
+Leaves {A} action = (s t : effect.State) (a : A) → action s ≡ effect.Gives a t → t.store ≡ s.store
+
+-- no tie between two values
+abbrev pub Any_value : {A B : Type 0} → B → A → Store → Type 0
+Any_value b a store = Unit {0}
+
+-- a value is known, whatever the store
+abbrev pub IsValue : Known → Value → Store → Type 0
+IsValue known v store = IsKnown known v
+
+-- ---- calls
+
+-- an activation of a block begins, the next that does
+abbrev pub activation_of : ℕ → Block → List Argument → Environment → effect.State → Activation
+activation_of number block arguments caller s =
+    record { number = s.activations; block = number; heading = block.heading; arguments = arguments; caller = caller }
+
+-- a block may be called: what is passed fits its formal parameters, no two variables that are visible in it share a place but pairs, and what is claimed
+-- of its begin holds where its value parameters have got what is passed
+pub record Called (world : World) (number : ℕ) (block : Block) (arguments : List Argument) (caller : Environment) (s : effect.State) : Type 0 where
+  pub block_is : slice_get world.tree.blocks.items number ≡ Some block
+  pub from : ℕ
+  pub proper : Proper world.tree world.pairs from s.activations caller
+  pub callable : of_one (is_round (outline_of world.tree) from) (declarer block.heading.around.items) ≡ true
+  pub fit : AllFit world.tree s.activations block.heading.parameters.items arguments
+  pub separate : Separate (environment_of world.tree (activation_of number block arguments caller s)) world.pairs
+  pub entry : (begun ready : effect.State) → begun.store ≡ s.store
+      → assign_all world.tree (environment_of world.tree (activation_of number block arguments caller s)) block.heading.parameters.items arguments begun
+      ≡ effect.Gives tt ready
+      → AllHold world.tree (block_claims_at world.blocks number).entry
+      (environment_of world.tree (activation_of number block arguments caller s)) ready.store
+
+-- the value of a function lies in the range of its result; a procedure gives 0
+abbrev pub LiesInResult : World → ℕ → Option FunctionResult → Value → Type 0
+LiesInResult world number None v = Unit {0}
+LiesInResult world number (Some result) v = IsIn (result_range world.tree (block_claims_at world.blocks number) result.root) v
+
+-- behind a call: it changed what its block lists alone, and what is claimed of the block's end holds
+pub record Returned (world : World) (number : ℕ) (block : Block) (arguments : List Argument) (caller : Environment) (s : effect.State) (v : Value)
+    (store : Store) : Type 0 where
+  pub leaves : LeavesAll s.activations (block_claims_at world.blocks number).changes
+      (environment_of world.tree (activation_of number block arguments caller s)) s.store store
+  -- its value parameters that it doesn't list have what was passed
+  pub passed : (begun ready : effect.State) → begun.store ≡ s.store
+      → assign_all world.tree (environment_of world.tree (activation_of number block arguments caller s)) block.heading.parameters.items arguments begun
+      ≡ effect.Gives tt ready
+      → LeavesPassed world.tree s.activations number (block_claims_at world.blocks number).changes ready.store store
+  pub result : LiesInResult world number block.heading.result v
+  pub exit : AllHold world.tree (block_claims_at world.blocks number).exit
+      (environment_of world.tree (activation_of number block arguments caller s)) store
+
+-- so it is of each call
+abbrev pub SoundCalls : World → Calls → Type 0
+SoundCalls world calls =
+    (number : ℕ) (block : Block) (arguments : List Argument) (caller : Environment) (s : effect.State) → Called world number block arguments caller s
+    → Fine world.tree s → Good world (Returned world number block arguments caller s) s (calls number arguments caller s)
+
+-- ---- one after the other
+
+pub gives-state : {A : Type 0} (a b : A) (s t : effect.State) → effect.Gives a s ≡ effect.Gives b t → t ≡ s
+gives-state a b s t is = cc
+
+pub unbroken-left : (first second : List Breach) → first ++ second ≡ [] → first ≡ []
+unbroken-left [] second is = refl
+unbroken-left (breach ∷ first) second is = absurd (cc)
+
+pub unbroken-right : (first second : List Breach) → first ++ second ≡ [] → second ≡ []
+unbroken-right [] second is = is
+unbroken-right (breach ∷ first) second is = absurd (cc)
+
+pub part-left : {A B : Type 0} (world : World) (first : Walked A) (second : Walked B) → IsPartOf world (followed first second) → IsPartOf world first
+part-left world first second part = record {
+  ids = λ id inside. part.ids id (Contains-append_left first.open_ids second.open_ids id inside);
+  linked = λ one inside. part.linked one (Contains-append_left first.linked second.linked one inside);
+}
+
+pub part-right : {A B : Type 0} (world : World) (first : Walked A) (second : Walked B) → IsPartOf world (followed first second) → IsPartOf world second
+part-right world first second part = record {
+  ids = λ id inside. part.ids id (Contains-append_right first.open_ids second.open_ids id inside);
+  linked = λ one inside. part.linked one (Contains-append_right first.linked second.linked one inside);
+}
+
+pub nothing-new : (world : World) (visits : List Visit) → New world visits visits
+nothing-new world visits visit inside = inl inside
+
+new-then : (world : World) (before mid after : List Visit) → New world before mid → New world mid after → New world before after
+new-then world before mid after one two visit inside = ⊎_elim (λ old. one visit old) (λ meets. inr meets) (two visit inside)
+
+-- what is visible stays so when more activations have begun
+pub proper-grown : (world : World) (block few more : ℕ) (env : Environment) → few ≤ more → Proper world.tree world.pairs block few env
+    → Proper world.tree world.pairs block more env
+proper-grown world block few more env grown proper = record {
+  types_are = proper.types_are;
+  visible = proper.visible;
+  only = proper.only;
+  typed = proper.typed;
+  begun = λ root place is. let before = proper.begun root place is in omega (arith, before, grown);
+  separate = proper.separate;
+}
+
+-- a value, and nothing changes
+pub good-give : {A : Type 0} (world : World) (P : A → Store → Type 0) (a : A) (s : effect.State) → Fine world.tree s → P a s.store
+    → Good world P s (effect.give a s)
+good-give world P a s fine so = record { errs = tt; new = nothing-new world s.visited; gives = record { so = so; fine = fine; grown = omega arith } }
+
+-- what follows from what is given
+pub good-weaker : {A : Type 0} (world : World) (P Q : A → Store → Type 0) (s : effect.State) (reply : Reply A)
+    → ((a : A) (t : effect.State) → reply ≡ effect.Gives a t → Behind world P s a t → Q a t.store) → Good world P s reply → Good world Q s reply
+good-weaker world P Q s (effect.Gives a t) then good = record {
+  errs = tt;
+  new = good.new;
+  gives = record { so = then a t refl good.gives; fine = good.gives.fine; grown = good.gives.grown };
+}
+good-weaker world P Q s (effect.Stops e t) then good = record { errs = good.errs; new = good.new; gives = tt }
+
+grown-then : {A : Type 0} (world : World) (P : A → Store → Type 0) (s t : effect.State) (reply : Reply A) → s.activations ≤ t.activations
+    → GivesSo world P t reply → GivesSo world P s reply
+grown-then world P s t (effect.Gives a u) grown behind =
+    record { so = behind.so; fine = behind.fine; grown = let later = behind.grown in omega (arith, grown, later) }
+grown-then world P s t (effect.Stops e u) grown behind = tt
+
+-- a piece, and then another
+pub good-then : {A C : Type 0} (world : World) (P : A → Store → Type 0) (Q : C → Store → Type 0) (s : effect.State) (reply : Reply A) (next : A → Action C)
+    → Good world P s reply
+    → ((a : A) (t : effect.State) → reply ≡ effect.Gives a t → Behind world P s a t → Good world Q t (next a t)) → Good world Q s (and_then reply next)
+good-then world P Q s (effect.Gives a t) next good two =
+    let then = two a t refl good.gives in
+    record {
+      errs = then.errs;
+      new = new-then world s.visited t.visited (visits_of (next a t)) good.new then.new;
+      gives = grown-then world Q s t (next a t) good.gives.grown then.gives;
+    }
+good-then world P Q s (effect.Stops e t) next good two = record { errs = good.errs; new = good.new; gives = tt }
+
+-- where a walk stands behind a piece
+pub here-behind : {A B : Type 0} (world : World) (block : ℕ) (env : Environment) (R : B → A → Store → Type 0) (context : Context)
+    (state : State) (walked : Walked B) (s t : effect.State) (a : A)
+    → Here world block env context state s → Behind world (IsForetold world env R context walked s.store) s a t
+    → Here world block env context walked.after t
+here-behind world block env R context state walked s t a here behind = record {
+  block_is = here.block_is;
+  fine = behind.fine;
+  proper = proper-grown world block s.activations t.activations env behind.grown here.proper;
+  stands = behind.so.stands;
+}
+
+-- what the first reply gives is told to the second
+pub from-then : {A B C D : Type 0} (world : World) (block : ℕ) (env : Environment) (store : Store) (R : B → A → Store → Type 0) (S : D → C → Store → Type 0)
+    (action : Action A) (next : A → Action C) (walking : Walking B) (walk_next : B → Walking D)
+    → SoundFrom world block env store R action walking
+    → ((b : B) (a : A) (s t : effect.State) → action s ≡ effect.Gives a t → s.store ≡ store → R b a t.store
+    → SoundFrom world block env t.store S (next a) (walk_next b))
+    → SoundFrom world block env store S (effect.◌>>=◌ action next) (walk.◌>>=◌ walking walk_next)
+from-then world block env store R S action next walking walk_next one two context state s same unbroken part here =
+    let first = walking context state in
+    let second = walk_next first.value context first.after in
+    good-then world (IsForetold world env R context first s.store) (IsForetold world env S context (followed first second) s.store) s (action s) next
+    (one context state s same (unbroken-left first.broken second.broken unbroken) (part-left world first second part) here)
+    (λ a t is told.
+    good-weaker world (IsForetold world env S context second t.store) (IsForetold world env S context (followed first second) s.store) t (next a t)
+    (λ c u gives then.
+    record { tie = then.so.tie; stands = then.so.stands; kept = keeps-then env context.rounds s.store t.store u.store told.so.kept then.so.kept })
+    (two first.value a s t is same told.so.tie context first.after t refl (unbroken-right first.broken second.broken unbroken)
+    (part-right world first second part) (here-behind world block env R context state first s t a here told)))
+
+-- from each store, or from one
+pub sound-anywhere : {A B : Type 0} (world : World) (block : ℕ) (env : Environment) (R : B → A → Store → Type 0) (action : Action A) (walking : Walking B)
+    → ((store : Store) → SoundFrom world block env store R action walking) → Sound world block env R action walking
+sound-anywhere world block env R action walking one context state s unbroken part here = one s.store context state s refl unbroken part here
+
+pub sound-here : {A B : Type 0} (world : World) (block : ℕ) (env : Environment) (store : Store) (R : B → A → Store → Type 0) (action : Action A)
+    (walking : Walking B)
+    → Sound world block env R action walking → SoundFrom world block env store R action walking
+sound-here world block env store R action walking one context state s same unbroken part here = one context state s unbroken part here
+
+pub sound-then : {A B C D : Type 0} (world : World) (block : ℕ) (env : Environment) (R : B → A → Store → Type 0) (S : D → C → Store → Type 0)
+    (action : Action A) (next : A → Action C) (walking : Walking B) (walk_next : B → Walking D)
+    → Sound world block env R action walking
+    → ((b : B) (a : A) (store : Store) → R b a store → Sound world block env S (next a) (walk_next b))
+    → Sound world block env S (effect.◌>>=◌ action next) (walk.◌>>=◌ walking walk_next)
+sound-then world block env R S action next walking walk_next one two =
+    sound-anywhere world block env S (effect.◌>>=◌ action next) (walk.◌>>=◌ walking walk_next)
+    (λ store.
+    from-then world block env store R S action next walking walk_next (sound-here world block env store R action walking one)
+    (λ b a s t gives same tie. sound-here world block env t.store S (next a) (walk_next b) (two b a t.store tie)))
+
+-- the run goes on with a value of which the walk doesn't know
+pub sound-given : {A B C : Type 0} (world : World) (block : ℕ) (env : Environment) (R : B → A → Store → Type 0) (S : B → C → Store → Type 0) (f : A → C)
+    → ((b : B) (a : A) (store : Store) → R b a store → S b (f a) store)
+    → (action : Action A) (walking : Walking B) → Sound world block env R action walking
+    → Sound world block env S (effect.◌>>=◌ action (λ a. effect.give (f a))) walking
+sound-given world block env R S f ties action walking one context state s unbroken part here =
+    let first = walking context state in
+    good-then world (IsForetold world env R context first s.store) (IsForetold world env S context first s.store) s (action s)
+    (λ a. effect.give (f a)) (one context state s unbroken part here)
+    (λ a t is told.
+    good-give world (IsForetold world env S context first s.store) (f a) t told.fine
+    (record { tie = ties first.value a t.store told.so.tie; stands = told.so.stands; kept = told.so.kept }))
+
+-- so it does with a piece of output
+pub sound-written : {A B : Type 0} (world : World) (block : ℕ) (env : Environment) (R : B → A → Store → Type 0) (bytes : A → List ℕ) (action : Action A)
+    (walking : Walking B) → Sound world block env R action walking
+    → Sound {A = Unit {0}} world block env Any_value (effect.◌>>=◌ action (λ a. effect.write (bytes a))) walking
+sound-written world block env R bytes action walking one context state s unbroken part here =
+    let first = walking context state in
+    good-then {C = Unit {0}} world (IsForetold world env R context first s.store)
+    (IsForetold {A = Unit {0}} world env Any_value context first s.store) s (action s)
+    (λ a. effect.write (bytes a)) (one context state s unbroken part here)
+    (λ a t is told. record {
+      errs = tt;
+      new = nothing-new world t.visited;
+      gives = record {
+        so = record { tie = tt; stands = told.so.stands; kept = told.so.kept };
+        fine = record { typed = told.fine.typed; begun = told.fine.begun };
+        grown = omega arith;
+      };
+    })
+
+-- the walk goes on with a value of which the run doesn't know
+pub sound-named : {A B C : Type 0} (world : World) (block : ℕ) (env : Environment) (R : B → A → Store → Type 0) (S : C → A → Store → Type 0) (f : B → C)
+    → ((b : B) (a : A) (store : Store) → R b a store → S (f b) a store)
+    → (action : Action A) (walking : Walking B) → Sound world block env R action walking
+    → Sound world block env S action (walk.◌>>=◌ walking (λ b. walk.give (f b)))
+sound-named world block env R S f ties action walking one context state s unbroken part here =
+    let first = walking context state in
+    let second = walk.give (f first.value) context first.after in
+    good-weaker world (IsForetold world env R context first s.store) (IsForetold world env S context (followed first second) s.store) s (action s)
+    (λ a t is told. record { tie = ties first.value a t.store told.so.tie; stands = told.so.stands; kept = told.so.kept })
+    (one context state s (unbroken-left first.broken second.broken unbroken) (part-left world first second part) here)
+
+-- ---- the pieces
+
+pub sound-give : {A B : Type 0} (world : World) (block : ℕ) (env : Environment) (R : B → A → Store → Type 0) (a : A) (b : B) → ((store : Store) → R b a store)
+    → Sound world block env R (effect.give a) (walk.give b)
+sound-give world block env R a b tie context state s unbroken part here =
+    good-give world (IsForetold world env R context (walk.give b context state) s.store) a s here.fine
+    (record { tie = tie s.store; stands = here.stands; kept = keeps-itself env context.rounds s.store })
+
+-- a state that is known holds
+pub state-holds : (rows : List Parts) (roots : ℕ) (env : Environment) (state : State) (store : Store) → Knows rows roots env state store
+    → StateHolds rows state (moment env store)
+state-holds rows roots env state store known = record {
+  variables = known-holds roots env state.variables store known.variables;
+  components = known.components;
+}
+
+pub sound-enter : (world : World) (block : ℕ) (env : Environment) (number : ℕ)
+    → Sound world block env Any_value (effect.enter number env) (walk.enter number)
+sound-enter world block env number context state s unbroken part here =
+    let one : Linked = record { number = number; state = state } in
+    let entered : Visit = record { number = number; environment = env; store = s.store } in
+    let holds = state-holds (parts_in world) (variables_in world) env state s.store here.stands.known in
+    let meets : Meets world entered = (one, part.linked one (0, omega arith, refl), refl, holds) in
+    record {
+      errs = tt;
+      new = λ visit inside.
+          ⊎_elim (λ old. inl old)
+          (λ is. inr (subst (λ (v : Visit). Meets world v × Separate v.environment world.pairs) is (meets, here.proper.separate)))
+          (Contains-push_cases s.visited entered visit inside);
+      gives = record {
+        so = record { tie = tt; stands = here.stands; kept = keeps-itself env context.rounds s.store };
+        fine = record { typed = here.fine.typed; begun = here.fine.begun };
+        grown = omega arith;
+      };
+    }
+
+-- an error at a site that is left open
+pub errs-here : (world : World) (site : ℕ) → Contains world.ids site → site < sites_in world → (id : ℕ) → Error site ≡ Error id
+    → Contains world.ids id × (id < sites_in world)
+errs-here world site listed within id is =
+    let same : site ≡ id = cc in
+    subst (λ (n : ℕ). Contains world.ids n × (n < sites_in world)) same (listed, within)
+
+pub open-here : (site : ℕ) (closed : Bool) → (closed ≡ true → ⊥) → Contains (left_open closed site) site
+open-here site true unclosed = absurd (unclosed refl)
+open-here site false unclosed = (0, omega arith, refl)
+
+none-some : (v : Value) → ◌≡◌ {A = Option Value} None (Some v) → ⊥
+none-some v is = cc
+
+-- another state that holds
+pub stands-as : (world : World) (env : Environment) (context : Context) (state other : State) (store : Store) → Stands world env context state store
+    → Knows (parts_in world) (variables_in world) env other store
+    → Stands world env context other store
+stands-as world env context state other store stands known = record { goes = stands.goes; known = known }
+
+-- what is known of variables changes, and holds still
+pub over-known : (rows : List Parts) (roots : ℕ) (env : Environment) (state : State) (change : variables.State → variables.State) (store : Store)
+    → Knows rows roots env state store → entire.Knows roots env (change state.variables) store → Knows rows roots env (over_variables change state) store
+over-known rows roots env state change store known changed = record { variables = changed; components = known.components }
+
+-- no run goes on from an empty range
+pub nonempty-stands : (world : World) (env : Environment) (context : Context) (range : Interval) (state : State) (store : Store) (v : Value) → IsIn range v
+    → Stands world env context state store → Stands world env context (over_variables (unless_empty range) state) store
+nonempty-stands world env context range state store v inside stands =
+    stands-as world env context state (over_variables (unless_empty range) state) store stands
+    (over-known (parts_in world) (variables_in world) env state (unless_empty range) store stands.known
+    (nonempty-known (variables_in world) env range state.variables store v inside stands.known.variables))
+
+good-use : (world : World) (block : ℕ) (env : Environment) (root site : ℕ) (place : Place) → env.variables root ≡ Some place → site < sites_in world
+    → (context : Context) (state : State) (s : effect.State) → IsPartOf world (walk.use_of root site context state)
+    → Here world block env context state s
+    → (found : Option Value) → stored s.store place ≡ found
+    → Good world (IsForetold world env IsValue context (walk.use_of root site context state) s.store) s (effect.fetched found site s)
+good-use world block env root site place at_place below context state s part here None is =
+    let unclosed : is_defined state.variables root ≡ true → ⊥ = λ closed.
+    let at = defined-stored (variables_in world) env state.variables s.store root place at_place here.stands.known.variables closed in
+    none-some at.0 (sym is ∙ at.1) in
+    record {
+      errs = errs-here world site (part.ids site (open-here site (is_defined state.variables root) unclosed)) below;
+      new = nothing-new world s.visited;
+      gives = tt;
+    }
+good-use world block env root site place at_place below context state s part here (Some v) is =
+    let n = variables_in world in
+    let known = here.stands.known.variables in
+    let range = range_of state.variables root in
+    let inside : IsIn range v = read-in n env state.variables s.store root place v at_place known is in
+    let used = used-known n env state.variables s.store root place v at_place known is in
+    let nonempty = nonempty-known n env range (variables.with_defined root state.variables) s.store v inside used in
+    let change = λ (known : variables.State). unless_empty (range_of known root) (variables.with_defined root known) in
+    let after = over-known (parts_in world) n env state change s.store here.stands.known nonempty in
+    good-give world (IsForetold world env IsValue context (walk.use_of root site context state) s.store) v s here.fine (record {
+      tie = inside;
+      stands = stands-as world env context state (walk.use_of root site context state).after s.store here.stands after;
+      kept = keeps-itself env context.rounds s.store;
+    })
+
+held-stored : (store : Store) (found : Option Place) (place : Place) → found ≡ Some place → held store found ≡ stored store place
+held-stored store found place is = ap (held store) is
+
+pub sound-use : (world : World) (block : ℕ) (env : Environment) (root site : ℕ) → is_seen world block root ≡ true → site < sites_in world
+    → Sound world block env IsValue (effect.fetch (env.variables root) site) (walk.use_of root site)
+sound-use world block env root site seen below context state s unbroken part here =
+    let at = here.proper.visible root seen in
+    subst (λ (found : Option Place).
+    Good world (IsForetold world env IsValue context (walk.use_of root site context state) s.store) s (effect.fetch found site s)) (sym at.1)
+    (good-use world block env root site at.0 at.1 below context state s part here (stored s.store at.0) refl)
+
+-- a value that passes a test lies in the range that passes
+abbrev pub Passes : Bool → Value → Interval → Unit {0} → Store → Type 0
+Passes test v range done store = IsIn range v × (test ≡ true)
+
+-- where a site is closed, no run comes or the test holds
+pub closed-passes : (rows : List Parts) (roots : ℕ) (env : Environment) (state : State) (store : Store) (closed test : Bool)
+    → Knows rows roots env state store
+    → (closed ≡ true → test ≡ true)
+    → (is_dead state || closed) ≡ true → test ≡ true
+closed-passes rows roots env state store closed test known holds is =
+    holds (subst (λ (dead : Bool). (dead || closed) ≡ true) (alive roots env state.variables store known.variables) is)
+
+pub false-true : ◌≡◌ {A = Bool} false true → ⊥
+false-true is = cc
+
+-- a test at a site: it holds where the site is closed, and what passes lies in the range that passes
+pub sound-tested : (world : World) (block : ℕ) (env : Environment) (closed : Bool) (site : ℕ) (passed : Interval) (v : Value) (test : Bool)
+    → site < sites_in world → (closed ≡ true → test ≡ true) → (test ≡ true → IsIn passed v)
+    → Sound world block env (Passes test v) (effect.require test site) (walk.tested closed site passed)
+sound-tested world block env closed site passed v true below holds lets context state s unbroken part here =
+    let inside : IsIn passed v = lets refl in
+    good-give world (IsForetold world env (Passes true v) context (walk.tested closed site passed context state) s.store) tt s here.fine (record {
+      tie = (inside, refl);
+      stands = nonempty-stands world env context passed state s.store v inside here.stands;
+      kept = keeps-itself env context.rounds s.store;
+    })
+sound-tested world block env closed site passed v false below holds lets context state s unbroken part here =
+    let unclosed : (is_dead state || closed) ≡ true
+    → ⊥ = λ is. false-true (closed-passes (parts_in world) (variables_in world) env state s.store closed false here.stands.known holds is) in
+    record {
+      errs = errs-here world site (part.ids site (open-here site (is_dead state || closed) unclosed)) below;
+      new = nothing-new world s.visited;
+      gives = tt;
+    }

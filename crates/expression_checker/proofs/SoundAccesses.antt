@@ -1,0 +1,747 @@
+-- The walk over accesses and over whole values is sound, where that over their index expressions is.
+use Rattle.std.proofs.Common.{arith, ◌≡◌, ⊎_elim, ◌∙◌, sym, ap, refl, subst, ℕ, zero, suc, ◌+◌, ◌<◌, ℤ, pos, ◌≤ℤ◌, Bool, true, false, cond}
+use Rattle.std.proofs.Common.{◌&&◌, ◌||◌, nat_eq, nat_lt, List, [], ◌∷◌, ◌++◌, append-nil, append_assoc, length, map, Option, Some, None}
+use Rattle.std.specs.Prelude.{slice_get, slice_index_or}
+use Rattle.std.specs.List.{All, Contains, list_all}
+use Rattle.std.proofs.lemmas.Bool.{and_parts, eqb-true, ltb-true, or_cases, or_left, or_right}
+use Rattle.std.proofs.lemmas.List.{length-map}
+use Rattle.std.proofs.lemmas.List.Elements.{All-cons, All-nil}
+use Rattle.std.proofs.lemmas.Option.{none-some, same_Some, slice_get-get_or}
+use Rattle.types.specs.Forms.{Form}
+use Rattle.types.specs.declared.form.TypeId.{TypeId}
+use Rattle.types.specs.declared.form.Step.{Step}
+use Rattle.types.specs.declared.form.Step.TheVariants as step
+use Rattle.types.specs.Components.{components_of}
+use Rattle.types.specs.Types.{is_ordinal, is_same, is_structured}
+use Rattle.types.proofs.Scalars.{ordinal_component}
+use Rattle.std.specs.declared.alloc.Global.{Global}
+use Rattle.std.specs.declared.vec.Vec.{Vec}
+use Rattle.typed_tree.specs.declared.tree.Access.{Access}
+use Rattle.typed_tree.specs.declared.tree.RangeTest.{RangeTest}
+use Rattle.typed_tree.specs.declared.tree.Selector.{Selector}
+use Rattle.typed_tree.specs.declared.tree.Selector.TheVariants.{Element, Field}
+use Rattle.typed_tree.specs.declared.tree.Whole.{Whole}
+use Rattle.typed_tree.specs.declared.tree.Whole.TheVariants.{Text, Variable as VariableOf}
+use Rattle.typed_tree.specs.Accesses as accesses
+use Rattle.typed_tree.specs.Accesses.{index_count, is_type, led}
+use Rattle.typed_tree.specs.WellFormed.{Outline, is_value_of, is_visible, is_well_formed_selector, is_well_formed_whole, is_whole}
+use Rattle.typed_tree.specs.WellFormed.{leads_to, leads_to_whole, outline_of}
+use Rattle.domain.specs.Interval.{HasMember}
+use Rattle.meaning.specs.declared.store.Value.{Value}
+use Rattle.meaning.specs.declared.store.Value.TheVariants.{Number}
+use Rattle.meaning.specs.Store.{Environment, Place, Store, held, part}
+use Rattle.meaning.specs.Effect as effect
+use Rattle.meaning.specs.Effect.{fetch, fetch_all, is_in, number_of}
+use Rattle.meaning.specs.Meaning.{Evaluation, Surroundings, accessed, selected, whole_of}
+use Rattle.abstract_state.specs.declared.known.Known.{Known}
+use Rattle.abstract_state.specs.declared.known.Known.TheVariants.{Ordinal}
+use Rattle.domain.specs.Facts.{Bound}
+use Rattle.domain.specs.Interval.{Interval}
+use Rattle.types.specs.declared.form.OrdinalRange.{OrdinalRange}
+use Rattle.meaning.specs.Integers.{is_integer_number, is_within}
+use Rattle.abstract_state.specs.Forms.{bound_of}
+use Rattle.abstract_state.specs.Holds.{HasValue, IsBound, IsIn, Moment, part_of, value_at}
+use Rattle.abstract_state.specs.Knows.{IsOfForm, moment}
+use Rattle.abstract_state.proofs.Ranged.{IsKnown, constant-in, is_within-has}
+use Rattle.component_states.specs.Components.{At, Entire, Index, Inside, Reach}
+use Rattle.component_states.specs.States.{State, is_dead}
+use Rattle.typed_tree.specs.declared.tree.Tree.{Tree}
+use Rattle.leaf_rows.specs.Leaves.{leaves_of}
+use Rattle.leaf_rows.specs.Rows.{rows_accessed, rows_of}
+use Rattle.leaf_rows.proofs.Accessed.{rows-count}
+use Rattle.component_states.specs.Components.{row_at}
+use Rattle.component_states.specs.Holds.{IsOfRow, Knows}
+use Rattle.component_states.proofs.Joins.{in-left, in-right}
+use Rattle.expression_checker.specs.Walk as walk
+use Rattle.call_states.specs.Environments.{Fine, Proper, Typed}
+use Rattle.call_states.proofs.Fitting.{part-lies}
+use Rattle.expression_checker.specs.Walk.{Context, Piece, Walking, access_walk, all_joined, deeper, form_before, hold_call, index_test, indexes_walk}
+use Rattle.expression_checker.specs.Walk.{is_covered}
+use Rattle.expression_checker.specs.Walk.{range_in, ranges_of, text_range, value_use, whole_walk, with_used}
+use Rattle.expression_checker.proofs.Fitting.{contains-at, same-type, some-at}
+use Rattle.expression_checker.proofs.Keeping.{Keeps, keeps-itself}
+use Rattle.expression_checker.proofs.Sound.{World, Any_value, Good, Here, IsForetold, IsPartOf, IsValue, Leaves, Sound, SoundFrom, Stands, alive, declared_in}
+use Rattle.expression_checker.proofs.Sound.{errs-here, false-true, from-then, gives-state, good-give, good-then, good-weaker, is_seen, nothing-new}
+use Rattle.expression_checker.proofs.Sound.{sound-anywhere, sound-enter, sound-give, sound-here, sound-named, sound-then, sound-use, stands-as}
+use Rattle.expression_checker.proofs.Sound.{sites_in, parts_in, open-here, nonempty-stands, types_in, variables_in}
+use Rattle.expression_checker.proofs.SoundOperations.{IsKnownOf, fitting-sound, number-in}
+use Rattle.expression_checker.proofs.SoundRows.{AreComponentsOf, IsIndexOn, IsReachedBy, IsWhole, Leads, LieIn, Matches, RowsAre, characters_of, covered-row}
+use Rattle.expression_checker.proofs.SoundRows.{first-behind, first-then, joined-in, matches-then, reached-has, rows-are, used-known}
+
+-- ---- parts of a place
+
+pub part-none : (place : Option Place) → part place [] ≡ place
+part-none None = refl
+part-none (Some p) = ap (λ (steps : List Step). Some (record p { steps = steps })) (append-nil p.steps)
+
+pub part-then : (place : Option Place) (first second : List Step) → part (part place first) second ≡ part place (first ++ second)
+part-then None first second = refl
+part-then (Some p) first second = ap (λ (steps : List Step). Some (record p { steps = steps })) (append_assoc p.steps first second)
+
+pub part-held : (store : Store) (place : Option Place) (steps : List Step) → held store (part place steps) ≡ part_of store place steps
+part-held store None steps = refl
+part-held store (Some p) steps = refl
+
+-- ---- what is well formed
+
+module _ (outline : Outline) (block : ℕ) (wanted : TypeId → Bool) (root : ℕ) (selectors : List Selector) (indexes : ℕ)
+    (well : leads_to outline block wanted root selectors indexes ≡ true) where
+  abbrev seen : Bool
+  seen = is_visible outline block root
+
+  abbrev counts : Bool
+  counts = nat_eq indexes (index_count selectors)
+
+  abbrev all_tests : Bool
+  all_tests = list_all (is_well_formed_selector outline block) selectors
+
+  abbrev of_type : Bool
+  of_type = is_type wanted (accesses.accessed outline.variables outline.types root selectors)
+
+  outer : (seen ≡ true) × ((counts && (all_tests && of_type)) ≡ true)
+  outer = and_parts seen (counts && (all_tests && of_type)) well
+
+  middle : (counts ≡ true) × ((all_tests && of_type) ≡ true)
+  middle = and_parts counts (all_tests && of_type) outer.1
+
+  inner : (all_tests ≡ true) × (of_type ≡ true)
+  inner = and_parts all_tests of_type middle.1
+
+  -- the variable is visible
+  pub leads-seen : seen ≡ true
+  leads-seen = outer.0
+
+  pub leads-count : indexes ≡ index_count selectors
+  leads-count = eqb-true indexes (index_count selectors) middle.0
+
+  pub leads-tests : all_tests ≡ true
+  leads-tests = inner.0
+
+  pub leads-type : of_type ≡ true
+  leads-type = inner.1
+
+-- a field takes no index
+field-same : (position : ℕ) (offset : ℕ) (selectors : List Selector) (pieces : List Piece) (reach : Reach)
+    → indexes_walk (Field position offset ∷ selectors) pieces reach ≡ indexes_walk selectors pieces reach
+field-same position offset selectors [] reach = refl
+field-same position offset selectors (index ∷ pieces) reach = refl
+
+-- ---- replies
+
+entered-leaves : (number : ℕ) (env : Environment) → Leaves (effect.enter number env)
+entered-leaves number env s t done is = ap (λ (u : effect.State). u.store)
+    (gives-state tt done (record s { visited = s.visited ++ record { number = number; environment = env; store = s.store } ∷ [] }) t is)
+
+pub required-leaves : (test : Bool) (site : ℕ) → Leaves (effect.require test site)
+required-leaves true site s t done is = ap (λ (u : effect.State). u.store) (gives-state tt done s t is)
+required-leaves false site s t done is = absurd (cc)
+
+pub required-true : (test : Bool) (site : ℕ) (s t : effect.State) (done : Unit {0}) → effect.require test site s ≡ effect.Gives done t → test ≡ true
+required-true true site s t done is = refl
+required-true false site s t done is = absurd (cc)
+
+-- ---- index expressions
+
+-- the walk over one is sound, unless it holds a call it leaves the store as it is, and its value is of its form
+pub record IndexIsSound (world : World) (block : ℕ) (env : Surroundings) (evaluation : Evaluation) (piece : Piece) : Type 0 where
+  pub sound : Sound world block env.visible IsValue (evaluation env) piece.walk
+  pub leaves : piece.holds_call ≡ false → Leaves (evaluation env)
+  pub form : (s t : effect.State) (v : Value) → evaluation env s ≡ effect.Gives v t → IsOfForm (moment env.visible t.store) (bound_of piece.form) v
+
+abbrev pub AllSound : World → ℕ → Surroundings → List Evaluation → List Piece → Type 0
+AllSound world block env [] [] = Unit {0}
+AllSound world block env (evaluation ∷ evaluations) (piece ∷ pieces) =
+    IndexIsSound world block env evaluation piece × AllSound world block env evaluations pieces
+AllSound world block env evaluations pieces = ⊥
+
+-- what is reached tells of no variable's value
+abbrev IsFormless : Reach → Type 0
+IsFormless Entire = Unit {0}
+IsFormless (At index) = index.form ≡ None
+IsFormless (Inside index) = index.form ≡ None
+
+pub known-range : (known : Known) (v : Value) → IsKnown known v → IsIn (range_in known) v
+known-range (Ordinal range) v inside = inside
+
+-- an index that passed its test, and what is known of it
+in-test : (range : OrdinalRange) (v : Value) → is_in range v ≡ true → (range.first ≤ℤ number_of v) × (number_of v ≤ℤ range.last)
+in-test range (Number n) passes =
+    is_within-has range.first range.last n (and_parts (is_integer_number n) (is_within range.first range.last n) passes).1
+
+of-form : (m : Moment) (form : Option Bound) (v : Value) → IsOfForm m form v → (b : Bound) → form ≡ Some b → IsBound m b (number_of v)
+of-form m None v is b same = absurd (cc)
+of-form m (Some own) (Number n) (k, number, bound) b same =
+    let one : n ≡ k = cc in
+    let two : own ≡ b = cc in
+    subst (λ (c : Bound). IsBound m c n) two (subst (λ (x : ℤ). IsBound m own x) (sym one) bound)
+
+counted-then : (first second : List Selector) → index_count (first ++ second) ≡ index_count first + index_count second
+counted-then [] second = let e : index_count second ≡ 0 + index_count second = omega arith in e
+counted-then (Element fits cells ∷ first) second =
+    let e : suc (index_count first + index_count second) ≡ suc (index_count first) + index_count second = omega arith in
+    ap suc (counted-then first second) ∙ e
+counted-then (Field position offset ∷ first) second = counted-then first second
+
+module _ (env : Environment) (store : Store) where
+  longer : (index : Index) (way more : List Step) → IsIndexOn env store index way → IsIndexOn env store index (way ++ more)
+  longer index way more on = record {
+    number = on.number;
+    is_first = first-then way more on.number on.is_first;
+    in_range = on.in_range;
+    of_form = on.of_form;
+  }
+
+  -- behind a field
+  behind-field : (before : List Selector) (way : List Step) (position offset : ℕ) (reach : Reach) → IsReachedBy env store before way reach
+      → IsReachedBy env store (before ++ Field position offset ∷ []) (way ++ step.Field position ∷ []) reach
+  behind-field before way position offset Entire reached =
+      let e = counted-then before (Field position offset ∷ []) in omega (arith, e, reached)
+  behind-field before way position offset (At index) reached =
+      let e = counted-then before (Field position offset ∷ []) in
+      let count = reached.0 in
+      (omega (arith, e, count), longer index way (step.Field position ∷ []) reached.1)
+  behind-field before way position offset (Inside index) reached = longer index way (step.Field position ∷ []) reached
+
+  -- behind an element
+  behind-element : (before : List Selector) (way : List Step) (fits : RangeTest) (cells : ℕ) (number : ℤ) (index : Index) (reach : Reach)
+      → HasMember index.range number → ((b : Bound) → index.form ≡ Some b → IsBound (moment env store) b number) → Matches before way
+      → IsReachedBy env store before way reach
+      → IsReachedBy env store (before ++ Element fits cells ∷ []) (way ++ step.Element number ∷ []) (deeper index reach)
+  behind-element before way fits cells number index Entire inside form matches reached =
+      let e = counted-then before (Element fits cells ∷ []) in (
+        omega (arith, e, reached),
+        record {
+          number = number;
+          is_first = first-behind before way number reached matches;
+          in_range = inside;
+          of_form = form;
+        },
+      )
+  behind-element before way fits cells number index (At first) inside form matches reached = longer first way (step.Element number ∷ []) reached.1
+  behind-element before way fits cells number index (Inside first) inside form matches reached = longer first way (step.Element number ∷ []) reached
+
+-- what tells of no variable's value is so of any store
+any-store : (env : Environment) (before after : Store) (selectors : List Selector) (way : List Step) (reach : Reach) → IsFormless reach
+    → IsReachedBy env before selectors way reach → IsReachedBy env after selectors way reach
+any-store env before after selectors way Entire formless reached = reached
+any-store env before after selectors way (At index) formless reached = (reached.0, without-form index reached.1 formless)
+  where
+    without-form : (index : Index) → IsIndexOn env before index way → index.form ≡ None → IsIndexOn env after index way
+    without-form index on none = record {
+      number = on.number;
+      is_first = on.is_first;
+      in_range = on.in_range;
+      of_form = λ b is. absurd (none-some b (sym none ∙ is));
+    }
+any-store env before after selectors way (Inside index) formless on = record {
+  number = on.number;
+  is_first = on.is_first;
+  in_range = on.in_range;
+  of_form = λ b is. absurd (none-some b (sym formless ∙ is));
+}
+
+-- what was reached is reached behind an evaluation: it holds no call and leaves the store, or nothing is told of variables
+later-reached : (env : Environment) (before after : Store) (selectors : List Selector) (way : List Step) (reach : Reach) (holds_call : Bool)
+    → (holds_call ≡ false → after ≡ before) → (holds_call ≡ true → IsFormless reach) → IsReachedBy env before selectors way reach
+    → IsReachedBy env after selectors way reach
+later-reached env before after selectors way reach true same formless reached = any-store env before after selectors way reach (formless refl) reached
+later-reached env before after selectors way reach false same formless reached =
+    subst (λ (store : Store). IsReachedBy env store selectors way reach) (sym (same refl)) reached
+
+-- a form is known where no index behind it holds a call
+form-unless : (m : Moment) (form : Option Bound) (holds_call : Bool) (number : ℤ) → ((b : Bound) → form ≡ Some b → IsBound m b number) → (b : Bound)
+    → (cond holds_call None form) ≡ Some b → IsBound m b number
+form-unless m form true number known b is = absurd (none-some b is)
+form-unless m form false number known b is = known b is
+
+formless-deeper : (form : Option Bound) (range : Interval) (holds_call : Bool) (reach : Reach) → (holds_call ≡ true → IsFormless reach) → holds_call ≡ true
+    → IsFormless (deeper (record { form = cond holds_call None form; range = range }) reach)
+formless-deeper form range true Entire formless is = refl
+formless-deeper form range true (At first) formless is = formless refl
+formless-deeper form range true (Inside first) formless is = formless refl
+formless-deeper form range false reach formless is = absurd (false-true is)
+
+-- ---- what is found
+
+in-program : (world : World) (context : Context) (P : Context → Type 0) → context.tree ≡ world.tree → P (record context { tree = world.tree }) → P context
+in-program world context P is so = subst (λ (tree : Tree). P (record context { tree = tree })) (sym is) so
+
+pub type-of : (wanted : TypeId → Bool) (found : Option TypeId) → is_type wanted found ≡ true → (id : TypeId) × (found ≡ Some id) × (wanted id ≡ true)
+type-of wanted None is = absurd (false-true is)
+type-of wanted (Some id) is = (id, refl, is)
+
+alone : {A : Type 0} (x y : A) → Contains (x ∷ []) y → x ≡ y
+alone x y (zero, within, at) = at
+alone x y (suc k, within, at) = absurd (omega (arith, within))
+
+contains-get : {A : Type 0} (xs : List A) (x : A) → (inside : Contains xs x) → slice_get xs inside.0 ≡ Some x
+contains-get xs x inside = slice_get-get_or xs inside.0 x inside.1 ∙ ap Some inside.2
+
+mapped-at : {A B : Type 0} (f : A → B) (xs : List A) (k : ℕ) (y : B) → slice_get (map f xs) k ≡ Some y → (x : A) × (slice_get xs k ≡ Some x) × (f x ≡ y)
+mapped-at f [] k y is = absurd (none-some y is)
+mapped-at f (x ∷ xs) zero y is = (x, refl, same_Some (f x) y is)
+mapped-at f (x ∷ xs) (suc k) y is = mapped-at f xs k y is
+
+pub no-way : (way : List Step) → Matches [] way → way ≡ []
+no-way [] matches = refl
+no-way (s ∷ way) matches = absurd matches
+
+-- what is so of each pair of steps and their value
+pairs-then : (P : List Step → Value → Type 0) (first : List Step) (components : List (List Step)) (w : Value) (values : List Value) → P first w
+    → ((k : ℕ) (rest : List Step) (v : Value) → slice_get components k ≡ Some rest → slice_get values k ≡ Some v → P rest v)
+    → (k : ℕ) (rest : List Step) (v : Value) → slice_get (first ∷ components) k ≡ Some rest → slice_get (w ∷ values) k ≡ Some v → P rest v
+pairs-then P first components w values one more zero rest v is at =
+    subst (λ (steps : List Step). P steps v) (same_Some first rest is) (subst (P first) (same_Some w v at) one)
+pairs-then P first components w values one more (suc k) rest v is at = more k rest v is at
+
+-- the characters of a string lie in its range
+text-in : (text : List ℕ) → All (IsIn (text_range text)) (characters_of text)
+text-in [] = All-nil (IsIn (text_range []))
+text-in (c ∷ text) =
+    let own : Interval = record { first = pos c; last = pos c } in
+    All-cons (IsIn (text_range (c ∷ text))) (Number (pos c)) (characters_of text) (in-left own (text_range text) (Number (pos c)) (constant-in (pos c)))
+    (λ k d within. in-right own (text_range text) (slice_index_or (characters_of text) k d) (text-in text k d within))
+
+module _ (world : World) (block : ℕ) (env : Surroundings) where
+  abbrev visible : Environment
+  visible = env.visible
+
+  abbrev tests_are_well : List Selector → Bool
+  tests_are_well selectors = list_all (is_well_formed_selector (outline_of world.tree) block) selectors
+
+  -- an index is tested: it lies in the range that passes
+  abbrev LiesWithin : Value → Interval → Unit {0} → Store → Type 0
+  LiesWithin v range done store = IsIn range v
+
+  tested-sound : (fits : RangeTest) (known : Known) (v : Value) → fits.site < sites_in world → IsKnown known v
+      → Sound world block visible (LiesWithin v) (effect.require (is_in fits.range v) fits.site) (index_test (Some fits) known)
+  tested-sound fits known v below inside =
+      sound-named world block visible (IsKnownOf v) (LiesWithin v) range_in (λ passed done store tie. known-range passed v tie)
+      (effect.require (is_in fits.range v) fits.site) (walk.fitting fits known) (fitting-sound world block visible fits known v below inside)
+
+  -- selectors lead to a place, which is reached in the store behind them
+  abbrev pub LeadsTo : ℕ → List Selector → Reach → Option Place → Store → Type 0
+  LeadsTo root selectors reach place store = Leads visible root selectors store reach place
+
+  -- the selectors behind some
+  selected-sound : (root : ℕ) (selectors : List Selector) (evaluations : List Evaluation) (pieces : List Piece) → AllSound world block env evaluations pieces
+      → length evaluations ≡ index_count selectors → tests_are_well selectors ≡ true
+      → (store : Store) (before : List Selector) (way : List Step) (reach : Reach) (place : Option Place)
+      → place ≡ part (visible.variables root) way → Matches before way → IsReachedBy visible store before way reach
+      → (hold_call pieces ≡ true → IsFormless reach)
+      → SoundFrom world block visible store (LeadsTo root (before ++ selectors)) (selected selectors evaluations env place)
+      (indexes_walk selectors pieces reach)
+  selected-sound root [] [] [] all count tests store before way reach place place_is matches reached formless = λ context state s same unbroken walked here.
+      let R = LeadsTo root (before ++ []) in
+      let leads : R reach place s.store =
+      subst (λ (list : List Selector). LeadsTo root list reach place s.store) (sym (append-nil before))
+      (record {
+        way = way;
+        place_is = place_is;
+        matches = matches;
+        reached = subst (λ (x : Store). IsReachedBy visible x before way reach) (sym same) reached;
+      }) in
+      good-give world (IsForetold world visible R context (walk.give reach context state) s.store) place s here.fine
+      (record { tie = leads; stands = here.stands; kept = keeps-itself visible context.rounds s.store })
+  selected-sound root [] (evaluation ∷ evaluations) pieces all count tests store before way reach place place_is matches reached formless =
+      absurd (omega (arith, count))
+  selected-sound root [] [] (piece ∷ pieces) all count tests store before way reach place place_is matches reached formless = absurd all
+  selected-sound root (Field position offset ∷ selectors) evaluations pieces all count tests store before way reach place place_is matches reached formless =
+      let more = way ++ step.Field position ∷ [] in
+      let inner = part place (step.Field position ∷ []) in
+      let inner_is : inner ≡ part (visible.variables root) more =
+      ap (λ (p : Option Place). part p (step.Field position ∷ [])) place_is ∙ part-then (visible.variables root) way (step.Field position ∷ []) in
+      let own : List Selector = Field position offset ∷ [] in
+      let gone = matches-then before own way (step.Field position ∷ []) matches (refl, tt) in
+      subst (λ (w : Walking Reach).
+      SoundFrom world block visible store (LeadsTo root (before ++ Field position offset ∷ selectors)) (selected selectors evaluations env inner) w)
+      (sym (field-same position offset selectors pieces reach))
+      (subst (λ (list : List Selector). SoundFrom world block visible store (LeadsTo root list) (selected selectors evaluations env inner)
+      (indexes_walk selectors pieces reach)) (append_assoc before own selectors)
+      (selected-sound root selectors evaluations pieces all count tests store (before ++ own) more reach inner inner_is gone
+      (behind-field visible store before way position offset reach reached) formless))
+  selected-sound root (Element fits cells ∷ selectors) [] pieces all count tests store before way reach place place_is matches reached formless =
+      absurd (omega (arith, count))
+  selected-sound root (Element fits cells ∷ selectors) (evaluation ∷ evaluations) [] all count tests store before way reach place place_is matches reached
+      formless = absurd all
+  selected-sound root (Element fits cells ∷ selectors) (evaluation ∷ evaluations) (index ∷ pieces) all count tests store before way reach place place_is
+      matches reached formless =
+      let R = LeadsTo root (before ++ Element fits cells ∷ selectors) in
+      let first = and_parts (is_well_formed_selector (outline_of world.tree) block (Element fits cells)) (tests_are_well selectors) tests in
+      let site = and_parts (nat_lt fits.site (sites_in world)) (is_whole fits.range.first && is_whole fits.range.last) first.0 in
+      let test = λ (v : Value). effect.require (is_in fits.range v) fits.site in
+      let inner_of = λ (v : Value). part place (step.Element (number_of v) ∷ []) in
+      let reached_by = λ (range : Interval). deeper (record { form = form_before index.form pieces; range = range }) reach in
+      let own : List Selector = Element fits cells ∷ [] in
+      from-then world block visible store IsValue R (evaluation env)
+      (λ v. effect.◌>>=◌ (test v) (λ tested. selected selectors evaluations env (inner_of v))) index.walk
+      (λ known. walk.◌>>=◌ (index_test (Some fits) known) (λ range. indexes_walk selectors pieces (reached_by range)))
+      (sound-here world block visible store IsValue (evaluation env) index.walk all.0.sound)
+      (λ known v s t is from inside.
+      let form : IsOfForm (moment visible t.store) (bound_of index.form) v = all.0.form s t v is in
+      let reached_now : IsReachedBy visible t.store before way reach =
+      later-reached visible store t.store before way reach index.holds_call (λ without. all.0.leaves without s t v is ∙ from)
+      (λ holds. formless (or_left index.holds_call (hold_call pieces) holds)) reached in
+      let more = way ++ step.Element (number_of v) ∷ [] in
+      let inner_is : inner_of v ≡ part (visible.variables root) more =
+      ap (λ (p : Option Place). part p (step.Element (number_of v) ∷ [])) place_is
+      ∙ part-then (visible.variables root) way (step.Element (number_of v) ∷ []) in
+      from-then world block visible t.store (LiesWithin v) R (test v) (λ tested. selected selectors evaluations env (inner_of v)) (index_test (Some fits) known)
+      (λ range. indexes_walk selectors pieces (reached_by range))
+      (sound-here world block visible t.store (LiesWithin v) (test v) (index_test (Some fits) known)
+      (tested-sound fits known v (ltb-true fits.site (sites_in world) site.0) inside))
+      (λ range tested s2 u passes same lies.
+      let bounds = in-test fits.range v (required-true (is_in fits.range v) fits.site s2 u tested passes) in
+      let gone : Matches (before ++ own) more =
+      matches-then before own way (step.Element (number_of v) ∷ []) matches (bounds.0, bounds.1, tt) in
+      let stays : u.store ≡ t.store = required-leaves (is_in fits.range v) fits.site s2 u tested passes ∙ same in
+      subst (λ (list : List Selector). SoundFrom world block visible u.store (LeadsTo root list) (selected selectors evaluations env (inner_of v))
+      (indexes_walk selectors pieces (reached_by range))) (append_assoc before own selectors)
+      (selected-sound root selectors evaluations pieces all.1 (omega (arith, count)) first.1 u.store (before ++ own) more (reached_by range) (inner_of v)
+      inner_is gone
+      (subst (λ (x : Store). IsReachedBy visible x (before ++ own) more (reached_by range)) (sym stays)
+      (behind-element visible t.store before way fits cells (number_of v) (record { form = form_before index.form pieces; range = range }) reach
+      (number-in range v lies)
+      (form-unless (moment visible t.store) (bound_of index.form) (hold_call pieces) (number_of v)
+      (of-form (moment visible t.store) (bound_of index.form) v form)) matches reached_now))
+      (formless-deeper (bound_of index.form) range (hold_call pieces) reach
+      (λ holds. formless (or_right index.holds_call (hold_call pieces) holds))))))
+
+  -- an access
+  pub reached-sound : (access : Access) (evaluations : List Evaluation) (pieces : List Piece) → AllSound world block env evaluations pieces
+      → length evaluations ≡ index_count access.selectors.items → tests_are_well access.selectors.items ≡ true
+      → Sound world block visible (LeadsTo access.root access.selectors.items) (accessed access evaluations env) (access_walk access pieces)
+  reached-sound access evaluations pieces all count tests =
+      let selectors = access.selectors.items in
+      let R = LeadsTo access.root selectors in
+      sound-anywhere world block visible R (accessed access evaluations env) (access_walk access pieces)
+      (λ store.
+      from-then world block visible store Any_value R (effect.enter access.number visible)
+      (λ done. selected selectors evaluations env (visible.variables access.root)) (walk.enter access.number)
+      (λ done. indexes_walk selectors pieces Entire)
+      (sound-here world block visible store Any_value (effect.enter access.number visible) (walk.enter access.number)
+      (sound-enter world block visible access.number))
+      (λ b a s t is from tie.
+      selected-sound access.root selectors evaluations pieces all count tests t.store [] [] Entire (visible.variables access.root)
+      (sym (part-none (visible.variables access.root))) tt refl (λ holds. tt)))
+
+  -- ---- uses
+
+  abbrev rows : ℕ → List Selector → List ℕ
+  rows root selectors = rows_accessed (rows_of world.tree) root selectors
+
+  abbrev inside : Context → Context
+  inside context = record context { tree = world.tree }
+
+  held-at : (store : Store) (root : ℕ) (way rest : List Step) (place : Option Place) → place ≡ part (visible.variables root) way
+      → held store (part place rest) ≡ value_at (moment visible store) root (way ++ rest)
+  held-at store root way rest place place_is =
+      ap (λ (p : Option Place). held store (part p rest)) place_is ∙ ap (held store) (part-then (visible.variables root) way rest)
+      ∙ part-held store (visible.variables root) (way ++ rest)
+
+  -- the values of a whole value are in the ranges that are known, whatever the store
+  abbrev pub IsWholeIn : Whole → List Interval → List Value → Store → Type 0
+  IsWholeIn value ranges values store = IsWhole (types_in world) value ranges values
+
+  -- what an access of a type reaches
+  module _ (root : ℕ) (selectors : List Selector) (id : TypeId) (laws : RowsAre world.tree root selectors id)
+      (many : (selectors ≡ [] → is_structured (types_in world) id ≡ true) → length (rows root selectors) ≡ length (leaves_of (types_in world) id))
+      (site : ℕ) (below : site < (sites_in world)) (reach : Reach) (way : List Step) (matches : Matches selectors way) where
+    -- each component that is given has a value
+    given-has : (state : State) (store : Store) → Knows (parts_in world) (variables_in world) visible state store
+        → IsReachedBy visible store selectors way reach
+        → (selectors ≡ [] → is_structured (types_in world) id ≡ true) → is_covered world.tree state reach (rows root selectors) ≡ true
+        → (rest : List Step) → Contains (components_of (types_in world) id) rest → HasValue (moment visible store) root (way ++ rest)
+    given-has state store known reached structured covered rest of_type =
+        let row = laws.covers way rest structured matches of_type in
+        subst (λ (r : ℕ). HasValue (moment visible store) r (way ++ rest)) (laws.root_is row.0 row.1)
+        (reached-has world.tree (variables_in world) visible state store known selectors row.0 way rest reach reached row.2
+        (covered-row world.tree state reach (rows root selectors) row.0 covered row.1))
+
+    -- the value of a component of a row lies in the row's range
+    row-in : (state : State) (store : Store) → Knows (parts_in world) (variables_in world) visible state store → (row : ℕ) (rest : List Step) (v : Value)
+        → Contains (rows root selectors) row → IsOfRow (parts_in world) row (way ++ rest) → value_at (moment visible store) root (way ++ rest) ≡ Some v
+        → IsIn (row_at state.components row).range v
+    row-in state store known row rest v among of_row at =
+        known.components.ranges row (way ++ rest) v of_row
+        (subst (λ (r : ℕ). value_at (moment visible store) r (way ++ rest) ≡ Some v) (sym (laws.root_is row among)) at)
+
+    -- ---- an ordinal
+
+    module _ (scalar : components_of (types_in world) id ≡ [] ∷ []) (structured : selectors ≡ [] → is_structured (types_in world) id ≡ true) where
+      abbrev used : Walking Known
+      used = walk.rows_use (rows root selectors) reach site
+
+      itself : Contains (components_of (types_in world) id) []
+      itself = subst (λ (components : List (List Step)). Contains components []) (sym scalar) (0, omega arith, refl)
+
+      no-rest : (rest : List Step) → Contains (components_of (types_in world) id) rest → [] ≡ rest
+      no-rest rest of_type = alone [] rest (subst (λ (components : List (List Step)). Contains components rest) scalar of_type)
+
+      rows-good : (context : Context) (state : State) (s : effect.State) → IsReachedBy visible s.store selectors way reach
+          → IsPartOf world (used (inside context) state) → Here world block visible context state s → (found : Option Value)
+          → value_at (moment visible s.store) root (way ++ []) ≡ found
+          → Good world (IsForetold world visible IsValue context (used (inside context) state) s.store) s (effect.fetched found site s)
+      rows-good context state s reached part here None is =
+          let unclosed : is_covered world.tree state reach (rows root selectors) ≡ true → ⊥ = λ covered.
+          let has = given-has state s.store here.stands.known reached structured covered [] itself in none-some has.0 (sym is ∙ has.1) in
+          record {
+            errs = errs-here world site (part.ids site (open-here site (is_covered world.tree state reach (rows root selectors)) unclosed)) below;
+            new = nothing-new world s.visited;
+            gives = tt;
+          }
+      rows-good context state s reached part here (Some v) is =
+          let row = laws.covers way [] structured matches itself in
+          let lies = joined-in state (rows root selectors) row.0 v row.1 (row-in state s.store here.stands.known row.0 [] v row.1 row.2 is) in
+          let has : (rest : List Step) → Contains (components_of (types_in world) id) rest → HasValue (moment visible s.store) root (way ++ rest) =
+          λ rest of_type. (v, subst (λ (steps : List Step). value_at (moment visible s.store) root (way ++ steps) ≡ Some v) (no-rest rest of_type) is) in
+          let known = used-known world.tree (variables_in world) visible s.store root selectors id laws way matches reach reached has state here.stands.known in
+          let behind = with_used reach (rows root selectors) state in
+          good-give world (IsForetold world visible IsValue context (used (inside context) state) s.store) v s here.fine (record {
+            tie = lies;
+            stands = nonempty-stands world visible context (all_joined (ranges_of state (rows root selectors))) behind s.store v lies
+                (stands-as world visible context state behind s.store here.stands known);
+            kept = keeps-itself visible context.rounds s.store;
+          })
+
+    -- ---- a whole value
+
+    -- the components that were read
+    abbrev AreRead : Store → List (List Step) → List Value → Store → Type 0
+    AreRead before components values after =
+        (after ≡ before) × (length values ≡ length components)
+        × ((k : ℕ) (rest : List Step) (v : Value) → slice_get components k ≡ Some rest → slice_get values k ≡ Some v
+        → value_at (moment visible before) root (way ++ rest) ≡ Some v)
+
+    module _ (place : Option Place) (place_is : place ≡ part (visible.variables root) way) (before : Store) where
+      abbrev IsRead : List Step → Value → Store → Type 0
+      IsRead rest v after = (value_at (moment visible before) root (way ++ rest) ≡ Some v) × (after ≡ before)
+
+      found-good : (rest : List Step) (s : effect.State) → Fine world.tree s → s.store ≡ before → (found : Option Value)
+          → value_at (moment visible before) root (way ++ rest) ≡ found
+          → (found ≡ None → Contains world.ids site) → Good world (IsRead rest) s (effect.fetched found site s)
+      found-good rest s fine same None is opens = record {
+        errs = errs-here world site (opens refl) below;
+        new = nothing-new world s.visited;
+        gives = tt;
+      }
+      found-good rest s fine same (Some v) is opens = good-give world (IsRead rest) v s fine (is, same)
+
+      one-good : (rest : List Step) (s : effect.State) → Fine world.tree s → s.store ≡ before
+          → (value_at (moment visible before) root (way ++ rest) ≡ None → Contains world.ids site)
+          → Good world (IsRead rest) s (fetch (part place rest) site s)
+      one-good rest s fine same opens =
+          subst (λ (found : Option Value). Good world (IsRead rest) s (effect.fetched found site s))
+          (sym (held-at s.store root way rest place place_is ∙ ap (λ (x : Store). value_at (moment visible x) root (way ++ rest)) same))
+          (found-good rest s fine same (value_at (moment visible before) root (way ++ rest)) refl opens)
+
+      all-good : (components : List (List Step)) (s : effect.State) → Fine world.tree s → s.store ≡ before
+          → ((rest : List Step) → Contains components rest → value_at (moment visible before) root (way ++ rest) ≡ None → Contains world.ids site)
+          → Good world (AreRead before components) s (fetch_all place components site s)
+      all-good [] s fine same opens =
+          good-give world (AreRead before []) [] s fine (same, refl, λ k rest v is at. absurd (none-some rest is))
+      all-good (first ∷ components) s fine same opens =
+          good-then world (IsRead first) (AreRead before (first ∷ components)) s (fetch (part place first) site s)
+          (λ v. effect.◌>>=◌ (fetch_all place components site) (λ values. effect.give (v ∷ values)))
+          (one-good first s fine same (opens first (0, omega arith, refl)))
+          (λ v t is read.
+          good-then world (AreRead before components) (AreRead before (first ∷ components)) t (fetch_all place components site t)
+          (λ values. effect.give (v ∷ values))
+          (all-good components t read.fine read.so.1 (λ rest among. opens rest (suc among.0, omega (arith, among.1), among.2)))
+          (λ values u gives more.
+          good-give world (AreRead before (first ∷ components)) (v ∷ values) u more.fine (
+            more.so.0,
+            ap suc more.so.1,
+            pairs-then (λ rest w. value_at (moment visible before) root (way ++ rest) ≡ Some w) first components v values read.so.0 more.so.2,
+          )))
+
+    abbrev used_whole : Walking (List Interval)
+    used_whole = walk.whole_rows_use id (rows root selectors) reach site
+
+    -- what was read lies in the ranges, row by row
+    read-in : (state : State) (store after : Store) (values : List Value) → Knows (parts_in world) (variables_in world) visible state store
+        → AreRead store (components_of (types_in world) id) values after → LieIn (types_in world) id (ranges_of state (rows root selectors)) values
+    read-in state store after values known read k j rest leaf v range of_type of_leaf named at ranged =
+        let row = mapped-at (λ (r : ℕ). (row_at state.components r).range) (rows root selectors) j range ranged in
+        let of_row = laws.placed way rest j row.0 leaf matches (contains-at (components_of (types_in world) id) k rest of_type) of_leaf named row.1 in
+        let lies = row-in state store known row.0 rest v (contains-at (rows root selectors) j row.0 row.1) of_row (read.2 k rest v of_type at) in
+        subst (λ (r : Interval). IsIn r v) row.2 lies
+
+    read-has : (store after : Store) (values : List Value) → AreRead store (components_of (types_in world) id) values after
+        → (rest : List Step) → Contains (components_of (types_in world) id) rest → HasValue (moment visible store) root (way ++ rest)
+    read-has store after values read rest among =
+        let components = components_of (types_in world) id in
+        let within : among.0 < length values = omega (arith, among.1, read.1) in
+        let v = some-at values among.0 within in
+        (v.0, read.2 among.0 rest v.0 (contains-get components rest among) v.1)
+
+    -- each value is one of the type of its component
+    read-typed : accesses.accessed (declared_in world) (types_in world) root selectors ≡ Some id → (s : effect.State) (after : Store) (values : List Value)
+        → Proper world.tree world.pairs block s.activations visible → Typed world.tree s.store
+        → AreRead s.store (components_of (types_in world) id) values after → AreComponentsOf (types_in world) id values
+    read-typed of_type s after values proper typed read = record {
+      count = read.1;
+      each = λ k rest v rest_at v_at.
+          part-lies world.tree world.pairs block s.activations visible proper root selectors id of_type s.store typed way rest matches v
+          (read.2 k rest v rest_at v_at);
+    }
+
+    abbrev closed : State → Bool
+    closed state = is_dead state || (is_structured (types_in world) id && is_covered world.tree state reach (rows root selectors))
+
+    -- there is a range for each leaf
+    ranges-many : (state : State) → is_structured (types_in world) id ≡ true
+        → length (ranges_of state (rows root selectors)) ≡ length (leaves_of (types_in world) id)
+    ranges-many state structured =
+        length-map (rows root selectors) (λ row. (row_at state.components row).range) ∙ many (λ none. structured)
+
+    whole-open : (context : Context) (state : State) (store : Store) → IsReachedBy visible store selectors way reach
+        → IsPartOf world (used_whole (inside context) state) → Stands world visible context state store
+        → (rest : List Step) → Contains (components_of (types_in world) id) rest → value_at (moment visible store) root (way ++ rest) ≡ None
+        → Contains world.ids site
+    whole-open context state store reached part stands rest among none =
+        let structured = is_structured (types_in world) id in
+        let covered = is_covered world.tree state reach (rows root selectors) in
+        let unclosed : closed state ≡ true → ⊥ = λ is.
+        ⊎_elim (λ dead. false-true (sym (alive (variables_in world) visible state.variables store stands.known.variables) ∙ dead))
+        (λ both.
+        let each = and_parts structured covered both in
+        let has = given-has state store stands.known reached (λ entire. each.0) each.1 rest among in none-some has.0 (sym none ∙ has.1))
+        (or_cases (is_dead state) (structured && covered) is) in
+        part.ids site (open-here site (closed state) unclosed)
+
+    whole-good : accesses.accessed (declared_in world) (types_in world) root selectors ≡ Some id → (value : Whole)
+        → ((ranges : List Interval) (values : List Value) → AreComponentsOf (types_in world) id values
+        → (is_structured (types_in world) id ≡ true → length ranges ≡ length (leaves_of (types_in world) id))
+        → LieIn (types_in world) id ranges values
+        → IsWhole (types_in world) value ranges values)
+        → (place : Option Place) → place ≡ part (visible.variables root) way → (context : Context) (state : State) (s : effect.State)
+        → IsReachedBy visible s.store selectors way reach → IsPartOf world (used_whole (inside context) state) → Here world block visible context state s
+        → Good world (IsForetold world visible (IsWholeIn value) context (used_whole (inside context) state) s.store) s
+        (fetch_all place (components_of (types_in world) id) site s)
+    whole-good of_type value so place place_is context state s reached part here =
+        let components = components_of (types_in world) id in
+        let behind = with_used reach (rows root selectors) state in
+        good-weaker world (AreRead s.store components)
+        (IsForetold world visible (IsWholeIn value) context (used_whole (inside context) state) s.store) s
+        (fetch_all place components site s)
+        (λ values t gives read.
+        let known = used-known world.tree (variables_in world) visible s.store root selectors id laws way matches reach reached
+        (read-has s.store t.store values read.so) state here.stands.known in
+        record {
+          tie = so (ranges_of state (rows root selectors)) values
+              (read-typed of_type s t.store values here.proper here.fine.typed read.so) (ranges-many state)
+              (read-in state s.store t.store values here.stands.known read.so);
+          stands = subst (λ (store : Store). Stands world visible context behind store) (sym read.so.0)
+              (stands-as world visible context state behind s.store here.stands known);
+          kept = subst (λ (store : Store). Keeps visible context.rounds s.store store) (sym read.so.0) (keeps-itself visible context.rounds s.store);
+        })
+        (all-good place place_is s.store components s here.fine refl (whole-open context state s.store reached part here.stands))
+
+  -- ---- what is accessed
+
+  abbrev access_type : ℕ → List Selector → Option TypeId
+  access_type root selectors = accesses.accessed (declared_in world) (types_in world) root selectors
+
+  -- the use of a component
+  component-sound : (root : ℕ) (selectors : List Selector) (id : TypeId) → access_type root selectors ≡ Some id → is_ordinal (types_in world) id ≡ true
+      → (selectors ≡ [] → ⊥) → (site : ℕ) → site < sites_in world → (store : Store) (reach : Reach) (place : Option Place)
+      → Leads visible root selectors store reach place
+      → SoundFrom world block visible store IsValue (fetch place site) (walk.component_use root selectors reach site)
+  component-sound root selectors id of_type ordinal some site below store reach place leads context state s same unbroken walked here =
+      let walking = walk.component_use root selectors reach site in
+      let scalar = ordinal_component (types_in world) id ordinal in
+      let reached : IsReachedBy visible s.store selectors leads.way reach =
+      subst (λ (x : Store). IsReachedBy visible x selectors leads.way reach) (sym same) leads.reached in
+      let place_is : part place [] ≡ place = part-none place in
+      in-program world context (λ (c : Context). IsPartOf world (walking c state)
+      → Good world (IsForetold world visible IsValue context (walking c state) s.store) s (fetch place site s)) here.stands.goes.tree_is
+      (λ inside_walked.
+      subst (λ (found : Option Value). Good world (IsForetold world visible IsValue context (walking (inside context) state) s.store) s
+      (effect.fetched found site s)) (sym (held-at s.store root leads.way [] place leads.place_is) ∙ ap (held s.store) place_is)
+      (rows-good root selectors id (rows-are world.tree root selectors id of_type) (rows-count world.tree root selectors id of_type) site below reach leads.way
+      leads.matches scalar (λ none. absurd (some none)) context state s reached inside_walked here
+      (value_at (moment visible s.store) root (leads.way ++ [])) refl)) walked
+
+  some-selector : (selector : Selector) (selectors : List Selector) → selector ∷ selectors ≡ [] → ⊥
+  some-selector selector selectors is = cc
+
+  -- the value of what is accessed
+  pub used-sound : (root : ℕ) (selectors : List Selector) (site : ℕ) → is_type (is_ordinal (types_in world)) (access_type root selectors) ≡ true
+      → is_seen world block root ≡ true → site < sites_in world → (store : Store) (reach : Reach) (place : Option Place)
+      → Leads visible root selectors store reach place
+      → SoundFrom world block visible store IsValue (fetch place site) (value_use root selectors reach site)
+  used-sound root [] site typed shown below store reach place leads =
+      let entire : place ≡ visible.variables root = leads.place_is ∙ ap (part (visible.variables root)) (no-way leads.way leads.matches)
+      ∙ part-none (visible.variables root) in
+      subst (λ (p : Option Place). SoundFrom world block visible store IsValue (fetch p site) (walk.use_of root site)) (sym entire)
+      (sound-here world block visible store IsValue (fetch (visible.variables root) site) (walk.use_of root site)
+      (sound-use world block visible root site shown below))
+  used-sound root (selector ∷ selectors) site typed shown below store reach place leads =
+      let id = type-of (is_ordinal (types_in world)) (access_type root (selector ∷ selectors)) typed in
+      component-sound root (selector ∷ selectors) id.0 id.1 id.2 (some-selector selector selectors) site below store reach place leads
+
+  -- the components of a whole value
+  components-sound : (root : ℕ) (selectors : List Selector) (id : TypeId) → access_type root selectors ≡ Some id → (site : ℕ) → site < sites_in world
+      → (value : Whole) → ((ranges : List Interval) (values : List Value) → AreComponentsOf (types_in world) id values
+      → (is_structured (types_in world) id ≡ true → length ranges ≡ length (leaves_of (types_in world) id))
+      → LieIn (types_in world) id ranges values → IsWhole (types_in world) value ranges values)
+      → (store : Store) (reach : Reach) (place : Option Place) → Leads visible root selectors store reach place
+      → SoundFrom world block visible store (IsWholeIn value) (fetch_all place (components_of visible.types id) site)
+      (walk.whole_use id root selectors reach site)
+  components-sound root selectors id of_type site below value so store reach place leads context state s same unbroken part here =
+      let R = IsWholeIn value in
+      let walking = walk.whole_use id root selectors reach site in
+      let reached : IsReachedBy visible s.store selectors leads.way reach =
+      subst (λ (x : Store). IsReachedBy visible x selectors leads.way reach) (sym same) leads.reached in
+      subst (λ (types : List Form). Good world (IsForetold world visible R context (walking context state) s.store) s
+      (fetch_all place (components_of types id) site s)) (sym here.proper.types_are)
+      (in-program world context (λ (c : Context). IsPartOf world (walking c state)
+      → Good world (IsForetold world visible R context (walking c state) s.store) s (fetch_all place (components_of (types_in world) id) site s))
+      here.stands.goes.tree_is
+      (λ part. whole-good root selectors id (rows-are world.tree root selectors id of_type) (rows-count world.tree root selectors id of_type) site below reach
+      leads.way leads.matches of_type value so place leads.place_is context state s reached part here) part)
+
+  -- a whole value: a string, or what is accessed
+  pub string-sound : (number : ℕ) (text : Vec ℕ Global)
+      → Sound world block visible (IsWholeIn (Text number text)) (whole_of (Text number text) [] env) (whole_walk (Text number text) [])
+  string-sound number text =
+      let R = IsWholeIn (Text number text) in
+      let values = characters_of text.items in
+      let ranges = text_range text.items ∷ [] in
+      sound-then world block visible Any_value R (effect.enter number visible) (λ done. effect.give values) (walk.enter number) (λ done. walk.give ranges)
+      (sound-enter world block visible number)
+      (λ b a store tie. sound-give world block visible R values ranges (λ later. record { told = (refl, refl, text-in text.items) }))
+
+  pub stored-sound : (access : Access) (type_id : TypeId) (cells defined : ℕ) (evaluations : List Evaluation) (pieces : List Piece)
+      → AllSound world block env evaluations pieces
+      → is_well_formed_whole (outline_of world.tree) block (VariableOf access type_id cells defined) (length evaluations) ≡ true
+      → Sound world block visible (IsWholeIn (VariableOf access type_id cells defined))
+      (whole_of (VariableOf access type_id cells defined) evaluations env) (whole_walk (VariableOf access type_id cells defined) pieces)
+  stored-sound access type_id cells defined evaluations pieces all well =
+      let value : Whole = VariableOf access type_id cells defined in
+      let selectors = access.selectors.items in
+      let n = length evaluations in
+      let leads_there = leads_to_whole (outline_of world.tree) block type_id access.root selectors n in
+      let sized = is_value_of (outline_of world.tree) block type_id cells in
+      let parts = and_parts leads_there (sized && nat_lt defined (sites_in world)) well in
+      let site = and_parts sized (nat_lt defined (sites_in world)) parts.1 in
+      let wanted = λ (id : TypeId). is_same id type_id && is_structured (types_in world) id in
+      let found = type-of wanted (access_type access.root selectors)
+      (leads-type (outline_of world.tree) block wanted access.root selectors n parts.0) in
+      let same = same-type found.0 type_id (and_parts (is_same found.0 type_id) (is_structured (types_in world) found.0) found.2).0 in
+      let R = IsWholeIn value in
+      let action = accessed access evaluations env in
+      let next = λ (place : Option Place). fetch_all place (components_of visible.types type_id) defined in
+      let walking = access_walk access pieces in
+      let walk_next = λ (reach : Reach). walk.whole_use type_id access.root selectors reach defined in
+      sound-anywhere world block visible R (effect.◌>>=◌ action next) (walk.◌>>=◌ walking walk_next)
+      (λ store.
+      from-then world block visible store (LeadsTo access.root selectors) R action next walking walk_next
+      (sound-here world block visible store (LeadsTo access.root selectors) action walking
+      (reached-sound access evaluations pieces all
+      (leads-count (outline_of world.tree) block wanted access.root selectors n parts.0)
+      (leads-tests (outline_of world.tree) block wanted access.root selectors n parts.0)))
+      (λ reach place s t is from leads.
+      components-sound access.root selectors type_id (found.1 ∙ ap (λ (id : TypeId). Some id) same) defined (ltb-true defined (sites_in world) site.1) value
+      (λ ranges values many count lie. record { told = (many, count, lie) }) t.store reach place leads))

@@ -1,0 +1,744 @@
+-- The walk over expressions is sound, form by form, and so is that over values that are written.
+use Rattle.std.proofs.Common.{arith, ◌≡◌, ◌∙◌, ap, refl, sym, subst, ℕ, suc, ◌+◌, ◌<◌, ℤ, pos, Bool, true, false, ◌&&◌, nat_eq, nat_lt}
+use Rattle.std.proofs.Common.{length, List, [], ◌∷◌, ◌++◌, map, Option, Some, None}
+use Rattle.std.specs.Prelude.{slice_get}
+use Rattle.std.specs.Option.{option_and_then, option_map}
+use Rattle.std.proofs.lemmas.Bool.{and_parts, eqb-true, ltb-true}
+use Rattle.std.proofs.lemmas.List.{length-map}
+use Rattle.std.proofs.lemmas.Option.{none-some, same_Some, slice_get-map}
+use Rattle.types.specs.Types.{is_ordinal, is_same, range_of}
+use Rattle.types.specs.declared.form.TypeId.{TypeId}
+use Rattle.typed_tree.specs.declared.tree.Access.{Access}
+use Rattle.typed_tree.specs.declared.tree.Block.{Block}
+use Rattle.typed_tree.specs.declared.tree.Call.{Call}
+use Rattle.typed_tree.specs.declared.tree.FunctionResult.{FunctionResult}
+use Rattle.typed_tree.specs.declared.tree.Heading.{Heading}
+use Rattle.typed_tree.specs.declared.tree.RangeTest.{RangeTest}
+use Rattle.typed_tree.specs.declared.tree.Variable.{Variable as DeclaredVariable}
+use Rattle.typed_tree.specs.declared.tree.Width.{Width}
+use Rattle.typed_tree.specs.declared.tree.WriteParameter.{WriteParameter}
+use Rattle.typed_tree.specs.declared.tree.Written.{Written}
+use Rattle.typed_tree.specs.declared.tree.Written.TheVariants as written
+use Rattle.typed_tree.specs.declared.tree.Whole.{Whole}
+use Rattle.typed_tree.specs.declared.tree.Whole.TheVariants.{Text, Variable as VariableOf}
+use Rattle.typed_tree.specs.declared.tree.Expr.{Expr}
+use Rattle.typed_tree.specs.declared.tree.Link.{Link}
+use Rattle.typed_tree.specs.declared.tree.Passed.{Passed}
+use Rattle.typed_tree.specs.declared.tree.Expr.TheOpen.{Expr-F, Link-F, Passed-F}
+use Rattle.typed_tree.specs.declared.tree.Expr.TheOpen.Expr-F.{Constant, Variable, Monadic as MonadicOf, Chain, Compare, Call as CallOf}
+use Rattle.typed_tree.specs.declared.tree.Expr.TheOpen.Passed-F.{Value as PassedValue, Whole as PassedWhole, Reference}
+use Rattle.typed_tree.specs.declared.tree.Expr.TheViews.{roll-Expr, roll-Link, roll-Passed}
+use Rattle.typed_tree.specs.declared.tree.Expr.TheFolds.{map-Expr, map-Link, map-Passed, fold-roll-Expr, fold-roll-Link, fold-roll-Passed, ind-Expr, ind-Passed}
+use Rattle.typed_tree.specs.Accesses as accesses
+use Rattle.typed_tree.specs.WellFormed.{Outline, all_hold, declarer, dyadic_is_well_formed, expr_is_well_formed, formal_of, heading_of, is_callable, is_kind_of}
+use Rattle.typed_tree.specs.WellFormed.{is_passed_to, is_range_of, is_round, is_value_kind, is_variable_kind, is_well_formed_call, is_well_formed_expr}
+use Rattle.typed_tree.specs.WellFormed.{is_well_formed_link, is_well_formed_parameter, is_well_formed_passed, is_well_formed_test, is_well_formed_width}
+use Rattle.typed_tree.specs.WellFormed.{is_well_formed_written, is_whole, leads_to_type, length_of, link_is_well_formed, may_call, may_copy, of_one, outline_of}
+use Rattle.typed_tree.specs.WellFormed.{passed_is_well_formed, passes_value, passes_variable, passes_whole, placed, takes_value, takes_variable, takes_whole}
+use Rattle.typed_tree.specs.WellFormed.{are_well_formed, is_well_formed_value, is_well_formed_whole, leads_to, leads_to_ordinal, monadic_is_well_formed}
+use Rattle.typed_tree.specs.WellFormed.{source_of, whole_indexes}
+use Rattle.meaning.specs.declared.store.Value.{Value}
+use Rattle.meaning.specs.declared.store.Value.TheVariants.{Number}
+use Rattle.meaning.specs.Store.{Environment, Place, Store, part}
+use Rattle.meaning.specs.Effect as effect
+use Rattle.meaning.specs.Effect.{fetch, is_in, is_positive, number_of, row_text, text_of}
+use Rattle.meaning.specs.Meaning as meaning
+use Rattle.meaning.specs.Meaning.{Evaluation, Passing, Surroundings, accessed, link_of, parameter_of, passing_of, value_of, values_of, width_of, written_of}
+use Rattle.domain.specs.Facts.{Bound}
+use Rattle.domain.specs.Interval.{Interval, truth_values}
+use Rattle.abstract_state.specs.declared.known.Known.{Known}
+use Rattle.abstract_state.specs.declared.known.Known.TheVariants.{Ordinal}
+use Rattle.abstract_state.specs.Forms.{bound_of}
+use Rattle.abstract_state.specs.Knows.{IsOfForm, moment}
+use Rattle.abstract_state.proofs.Ranged.{IsKnown, constant-in, truth_values-has}
+use Rattle.abstract_state.proofs.Refined.{access-kept, expression-kept, form-known, whole-kept}
+use Rattle.component_states.specs.Components.{Reach}
+use Rattle.call_states.specs.Actuals.{Actual, OfRows, OfValue, OfVariable}
+use Rattle.call_states.proofs.Passed.{indexes-integer}
+use Rattle.expression_checker.specs.Walk as walk
+use Rattle.expression_checker.specs.Walk.{Joint, PassedPiece, Piece, Walking, joint_of, link_step, link_walk, parameter_walk, passed_piece_of}
+use Rattle.expression_checker.specs.Walk.{passed_step, piece_of, piece_step, range_in, value_walk, width_walk}
+use Rattle.expression_checker.proofs.Fitting.{IsCopyFor, copy-for, passed-lies, same-type}
+use Rattle.expression_checker.proofs.Forms.{bound-same, form-same, pieces-hold, whole-holds}
+use Rattle.expression_checker.proofs.Keeping.{keeps-itself}
+use Rattle.expression_checker.proofs.Sound.{World, Any_value, IsForetold, IsValue, Leaves, LiesInResult, Passes, Sound, SoundCalls, declared_in}
+use Rattle.expression_checker.proofs.Sound.{from-then, gives-state, good-give}
+use Rattle.expression_checker.proofs.Sound.{sites_in, sound-anywhere, sound-enter, sound-give, sound-given, sound-here, sound-named, sound-then, sound-written}
+use Rattle.expression_checker.proofs.Sound.{types_in}
+use Rattle.expression_checker.proofs.SoundAccesses.{AllSound, IndexIsSound, IsWholeIn, LeadsTo, known-range, leads-count, leads-seen, leads-tests}
+use Rattle.expression_checker.proofs.SoundAccesses.{leads-type, reached-sound, required-leaves, required-true, stored-sound, string-sound, type-of, used-sound}
+use Rattle.expression_checker.proofs.SoundCalls.{AllPassed, CallLaws, IsPassed, PassedIsSound, call-sound, function-sound, place-kind, then-gives}
+use Rattle.expression_checker.proofs.SoundRows.{Leads}
+use Rattle.expression_checker.proofs.SoundOperations.{IsKnownOf, combined-sound, fitting-sound, given-sound, number-in, operated-sound}
+use Rattle.expression_checker.proofs.SoundOperations.{positive-sound}
+
+-- the walk over an action that gives no value is sound
+abbrev pub SoundAction : World → ℕ → Environment → effect.Action (Unit {0}) → Walking (Unit {0}) → Type 0
+SoundAction world block env action walking = Sound {A = Unit {0}} {B = Unit {0}} world block env Any_value action walking
+
+-- behind an entry
+pub entered-sound : {A B : Type 0} (world : World) (block : ℕ) (env : Environment) (R : B → A → Store → Type 0) (number : ℕ)
+    (action : effect.Action A) (walking : Walking B)
+    → Sound world block env R action walking
+    → Sound world block env R (effect.◌>>=◌ (effect.enter number env) (λ done. action)) (walk.◌>>=◌ (walk.enter number) (λ done. walking))
+entered-sound world block env R number action walking one =
+    sound-then world block env Any_value R (effect.enter number env) (λ done. action) (walk.enter number) (λ done. walking)
+    (sound-enter world block env number) (λ b a store tie. one)
+
+-- what a test holds of is there
+one-there : {A : Type 0} (test : A → Bool) (found : Option A) → of_one test found ≡ true → (x : A) × (found ≡ Some x) × (test x ≡ true)
+one-there test None is = absurd (cc)
+one-there test (Some x) is = (x, refl, is)
+
+mapped-there : {A B : Type 0} (f : A → B) (found : Option A) (y : B) → option_map f found ≡ Some y → (x : A) × (found ≡ Some x) × (f x ≡ y)
+mapped-there f None y is = absurd (none-some y is)
+mapped-there f (Some x) y is = (x, refl, same_Some (f x) y is)
+
+module _ (world : World) (block : ℕ) (env : Surroundings) (laws : CallLaws world) (calls : SoundCalls world env.calls) where
+  abbrev visible : Environment
+  visible = env.visible
+
+  abbrev outline : Outline
+  outline = outline_of world.tree
+
+  abbrev well_expr : Expr → Bool
+  well_expr = is_well_formed_expr outline block
+
+  abbrev well_passed : Passed → ℕ → ℕ → Bool
+  well_passed = is_well_formed_passed outline block
+
+  abbrev well_link : Link → Bool
+  well_link = is_well_formed_link outline block
+
+  -- ---- expressions
+
+  -- the walk of an expression tells of its value
+  abbrev SoundValue : Bool → Evaluation → Walking Known → Type 0
+  SoundValue well evaluation walking = well ≡ true → Sound world block visible IsValue (evaluation env) walking
+
+  abbrev SoundLink : Bool → meaning.Combination → walk.Combination → Type 0
+  SoundLink well combination walking =
+      well ≡ true → (known : Known) (v : Value) → IsKnown known v → Sound world block visible IsValue (combination env v) (walking known)
+
+  abbrev ValueIsSound : Expr → Type 0
+  ValueIsSound e = SoundValue (well_expr e) (value_of e) (value_walk e)
+
+  abbrev LinkIsSound : Link → Type 0
+  LinkIsSound l = SoundLink (well_link l) (link_of l) (link_walk l)
+
+  -- that of an actual parameter, for a callee and the place of the formal one
+  abbrev SoundPassed : (ℕ → ℕ → Bool) → Passing → PassedPiece → Type 0
+  SoundPassed well passing piece =
+      (callee position : ℕ) → well callee position ≡ true
+      → (formal : DeclaredVariable) × (formal_of outline callee position ≡ Some formal) × PassedIsSound world block env formal passing piece
+
+  abbrev ActualIsSound : Passed → Type 0
+  ActualIsSound p = SoundPassed (well_passed p) (passing_of p) (passed_piece_of p)
+
+  abbrev ProvedExpr : Type 0
+  ProvedExpr = (e : Expr) × ValueIsSound e
+
+  abbrev ProvedPassed : Type 0
+  ProvedPassed = (p : Passed) × ActualIsSound p
+
+  abbrev ProvedLink : Type 0
+  ProvedLink = (l : Link) × LinkIsSound l
+
+  -- the operators of a chain
+  turns-sound : (links : List ProvedLink)
+      → SoundLink (all_hold (map well_link (map (λ l. l.0) links))) (meaning.in_turn (map link_of (map (λ l. l.0) links)))
+      (walk.in_turn (map (λ joint. joint.combination) (map joint_of (map (λ l. l.0) links))))
+  turns-sound [] well known v inside = sound-give world block visible IsValue v known (λ store. inside)
+  turns-sound (link ∷ links) well known v inside =
+      let later = map (λ (l : ProvedLink). l.0) links in
+      let parts = and_parts (well_link link.0) (all_hold (map well_link later)) well in
+      sound-then world block visible IsValue IsValue (link_of link.0 env v) (meaning.in_turn (map link_of later) env) (link_walk link.0 known)
+      (walk.in_turn (map (λ joint. joint.combination) (map joint_of later)))
+      (link.1 parts.0 known v inside) (λ k w store within. turns-sound links parts.1 k w within)
+
+  -- a layer of an expression, of which the parts are sound
+  abbrev ExprLayer : Expr-F Expr Passed Link → Type 0
+  ExprLayer x =
+      SoundValue (expr_is_well_formed outline block (map-Expr Expr Passed Link Bool (ℕ → ℕ → Bool) Bool well_expr well_passed well_link x))
+      (meaning.value_step (map-Expr Expr Passed Link Evaluation Passing meaning.Combination value_of passing_of link_of x))
+      (piece_step (map-Expr Expr Passed Link Piece PassedPiece Joint piece_of passed_piece_of joint_of x)).walk
+
+  abbrev LinkLayer : Link-F Expr Passed Link → Type 0
+  LinkLayer x =
+      SoundLink (link_is_well_formed outline block (map-Link Expr Passed Link Bool (ℕ → ℕ → Bool) Bool well_expr well_passed well_link x))
+      (meaning.link_step (map-Link Expr Passed Link Evaluation Passing meaning.Combination value_of passing_of link_of x))
+      (link_step (map-Link Expr Passed Link Piece PassedPiece Joint piece_of passed_piece_of joint_of x)).combination
+
+  -- the index expressions of an access
+  index-sound : (e : Expr) → Sound world block visible IsValue (value_of e env) (value_walk e) → IndexIsSound world block env (value_of e) (piece_of e)
+  index-sound e sound = record {
+    sound = sound;
+    leaves = λ quiet s t v is. expression-kept e (sym (form-same e).holds ∙ quiet) env s t v is;
+    form = λ s t v is.
+        subst (λ (bound : Option Bound). IsOfForm (moment visible t.store) bound v) (sym (bound-same e)) (form-known e env s t v is);
+  }
+
+  proved-indexes : (parts : List ProvedExpr) → all_hold (map well_expr (map (λ e. e.0) parts)) ≡ true
+      → AllSound world block env (map value_of (map (λ e. e.0) parts)) (map piece_of (map (λ e. e.0) parts))
+  proved-indexes [] well = tt
+  proved-indexes (one ∷ parts) well =
+      let both = and_parts (well_expr one.0) (all_hold (map well_expr (map (λ (e : ProvedExpr). e.0) parts))) well in
+      (index-sound one.0 (one.1 both.0), proved-indexes parts both.1)
+
+  many-mapped : {A : Type 0} (f : Expr → A) (parts : List ProvedExpr) → length (map f (map (λ e. e.0) parts)) ≡ length (map (λ e. e.0) parts)
+  many-mapped f parts = length-map (map (λ (e : ProvedExpr). e.0) parts) f
+
+  variable-sound : (access : Access) (expressions : List Expr) (pieces : List Piece) (site : ℕ)
+      → AllSound world block env (map value_of expressions) pieces
+      → leads_to_ordinal outline block access.root access.selectors.items (length (map value_of expressions)) ≡ true
+      → site < sites_in world
+      → Sound world block visible IsValue (effect.◌>>=◌ (accessed access (map value_of expressions) env) (λ place. fetch place site))
+      (walk.variable_walk access pieces site)
+  variable-sound access expressions pieces site all well below =
+      let evaluations = map value_of expressions in
+      let selectors = access.selectors.items in
+      let wanted = is_ordinal (types_in world) in
+      let n = length evaluations in
+      let count = leads-count outline block wanted access.root selectors n well in
+      let tests = leads-tests outline block wanted access.root selectors n well in
+      let typed = leads-type outline block wanted access.root selectors n well in
+      let shown = leads-seen outline block wanted access.root selectors n well in
+      let action = accessed access evaluations env in
+      let walking = walk.access_walk access pieces in
+      let walk_next = λ (reach : Reach). walk.value_use access.root selectors reach site in
+      sound-anywhere world block visible IsValue (effect.◌>>=◌ action (λ place. fetch place site)) (walk.◌>>=◌ walking walk_next)
+      (λ store.
+      from-then world block visible store (LeadsTo world block env access.root selectors) IsValue action (λ place. fetch place site) walking walk_next
+      (sound-here world block visible store (LeadsTo world block env access.root selectors) action walking
+      (reached-sound world block env access evaluations pieces all count tests))
+      (λ reach place s t is from leads. used-sound world block env access.root selectors site typed shown below t.store reach place leads))
+
+  -- the index expressions that count, and the whole value
+  whole-sound : (value : Whole) (indexes : List ProvedExpr)
+      → all_hold (whole_indexes value (map well_expr (map (λ e. e.0) indexes))) ≡ true
+      → is_well_formed_whole outline block value (length (map (λ e. e.0) indexes)) ≡ true
+      → Sound world block visible (IsWholeIn world block env value) (meaning.whole_of value (map value_of (map (λ e. e.0) indexes)) env)
+      (walk.whole_walk value (map piece_of (map (λ e. e.0) indexes)))
+  whole-sound (Text number text) indexes counted well = string-sound world block env number text
+  whole-sound (VariableOf access type_id cells defined) indexes counted well =
+      let expressions = map (λ (e : ProvedExpr). e.0) indexes in
+      stored-sound world block env access type_id cells defined (map value_of expressions) (map piece_of expressions) (proved-indexes indexes counted)
+      (subst (λ (n : ℕ). is_well_formed_whole outline block (VariableOf access type_id cells defined) n ≡ true)
+      (sym (many-mapped value_of indexes)) well)
+
+  -- ---- actual parameters
+
+  passed-value : (value : Expr) (fits : RangeTest) (callee position : ℕ) (formal : DeclaredVariable) → ValueIsSound value
+      → formal_of outline callee position ≡ Some formal → (well_expr value && passes_value outline block fits callee position) ≡ true
+      → PassedIsSound world block env formal (meaning.passed_step (PassedValue (value_of value) fits)) (passed_step (PassedValue (piece_of value) fits))
+  passed-value value fits callee position formal sound at well =
+      let both = and_parts (well_expr value) (passes_value outline block fits callee position) well in
+      let tests = and_parts (is_well_formed_test outline block fits) (is_passed_to outline block (takes_value outline fits) callee position) both.1 in
+      let site = and_parts (nat_lt fits.site (sites_in world)) (is_whole fits.range.first && is_whole fits.range.last) tests.0 in
+      let takes : takes_value outline fits formal ≡ true =
+      subst (λ (found : Option DeclaredVariable). of_one (takes_value outline fits) found ≡ true) at tests.1 in
+      let kind = and_parts (is_value_kind formal.kind)
+      (is_ordinal (types_in world) formal.type_id && is_range_of fits.range (range_of (types_in world) formal.type_id)) takes in
+      let typed = and_parts (is_ordinal (types_in world) formal.type_id) (is_range_of fits.range (range_of (types_in world) formal.type_id)) kind.1 in
+      let R = IsPassed world visible formal in
+      let test = λ (v : Value). effect.require (is_in fits.range v) fits.site in
+      let next = λ (v : Value). effect.◌>>=◌ (test v) (λ tested. effect.give (meaning.OfValue v)) in
+      let walked = λ (known : Known). walk.◌>>=◌ (walk.fitting fits known)
+      (λ passed. walk.give (OfValue (range_in passed) (bound_of (piece_of value).form))) in
+      record {
+        sound = sound-anywhere world block visible R (effect.◌>>=◌ (value_of value env) next) (walk.◌>>=◌ (value_walk value) walked)
+            (λ store.
+            from-then world block visible store IsValue R (value_of value env) next (value_walk value) walked
+            (sound-here world block visible store IsValue (value_of value env) (value_walk value) (sound both.0))
+            (λ known v s t is from inside.
+            from-then world block visible t.store (IsKnownOf v) R (test v) (λ tested. effect.give (meaning.OfValue v)) (walk.fitting fits known)
+            (λ passed. walk.give (OfValue (range_in passed) (bound_of (piece_of value).form)))
+            (sound-here world block visible t.store (IsKnownOf v) (test v) (walk.fitting fits known)
+            (fitting-sound world block visible fits known v (ltb-true fits.site (sites_in world) site.0) inside))
+            (λ passed done s2 u gives same lies. λ context state s3 now unbroken part here.
+            let passes = required-true (is_in fits.range v) fits.site s2 u done gives in
+            let stays : s3.store ≡ t.store = now ∙ required-leaves (is_in fits.range v) fits.site s2 u done gives ∙ same in
+            let form : IsOfForm (moment visible s3.store) (bound_of (piece_of value).form) v =
+            subst (λ (x : Store). IsOfForm (moment visible x) (bound_of (piece_of value).form) v) (sym stays)
+            (subst (λ (bound : Option Bound). IsOfForm (moment visible t.store) bound v) (sym (bound-same value)) (form-known value env s t v is)) in
+            good-give world
+            (IsForetold world visible R context (walk.give (OfValue (range_in passed) (bound_of (piece_of value).form)) context state) s3.store)
+            (meaning.OfValue v) s3 here.fine (record {
+              tie = record {
+                known = (known-range passed v lies, form);
+                kind = (kind.0, passed-lies (types_in world) formal.type_id fits v (range_of (types_in world) formal.type_id) refl typed.1 passes);
+              };
+              stands = here.stands;
+              kept = keeps-itself visible context.rounds s3.store;
+            }))));
+        leaves = λ quiet s t argument is.
+            let first = then-gives (value_of value env s) next argument t is in
+            let second = then-gives (test first.1 first.0) (λ tested. effect.give (meaning.OfValue first.1)) argument t first.3 in
+            ap (λ (x : effect.State). x.store) (gives-state (meaning.OfValue first.1) argument second.0 t second.3)
+            ∙ required-leaves (is_in fits.range first.1) fits.site first.0 second.0 second.1 second.2
+            ∙ expression-kept value (sym (form-same value).holds ∙ quiet) env s first.0 first.1 first.2;
+      }
+
+  passed-whole : (type_id : TypeId) (value : Whole) (indexes : List ProvedExpr) (callee position : ℕ) (formal : DeclaredVariable)
+      → formal_of outline callee position ≡ Some formal
+      → (all_hold (whole_indexes value (map well_expr (map (λ e. e.0) indexes)))
+      && (is_well_formed_whole outline block value (length (map well_expr (map (λ e. e.0) indexes)))
+      && passes_whole outline block type_id (source_of value) (length_of value) callee position)) ≡ true
+      → (passing : Passing) → passing ≡ (λ env. effect.◌>>=◌ (meaning.whole_of value (map value_of (map (λ e. e.0) indexes)) env)
+      (λ row. effect.give (meaning.OfRow row)))
+      → (piece : PassedPiece) → piece.walk ≡ walk.whole_passed value (map piece_of (map (λ e. e.0) indexes))
+      → piece.holds_call ≡ walk.hold_call (whole_indexes value (map piece_of (map (λ e. e.0) indexes)))
+      → PassedIsSound world block env formal passing piece
+  passed-whole type_id value indexes callee position formal at well passing passing_is piece walk_is holds_is =
+      let expressions = map (λ (e : ProvedExpr). e.0) indexes in
+      let values = map value_of expressions in
+      let pieces = map piece_of expressions in
+      let counted = all_hold (whole_indexes value (map well_expr expressions)) in
+      let formed = is_well_formed_whole outline block value (length (map well_expr expressions)) in
+      let source = source_of value in
+      let passes = passes_whole outline block type_id source (length_of value) callee position in
+      let one = and_parts counted (formed && passes) well in
+      let two = and_parts formed passes one.1 in
+      let three = and_parts (may_copy outline block type_id source (length_of value)) (is_passed_to outline block (takes_whole type_id) callee position)
+      two.1 in
+      let takes : takes_whole type_id formal ≡ true =
+      subst (λ (found : Option DeclaredVariable). of_one (takes_whole type_id) found ≡ true) at three.1 in
+      let kind = and_parts (is_value_kind formal.kind) (is_same type_id formal.type_id) takes in
+      let sized_indexes : is_well_formed_whole outline block value (length expressions) ≡ true =
+      subst (λ (n : ℕ). is_well_formed_whole outline block value n ≡ true) (many-mapped well_expr indexes) two.0 in
+      let R = IsPassed world visible formal in
+      let action = meaning.whole_of value values env in
+      let next = λ (row : List Value). effect.give (meaning.OfRow row) in
+      let walking = walk.whole_walk value pieces in
+      let walk_next = λ (ranges : List Interval). walk.give (OfRows ranges) in
+      let sound_here : Sound world block visible R (effect.◌>>=◌ action next) (walk.◌>>=◌ walking walk_next) =
+      sound-then world block visible (IsWholeIn world block env value) R action next walking walk_next
+      (whole-sound value indexes one.0 sized_indexes)
+      (λ ranges row store whole. sound-give world block visible R (meaning.OfRow row) (OfRows ranges)
+      (λ later.
+      let copy = subst (λ (id : TypeId). IsCopyFor (types_in world) id ranges row) (same-type type_id formal.type_id kind.1)
+      (copy-for outline block laws.required type_id (length expressions) ranges row value sized_indexes three.0 whole) in
+      record { known = (copy.structured, copy.many, copy.lie); kind = (kind.0, copy.components) })) in
+      record {
+        sound = subst (λ (w : Walking Actual). Sound world block visible R (passing env) w) (sym walk_is)
+            (subst (λ (p : Passing). Sound world block visible R (p env) (walk.whole_passed value pieces)) (sym passing_is) sound_here);
+        leaves = λ quiet. subst (λ (p : Passing). Leaves (p env)) (sym passing_is)
+            (λ s t argument is.
+            let first = then-gives (action s) next argument t is in
+            ap (λ (x : effect.State). x.store) (gives-state (meaning.OfRow first.1) argument first.0 t first.3)
+            ∙ whole-kept value expressions (sym (whole-holds value expressions) ∙ sym holds_is ∙ quiet) env s first.0 first.1 first.2);
+      }
+
+  passed-reference : (type_id : TypeId) (access : Access) (indexes : List ProvedExpr) (callee position : ℕ) (formal : DeclaredVariable)
+      → formal_of outline callee position ≡ Some formal
+      → (all_hold (map well_expr (map (λ e. e.0) indexes))
+      && passes_variable outline block type_id access.root access.selectors.items (length (map well_expr (map (λ e. e.0) indexes))) callee position) ≡ true
+      → (passing : Passing) → passing ≡ (λ env. effect.◌>>=◌ (accessed access (map value_of (map (λ e. e.0) indexes)) env)
+      (λ place. effect.give (meaning.OfPlace place)))
+      → (piece : PassedPiece) → piece.walk ≡ walk.variable_passed access (map piece_of (map (λ e. e.0) indexes))
+      → piece.holds_call ≡ walk.hold_call (map piece_of (map (λ e. e.0) indexes))
+      → PassedIsSound world block env formal passing piece
+  passed-reference type_id access indexes callee position formal at well passing passing_is piece walk_is holds_is =
+      let expressions = map (λ (e : ProvedExpr). e.0) indexes in
+      let values = map value_of expressions in
+      let pieces = map piece_of expressions in
+      let selectors = access.selectors.items in
+      let n = length (map well_expr expressions) in
+      let one = and_parts (all_hold (map well_expr expressions)) (passes_variable outline block type_id access.root selectors n callee position) well in
+      let two = and_parts (leads_to_type outline block type_id access.root selectors n) (is_passed_to outline block (takes_variable type_id) callee position)
+      one.1 in
+      let takes : takes_variable type_id formal ≡ true = subst (λ (found : Option DeclaredVariable). of_one (takes_variable type_id) found ≡ true) at two.1 in
+      let kind = and_parts (is_variable_kind formal.kind) (is_same type_id formal.type_id) takes in
+      let wanted = λ (id : TypeId). is_same id type_id in
+      let found = type-of wanted (accesses.accessed (declared_in world) (types_in world) access.root selectors)
+      (leads-type outline block wanted access.root selectors n two.0) in
+      let typed : accesses.accessed (declared_in world) (types_in world) access.root selectors ≡ Some formal.type_id =
+      found.1 ∙ ap (λ (id : TypeId). Some id) (same-type found.0 type_id found.2 ∙ same-type type_id formal.type_id kind.1) in
+      let tests = leads-tests outline block wanted access.root selectors n two.0 in
+      let count = many-mapped value_of indexes ∙ sym (many-mapped well_expr indexes) ∙ leads-count outline block wanted access.root selectors n two.0 in
+      let R = IsPassed world visible formal in
+      let action = accessed access values env in
+      let next = λ (place : Option Place). effect.give (meaning.OfPlace place) in
+      let walking = walk.access_walk access pieces in
+      let walk_next = λ (reach : Reach). walk.give (OfVariable access.root selectors reach) in
+      let sound_here : Sound world block visible R (effect.◌>>=◌ action next) (walk.◌>>=◌ walking walk_next) =
+      sound-anywhere world block visible R (effect.◌>>=◌ action next) (walk.◌>>=◌ walking walk_next)
+      (λ store.
+      from-then world block visible store (LeadsTo world block env access.root selectors) R action next walking walk_next
+      (sound-here world block visible store (LeadsTo world block env access.root selectors) action walking
+      (reached-sound world block env access values pieces (proved-indexes indexes one.0) count tests))
+      (λ reach place s t is from leads. λ context state s2 now unbroken walked here.
+      let shown = here.proper.visible access.root (leads-seen outline block wanted access.root selectors n two.0) in
+      let there = leads.place_is ∙ ap (λ (found : Option Place). part found leads.way) shown.1 in
+      let leads_now : Leads visible access.root selectors s2.store reach place =
+      subst (λ (x : Store). Leads visible access.root selectors x reach place) (sym now) leads in
+      good-give world (IsForetold world visible R context (walk.give (OfVariable access.root selectors reach) context state) s2.store)
+      (meaning.OfPlace place) s2
+      here.fine (record {
+        tie = record {
+          known = (leads_now, typed, λ way number matches first. indexes-integer outline block selectors way number tests matches first);
+          kind = place-kind world formal place (record (shown.0) { steps = shown.0.steps ++ leads.way }) there kind.0;
+        };
+        stands = here.stands;
+        kept = keeps-itself visible context.rounds s2.store;
+      }))) in
+      record {
+        sound = subst (λ (w : Walking Actual). Sound world block visible R (passing env) w) (sym walk_is)
+            (subst (λ (p : Passing). Sound world block visible R (p env) (walk.variable_passed access pieces)) (sym passing_is) sound_here);
+        leaves = λ quiet. subst (λ (p : Passing). Leaves (p env)) (sym passing_is)
+            (λ s t argument is.
+            let first = then-gives (action s) next argument t is in
+            ap (λ (x : effect.State). x.store) (gives-state (meaning.OfPlace first.1) argument first.0 t first.3)
+            ∙ access-kept access expressions (sym (pieces-hold expressions) ∙ sym holds_is ∙ quiet) env s first.0 first.1 first.2);
+      }
+
+  abbrev plain_passed : Passed-F ProvedExpr ProvedPassed ProvedLink → Passed-F Expr Passed Link
+  plain_passed = map-Passed ProvedExpr ProvedPassed ProvedLink Expr Passed Link (λ e. e.0) (λ p. p.0) (λ l. l.0)
+
+  abbrev PassedLayer : Passed-F Expr Passed Link → Type 0
+  PassedLayer x =
+      SoundPassed (passed_is_well_formed outline block (map-Passed Expr Passed Link Bool (ℕ → ℕ → Bool) Bool well_expr well_passed well_link x))
+      (meaning.passed_step (map-Passed Expr Passed Link Evaluation Passing meaning.Combination value_of passing_of link_of x))
+      (passed_step (map-Passed Expr Passed Link Piece PassedPiece Joint piece_of passed_piece_of joint_of x))
+
+  passed-sound_layer : (y : Passed-F ProvedExpr ProvedPassed ProvedLink) → PassedLayer (plain_passed y)
+  passed-sound_layer (PassedValue value fits) = λ callee position well.
+      let both = and_parts (well_expr value.0) (passes_value outline block fits callee position) well in
+      let tests = and_parts (is_well_formed_test outline block fits) (is_passed_to outline block (takes_value outline fits) callee position) both.1 in
+      let there = one-there (takes_value outline fits) (formal_of outline callee position) tests.1 in
+      (there.0, there.1, passed-value value.0 fits callee position there.0 value.1 there.1 well)
+  passed-sound_layer (PassedWhole type_id value indexes) = λ callee position well.
+      let expressions = map (λ (e : ProvedExpr). e.0) indexes.items in
+      let formed = is_well_formed_whole outline block value (length (map well_expr expressions)) in
+      let copied = may_copy outline block type_id (source_of value) (length_of value) in
+      let passed = is_passed_to outline block (takes_whole type_id) callee position in
+      let one = and_parts (all_hold (whole_indexes value (map well_expr expressions))) (formed && (copied && passed)) well in
+      let two = and_parts formed (copied && passed) one.1 in
+      let there = one-there (takes_whole type_id) (formal_of outline callee position) (and_parts copied passed two.1).1 in
+      (there.0, there.1, passed-whole type_id value indexes.items callee position there.0 there.1 well _ refl _ refl refl)
+  passed-sound_layer (Reference type_id access indexes) = λ callee position well.
+      let expressions = map (λ (e : ProvedExpr). e.0) indexes.items in
+      let n = length (map well_expr expressions) in
+      let leads = leads_to_type outline block type_id access.root access.selectors.items n in
+      let passes = is_passed_to outline block (takes_variable type_id) callee position in
+      let one = and_parts (all_hold (map well_expr expressions)) (leads && passes) well in
+      let there = one-there (takes_variable type_id) (formal_of outline callee position) (and_parts leads passes one.1).1 in
+      (there.0, there.1, passed-reference type_id access indexes.items callee position there.0 there.1 well _ refl _ refl refl)
+
+  -- side by side with the formal parameters, from a place on
+  placed-sound : (number : ℕ) (heading : Heading) → slice_get outline.headings number ≡ Some heading → (position : ℕ) (roots : List ℕ)
+      → ((k : ℕ) → slice_get roots k ≡ slice_get heading.parameters.items (position + k)) → (actuals : List ProvedPassed) → length actuals ≡ length roots
+      → all_hold (placed number position (map well_passed (map (λ p. p.0) actuals))) ≡ true
+      → AllPassed world block env roots (map passing_of (map (λ p. p.0) actuals)) (map passed_piece_of (map (λ p. p.0) actuals))
+  placed-sound number heading at position [] suffix [] count well = tt
+  placed-sound number heading at position [] suffix (actual ∷ actuals) count well = absurd (omega (arith, count))
+  placed-sound number heading at position (root ∷ roots) suffix [] count well = absurd (omega (arith, count))
+  placed-sound number heading at position (root ∷ roots) suffix (actual ∷ actuals) count well =
+      let both = and_parts (well_passed actual.0 number position)
+      (all_hold (placed number (suc position) (map well_passed (map (λ (p : ProvedPassed). p.0) actuals))))
+      well in
+      let here : slice_get heading.parameters.items position ≡ Some root =
+      ap (slice_get heading.parameters.items) (let e : position ≡ position + 0 = omega arith in e) ∙ sym (suffix 0) in
+      let of_root : formal_of outline number position ≡ slice_get (declared_in world) root =
+      ap (λ (found : Option Heading). option_and_then (λ (r : ℕ). slice_get (declared_in world) r)
+      (option_and_then (λ (h : Heading). slice_get h.parameters.items position) found)) at
+      ∙ ap (λ (found : Option ℕ). option_and_then (λ (r : ℕ). slice_get (declared_in world) r) found) here in
+      let own = actual.1 number position both.0 in (
+        own.0,
+        sym of_root ∙ own.1,
+        own.2,
+        placed-sound number heading at (suc position) roots
+            (λ k. suffix (suc k) ∙ ap (slice_get heading.parameters.items) (let e : position + suc k ≡ suc position + k = omega arith in e)) actuals
+            (omega (arith, count)) both.1,
+      )
+
+  -- a routine that is called
+  pub callee-found : (is_function : Bool) (number count : ℕ) → may_call outline block is_function number count ≡ true
+      → (callee : Block) × (slice_get world.tree.blocks.items number ≡ Some callee) × (slice_get outline.headings number ≡ Some callee.heading)
+      × (of_one (is_round outline block) (declarer callee.heading.around.items) ≡ true) × (is_kind_of is_function callee.heading.result ≡ true)
+      × (count ≡ length callee.heading.parameters.items)
+  callee-found is_function number count may =
+      let there = one-there (is_callable outline block is_function count) (slice_get outline.headings number) may in
+      let block_there = mapped-there heading_of (slice_get world.tree.blocks.items number) there.0
+      (sym (slice_get-map heading_of world.tree.blocks.items number) ∙ there.1) in
+      let callee = block_there.0 in
+      let heading : slice_get outline.headings number ≡ Some callee.heading = there.1 ∙ ap (λ (h : Heading). Some h) (sym block_there.2) in
+      let callable : is_callable outline block is_function count callee.heading ≡ true =
+      subst (λ (h : Heading). is_callable outline block is_function count h ≡ true) (sym block_there.2) there.2 in
+      let one = and_parts (of_one (is_round outline block) (declarer callee.heading.around.items))
+      (is_kind_of is_function callee.heading.result && nat_eq count (length callee.heading.parameters.items)) callable in
+      let two = and_parts (is_kind_of is_function callee.heading.result) (nat_eq count (length callee.heading.parameters.items)) one.1 in
+      (callee, block_there.1, heading, one.0, two.0, eqb-true count (length callee.heading.parameters.items) two.1)
+
+  function-result : (result : Option FunctionResult) → is_kind_of true result ≡ true → (own : FunctionResult) × (result ≡ Some own)
+  function-result None is = absurd (cc)
+  function-result (Some own) is = (own, refl)
+
+  value-layer : (y : Expr-F ProvedExpr ProvedPassed ProvedLink) → ExprLayer
+      (map-Expr ProvedExpr ProvedPassed ProvedLink Expr Passed Link (λ e. e.0) (λ p. p.0) (λ l. l.0) y)
+  value-layer (Constant number value) well =
+      entered-sound world block visible IsValue number (effect.give (Number value)) (walk.ordinal (record { first = value; last = value }))
+      (given-sound world block visible (record { first = value; last = value }) value (constant-in value))
+  value-layer (Variable access indexes defined) well =
+      let expressions = map (λ (e : ProvedExpr). e.0) indexes.items in
+      let leads = leads_to_ordinal outline block access.root access.selectors.items in
+      let counted = all_hold (map well_expr expressions) in
+      let many = length (map well_expr expressions) in
+      let parts = and_parts counted (leads many && nat_lt defined (sites_in world)) well in
+      let both = and_parts (leads many) (nat_lt defined (sites_in world)) parts.1 in
+      variable-sound access expressions (map piece_of expressions) defined (proved-indexes indexes.items parts.0)
+      (subst (λ (n : ℕ). leads n ≡ true) (many-mapped well_expr indexes.items ∙ sym (many-mapped value_of indexes.items)) both.0)
+      (ltb-true defined (sites_in world) both.1)
+  value-layer (MonadicOf number operation operand) well =
+      let parts = and_parts (monadic_is_well_formed outline block operation) (well_expr operand.value.0) well in
+      let meant = λ (v : Value). effect.◌>>=◌ (meaning.operated operation (number_of v)) (λ n. effect.give (Number n)) in
+      entered-sound world block visible IsValue number (effect.◌>>=◌ (value_of operand.value.0 env) meant)
+      (walk.◌>>=◌ (value_walk operand.value.0) (walk.operated operation))
+      (sound-then world block visible IsValue IsValue (value_of operand.value.0 env) meant (value_walk operand.value.0) (walk.operated operation)
+      (operand.value.1 parts.1) (λ known v store inside. operated-sound world block visible operation known v parts.0 inside))
+  value-layer (Chain first rest) well =
+      let links = map (λ (l : ProvedLink). l.0) rest.items in
+      let parts = and_parts (well_expr first.value.0) (all_hold (map well_link links)) well in
+      sound-then world block visible IsValue IsValue (value_of first.value.0 env) (meaning.in_turn (map link_of links) env) (value_walk first.value.0)
+      (walk.in_turn (map (λ joint. joint.combination) (map joint_of links)))
+      (first.value.1 parts.0) (λ known v store inside. turns-sound rest.items parts.1 known v inside)
+  value-layer (Compare number relation left left_indexes right right_indexes) well =
+      let left_expressions = map (λ (e : ProvedExpr). e.0) left_indexes.items in
+      let right_expressions = map (λ (e : ProvedExpr). e.0) right_indexes.items in
+      let left_values = map value_of left_expressions in
+      let right_values = map value_of right_expressions in
+      let left_pieces = map piece_of left_expressions in
+      let right_pieces = map piece_of right_expressions in
+      let is_well = is_well_formed_whole outline block in
+      let left_counted = all_hold (whole_indexes left (map well_expr left_expressions)) in
+      let right_counted = all_hold (whole_indexes right (map well_expr right_expressions)) in
+      let left_well = is_well left (length (map well_expr left_expressions)) in
+      let right_well = is_well right (length (map well_expr right_expressions)) in
+      let same = nat_eq (length_of left) (length_of right) in
+      let one = and_parts left_counted (left_well && (right_counted && (right_well && same))) well in
+      let two = and_parts left_well (right_counted && (right_well && same)) one.1 in
+      let three = and_parts right_counted (right_well && same) two.1 in
+      let four = and_parts right_well same three.1 in
+      let left_sized : is_well left (length left_expressions) ≡ true =
+      subst (λ (n : ℕ). is_well left n ≡ true) (many-mapped well_expr left_indexes.items) two.0 in
+      let right_sized : is_well right (length right_expressions) ≡ true =
+      subst (λ (n : ℕ). is_well right n ≡ true) (many-mapped well_expr right_indexes.items) four.0 in
+      let compares = λ (a : List Value).
+      effect.◌>>=◌ (meaning.whole_of right right_values env) (λ b. effect.give (Number (meaning.compared relation a b))) in
+      let behind = λ (a : List Value). effect.◌>>=◌ (effect.enter number visible) (λ done. compares a) in
+      let walked = walk.◌>>=◌ (walk.whole_walk right right_pieces) (λ done. walk.ordinal truth_values) in
+      sound-then world block visible (IsWholeIn world block env left) IsValue (meaning.whole_of left left_values env) behind
+      (walk.whole_walk left left_pieces) (λ done. walk.◌>>=◌ (walk.enter number) (λ done. walked)) (whole-sound left left_indexes.items one.0 left_sized)
+      (λ b a store tie. entered-sound world block visible IsValue number (compares a) walked
+      (sound-then world block visible (IsWholeIn world block env right) IsValue (meaning.whole_of right right_values env)
+      (λ b. effect.give (Number (meaning.compared relation a b)))
+      (walk.whole_walk right right_pieces) (λ done. walk.ordinal truth_values) (whole-sound right right_indexes.items three.0 right_sized)
+      (λ c b store tie. given-sound world block visible truth_values (meaning.compared relation a b)
+      (truth_values-has (meaning.relates relation (meaning.order_of (map number_of a) (map number_of b)) (pos 0))))))
+  value-layer (CallOf call actuals) well =
+      let passed = map (λ (p : ProvedPassed). p.0) actuals.items in
+      let n = length (map well_passed passed) in
+      let both = and_parts (may_call outline block true call.block n) (all_hold (placed call.block 0 (map well_passed passed))) well in
+      let found = callee-found true call.block n both.0 in
+      let count = sym (length-map passed well_passed ∙ length-map actuals.items (λ (p : ProvedPassed). p.0)) ∙ found.5 in
+      let all = placed-sound call.block found.0.heading found.2 0 found.0.heading.parameters.items
+      (λ k. ap (slice_get found.0.heading.parameters.items) (let e : k ≡ 0 + k = omega arith in e)) actuals.items count both.1 in
+      let result = function-result found.0.heading.result found.4 in
+      function-sound world block env laws calls call found.0 found.1 found.3 (map passing_of passed) (map passed_piece_of passed) all result.0 result.1
+
+  link-layer : (y : Link-F ProvedExpr ProvedPassed ProvedLink) → LinkLayer
+      (map-Link ProvedExpr ProvedPassed ProvedLink Expr Passed Link (λ e. e.0) (λ p. p.0) (λ l. l.0) y)
+  link-layer y well known v inside =
+      let right = y.operand.0 in
+      let meant = λ (w : Value). effect.◌>>=◌ (meaning.combined y.operation (number_of v) (number_of w)) (λ n. effect.give (Number n)) in
+      let walked = walk.combined y.operation known in
+      let parts = and_parts (dyadic_is_well_formed outline block y.operation) (well_expr right) well in
+      entered-sound world block visible IsValue y.number (effect.◌>>=◌ (value_of right env) meant) (walk.◌>>=◌ (value_walk right) walked)
+      (sound-then world block visible IsValue IsValue (value_of right env) meant (value_walk right) walked
+      (y.operand.1 parts.1) (λ k w store is. combined-sound world block visible y.operation known k v w parts.0 inside is))
+
+  -- by what the three folds are at a form
+  along-value : {a b : Bool} {evaluation evaluated : Evaluation} {walking walked : Walking Known} → a ≡ b → evaluation ≡ evaluated → walking ≡ walked
+      → SoundValue b evaluated walked → SoundValue a evaluation walking
+  along-value {a} {b} {evaluation} {evaluated} {walking} {walked} well_is one two sound =
+      subst (λ (w : Bool). SoundValue w evaluation walking) (sym well_is)
+      (subst (λ (e : Evaluation). SoundValue b e walking) (sym one) (subst (λ (w : Walking Known). SoundValue b evaluated w) (sym two) sound))
+
+  along-link : {a b : Bool} {combination combined : meaning.Combination} {walking walked : walk.Combination} → a ≡ b → combination ≡ combined → walking ≡ walked
+      → SoundLink b combined walked → SoundLink a combination walking
+  along-link {a} {b} {combination} {combined} {walking} {walked} well_is one two sound =
+      subst (λ (w : Bool). SoundLink w combination walking) (sym well_is)
+      (subst (λ (c : meaning.Combination). SoundLink b c walking) (sym one) (subst (λ (w : walk.Combination). SoundLink b combined w) (sym two) sound))
+
+  rolled-expr : (x : Expr-F Expr Passed Link) → ExprLayer x → ValueIsSound (roll-Expr x)
+  rolled-expr x =
+      along-value
+      (fold-roll-Expr Bool (ℕ → ℕ → Bool) Bool (expr_is_well_formed outline block) (passed_is_well_formed outline block)
+      (link_is_well_formed outline block) x)
+      (fold-roll-Expr Evaluation Passing meaning.Combination meaning.value_step meaning.passed_step meaning.link_step x)
+      (ap (λ (piece : Piece). piece.walk) (fold-roll-Expr Piece PassedPiece Joint piece_step passed_step link_step x))
+
+  rolled-link : (x : Link-F Expr Passed Link) → LinkLayer x → LinkIsSound (roll-Link x)
+  rolled-link x =
+      along-link
+      (fold-roll-Link Bool (ℕ → ℕ → Bool) Bool (expr_is_well_formed outline block) (passed_is_well_formed outline block)
+      (link_is_well_formed outline block) x)
+      (fold-roll-Link Evaluation Passing meaning.Combination meaning.value_step meaning.passed_step meaning.link_step x)
+      (ap (λ (joint : Joint). joint.combination) (fold-roll-Link Piece PassedPiece Joint piece_step passed_step link_step x))
+
+  abbrev plain_expr : Expr-F ProvedExpr ProvedPassed ProvedLink → Expr-F Expr Passed Link
+  plain_expr = map-Expr ProvedExpr ProvedPassed ProvedLink Expr Passed Link (λ e. e.0) (λ p. p.0) (λ l. l.0)
+
+  abbrev plain_link : Link-F ProvedExpr ProvedPassed ProvedLink → Link-F Expr Passed Link
+  plain_link = map-Link ProvedExpr ProvedPassed ProvedLink Expr Passed Link (λ e. e.0) (λ p. p.0) (λ l. l.0)
+
+  along-passed : {a b : ℕ → ℕ → Bool} {passing passed : Passing} {piece walked : PassedPiece} → a ≡ b → passing ≡ passed → piece ≡ walked
+      → SoundPassed b passed walked → SoundPassed a passing piece
+  along-passed {a} {b} {passing} {passed} {piece} {walked} well_is one two sound =
+      subst (λ (w : ℕ → ℕ → Bool). SoundPassed w passing piece) (sym well_is)
+      (subst (λ (p : Passing). SoundPassed b p piece) (sym one) (subst (λ (w : PassedPiece). SoundPassed b passed w) (sym two) sound))
+
+  rolled-passed : (x : Passed-F Expr Passed Link) → PassedLayer x → ActualIsSound (roll-Passed x)
+  rolled-passed x =
+      along-passed
+      (fold-roll-Passed Bool (ℕ → ℕ → Bool) Bool (expr_is_well_formed outline block) (passed_is_well_formed outline block)
+      (link_is_well_formed outline block) x)
+      (fold-roll-Passed Evaluation Passing meaning.Combination meaning.value_step meaning.passed_step meaning.link_step x)
+      (fold-roll-Passed Piece PassedPiece Joint piece_step passed_step link_step x)
+
+  pub value-sound : (e : Expr) → ValueIsSound e
+  value-sound =
+      ind-Expr ValueIsSound ActualIsSound LinkIsSound
+      (λ x y is. subst (λ (z : Expr-F Expr Passed Link). ValueIsSound (roll-Expr z)) is (rolled-expr (plain_expr y) (value-layer y)))
+      (λ x y is. subst (λ (z : Passed-F Expr Passed Link). ActualIsSound (roll-Passed z)) is (rolled-passed (plain_passed y) (passed-sound_layer y)))
+      (λ x y is. subst (λ (z : Link-F Expr Passed Link). LinkIsSound (roll-Link z)) is (rolled-link (plain_link y) (link-layer y)))
+
+  pub actual-sound : (p : Passed) → ActualIsSound p
+  actual-sound =
+      ind-Passed ValueIsSound ActualIsSound LinkIsSound
+      (λ x y is. subst (λ (z : Expr-F Expr Passed Link). ValueIsSound (roll-Expr z)) is (rolled-expr (plain_expr y) (value-layer y)))
+      (λ x y is. subst (λ (z : Passed-F Expr Passed Link). ActualIsSound (roll-Passed z)) is (rolled-passed (plain_passed y) (passed-sound_layer y)))
+      (λ x y is. subst (λ (z : Link-F Expr Passed Link). LinkIsSound (roll-Link z)) is (rolled-link (plain_link y) (link-layer y)))
+
+  abbrev with_proof : Passed → ProvedPassed
+  with_proof p = (p, actual-sound p)
+
+  plain-back : (actuals : List Passed) → map (λ p. p.0) (map with_proof actuals) ≡ actuals
+  plain-back [] = refl
+  plain-back (p ∷ actuals) = ap (λ (more : List Passed). p ∷ more) (plain-back actuals)
+
+  procedure-proved : (call : Call) (actuals : List ProvedPassed)
+      → is_well_formed_call outline block false call (map well_passed (map (λ p. p.0) actuals)) ≡ true
+      → SoundAction world block visible (effect.◌>>=◌ (meaning.call_of call (map passing_of (map (λ p. p.0) actuals)) env) (λ v. effect.give tt))
+      (walk.call_walk call (map passed_piece_of (map (λ p. p.0) actuals)))
+  procedure-proved call actuals well =
+      let passed = map (λ (p : ProvedPassed). p.0) actuals in
+      let n = length (map well_passed passed) in
+      let both = and_parts (may_call outline block false call.block n) (all_hold (placed call.block 0 (map well_passed passed))) well in
+      let found = callee-found false call.block n both.0 in
+      let count = sym (length-map passed well_passed ∙ length-map actuals (λ (p : ProvedPassed). p.0)) ∙ found.5 in
+      let all = placed-sound call.block found.0.heading found.2 0 found.0.heading.parameters.items
+      (λ k. ap (slice_get found.0.heading.parameters.items) (let e : k ≡ 0 + k = omega arith in e)) actuals count both.1 in
+      let action = meaning.call_of call (map passing_of passed) env in
+      let walking = walk.call_walk call (map passed_piece_of passed) in
+      sound-given {C = Unit {0}} world block visible (λ (done : Unit {0}) (v : Value) (store : Store). LiesInResult world call.block found.0.heading.result v)
+      Any_value (λ v. tt) (λ done v store tie. tt) action walking
+      (call-sound world block env laws calls call found.0 found.1 found.3 (map passing_of passed) (map passed_piece_of passed) all)
+
+  -- a call of a procedure
+  pub procedure-sound : (call : Call) (actuals : List Passed) → is_well_formed_call outline block false call (map well_passed actuals) ≡ true
+      → SoundAction world block visible (effect.◌>>=◌ (meaning.call_of call (map passing_of actuals) env) (λ v. effect.give tt))
+      (walk.call_walk call (map passed_piece_of actuals))
+  procedure-sound call actuals well =
+      subst (λ (list : List Passed). SoundAction world block visible
+      (effect.◌>>=◌ (meaning.call_of call (map passing_of list) env) (λ v. effect.give tt)) (walk.call_walk call (map passed_piece_of list)))
+      (plain-back actuals)
+      (procedure-proved call (map with_proof actuals)
+      (subst (λ (list : List Passed). is_well_formed_call outline block false call (map well_passed list) ≡ true) (sym (plain-back actuals)) well))
+
+  -- ---- accesses and whole values
+
+  all-indexes : (indexes : List Expr) → are_well_formed outline block indexes ≡ true
+      → AllSound world block env (values_of indexes) (walk.index_pieces indexes)
+  all-indexes [] well = tt
+  all-indexes (index ∷ indexes) well =
+      let both = and_parts (well_expr index) (are_well_formed outline block indexes) well in
+      (index-sound index (value-sound index both.0), all-indexes indexes both.1)
+
+  -- an access, which leads to what is wanted: what is reached there
+  pub access-sound : (access : Access) (indexes : List Expr) (wanted : TypeId → Bool)
+      → are_well_formed outline block indexes ≡ true
+      → leads_to outline block wanted access.root access.selectors.items (length indexes) ≡ true
+      → Sound world block visible (LeadsTo world block env access.root access.selectors.items) (accessed access (values_of indexes) env)
+      (walk.access_walk access (walk.index_pieces indexes))
+  access-sound access indexes wanted well leads =
+      let selectors = access.selectors.items in
+      reached-sound world block env access (values_of indexes) (walk.index_pieces indexes) (all-indexes indexes well)
+      (length-map indexes value_of ∙ leads-count outline block wanted access.root selectors (length indexes) leads)
+      (leads-tests outline block wanted access.root selectors (length indexes) leads)
+
+  -- the values of a whole value lie in the ranges that the walk tells
+  pub whole_value-sound : (value : Whole) (indexes : List Expr) → is_well_formed_value outline block value indexes ≡ true
+      → Sound world block visible (IsWholeIn world block env value) (meaning.whole_of value (values_of indexes) env)
+      (walk.whole_walk value (walk.index_pieces indexes))
+  whole_value-sound (Text number text) indexes well = string-sound world block env number text
+  whole_value-sound (VariableOf access type_id cells defined) indexes well =
+      let is_well = is_well_formed_whole outline block (VariableOf access type_id cells defined) in
+      let both = and_parts (are_well_formed outline block indexes) (is_well (length indexes)) well in
+      stored-sound world block env access type_id cells defined (values_of indexes) (walk.index_pieces indexes) (all-indexes indexes both.0)
+      (subst (λ (n : ℕ). is_well n ≡ true) (sym (length-map indexes value_of)) both.1)
+
+  -- ---- values that are written
+
+  -- a width that has to be at least 1
+  width-tested : (site : ℕ) (known : Known) (w : Value) → nat_lt site (sites_in world) ≡ true → IsKnown known w
+      → Sound {B = Unit {0}} world block visible Any_value
+      (effect.◌>>=◌ (effect.require (is_positive (number_of w)) site) (λ tested. effect.give (number_of w)))
+      (walk.width_test site known)
+  width-tested site (Ordinal range) w below inside =
+      let n = number_of w in
+      sound-then {D = Unit {0}} world block visible (Passes (is_positive n) (Number n)) Any_value (effect.require (is_positive n) site)
+      (λ tested. effect.give n) (walk.positive site range) (λ passed. walk.give tt)
+      (positive-sound world block visible site range n (ltb-true site (sites_in world) below) (number-in range w inside))
+      (λ passed tested store passes. sound-give {B = Unit {0}} world block visible Any_value n tt (λ later. tt))
+
+  width-sound : (width : Option Width) (default : ℤ) → is_well_formed_width outline block width ≡ true
+      → Sound {B = Unit {0}} world block visible Any_value (width_of width default env) (width_walk width)
+  width-sound None default well = sound-give {B = Unit {0}} world block visible Any_value default tt (λ later. tt)
+  width-sound (Some width) default well =
+      let parts = and_parts (nat_lt width.site (sites_in world)) (well_expr width.value) well in
+      let tests = λ (w : Value).
+      effect.◌>>=◌ (effect.require (is_positive (number_of w)) width.site) (λ tested. effect.give (number_of w)) in
+      sound-then {D = Unit {0}} world block visible IsValue Any_value (value_of width.value env) tests (value_walk width.value) (walk.width_test width.site)
+      (value-sound width.value parts.1) (λ known w store inside. width-tested width.site known w parts.0 inside)
+
+  -- a value that is written, and its width
+  written-sound : (value : Written) (width : Option Width) → is_well_formed_written outline block value ≡ true
+      → is_well_formed_width outline block width ≡ true
+      → SoundAction world block visible (written_of value width env) (walk.◌>>=◌ (walk.written_walk value) (λ done. width_walk width))
+  written-sound (written.Ordinal value representation) width well wide =
+      let default = meaning.default_width representation in
+      sound-then world block visible Any_value Any_value (value_of value env)
+      (λ v. effect.◌>>=◌ (width_of width default env) (λ w. effect.write (text_of representation (number_of v) w)))
+      (walk.written_walk (written.Ordinal value representation)) (λ done. width_walk width)
+      (sound-named world block visible IsValue Any_value (λ known. tt) (λ known v store inside. tt) (value_of value env) (value_walk value)
+      (value-sound value well))
+      (λ done v store tie. sound-written world block visible Any_value (text_of representation (number_of v)) (width_of width default env) (width_walk width)
+      (width-sound width default wide))
+  written-sound (written.String value indexes) width well wide =
+      let default = pos (length_of value) in
+      let expressions = indexes.items in
+      sound-then world block visible Any_value Any_value (meaning.whole_of value (values_of expressions) env)
+      (λ row. effect.◌>>=◌ (width_of width default env) (λ w. effect.write (row_text row w)))
+      (walk.written_walk (written.String value indexes)) (λ done. width_walk width)
+      (sound-named world block visible (IsWholeIn world block env value) Any_value (λ ranges. tt) (λ ranges row store tie. tt)
+      (meaning.whole_of value (values_of expressions) env) (walk.whole_walk value (walk.index_pieces expressions)) (whole_value-sound value expressions well))
+      (λ done row store tie. sound-written world block visible Any_value (row_text row) (width_of width default env) (width_walk width)
+      (width-sound width default wide))
+
+  pub parameter-sound : (parameter : WriteParameter) → is_well_formed_parameter outline block parameter ≡ true
+      → SoundAction world block visible (parameter_of parameter env) (parameter_walk parameter)
+  parameter-sound parameter well =
+      let parts = and_parts (is_well_formed_written outline block parameter.value)
+      (is_well_formed_width outline block parameter.width) well in
+      written-sound parameter.value parameter.width parts.0 parts.1

@@ -1,0 +1,238 @@
+-- The tests of values are sound, and so are the operations: a passed test leaves the values in the tested range, a calculation has its number in its
+-- range, and a result that is tested for overflow lies in integer.
+use Rattle.std.proofs.Common.{arith, ◌≡◌, ℕ, ◌<◌, ℤ, pos, int_le, nat_lt, Bool, true, not, ◌&&◌, ◌||◌, Option, Some, None, refl, subst}
+use Rattle.std.proofs.lemmas.Bool.{and_parts, ltb-true}
+use Rattle.std.proofs.lemmas.Int.{ints}
+use Rattle.std.proofs.lemmas.Option.{none-some, same_Some}
+use Rattle.typed_tree.specs.declared.tree.RangeTest.{RangeTest}
+use Rattle.typed_tree.specs.declared.tree.Monadic.{Monadic}
+use Rattle.typed_tree.specs.declared.tree.Monadic.TheVariants as monadic
+use Rattle.typed_tree.specs.declared.tree.Calculation.{Calculation}
+use Rattle.typed_tree.specs.declared.tree.Calculation.TheVariants as calculation
+use Rattle.typed_tree.specs.declared.tree.Shift.{Shift}
+use Rattle.typed_tree.specs.declared.tree.Shift.TheVariants as shift
+use Rattle.typed_tree.specs.declared.tree.Dyadic.{Dyadic}
+use Rattle.typed_tree.specs.declared.tree.Dyadic.TheVariants as dyadic
+use Rattle.typed_tree.specs.WellFormed.{calculation_is_well_formed, dyadic_is_well_formed, is_well_formed_test, is_whole, monadic_is_well_formed, outline_of}
+use Rattle.typed_tree.specs.WellFormed.{shift_is_well_formed}
+use Rattle.domain.specs.Interval.{Interval, HasMember, has_number, is_included, common, complement, both, either, without_zero_end, at_least}
+use Rattle.domain.specs.Ranges.{sum-has, difference-has, negated-has, product-has, squared-has, absolute-has, quotient-has, remainder-has, without_zero_end-has}
+use Rattle.domain.specs.Ranges.{at_least-has, both-has, either-has, complement-has}
+use Rattle.meaning.specs.declared.store.Value.{Value}
+use Rattle.meaning.specs.declared.store.Value.TheVariants.{Number}
+use Rattle.meaning.specs.Integers.{is_integer_number, is_true, is_odd}
+use Rattle.meaning.specs.Store.{Environment, Store}
+use Rattle.meaning.specs.Effect as effect
+use Rattle.meaning.specs.Effect.{is_in, is_positive, number_of}
+use Rattle.meaning.specs.Meaning as meaning
+use Rattle.abstract_state.specs.declared.known.Known.{Known}
+use Rattle.abstract_state.specs.declared.known.Known.TheVariants.{Ordinal}
+use Rattle.abstract_state.specs.State.{integer, limits_of}
+use Rattle.expression_checker.specs.Walk as walk
+use Rattle.structured_states.specs.Ways.{single}
+use Rattle.abstract_state.specs.Holds.{IsIn}
+use Rattle.abstract_state.proofs.Ranged.{IsKnown, truth-in, truth_values-has, is_within-has, has-is_within, is_in-limits, limits-is_in, included-in, common-in}
+use Rattle.abstract_state.proofs.Ranged.{first-positive, is-positive, without-zero}
+use Rattle.expression_checker.proofs.Sound.{World, IsValue, Sound, Passes, sites_in, sound-then, sound-named, sound-give, sound-given, sound-tested}
+
+-- the number of a value of a range lies in it
+pub number-in : (range : Interval) (v : Value) → IsIn range v → HasMember range (number_of v)
+number-in range (Number n) inside = inside
+
+-- ---- the range of a result has the result
+
+calculated-has : (does : Calculation) (range : Interval) (n : ℤ) → HasMember range n → HasMember (walk.calculated does range) (meaning.calculated does n)
+calculated-has calculation.Same range n inside = inside
+calculated-has calculation.Negative range n inside = negated-has range n inside
+calculated-has calculation.Complement range n inside = truth-in (complement range) (not (is_true n)) (complement-has range n inside)
+calculated-has calculation.Absolute range n inside = absolute-has range n inside
+calculated-has (calculation.Square overflow) range n inside = squared-has range n inside
+calculated-has calculation.Parity range n inside = truth_values-has (is_odd n)
+calculated-has calculation.Ordinal range n inside = inside
+
+one-single : HasMember single (pos 1)
+one-single = (omega (arith, ints), omega (arith, ints))
+
+shifted-has : (does : Shift) (range : Interval) (n : ℤ) → HasMember range n → HasMember (walk.shifted does range) (meaning.shifted does n)
+shifted-has shift.Same range n inside = inside
+shifted-has shift.Next range n inside = sum-has range single n (pos 1) inside one-single
+shifted-has shift.Previous range n inside = difference-has range single n (pos 1) inside one-single
+
+-- a right operand is no divisor, or one that may be
+abbrev IsDivisor : Dyadic → ℤ → Type 0
+IsDivisor (dyadic.Div by_zero) b = is_true b ≡ true
+IsDivisor (dyadic.Mod by_zero_or_less) b = is_positive b ≡ true
+IsDivisor other b = Unit {0}
+
+of_both-has : (operation : Dyadic) (left right : Interval) (a b : ℤ) → HasMember left a → HasMember right b → IsDivisor operation b
+    → HasMember (walk.of_both operation left right) (meaning.of_both operation a b)
+of_both-has (dyadic.Plus overflow) left right a b one two divides = sum-has left right a b one two
+of_both-has (dyadic.Minus overflow) left right a b one two divides = difference-has left right a b one two
+of_both-has (dyadic.Times overflow) left right a b one two divides = product-has left right a b one two
+of_both-has (dyadic.Div by_zero) left right a b one two divides = quotient-has left right a b one two divides
+of_both-has (dyadic.Mod by_zero_or_less) left right a b one two divides = remainder-has left right a b one two divides
+of_both-has dyadic.And left right a b one two divides = truth-in (both left right) (is_true a && is_true b) (both-has left right a b one two)
+of_both-has dyadic.Or left right a b one two divides = truth-in (either left right) (is_true a || is_true b) (either-has left right a b one two)
+of_both-has (dyadic.Relation relation) left right a b one two divides = truth_values-has (meaning.relates relation a b)
+
+-- a value is known, behind a test
+abbrev pub IsKnownOf : Value → Known → Unit {0} → Store → Type 0
+IsKnownOf v known done store = IsKnown known v
+
+-- a number is known, whatever the store
+abbrev IsNumber : Known → ℤ → Store → Type 0
+IsNumber known n store = IsKnown known (Number n)
+
+-- what is asked of a right operand: it lies in the range that passes
+abbrev Divides : Dyadic → ℤ → Interval → Unit {0} → Store → Type 0
+Divides operation b passed done store = HasMember passed b × IsDivisor operation b
+
+module _ (world : World) (block : ℕ) (env : Environment) where
+  -- ---- tests
+
+  -- a value that has to lie in limits
+  pub within-sound : (limits : Interval) (site : ℕ) (range : Interval) (v : Value) (test : Bool) → site < sites_in world → (test ≡ true → IsIn limits v)
+      → (IsIn limits v → test ≡ true)
+      → IsIn range v → Sound world block env (Passes test v) (effect.require test site) (walk.within limits site range)
+  within-sound limits site range v test below lies fits inside =
+      sound-tested world block env (is_included range limits) site (common range limits) v test below
+      (λ included. fits (included-in range limits v included inside)) (λ passes. common-in range limits v inside (lies passes))
+
+  -- a value that has to pass a test lies in its range then
+  passed-sound : (fits : RangeTest) (range : Interval) (v : Value) → fits.site < sites_in world → IsIn range v
+      → Sound world block env (Passes (is_in fits.range v) v) (effect.require (is_in fits.range v) fits.site)
+      (walk.within (limits_of fits.range) fits.site range)
+  passed-sound fits range v below inside =
+      within-sound (limits_of fits.range) fits.site range v (is_in fits.range v) below (is_in-limits fits.range v) (limits-is_in fits.range v) inside
+
+  pub fitting-sound : (fits : RangeTest) (known : Known) (v : Value) → fits.site < sites_in world → IsKnown known v
+      → Sound world block env (IsKnownOf v) (effect.require (is_in fits.range v) fits.site) (walk.fitting fits known)
+  fitting-sound fits (Ordinal range) v below inside =
+      let test = is_in fits.range v in
+      sound-named world block env (Passes test v) (IsKnownOf v) (λ passed. Ordinal passed) (λ passed done store passes. passes.0)
+      (effect.require test fits.site) (walk.within (limits_of fits.range) fits.site range) (passed-sound fits range v below inside)
+
+  -- a number that has to be at least 1
+  pub positive-sound : (site : ℕ) (range : Interval) (n : ℤ) → site < sites_in world → HasMember range n
+      → Sound world block env (Passes (is_positive n) (Number n)) (effect.require (is_positive n) site) (walk.positive site range)
+  positive-sound site range n below inside =
+      sound-tested world block env (int_le (pos 1) range.first) site (at_least (pos 1) range) (Number n) (is_positive n) below
+      (λ first. first-positive range n first inside) (λ passes. at_least-has (pos 1) range n inside (is-positive n passes))
+
+  -- a divisor, which may not be 0
+  divisor-sound : (site : ℕ) (range : Interval) (n : ℤ) → site < sites_in world → HasMember range n
+      → Sound world block env (Passes (is_true n) (Number n)) (effect.require (is_true n) site) (walk.divisor site range)
+  divisor-sound site range n below inside =
+      sound-tested world block env (not (has_number range (pos 0))) site (without_zero_end range) (Number n) (is_true n) below
+      (λ without. without-zero range n without inside) (λ passes. without_zero_end-has range n inside passes)
+
+  divides-sound : (operation : Dyadic) (range : Interval) (b : ℤ) → dyadic_is_well_formed (outline_of world.tree) block operation ≡ true → HasMember range b
+      → Sound world block env (Divides operation b) (meaning.divides operation b) (walk.divides operation range)
+  divides-sound (dyadic.Div by_zero) range b well inside = divisor-sound by_zero range b (ltb-true by_zero (sites_in world) well) inside
+  divides-sound (dyadic.Mod by_zero_or_less) range b well inside =
+      positive-sound by_zero_or_less range b (ltb-true by_zero_or_less (sites_in world) well) inside
+  divides-sound (dyadic.Plus overflow) range b well inside = sound-give world block env (Divides (dyadic.Plus overflow) b) tt range (λ store. (inside, tt))
+  divides-sound (dyadic.Minus overflow) range b well inside = sound-give world block env (Divides (dyadic.Minus overflow) b) tt range (λ store. (inside, tt))
+  divides-sound (dyadic.Times overflow) range b well inside = sound-give world block env (Divides (dyadic.Times overflow) b) tt range (λ store. (inside, tt))
+  divides-sound dyadic.And range b well inside = sound-give world block env (Divides dyadic.And b) tt range (λ store. (inside, tt))
+  divides-sound dyadic.Or range b well inside = sound-give world block env (Divides dyadic.Or b) tt range (λ store. (inside, tt))
+  divides-sound (dyadic.Relation relation) range b well inside =
+      sound-give world block env (Divides (dyadic.Relation relation) b) tt range (λ store. (inside, tt))
+
+  -- ---- results
+
+  -- the site of an overflow is one of the program
+  abbrev HasSite : Option ℕ → Type 0
+  HasSite overflow = (site : ℕ) → overflow ≡ Some site → site < sites_in world
+
+  own-site : (overflow : ℕ) → nat_lt overflow (sites_in world) ≡ true → HasSite (Some overflow)
+  own-site overflow well site is = ltb-true site (sites_in world) (subst (λ (n : ℕ). nat_lt n (sites_in world) ≡ true) (same_Some overflow site is) well)
+
+  calculated-site : (does : Calculation) → calculation_is_well_formed (outline_of world.tree) block does ≡ true → HasSite (meaning.overflow_of does)
+  calculated-site calculation.Same well site is = absurd (none-some site is)
+  calculated-site calculation.Negative well site is = absurd (none-some site is)
+  calculated-site calculation.Complement well site is = absurd (none-some site is)
+  calculated-site calculation.Absolute well site is = absurd (none-some site is)
+  calculated-site (calculation.Square overflow) well site is = own-site overflow well site is
+  calculated-site calculation.Parity well site is = absurd (none-some site is)
+  calculated-site calculation.Ordinal well site is = absurd (none-some site is)
+
+  of_both-site : (operation : Dyadic) → dyadic_is_well_formed (outline_of world.tree) block operation ≡ true → HasSite (meaning.overflow_of_both operation)
+  of_both-site (dyadic.Plus overflow) well site is = own-site overflow well site is
+  of_both-site (dyadic.Minus overflow) well site is = own-site overflow well site is
+  of_both-site (dyadic.Times overflow) well site is = own-site overflow well site is
+  of_both-site (dyadic.Div by_zero) well site is = absurd (none-some site is)
+  of_both-site (dyadic.Mod by_zero_or_less) well site is = absurd (none-some site is)
+  of_both-site dyadic.And well site is = absurd (none-some site is)
+  of_both-site dyadic.Or well site is = absurd (none-some site is)
+  of_both-site (dyadic.Relation relation) well site is = absurd (none-some site is)
+
+  -- a value that is a number of a range, and the number itself
+  pub given-sound : (range : Interval) (n : ℤ) → HasMember range n → Sound world block env IsValue (effect.give (Number n)) (walk.ordinal range)
+  given-sound range n inside = sound-give world block env IsValue (Number n) (Ordinal range) (λ store. inside)
+
+  number-sound : (range : Interval) (n : ℤ) → HasMember range n → Sound world block env IsNumber (effect.give n) (walk.ordinal range)
+  number-sound range n inside = sound-give world block env IsNumber n (Ordinal range) (λ store. inside)
+
+  -- a result that has to be an integer, where its overflow has a site
+  unless-sound : (overflow : Option ℕ) (range : Interval) (n : ℤ) → HasSite overflow → HasMember range n
+      → Sound world block env IsNumber (meaning.unless_overflow overflow n) (walk.unless_overflow overflow range)
+  unless-sound None range n below inside = number-sound range n inside
+  unless-sound (Some site) range n below inside =
+      let test = is_integer_number n in
+      let fits = has-is_within integer.first integer.last n in
+      sound-then world block env (Passes test (Number n)) IsNumber (effect.require test site) (λ tested. effect.give n)
+      (walk.within integer site range) (λ passed. walk.ordinal passed)
+      (within-sound integer site range (Number n) test (below site refl) (is_within-has integer.first integer.last n) fits inside)
+      (λ passed tested store passes. number-sound passed n passes.0)
+
+  -- ---- operations
+
+  number-operated : (operation : Monadic) (range : Interval) (n : ℤ) → monadic_is_well_formed (outline_of world.tree) block operation ≡ true
+      → HasMember range n → Sound world block env IsNumber (meaning.operated operation n) (walk.operated operation (Ordinal range))
+  number-operated (monadic.Plain does) range n well inside =
+      unless-sound (meaning.overflow_of does) (walk.calculated does range) (meaning.calculated does n) (calculated-site does well)
+      (calculated-has does range n inside)
+  number-operated (monadic.Tested fits does) range n well inside =
+      let test = is_in fits.range (Number n) in
+      let outline = outline_of world.tree in
+      let parts = and_parts (is_well_formed_test outline block fits) (shift_is_well_formed outline block fits.range does) well in
+      let site = and_parts (nat_lt fits.site (sites_in world)) (is_whole fits.range.first && is_whole fits.range.last) parts.0 in
+      sound-then world block env (Passes test (Number n)) IsNumber (effect.require test fits.site) (λ tested. effect.give (meaning.shifted does n))
+      (walk.within (limits_of fits.range) fits.site range) (λ passed. walk.ordinal (walk.shifted does passed))
+      (passed-sound fits range (Number n) (ltb-true fits.site (sites_in world) site.0) inside)
+      (λ passed tested store passes. number-sound (walk.shifted does passed) (meaning.shifted does n) (shifted-has does passed n passes.0))
+
+  number-combined : (operation : Dyadic) (left right : Interval) (a b : ℤ) → dyadic_is_well_formed (outline_of world.tree) block operation ≡ true
+      → HasMember left a → HasMember right b
+      → Sound world block env IsNumber (meaning.combined operation a b) (walk.combined operation (Ordinal left) (Ordinal right))
+  number-combined operation left right a b well one two =
+      let overflow = meaning.overflow_of_both operation in
+      sound-then world block env (Divides operation b) IsNumber (meaning.divides operation b)
+      (λ done. meaning.unless_overflow overflow (meaning.of_both operation a b)) (walk.divides operation right)
+      (λ passed. walk.unless_overflow overflow (walk.of_both operation left passed)) (divides-sound operation right b well two)
+      (λ passed done store is. unless-sound overflow (walk.of_both operation left passed) (meaning.of_both operation a b) (of_both-site operation well)
+      (of_both-has operation left passed a b one is.0 is.1))
+
+  -- a number that is given as a value
+  valued-sound : (action : effect.Action ℤ) (walking : walk.Walking Known) → Sound world block env IsNumber action walking
+      → Sound world block env IsValue (effect.◌>>=◌ action (λ n. effect.give (Number n))) walking
+  valued-sound action walking sound = sound-given world block env IsNumber IsValue (λ n. Number n) (λ known n store is. is) action walking sound
+
+  pub operated-sound : (operation : Monadic) (known : Known) (v : Value)
+      → monadic_is_well_formed (outline_of world.tree) block operation ≡ true
+      → IsKnown known v
+      → Sound world block env IsValue (effect.◌>>=◌ (meaning.operated operation (number_of v)) (λ n. effect.give (Number n))) (walk.operated operation known)
+  operated-sound operation (Ordinal range) v well inside =
+      valued-sound (meaning.operated operation (number_of v)) (walk.operated operation (Ordinal range))
+      (number-operated operation range (number_of v) well (number-in range v inside))
+
+  pub combined-sound : (operation : Dyadic) (left right : Known) (v w : Value)
+      → dyadic_is_well_formed (outline_of world.tree) block operation ≡ true
+      → IsKnown left v
+      → IsKnown right w
+      → Sound world block env IsValue (effect.◌>>=◌ (meaning.combined operation (number_of v) (number_of w)) (λ n. effect.give (Number n)))
+      (walk.combined operation left right)
+  combined-sound operation (Ordinal left) (Ordinal right) v w well one two =
+      valued-sound (meaning.combined operation (number_of v) (number_of w)) (walk.combined operation (Ordinal left) (Ordinal right))
+      (number-combined operation left right (number_of v) (number_of w) well (number-in left v one) (number-in right w two))

@@ -1,0 +1,4 @@
+pub mod Rules
+pub mod View
+pub mod Visits
+pub mod Walk

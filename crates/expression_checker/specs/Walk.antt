@@ -1,0 +1,661 @@
+-- The walk of the checker over an expression, one equation a form: what is known of its value, the state after it, the
+-- sites that it leaves open, the rules of certificates that its calls break, and the state at each entry into an
+-- expression (ISO 7185:1990, 6.7). It does not say that a run does what the walk says of it.
+use Rattle.std.specs.Prelude.{◌≡◌, ℕ, pos, Bool, not, ◌||◌, int_le, List, [], ◌∷◌, ◌++◌}
+use Rattle.std.specs.Prelude.{Option, Some, None, if◌then◌else◌, map, ◌&&◌, true, false, slice_get}
+use Rattle.std.specs.List.{list_all, list_any}
+use Rattle.place.specs.declared.Place.{Place}
+use Rattle.typed_tree.specs.declared.tree.Tree.{Tree}
+use Rattle.typed_tree.specs.declared.tree.Access.{Access}
+use Rattle.typed_tree.specs.declared.tree.Block.{Block}
+use Rattle.typed_tree.specs.declared.tree.Call.{Call}
+use Rattle.typed_tree.specs.declared.tree.FunctionResult.{FunctionResult}
+use Rattle.typed_tree.specs.declared.tree.Selector.{Selector}
+use Rattle.typed_tree.specs.declared.tree.Selector.TheVariants.{Element, Field}
+use Rattle.typed_tree.specs.declared.tree.RangeTest.{RangeTest}
+use Rattle.typed_tree.specs.declared.tree.Monadic.{Monadic}
+use Rattle.typed_tree.specs.declared.tree.Monadic.TheVariants as monadic
+use Rattle.typed_tree.specs.declared.tree.Calculation.{Calculation}
+use Rattle.typed_tree.specs.declared.tree.Calculation.TheVariants as calculation
+use Rattle.typed_tree.specs.declared.tree.Shift.{Shift}
+use Rattle.typed_tree.specs.declared.tree.Shift.TheVariants as shift
+use Rattle.typed_tree.specs.declared.tree.Dyadic.{Dyadic}
+use Rattle.typed_tree.specs.declared.tree.Dyadic.TheVariants as dyadic
+use Rattle.typed_tree.specs.declared.tree.Width.{Width}
+use Rattle.typed_tree.specs.declared.tree.WriteParameter.{WriteParameter}
+use Rattle.typed_tree.specs.declared.tree.Written.{Written}
+use Rattle.typed_tree.specs.declared.tree.Written.TheVariants as written
+use Rattle.typed_tree.specs.declared.tree.Whole.{Whole}
+use Rattle.typed_tree.specs.declared.tree.Whole.TheVariants.{Text, Variable as VariableOf}
+use Rattle.types.specs.Types.{is_structured}
+use Rattle.types.specs.declared.form.TypeId.{TypeId}
+use Rattle.typed_tree.specs.declared.tree.Expr.{Expr}
+use Rattle.typed_tree.specs.declared.tree.Link.{Link}
+use Rattle.typed_tree.specs.declared.tree.Passed.{Passed}
+use Rattle.typed_tree.specs.declared.tree.Expr.TheOpen.{Expr-F, Passed-F, Link-F}
+use Rattle.typed_tree.specs.declared.tree.Expr.TheOpen.Expr-F.{Constant, Variable, Monadic as MonadicOf, Chain}
+use Rattle.typed_tree.specs.declared.tree.Expr.TheOpen.Expr-F.{Compare, Call as CallOf}
+use Rattle.typed_tree.specs.declared.tree.Expr.TheOpen.Passed-F.{Value as PassedValue, Whole as PassedWhole, Reference}
+use Rattle.typed_tree.specs.declared.tree.Expr.TheFolds.{fold-Expr, fold-Passed, fold-Link}
+use Rattle.typed_tree.specs.WellFormed.{of_one, whole_indexes}
+use Rattle.domain.specs.Interval.{Interval, is_included, has_number, common, sum, difference, negated, product, squared}
+use Rattle.domain.specs.Interval.{absolute, quotient, remainder, without_zero_end, at_least, both, either}
+use Rattle.domain.specs.Interval.{complement, joined, truth_values, vacant}
+use Rattle.domain.specs.Facts.{Bound}
+use Rattle.meaning.specs.Meaning.{overflow_of, overflow_of_both}
+use Rattle.expression_checker.specs.declared.fault.Rule.{Rule}
+use Rattle.expression_checker.specs.declared.fault.Rule.TheVariants.{Aliases, CallEntry, Changes}
+use Rattle.expression_checker.specs.declared.fault.CheckFault.{CheckFault}
+use Rattle.expression_checker.specs.declared.fault.CheckFault.TheVariants.{Memory, Foreign, Broken}
+use Rattle.abstract_state.specs.declared.known.Known.{Known}
+use Rattle.abstract_state.specs.declared.known.Known.TheVariants.{Ordinal}
+use Rattle.abstract_state.specs.State.{integer, is_defined, limits_of, range_of, unless_empty}
+use Rattle.abstract_state.specs.State as variables
+use Rattle.abstract_state.specs.Forms.{Form, Literal, Other, Operand, access_form, bound_of, chain_form, sign_form}
+use Rattle.leaf_rows.specs.Rows.{index_at, rows_accessed, rows_of}
+use Rattle.component_states.specs.Components.{Index, Reach, Entire, At, Inside, row_at, with_defined}
+use Rattle.component_states.specs.States.{State, gives_reached, is_dead, over_components, over_variables}
+use Rattle.abstract_state.specs.Loops.{is_among}
+use Rattle.structured_states.specs.Loops.{Claims, Round, all_list}
+use Rattle.structured_states.specs.Pairs.{Listed}
+use Rattle.structured_states.specs.Ways.{single}
+use Rattle.call_states.specs.Sections.{BlockClaims, block_claims_at}
+use Rattle.call_states.specs.Starts.{is_own}
+use Rattle.call_states.specs.Actuals.{Actual, OfValue, OfRows, OfVariable, Binding, bound_to, settled}
+use Rattle.call_states.specs.Entry.{are_given}
+use Rattle.call_states.specs.Overlaps.{are_separate}
+use Rattle.exit_states.specs.Exit.{behind_call, result_range, roots_changed}
+
+-- what a walk goes by: the program, the values of its variables' types, the claims on its loops and its blocks, the
+-- listed pairs, the number of the block, and the loops round the point, the outermost first
+pub record Context : Type 0 where
+  pub tree : Tree
+  pub limits : List Interval
+  pub claims : List Claims
+  pub blocks : List BlockClaims
+  pub pairs : Listed
+  pub block : ℕ
+  pub rounds : List Round
+
+-- a rule of certificates that is broken at a place
+pub record Breach : Type 0 where
+  pub rule : Rule
+  pub place : Place
+
+-- a state that is linked to a number, that of the statement or expression which is entered with it
+pub record Linked : Type 0 where
+  pub number : ℕ
+  pub state : State
+
+-- what a piece of a walk gives: a value, the state after it, the ids of the sites that aren't closed, the rules that
+-- are broken, and the states that are linked
+pub record Walked (A : Type 0) : Type 0 where
+  pub value : A
+  pub after : State
+  pub open_ids : List ℕ
+  pub broken : List Breach
+  pub linked : List Linked
+
+-- a piece of a walk, in its context and from the state before it
+abbrev pub Walking : Type 0 → Type 0
+Walking A = Context → State → Walked A
+
+-- goes on from what was walked
+abbrev pub followed : {A B : Type 0} → Walked A → Walked B → Walked B
+followed first second = record {
+  value = second.value;
+  after = second.after;
+  open_ids = first.open_ids ++ second.open_ids;
+  broken = first.broken ++ second.broken;
+  linked = first.linked ++ second.linked;
+}
+
+-- one after the other
+infixl 10 ◌>>=◌
+abbrev pub ◌>>=◌ : {A B : Type 0} → Walking A → (A → Walking B) → Walking B
+(first >>= next) context state =
+    followed (first context state) (next (first context state).value context (first context state).after)
+
+-- a value, and nothing changes
+abbrev pub give : {A : Type 0} → A → Walking A
+give value context state = record { value = value; after = state; open_ids = []; broken = []; linked = [] }
+
+-- the entry into a statement or an expression
+abbrev pub enter : ℕ → Walking (Unit {0})
+enter number context state =
+    record
+    { value = tt; after = state; open_ids = []; broken = []; linked = record { number = number; state = state } ∷ [] }
+
+-- another state from here on
+abbrev pub with_state : State → Walking (Unit {0})
+with_state after context state = record { value = tt; after = after; open_ids = []; broken = []; linked = [] }
+
+-- what is known is changed
+abbrev pub changed_by : (State → State) → Walking (Unit {0})
+changed_by change context state = with_state (change state) context state
+
+-- a rule that is kept, or broken at a place
+abbrev pub breach_unless : Bool → Rule → Place → List Breach
+breach_unless kept rule place = if kept then [] else record { rule = rule; place = place } ∷ []
+
+-- what a rule asks for at a place
+abbrev pub asked : Bool → Rule → Place → Walking (Unit {0})
+asked kept rule place context state =
+    record { value = tt; after = state; open_ids = []; broken = breach_unless kept rule place; linked = [] }
+
+-- the block lists a variable among those that it changes
+abbrev pub block_lists : Context → ℕ → Bool
+block_lists context root = is_among root (block_claims_at context.blocks context.block).changes
+
+-- a variable may be changed: each loop round the point lists it, and so does the block, unless it is a variable of its
+-- variable declaration part, or its result
+abbrev pub may_change : Context → ℕ → Bool
+may_change context root =
+    all_list root context.rounds
+    && (of_one (is_own context.block) (slice_get context.tree.variables.items root) || block_lists context root)
+
+-- the numbers to which states are linked
+abbrev pub numbers_of : List Linked → List ℕ
+numbers_of = map (λ one. one.number)
+
+-- the first breach of a list, if there is one
+abbrev pub first_breach : List Breach → Option Breach
+first_breach [] = None
+first_breach (breach ∷ breaches) = Some breach
+
+-- why a walk by a certificate is given up: for the first rule that it breaks, or for want of memory
+abbrev pub IsBreachOf : {A : Type 0} → Walked A → CheckFault → Type 0
+IsBreachOf walked Memory = Unit {0}
+IsBreachOf walked Foreign = ⊥
+IsBreachOf walked (Broken rule place) = first_breach walked.broken ≡ Some (record { rule = rule; place = place })
+
+-- a site is left open unless it is closed
+abbrev pub left_open : Bool → ℕ → List ℕ
+left_open closed site = if closed then [] else site ∷ []
+
+-- the use of a variable: closed where the variable is defined, which it is afterwards
+abbrev pub use_of : ℕ → ℕ → Walking Known
+use_of root site context state = record {
+  value = Ordinal (range_of state.variables root);
+  after = over_variables (λ known. unless_empty (range_of known root) (variables.with_defined root known)) state;
+  open_ids = left_open (is_defined state.variables root) site;
+  broken = [];
+  linked = [];
+}
+
+-- the test of a value at a site: closed where it surely passes; afterwards the value lies in the range that passes
+abbrev pub tested : Bool → ℕ → Interval → Walking Interval
+tested closed site passed context state = record {
+  value = passed;
+  after = over_variables (unless_empty passed) state;
+  open_ids = left_open (is_dead state || closed) site;
+  broken = [];
+  linked = [];
+}
+
+-- a value that has to lie in limits: its range is met with them
+abbrev pub within : Interval → ℕ → Interval → Walking Interval
+within limits site range = tested (is_included range limits) site (common range limits)
+
+-- a number that has to be at least 1
+abbrev pub positive : ℕ → Interval → Walking Interval
+positive site range = tested (int_le (pos 1) range.first) site (at_least (pos 1) range)
+
+-- a divisor, which may not be 0: an end of its range that is 0 is cut off
+abbrev pub divisor : ℕ → Interval → Walking Interval
+divisor site range = tested (not (has_number range (pos 0))) site (without_zero_end range)
+
+-- an ordinal of a range
+abbrev pub ordinal : Interval → Walking Known
+ordinal range = give (Ordinal range)
+
+-- a result that has to be an integer, where its overflow has a site
+abbrev pub unless_overflow : Option ℕ → Interval → Walking Known
+unless_overflow None range = ordinal range
+unless_overflow (Some site) range = do
+  passed ← within integer site range
+  ordinal passed
+
+-- the range of what is calculated from the numbers of a range
+abbrev pub calculated : Calculation → Interval → Interval
+calculated calculation.Same range = range
+calculated calculation.Negative range = negated range
+calculated calculation.Complement range = complement range
+calculated calculation.Absolute range = absolute range
+calculated (calculation.Square overflow) range = squared range
+calculated calculation.Parity range = truth_values
+calculated calculation.Ordinal range = range
+
+-- the range behind a test
+abbrev pub shifted : Shift → Interval → Interval
+shifted shift.Same range = range
+shifted shift.Next range = sum range single
+shifted shift.Previous range = difference range single
+
+-- an operation on one operand, by what is known of the operand
+abbrev pub operated : Monadic → Known → Walking Known
+operated (monadic.Plain does) (Ordinal range) = unless_overflow (overflow_of does) (calculated does range)
+operated (monadic.Tested fits does) (Ordinal range) = do
+  passed ← within (limits_of fits.range) fits.site range
+  ordinal (shifted does passed)
+
+-- the test of a right operand, where it is a divisor: that of `mod` has to be at least 1
+abbrev pub divides : Dyadic → Interval → Walking Interval
+divides (dyadic.Div by_zero) range = divisor by_zero range
+divides (dyadic.Mod by_zero_or_less) range = positive by_zero_or_less range
+divides other range = give range
+
+-- the range of what is calculated from a number of each range
+abbrev pub of_both : Dyadic → Interval → Interval → Interval
+of_both (dyadic.Plus overflow) left right = sum left right
+of_both (dyadic.Minus overflow) left right = difference left right
+of_both (dyadic.Times overflow) left right = product left right
+of_both (dyadic.Div by_zero) left right = quotient left right
+of_both (dyadic.Mod by_zero_or_less) left right = remainder left right
+of_both dyadic.And left right = both left right
+of_both dyadic.Or left right = either left right
+of_both (dyadic.Relation relation) left right = truth_values
+
+-- an operation on two operands, by what is known of them
+abbrev pub combined : Dyadic → Known → Known → Walking Known
+combined operation (Ordinal left) (Ordinal right) = do
+  passed ← divides operation right
+  unless_overflow (overflow_of_both operation) (of_both operation left passed)
+
+-- a value has to lie in the range of a type
+abbrev pub fitting : RangeTest → Known → Walking Known
+fitting fits (Ordinal range) = do
+  passed ← within (limits_of fits.range) fits.site range
+  ordinal passed
+
+-- ---- accesses
+
+-- the test of the next index that selectors take, and the selectors behind the element of that index
+abbrev pub next_test : List Selector → Option RangeTest
+next_test [] = None
+next_test (Element fits cells ∷ selectors) = Some fits
+next_test (Field position offset ∷ selectors) = next_test selectors
+
+abbrev pub behind_next : List Selector → List Selector
+behind_next [] = []
+behind_next (Element fits cells ∷ selectors) = selectors
+behind_next (Field position offset ∷ selectors) = behind_next selectors
+
+-- an expression: its walk, its form, as far as that is part of a bound form, and whether it holds a call
+pub record Piece : Type 0 where
+  pub walk : Walking Known
+  pub form : Form
+  pub holds_call : Bool
+
+-- an actual parameter: its walk, and whether it holds a call
+pub record PassedPiece : Type 0 where
+  pub walk : Walking Actual
+  pub holds_call : Bool
+
+abbrev pub hold_call : List Piece → Bool
+hold_call pieces = list_any (λ piece. piece.holds_call) pieces
+
+-- the bound form of an expression behind which others were evaluated
+abbrev pub form_before : Form → List Piece → Option Bound
+form_before form later = if hold_call later then None else bound_of form
+
+abbrev pub range_in : Known → Interval
+range_in (Ordinal range) = range
+
+-- an index is tested, if selectors take it: where it lies then
+abbrev pub index_test : Option RangeTest → Known → Walking Interval
+index_test None known = give (range_in known)
+index_test (Some fits) known = do
+  passed ← fitting fits known
+  give (range_in passed)
+
+-- what is reached with one index more
+abbrev pub deeper : Index → Reach → Reach
+deeper index Entire = At index
+deeper index (At first) = Inside first
+deeper index (Inside first) = Inside first
+
+-- index expressions, each of which is tested at once: what is reached by them
+abbrev pub indexes_walk : List Selector → List Piece → Reach → Walking Reach
+indexes_walk selectors [] reach = give reach
+indexes_walk selectors (index ∷ indexes) reach = do
+  known ← index.walk
+  range ← index_test (next_test selectors) known
+  indexes_walk (behind_next selectors) indexes
+      (deeper (record { form = form_before index.form indexes; range = range }) reach)
+
+-- an access, which is entered before its index expressions: what is reached
+abbrev pub access_walk : Access → List Piece → Walking Reach
+access_walk access indexes = do
+  _ ← enter access.number
+  indexes_walk access.selectors.items indexes Entire
+
+-- the ranges of rows
+abbrev pub ranges_of : State → List ℕ → List Interval
+ranges_of state rows = map (λ row. (row_at state.components row).range) rows
+
+-- a range that has the numbers of all
+abbrev pub all_joined : List Interval → Interval
+all_joined [] = vacant
+all_joined (range ∷ ranges) = joined range (all_joined ranges)
+
+-- what is reached in each row is known to be defined
+abbrev pub is_covered : Tree → State → Reach → List ℕ → Bool
+is_covered tree state reach rows =
+    list_all (λ row. gives_reached state reach (index_at (rows_of tree) row) row) rows
+
+-- each row is defined from here on, where all of it is reached
+abbrev pub all_defined : List ℕ → State → State
+all_defined [] state = state
+all_defined (row ∷ rows) state = all_defined rows (over_components (λ known. with_defined row) state)
+
+abbrev pub with_used : Reach → List ℕ → State → State
+with_used Entire rows state = all_defined rows state
+with_used (At index) rows state = state
+with_used (Inside index) rows state = state
+
+-- the use of components of ordinal types in some rows
+abbrev pub rows_use : List ℕ → Reach → ℕ → Walking Known
+rows_use rows reach site context state = record {
+  value = Ordinal (all_joined (ranges_of state rows));
+  after = over_variables (unless_empty (all_joined (ranges_of state rows))) (with_used reach rows state);
+  open_ids = left_open (is_covered context.tree state reach rows) site;
+  broken = [];
+  linked = [];
+}
+
+-- the use of a component, an ordinal
+abbrev pub component_use : ℕ → List Selector → Reach → ℕ → Walking Known
+component_use root selectors reach site context =
+    rows_use (rows_accessed (rows_of context.tree) root selectors) reach site context
+
+-- the use of what is accessed, an ordinal
+abbrev pub value_use : ℕ → List Selector → Reach → ℕ → Walking Known
+value_use root [] reach site = use_of root site
+value_use root (selector ∷ selectors) reach site = component_use root (selector ∷ selectors) reach site
+
+abbrev pub variable_walk : Access → List Piece → ℕ → Walking Known
+variable_walk access indexes site = do
+  reach ← access_walk access indexes
+  value_use access.root access.selectors.items reach site
+
+-- the use of a whole value of a type in some rows: the ranges of its components, row by row
+abbrev pub whole_rows_use : TypeId → List ℕ → Reach → ℕ → Walking (List Interval)
+whole_rows_use type_id rows reach site context state = record {
+  value = ranges_of state rows;
+  after = with_used reach rows state;
+  open_ids = left_open
+      (is_dead state
+      || (is_structured context.tree.types type_id && is_covered context.tree state reach rows)) site;
+  broken = [];
+  linked = [];
+}
+
+abbrev pub whole_use : TypeId → ℕ → List Selector → Reach → ℕ → Walking (List Interval)
+whole_use type_id root selectors reach site context =
+    whole_rows_use type_id (rows_accessed (rows_of context.tree) root selectors) reach site context
+
+-- the range of the characters of a string
+abbrev pub text_range : List ℕ → Interval
+text_range text = all_joined (map (λ c. record { first = pos c; last = pos c }) text)
+
+-- a whole value: a string is entered, and has no site
+abbrev pub whole_walk : Whole → List Piece → Walking (List Interval)
+whole_walk (Text number text) indexes = do
+  _ ← enter number
+  give (text_range text.items ∷ [])
+whole_walk (VariableOf access type_id cells defined) indexes = do
+  reach ← access_walk access indexes
+  whole_use type_id access.root access.selectors.items reach defined
+
+-- a relation of two whole values, from its operator on, which is entered between them
+abbrev pub related_walk : ℕ → Whole → List Piece → Walking Known
+related_walk number right indexes = do
+  _ ← enter number
+  _ ← whole_walk right indexes
+  ordinal truth_values
+
+-- what the walk does with an operator and its right operand, by what is known of the value to its left
+abbrev pub Combination : Type 0
+Combination = Known → Walking Known
+
+-- an operator with its right operand: its walk, the form of the operand, and whether that holds a call
+pub record Joint : Type 0 where
+  pub combination : Combination
+  pub operand : Operand
+  pub holds_call : Bool
+
+-- the right operand, and then the operation
+abbrev pub combination_of : Link-F Piece PassedPiece Joint → Combination
+combination_of link left = do
+  _ ← enter link.number
+  right ← link.operand.walk
+  combined link.operation left right
+
+abbrev pub link_step : Link-F Piece PassedPiece Joint → Joint
+link_step link = record {
+  combination = combination_of link;
+  operand = record { operation = link.operation; form = link.operand.form };
+  holds_call = link.operand.holds_call;
+}
+
+-- the operators of a chain, from left to right
+abbrev pub in_turn : List Combination → Combination
+in_turn [] left = give left
+in_turn (link ∷ links) left = do
+  result ← link left
+  in_turn links result
+
+-- ---- calls
+
+-- a value that is passed: it is tested at once
+abbrev pub value_passed : Piece → RangeTest → Walking Actual
+value_passed value fits = do
+  known ← value.walk
+  passed ← fitting fits known
+  give (OfValue (range_in passed) (bound_of value.form))
+
+abbrev pub whole_passed : Whole → List Piece → Walking Actual
+whole_passed value indexes = do
+  ranges ← whole_walk value indexes
+  give (OfRows ranges)
+
+abbrev pub variable_passed : Access → List Piece → Walking Actual
+variable_passed access indexes = do
+  reach ← access_walk access indexes
+  give (OfVariable access.root access.selectors.items reach)
+
+abbrev pub passed_walk : Passed-F Piece PassedPiece Joint → Walking Actual
+passed_walk (PassedValue value fits) = value_passed value fits
+passed_walk (PassedWhole type_id value indexes) = whole_passed value indexes.items
+passed_walk (Reference type_id access indexes) = variable_passed access indexes.items
+
+abbrev pub passed_holds : Passed-F Piece PassedPiece Joint → Bool
+passed_holds (PassedValue value fits) = value.holds_call
+passed_holds (PassedWhole type_id value indexes) = hold_call (whole_indexes value indexes.items)
+passed_holds (Reference type_id access indexes) = hold_call indexes.items
+
+abbrev pub passed_step : Passed-F Piece PassedPiece Joint → PassedPiece
+passed_step actual = record { walk = passed_walk actual; holds_call = passed_holds actual }
+
+-- actual parameters, from left to right
+abbrev pub actuals_walk : List PassedPiece → Walking (List Actual)
+actuals_walk [] = give []
+actuals_walk (one ∷ others) = do
+  actual ← one.walk
+  actuals ← actuals_walk others
+  give (actual ∷ actuals)
+
+abbrev pub actuals_hold_call : List PassedPiece → Bool
+actuals_hold_call actuals = list_any (λ actual. actual.holds_call) actuals
+
+-- the formal parameters of a block, and the blocks round it
+abbrev pub parameters_of : Option Block → List ℕ
+parameters_of None = []
+parameters_of (Some block) = block.heading.parameters.items
+
+abbrev pub around_of : Option Block → List ℕ
+around_of None = []
+around_of (Some block) = block.heading.around.items
+
+abbrev pub result_of : Option Block → Option FunctionResult
+result_of None = None
+result_of (Some block) = block.heading.result
+
+abbrev pub called_block : Context → Call → Option Block
+called_block context call = slice_get context.tree.blocks.items call.block
+
+-- a call changes what it may: by the claims on the callee, at the place of its name
+abbrev pub call_change : Place → List Binding → BlockClaims → Walking (Unit {0})
+call_change place bindings claims context =
+    asked (list_all (may_change context) (roots_changed bindings claims.changes)) Changes place context
+
+-- what is passed makes listed aliases alone
+abbrev pub call_aliases : Call → List Binding → Walking (Unit {0})
+call_aliases call bindings context =
+    asked (are_separate context.pairs context.block (around_of (called_block context call)) bindings) Aliases call.name
+    context
+
+-- the facts are given that hold where the callee begins
+abbrev pub call_entry : Call → List Binding → BlockClaims → Walking (Unit {0})
+call_entry call bindings claims context state =
+    asked (are_given context.tree bindings state claims.entry) CallEntry call.name context state
+
+-- what is known behind a call
+abbrev pub call_behind : Call → List Binding → BlockClaims → Walking (Unit {0})
+call_behind call bindings claims context =
+    changed_by (behind_call context.tree context.pairs context.block call.block bindings claims) context
+
+-- a call with these parameters, by the claims on the callee
+abbrev pub call_with : Call → BlockClaims → List Binding → Walking (Unit {0})
+call_with call claims bindings = do
+  _ ← call_aliases call bindings
+  _ ← call_entry call bindings claims
+  _ ← call_change call.name bindings claims
+  call_behind call bindings claims
+
+-- a call from its actual parameters on; the forms of those that were evaluated before a call count no more
+abbrev pub called : Call → Bool → List Actual → Walking (Unit {0})
+called call holds_call actuals context =
+    call_with call (block_claims_at context.blocks call.block)
+    (bound_to (parameters_of (called_block context call)) (settled holds_call actuals)) context
+
+-- the value of a function lies in a range; no run goes on from an empty one
+abbrev pub result_known : Interval → Walking Known
+result_known range context state = record {
+  value = Ordinal range;
+  after = over_variables (unless_empty range) state;
+  open_ids = [];
+  broken = [];
+  linked = [];
+}
+
+-- the value of the function that a call calls
+abbrev pub result_walk : Call → Option FunctionResult → Walking Known
+result_walk call None context = result_known integer context
+result_walk call (Some result) context =
+    result_known (result_range context.tree (block_claims_at context.blocks call.block) result.root) context
+
+-- a call, which is entered before its actual parameters
+abbrev pub call_walk : Call → List PassedPiece → Walking (Unit {0})
+call_walk call actuals = do
+  _ ← enter call.number
+  passed ← actuals_walk actuals
+  called call (actuals_hold_call actuals) passed
+
+-- a call of a function
+abbrev pub function_walk : Call → List PassedPiece → Walking Known
+function_walk call actuals = do
+  _ ← call_walk call actuals
+  λ context. result_walk call (result_of (called_block context call)) context
+
+-- one layer of an expression: its walk
+abbrev pub walk_step : Expr-F Piece PassedPiece Joint → Walking Known
+walk_step (Constant number value) = do
+  _ ← enter number
+  ordinal (record { first = value; last = value })
+walk_step (Variable access indexes defined) = variable_walk access indexes.items defined
+walk_step (MonadicOf number operation operand) = do
+  _ ← enter number
+  known ← operand.value.walk
+  operated operation known
+walk_step (Chain first rest) = do
+  known ← first.value.walk
+  in_turn (map (λ joint. joint.combination) rest.items) known
+walk_step (Compare number relation left left_indexes right right_indexes) = do
+  _ ← whole_walk left left_indexes.items
+  related_walk number right right_indexes.items
+walk_step (CallOf call actuals) = function_walk call actuals.items
+
+-- and its form
+abbrev pub form_step : Expr-F Piece PassedPiece Joint → Form
+form_step (Constant number value) = Literal value
+form_step (Variable access indexes defined) = access_form access.root access.selectors.items
+form_step (MonadicOf number operation operand) = sign_form operand.value.form operation
+form_step (Chain first rest) = chain_form first.value.form (map (λ joint. joint.operand) rest.items)
+form_step (Compare number relation left left_indexes right right_indexes) = Other
+form_step (CallOf call actuals) = Other
+
+-- and whether it holds a call
+abbrev pub holds_step : Expr-F Piece PassedPiece Joint → Bool
+holds_step (Constant number value) = false
+holds_step (Variable access indexes defined) = hold_call indexes.items
+holds_step (MonadicOf number operation operand) = operand.value.holds_call
+holds_step (Chain first rest) = first.value.holds_call || list_any (λ joint. joint.holds_call) rest.items
+holds_step (Compare number relation left left_indexes right right_indexes) =
+    hold_call (whole_indexes left left_indexes.items) || hold_call (whole_indexes right right_indexes.items)
+holds_step (CallOf call actuals) = true
+
+abbrev pub piece_step : Expr-F Piece PassedPiece Joint → Piece
+piece_step expression =
+    record { walk = walk_step expression; form = form_step expression; holds_call = holds_step expression }
+
+-- the walk over an operator and its right operand
+abbrev pub joint_of : Link → Joint
+joint_of = fold-Link Piece PassedPiece Joint piece_step passed_step link_step
+
+abbrev pub link_walk : Link → Combination
+link_walk link = (joint_of link).combination
+
+-- the walk over an expression: what is known of its value
+abbrev pub piece_of : Expr → Piece
+piece_of = fold-Expr Piece PassedPiece Joint piece_step passed_step link_step
+
+-- the walk over an actual parameter
+abbrev pub passed_piece_of : Passed → PassedPiece
+passed_piece_of = fold-Passed Piece PassedPiece Joint piece_step passed_step link_step
+
+abbrev pub value_walk : Expr → Walking Known
+value_walk expression = (piece_of expression).walk
+
+-- index expressions
+abbrev pub index_pieces : List Expr → List Piece
+index_pieces = map piece_of
+
+-- a width has to be at least 1
+abbrev pub width_test : ℕ → Known → Walking (Unit {0})
+width_test site (Ordinal range) = do
+  _ ← positive site range
+  give tt
+
+-- the width of a value that is written
+abbrev pub width_walk : Option Width → Walking (Unit {0})
+width_walk None = give tt
+width_walk (Some width) = do
+  known ← value_walk width.value
+  width_test width.site known
+
+-- a value that is written
+abbrev pub written_walk : Written → Walking (Unit {0})
+written_walk (written.Ordinal value representation) = do
+  _ ← value_walk value
+  give tt
+written_walk (written.String value indexes) = do
+  _ ← whole_walk value (index_pieces indexes.items)
+  give tt
+
+-- the same, and then its width
+abbrev pub parameter_walk : WriteParameter → Walking (Unit {0})
+parameter_walk parameter = do
+  _ ← written_walk parameter.value
+  width_walk parameter.width

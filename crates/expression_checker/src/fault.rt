@@ -1,0 +1,70 @@
+ghost use Rattle.std.specs.Prelude.{◌≡◌};
+ghost use Rattle.expression_checker.specs.declared.fault.CheckFault.TheVariants.{Memory};
+
+use place::Place;
+use std::alloc::{AllocError, AllocFailed};
+use thiserror::Error;
+
+/// What a rule asks of a certificate at a place of the program, by the code that a user is told.
+#[derive(Clone, Copy, Debug)]
+pub enum Rule {
+    /// C2: the facts of a loop are given where the loop is entered.
+    LoopEntry,
+    /// C3: the facts of a loop are given after each of its turns.
+    LoopTurn,
+    /// C4: the exit facts of a block are given at its end.
+    Exit,
+    /// C5: the entry facts of a block are given where it is called.
+    CallEntry,
+    /// C6: variables that share a place in a call are a pair of aliases of its block.
+    Aliases,
+    /// C7: what a loop or a block changes is among its changes.
+    Changes,
+}
+
+impl Rule {
+    ghost use Rattle.expression_checker.specs.Rules.{number_of};
+
+    /// Its number behind the letter C, from 2 to 7.
+    pub fn number(self) -> u8
+        ensures { result ≡ number_of self }
+    {
+        match self {
+            Rule::LoopEntry => 2,
+            Rule::LoopTurn => 3,
+            Rule::Exit => 4,
+            Rule::CallEntry => 5,
+            Rule::Aliases => 6,
+            Rule::Changes => 7,
+        }
+    }
+}
+
+/// Why a certificate gets no verdict.
+#[derive(Clone, Copy, Debug, Error)]
+pub enum CheckFault {
+    #[error("no memory")]
+    Memory,
+    /// C1: the certificate names what the program doesn't have.
+    #[error("the certificate names what the program does not have")]
+    Foreign,
+    /// A rule that is broken, and where.
+    #[error("{place}: the certificate breaks a rule")]
+    Broken { rule: Rule, place: Place },
+}
+
+impl From<AllocError> for CheckFault {
+    ghost from_gives = { λ _ e. e ≡ Memory };
+
+    fn from(_error: AllocError) -> CheckFault {
+        CheckFault::Memory
+    }
+}
+
+impl<T: Drop> From<AllocFailed<T>> for CheckFault {
+    ghost from_gives = { λ _ e. e ≡ Memory };
+
+    fn from(_error: AllocFailed<T>) -> CheckFault {
+        CheckFault::Memory
+    }
+}

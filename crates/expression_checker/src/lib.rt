@@ -1,0 +1,10 @@
+//! Checks the expressions of a program (ISO 7185:1990, 6.7): what is known of their values, and which of their sites
+//! stay open, told in one walk over each expression.
+#![tactic(auto)]
+
+pub mod fault;
+pub mod flow;
+pub mod grounds;
+mod results;
+mod uses;
+pub mod visits;

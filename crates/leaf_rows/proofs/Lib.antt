@@ -1,0 +1,10 @@
+pub mod Leafed
+pub mod Under
+pub mod Counted
+pub mod Variables
+pub mod Naming
+pub mod Components
+pub mod Selected
+pub mod Accessed
+pub mod Alike
+pub mod Numbered

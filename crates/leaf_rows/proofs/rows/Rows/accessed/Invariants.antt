@@ -1,0 +1,12 @@
+use Rattle.std.proofs.Common.{◌≡◌, ◌<◌, ◌^◌, drop, map}
+use Rattle.leaf_rows.specs.Rows.{leaf_step, rows_accessed, rows_of}
+use Rattle.leaf_rows.specs.View.{end_of}
+use Rattle.leaf_rows.proofs.Variables.{part_under}
+use Rattle.leaf_rows.proofs.rows.Rows.accessed.Given as goal
+
+-- the rows under the selectors are those under what is left of them in the part
+abbrev pub invariant-loop-selector : goal.invariant-loop-selector
+invariant-loop-selector l = record {
+  fits : end_of l.self.types l.part < 2 ^ 64;
+  same : part_under l.self.types (map leaf_step (drop l.selector-index l.selectors)) l.part ≡ rows_accessed (rows_of l.self) l.root l.selectors;
+}

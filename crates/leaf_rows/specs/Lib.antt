@@ -1,0 +1,4 @@
+pub mod Leaves
+pub mod Rows
+pub mod Limits
+pub mod View

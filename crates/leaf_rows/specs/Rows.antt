@@ -1,0 +1,146 @@
+-- The rows of a program: the leaves of its structured variables, one after another (ISO 7185:1990, 6.4.3, 6.5.3). A
+-- row is told by its number from 0. It says nothing of what the components of a row hold.
+use Rattle.std.specs.Prelude.{ℕ, suc, ℤ, Bool, ◌&&◌, List, [], ◌∷◌, ◌++◌, Option, Some, None}
+use Rattle.std.specs.Prelude.{if◌then◌else◌, filter, map, flat_map, nat_eq, slice_get}
+use Rattle.std.specs.Option.{option_and_then}
+use Rattle.types.specs.Components.{components_of}
+use Rattle.types.specs.Forms.{Form}
+use Rattle.types.specs.Types.{element_of, field_of, is_structured}
+use Rattle.types.specs.declared.form.ArrayElement.{ArrayElement}
+use Rattle.types.specs.declared.form.OrdinalRange.{OrdinalRange}
+use Rattle.types.specs.declared.form.RecordField.{RecordField}
+use Rattle.types.specs.declared.form.Step.{Step}
+use Rattle.types.specs.declared.form.Step.TheVariants as step
+use Rattle.types.specs.declared.form.TypeId.{TypeId}
+use Rattle.typed_tree.specs.declared.tree.Selector.{Selector}
+use Rattle.typed_tree.specs.declared.tree.Selector.TheVariants as selector
+use Rattle.typed_tree.specs.declared.tree.Tree.{Tree}
+use Rattle.typed_tree.specs.declared.tree.Variable.{Variable}
+use Rattle.domain.specs.Facts as fact
+use Rattle.domain.specs.Facts.{Path}
+use Rattle.leaf_rows.specs.Leaves.{Leaf, LeafStep, Elements, FieldAt, begins, is_named, leaves_of}
+
+-- a leaf of a structured variable, by the variable's root number
+pub record Row : Type 0 where
+  pub root : ℕ
+  pub leaf : Leaf
+
+-- ---- the rows of a program
+
+abbrev pub variable_rows : List Form → ℕ → Variable → List Row
+variable_rows types root variable =
+    if is_structured types variable.type_id
+    then map (λ leaf. record { root = root; leaf = leaf }) (leaves_of types variable.type_id)
+    else []
+
+-- those of variables, the first of which has a root number
+abbrev pub rows_from : List Form → ℕ → List Variable → List Row
+rows_from types root [] = []
+rows_from types root (variable ∷ variables) =
+    variable_rows types root variable ++ rows_from types (suc root) variables
+
+abbrev pub rows_of : Tree → List Row
+rows_of tree = rows_from tree.types 0 tree.variables.items
+
+-- ---- some of them
+
+-- the numbers of those of which a test holds, the first row having a number
+abbrev pub numbers_where : (Row → Bool) → ℕ → List Row → List ℕ
+numbers_where test number [] = []
+numbers_where test number (row ∷ rows) =
+    if test row then number ∷ numbers_where test (suc number) rows else numbers_where test (suc number) rows
+
+abbrev pub is_under : ℕ → List LeafStep → Row → Bool
+is_under root steps row = nat_eq row.root root && begins steps row.leaf.steps
+
+-- those that lie under a part of a variable
+abbrev pub rows_under : List Row → ℕ → List LeafStep → List ℕ
+rows_under rows root steps = numbers_where (is_under root steps) 0 rows
+
+abbrev pub leaf_step : Selector → LeafStep
+leaf_step (selector.Element fits cells) = Elements
+leaf_step (selector.Field position offset) = FieldAt position
+
+-- those under what is accessed, its indexes aside
+abbrev pub rows_accessed : List Row → ℕ → List Selector → List ℕ
+rows_accessed rows root selectors = rows_under rows root (map leaf_step selectors)
+
+-- those of several variables
+abbrev pub rows_touched : List Row → List ℕ → List ℕ
+rows_touched rows roots = flat_map (λ root. rows_under rows root []) roots
+
+-- what is known of a row by its number
+abbrev pub type_at : List Row → ℕ → Option TypeId
+type_at rows number = option_and_then (λ row. row.leaf.type_id) (slice_get rows number)
+
+abbrev pub values_at : List Row → ℕ → Option OrdinalRange
+values_at rows number = option_and_then (λ row. row.leaf.values) (slice_get rows number)
+
+abbrev pub index_at : List Row → ℕ → Option OrdinalRange
+index_at rows number = option_and_then (λ row. row.leaf.index) (slice_get rows number)
+
+-- ---- paths of certificates
+
+-- a part of a variable, or a part of each of its elements, and its type
+pub record Named : Type 0 where
+  pub steps : List LeafStep
+  pub type_id : TypeId
+
+abbrev pub behind_element : Named → Option ArrayElement → Option Named
+behind_element before None = None
+behind_element before (Some element) =
+    Some (record { steps = before.steps ++ Elements ∷ []; type_id = element.type_id })
+
+abbrev pub behind_name : Named → Option RecordField → Option Named
+behind_name before None = None
+behind_name before (Some field) =
+    Some (record { steps = before.steps ++ FieldAt field.position ∷ []; type_id = field.type_id })
+
+-- what a step of a path names, behind what was named before it
+abbrev pub next_named : List Form → Named → fact.Step → Option Named
+next_named types before fact.Elements = behind_element before (element_of types before.type_id)
+next_named types before (fact.Field name) = behind_name before (field_of types before.type_id name)
+
+abbrev pub steps_named : List Form → List fact.Step → Named → Option Named
+steps_named types [] before = Some before
+steps_named types (next ∷ steps) before = option_and_then (steps_named types steps) (next_named types before next)
+
+abbrev pub variable_named : List Form → List fact.Step → Option Variable → Option Named
+variable_named types steps None = None
+variable_named types steps (Some variable) =
+    steps_named types steps (record { steps = []; type_id = variable.type_id })
+
+-- what a path names, if it is there
+abbrev pub part_named : Tree → Path → Option Named
+part_named tree path = variable_named tree.types path.steps (slice_get tree.variables.items path.root)
+
+-- ---- the components of a row
+
+-- components of a variable, each by the steps to it
+pub record Parts : Type 0 where
+  pub root : ℕ
+  pub components : List (List Step)
+
+abbrev pub components_in : List Form → Option Variable → List (List Step)
+components_in types None = []
+components_in types (Some variable) = components_of types variable.type_id
+
+abbrev pub parts_of : Tree → Row → Parts
+parts_of tree row = record {
+  root = row.root;
+  components = filter (is_named row.leaf.steps) (components_in tree.types (slice_get tree.variables.items row.root));
+}
+
+-- the components of each row of a program
+abbrev pub all_parts : Tree → List Parts
+all_parts tree = map (parts_of tree) (rows_of tree)
+
+-- the components of the row of a number
+abbrev pub no_parts : Parts
+no_parts = record { root = 0; components = [] }
+
+-- the first index among the steps to a component, if there is one
+abbrev pub first_index : List Step → Option ℤ
+first_index [] = None
+first_index (step.Element index ∷ steps) = Some index
+first_index (step.Field position ∷ steps) = first_index steps

@@ -1,0 +1,163 @@
+-- The rows of a program as programs keep them: how many leaves each type has, where the rows of each variable begin,
+-- and the ranges of each row. It says nothing of what the components of a row hold.
+use Rattle.std.specs.Prelude.{◌≡◌, ℕ, zero, suc, ◌+◌, ◌-◌, ◌^◌, List, [], ◌∷◌, length, map, min, Option, Some, None}
+use Rattle.std.specs.Prelude.{if◌then◌else◌, nat_lt, slice_get, sum_by}
+use Rattle.std.specs.List.{range_with_len}
+use Rattle.types.specs.Forms.{FieldForm, Form, Array, Record}
+use Rattle.types.specs.declared.form.OrdinalRange.{OrdinalRange}
+use Rattle.types.specs.declared.form.TypeId.{TypeId}
+use Rattle.types.specs.Types.{is_structured}
+use Rattle.typed_tree.specs.declared.tree.Tree.{Tree}
+use Rattle.typed_tree.specs.declared.tree.Variable.{Variable}
+use Rattle.domain.specs.Interval.{Interval}
+use Rattle.leaf_rows.specs.declared.leaf.RowRanges.{RowRanges}
+use Rattle.leaf_rows.specs.declared.leaf.Way.{Way}
+use Rattle.leaf_rows.specs.declared.leaf.Way.TheVariants.{Direct, Indexed}
+use Rattle.leaf_rows.specs.declared.part.Part.{Part}
+use Rattle.leaf_rows.specs.declared.span.Span.{Span}
+use Rattle.leaf_rows.specs.declared.rows.NamedPart.{NamedPart}
+use Rattle.leaf_rows.specs.Leaves.{Leaf, LeafStep, Elements, FieldAt, leafed, leaves_of, scalar}
+use Rattle.leaf_rows.specs.Limits.{all_limits}
+use Rattle.leaf_rows.specs.Rows.{Named, rows_of, rows_under}
+
+-- the numbers of a span
+abbrev pub numbers : Span → List ℕ
+numbers span = range_with_len span.first span.count
+
+-- what is answered of a path: what it names, and the rows there
+abbrev pub IsAnswerOf : Tree → (root : ℕ) → Option Named → Option NamedPart → Type 0
+IsAnswerOf tree root None None = Unit {0}
+IsAnswerOf tree root None (Some found) = ⊥
+IsAnswerOf tree root (Some named) None = ⊥
+IsAnswerOf tree root (Some named) (Some found) =
+    (found.type_id ≡ named.type_id) × (numbers found.rows ≡ rows_under (rows_of tree) root named.steps)
+
+-- ---- ranges
+
+abbrev pub ranges_of : Leaf → RowRanges
+ranges_of leaf = record { type_id = leaf.type_id; values = leaf.values; index = leaf.index }
+
+-- those of a leaf on a way from a variable
+abbrev pub ranges_on : Way → Leaf → RowRanges
+ranges_on Direct leaf = ranges_of leaf
+ranges_on (Indexed index) leaf = record { type_id = leaf.type_id; values = leaf.values; index = index }
+
+-- those of the rows of a variable
+abbrev pub variable_ranges : List Form → Variable → List RowRanges
+variable_ranges types variable =
+    if is_structured types variable.type_id then map ranges_of (leaves_of types variable.type_id) else []
+
+-- a way on to the elements of an array
+abbrev pub way_behind : Way → Option OrdinalRange → Way
+way_behind Direct index = Indexed index
+way_behind (Indexed first) index = Indexed first
+
+-- ---- how many there are
+
+-- a number, or the greatest number of 64 bits
+abbrev pub capped : ℕ → ℕ
+capped n = min n (2 ^ 64 - 1)
+
+-- how many leaves each type has
+abbrev pub leaf_counts : List Form → List ℕ
+leaf_counts types = map (λ entry. length entry.leaves) (leafed types)
+
+abbrev pub count_in : Option ℕ → ℕ
+count_in None = 1
+count_in (Some count) = count
+
+abbrev pub count_at : List ℕ → TypeId → ℕ
+count_at counts id = count_in (slice_get counts id.index)
+
+abbrev pub form_count : List ℕ → Form → ℕ
+form_count counts (Array packed index element) = count_at counts element
+form_count counts (Record packed fields) = sum_by (λ field. count_at counts field.type_id) fields
+form_count counts form = 1
+
+-- the type of a part, if it stands before that of the whole
+abbrev pub own_type : (whole part : TypeId) → Option TypeId
+own_type whole part = if nat_lt part.index whole.index then Some part else None
+
+abbrev pub part_leaves : List Form → Option TypeId → List Leaf
+part_leaves types None = scalar None None ∷ []
+part_leaves types (Some id) = leaves_of types id
+
+abbrev pub part_count : List ℕ → Option TypeId → ℕ
+part_count counts None = 1
+part_count counts (Some id) = count_at counts id
+
+-- ---- where they begin
+
+abbrev pub rows_count : List Form → Variable → ℕ
+rows_count types variable =
+    if is_structured types variable.type_id then count_at (leaf_counts types) variable.type_id else 0
+
+-- the first row of each variable, that of the first one being given
+abbrev pub firsts_from : List Form → ℕ → List Variable → List ℕ
+firsts_from types first [] = []
+firsts_from types first (variable ∷ variables) =
+    first ∷ firsts_from types (first + rows_count types variable) variables
+
+-- the rows of a program are kept; the greatest number stands for a count of leaves that is greater
+pub record AreKept (tree : Tree) (counts firsts : List ℕ) (rows : List RowRanges) (limits : List Interval)
+    : Type 0 where
+  pub counts_are : counts ≡ map capped (leaf_counts tree.types)
+  pub firsts_are : firsts ≡ firsts_from tree.types 0 tree.variables.items
+  pub rows_are : rows ≡ map (λ row. ranges_of row.leaf) (rows_of tree)
+  pub limits_are : limits ≡ all_limits tree
+
+-- ---- parts of variables
+
+-- a structured variable of a number, by its first row
+abbrev pub variable_part : List Form → ℕ → List Variable → ℕ → Option Part
+variable_part types first [] root = None
+variable_part types first (variable ∷ variables) zero =
+    if is_structured types variable.type_id
+    then Some (record { first = first; type_id = Some variable.type_id })
+    else None
+variable_part types first (variable ∷ variables) (suc root) =
+    variable_part types (first + rows_count types variable) variables root
+
+-- the same by what tables have at its number
+abbrev pub part_by : List Form → Option Variable → Option ℕ → Option Part
+part_by types None first = None
+part_by types (Some variable) None = None
+part_by types (Some variable) (Some first) =
+    if is_structured types variable.type_id
+    then Some (record { first = first; type_id = Some variable.type_id })
+    else None
+
+-- a field of a record, the first row of which is given
+abbrev pub field_part : List ℕ → TypeId → ℕ → List FieldForm → ℕ → Option Part
+field_part counts id first [] position = None
+field_part counts id first (field ∷ fields) zero =
+    Some (record { first = first; type_id = own_type id field.type_id })
+field_part counts id first (field ∷ fields) (suc position) =
+    field_part counts id (first + part_count counts (own_type id field.type_id)) fields position
+
+abbrev pub form_part : List ℕ → TypeId → ℕ → Option Form → LeafStep → Option Part
+form_part counts id first (Some (Array packed index element)) Elements =
+    Some (record { first = first; type_id = own_type id element })
+form_part counts id first (Some (Record packed fields)) (FieldAt position) =
+    field_part counts id first fields position
+form_part counts id first form step = None
+
+abbrev pub typed_part : List Form → ℕ → Option TypeId → LeafStep → Option Part
+typed_part types first None step = None
+typed_part types first (Some id) step =
+    form_part (leaf_counts types) id first (slice_get types id.index) step
+
+-- the part to which a step leads
+abbrev pub next_part : List Form → Option Part → LeafStep → Option Part
+next_part types None step = None
+next_part types (Some part) step = typed_part types part.first part.type_id step
+
+-- the numbers of its rows
+abbrev pub part_rows : List Form → Option Part → List ℕ
+part_rows types None = []
+part_rows types (Some part) = range_with_len part.first (part_count (leaf_counts types) part.type_id)
+
+-- how many rows lie before the end of a part
+abbrev pub end_of : List Form → Option Part → ℕ
+end_of types None = 0
+end_of types (Some part) = part.first + part_count (leaf_counts types) part.type_id

@@ -1,0 +1,5 @@
+pub mod Pairs
+pub mod Cases
+pub mod Loops
+pub mod View
+pub mod Ways

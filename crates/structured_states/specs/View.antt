@@ -1,0 +1,158 @@
+-- The loops and ways of the program as the definitions see them. It does not say what is known of them.
+use Rattle.std.specs.Prelude.{ℕ, ◌≡◌, ◌<◌, Bool, true, false, List, [], ◌++◌, Option, Some, None, get_or, length, map}
+use Rattle.std.specs.Prelude.{◌&&◌, ◌∷◌, filter, if◌then◌else◌, nat_eq}
+use Rattle.std.specs.BTreeMap.{BTreeMap, get}
+use Rattle.std.specs.Ordering.{nat_cmp, ordering_then}
+use Rattle.std.specs.declared.cmp.Ordering.{Ordering}
+use Rattle.std.specs.Global.{Vec}
+use Rattle.std.specs.List.{range_with_len}
+use denote.Ref.{Bor}
+use Rattle.certificate.specs.declared.AliasPair.{AliasPair}
+use Rattle.certificate.specs.declared.LoopClaims.{LoopClaims as KeptClaims}
+use Rattle.certificate.specs.Contents.{LoopClaims, loop_of}
+use Rattle.domain.specs.Facts.{Fact, Range, Defined, Stretch, Order}
+use Rattle.abstract_state.specs.State.{State, gives_fact}
+use Rattle.leaf_rows.specs.Rows.{index_at, rows_of}
+use Rattle.component_states.specs.Components as components
+use Rattle.component_states.specs.Components.{ComponentFact, Stretched}
+use Rattle.component_states.specs.States.{all_of_row}
+use Rattle.typed_tree.specs.declared.tree.Tree.{Tree}
+use Rattle.abstract_state.specs.View.{said_form}
+use Rattle.structured_states.specs.declared.rounds.Round.{Round as KeptRound}
+use Rattle.structured_states.specs.declared.ways.End.{End as KeptEnd}
+use Rattle.structured_states.specs.declared.ways.Way.{Way as KeptWay}
+use Rattle.structured_states.specs.Loops.{Claims, Round, claims_of, or_else, round_of, rows_named}
+use Rattle.structured_states.specs.Loops.{with_own}
+use Rattle.structured_states.specs.Pairs.{Listed, aliases_of, declared_aliases, declares, partner}
+use Rattle.structured_states.specs.Ways.{End, Way}
+
+-- claims that the checker has found, as the definitions see them
+abbrev pub found_as : Option (Bor KeptClaims) → Option LoopClaims
+found_as None = None
+found_as (Some claims) = Some (loop_of claims.now)
+
+-- what they claim of a loop
+abbrev pub said_claims : Option (Bor KeptClaims) → Claims
+said_claims claims = claims_of (found_as claims)
+
+-- a state gives a claim, if the checker goes by it
+abbrev pub gives_some : State → Option Fact → Bool
+gives_some state None = true
+gives_some state (Some fact) = gives_fact state fact
+
+-- what a claim says of a row that it names
+abbrev pub row_claim : Tree → Fact → ℕ → Option ComponentFact
+row_claim tree (Range path range) row = Some (components.Range row range)
+row_claim tree (Defined path) row = Some (all_of_row (index_at (rows_of tree) row) row)
+row_claim tree (Stretch path first last) row = Some (Stretched (record { row = row; first = first; last = last }))
+row_claim tree (Order root other number) row = None
+
+-- the rows that it names
+abbrev pub rows_claimed : Tree → Fact → List ℕ
+rows_claimed tree (Range path range) = rows_named tree path
+rows_claimed tree (Defined path) = rows_named tree path
+rows_claimed tree (Stretch path first last) = rows_named tree path
+rows_claimed tree (Order root other number) = []
+
+-- claims were found for loops by their numbers: where some were known before, those stay
+pub record AreFound (old new : List (Option (Bor KeptClaims))) (found : ℕ → Option LoopClaims) : Type 0 where
+  pub same_length : length new ≡ length old
+  pub each : (number : ℕ) → number < length old
+      → found_as (get_or new number None) ≡ or_else (found_as (get_or old number None)) (found number)
+
+-- the pairs that a certificate lists, as the definitions see them
+abbrev pub said_pair : AliasPair → ℕ × ℕ
+said_pair pair = (pair.first, pair.second)
+
+abbrev pub said_pairs : List AliasPair → List (ℕ × ℕ)
+said_pairs pairs = map said_pair pairs
+
+abbrev pub listed_of : Tree → List AliasPair → Listed
+listed_of tree pairs = record { tree = tree; pairs = said_pairs pairs }
+
+-- what rows of variables hold, and the row of a number; one that isn't there has none
+abbrev pub partners_at : List (Vec ℕ) → ℕ → List ℕ
+partners_at rows root = get_or (map (λ row. row.items) rows) root []
+
+-- rows have the aliases of each variable by pairs
+abbrev pub ArePartners : List (ℕ × ℕ) → List (Vec ℕ) → Type 0
+ArePartners pairs rows = (root : ℕ) → partners_at rows root ≡ aliases_of pairs root
+
+-- each variable of a pair has the other more
+abbrev pub HaveEntered : AliasPair → (old new : List (Vec ℕ)) → Type 0
+HaveEntered pair old new = (root : ℕ) → partners_at new root ≡ partners_at old root ++ partner root (said_pair pair)
+
+-- what a table holds for a variable and a block
+abbrev pub kept_row : Option (Vec ℕ) → List ℕ
+kept_row None = []
+kept_row (Some row) = row.items
+
+abbrev pub Table : Type 0
+Table = BTreeMap (ℕ × ℕ) (Vec ℕ)
+
+-- the order of its keys
+abbrev pub key_cmp : ℕ × ℕ → ℕ × ℕ → Ordering
+key_cmp one other = ordering_then (nat_cmp one.0 other.0) (nat_cmp one.1 other.1)
+
+abbrev pub row_at : Table → (root number : ℕ) → List ℕ
+row_at table root number = kept_row (get key_cmp table (root, number))
+
+-- a table has, of each variable and each block, the aliases that the block declares
+abbrev pub AreByBlock : Listed → Table → Type 0
+AreByBlock listed table = (root number : ℕ) → row_at table root number ≡ declared_aliases listed root number
+
+-- a variable is more at a key
+abbrev pub HasAt : (key : ℕ × ℕ) → ℕ → (old new : Table) → Type 0
+HasAt key other old new = (root number : ℕ) → row_at new root number
+    ≡ row_at old root number ++ (if nat_eq key.0 root && nat_eq key.1 number then other ∷ [] else [])
+
+-- a variable is more at another and its own block
+abbrev pub HasPartner : Tree → ℕ → ℕ → (old new : Table) → Type 0
+HasPartner tree row other old new = (root number : ℕ) → row_at new root number
+    ≡ row_at old root number ++ filter (declares tree number) (if nat_eq row root then other ∷ [] else [])
+
+-- each variable of a pair has the other more, at its block
+abbrev pub HaveEnteredByBlock : Tree → AliasPair → (old new : Table) → Type 0
+HaveEnteredByBlock tree pair old new = (root number : ℕ) → row_at new root number
+    ≡ row_at old root number ++ filter (declares tree number) (partner root (said_pair pair))
+
+-- rows are as many as are wanted, and hold what they held
+pub record AreWidened (number : ℕ) (old new : List (Vec ℕ)) : Type 0 where
+  pub enough : number < length new
+  pub same : (root : ℕ) → partners_at new root ≡ partners_at old root
+
+-- the aliases of what a loop changes, by its number, and those of each loop
+abbrev pub loop_aliases : Tree → Listed → List Claims → ℕ → List ℕ
+loop_aliases tree listed claims number = (round_of tree listed claims number).aliases
+
+abbrev pub all_loop_aliases : Tree → Listed → List Claims → List (List ℕ)
+all_loop_aliases tree listed claims =
+    map (loop_aliases tree listed claims) (range_with_len 0 (length tree.loops.items))
+
+-- a loop of the checker: round its body, and at its head
+abbrev pub loop_of_round : KeptRound → Round
+loop_of_round round = record {
+  changes = (said_claims round.claims).changes;
+  controls = round.controls.now;
+  aliases = round.aliases.now;
+}
+
+abbrev pub head_round : KeptRound → Round
+head_round round = with_own round.own (loop_of_round round)
+
+-- the control variable of a for statement
+abbrev pub own_controls : Option ℕ → List ℕ
+own_controls None = []
+own_controls (Some control) = control ∷ []
+
+-- the way of a control variable, as the definitions see it
+abbrev pub said_end : KeptEnd → End
+said_end end = record { form = said_form end.form; fits = end.fits; values = end.values }
+
+abbrev pub said_way : KeptWay → Way
+said_way way = record {
+  control = way.control;
+  direction = way.direction;
+  first = said_end way.first;
+  last = said_end way.last;
+}
