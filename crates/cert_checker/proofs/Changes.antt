@@ -1,8 +1,7 @@
--- What is known behind a change of an entire variable holds, of variables and of components.
+-- What is known behind a change of an entire variable holds.
 use Rattle.std.proofs.Common.{◌≡◌, ⊎_elim, ◌∙◌, sym, ap, refl, subst, ℕ, ◌<◌, ℤ, Bool, true, false, cond, List, [], ◌∷◌, Option, Some, None, length}
 use Rattle.std.proofs.Common.{arith, append-nil}
 use Rattle.std.specs.List.{Contains}
-use Rattle.std.specs.Option.{option_and_then}
 use Rattle.std.specs.Ordering.{int_eq}
 use Rattle.std.specs.Prelude.{is_some}
 use Rattle.std.proofs.lemmas.Option.{none-some, same_Some, slice_get_within}
@@ -12,38 +11,33 @@ use Rattle.types.specs.declared.form.OrdinalRange.{OrdinalRange}
 use Rattle.types.specs.declared.form.Step.{Step}
 use Rattle.types.specs.declared.form.TypeId.{TypeId}
 use Rattle.typed_tree.specs.declared.tree.Tree.{Tree}
-use Rattle.typed_tree.specs.declared.tree.Variable.{Variable}
-use Rattle.domain.specs.Facts as fact
-use Rattle.domain.specs.Facts.{Bound, Plus}
 use Rattle.domain.specs.Interval.{HasMember, Interval}
 use Rattle.meaning.specs.Counting.{next_value}
 use Rattle.meaning.specs.declared.store.Value.{Value}
 use Rattle.meaning.specs.declared.store.Value.TheVariants.{Number}
 use Rattle.meaning.specs.Store.{Environment, Place, Store, written}
 use Rattle.meaning.specs.Store as store
-use Rattle.abstract_state.specs.Holds.{HasNumber, IsBound, IsIn, value_at}
-use Rattle.abstract_state.specs.Knows.{IsFormApart, IsKept, IsOfForm, Shows, moment}
-use Rattle.abstract_state.specs.Loops.{is_among, replaced, with_undefined}
-use Rattle.abstract_state.proofs.Apart.{part}
-use Rattle.abstract_state.proofs.Changed.{assigned-known}
-use Rattle.abstract_state.proofs.Looped.{replaced-known, undefined-known}
-use Rattle.leaf_rows.specs.Limits.{all_limits, limits_at, limits_or_integer}
-use Rattle.leaf_rows.specs.Rows.{Parts, all_parts}
-use Rattle.leaf_rows.proofs.Accessed.{components-inner}
-use Rattle.component_states.specs.States.{State, over_bound, over_change}
-use Rattle.component_states.specs.Holds.{Knows}
-use Rattle.component_states.specs.Laws.{IsNumberOf, OneChanges}
-use Rattle.component_states.proofs.Changed.{bounds-hold, changes-hold, none-loose}
-use Rattle.structured_states.specs.Pairs.{aliases_in}
-use Rattle.structured_states.specs.Ways.{Way, next, turn_ended}
-use Rattle.structured_states.proofs.OnWay.{Between, MayBe, ended-known, next-of_form}
-use Rattle.call_states.specs.Aliases.{Stored, unless_alias, variable_type, variable_values, with_aliases_stored}
-use Rattle.call_states.specs.Environments.{LiesIn, Proper, place_type}
-use Rattle.call_states.proofs.Aliased.{IsReady, aliases-ready}
-use Rattle.call_states.proofs.AliasedStores.{AreWritten, IsApart, Pairs, at-head, head-or_tail, one-kept, one-written, whole-changes}
-use Rattle.call_states.proofs.SeenAliases.{listed_pairs}
-use Rattle.call_states.proofs.AliasedTypes.{AreStoredAs, AreTyped, are-aliased, declared, seen, shows, values-limits, whole-type}
-use Rattle.cert_checker.specs.Walk.{assigned_to}
+use Rattle.checker_state.specs.Bounds.{Bound}
+use Rattle.checker_state.specs.Holds.{HasNumber, IsIn, moment}
+use Rattle.checker_state.specs.Knows.{IsFormApart, IsOfForm, Knows, bound_rests}
+use Rattle.checker_state.specs.Changes.{assigned}
+use Rattle.checker_state.proofs.Apart.{part}
+use Rattle.checker_state.proofs.Assigned.{assignments-hold}
+use Rattle.checker_rows.specs.Limits.{limits_or_integer, row_limits}
+use Rattle.checker_rows.specs.Rows.{all_parts, rows_of, type_at, values_at}
+use Rattle.checker_rows.proofs.Numbered.{own-values}
+use Rattle.checker_state.specs.State.{State}
+use Rattle.checker_state.specs.State.{table_of}
+use Rattle.checker_loops.specs.Pairs.{aliases_in}
+use Rattle.checker_loops.specs.Ways.{Way, turn_ended}
+use Rattle.checker_loops.proofs.OnWay.{Between, MayBe, ended-known}
+use Rattle.checker_loops.proofs.Tabled.{are-rows}
+use Rattle.checker_calls.specs.Aliases.{Stored, unless_alias, with_aliases_stored}
+use Rattle.checker_calls.specs.Environments.{LiesIn, Proper, place_type}
+use Rattle.checker_calls.proofs.Aliased.{IsReady, aliases-ready}
+use Rattle.checker_calls.proofs.AliasedStores.{AreWritten, IsApart, Pairs, at-head, head-or_tail, one-written, whole-changes}
+use Rattle.checker_calls.proofs.SeenAliases.{listed_pairs}
+use Rattle.checker_calls.proofs.AliasedTypes.{AreStoredAs, AreTyped, are-aliased, declared, own-row_type, seen, whole-type}
 
 -- a number for the whole of a variable
 abbrev pub whole : ℤ → Pairs
@@ -57,30 +51,25 @@ whole-only n pair inside = ⊎_elim (λ same. same) (λ none. absurd (omega (ari
 pub form-unless : (aliases : List ℕ) (env : Environment) (store : Store) (form : Option Bound) (v : Value) → IsOfForm (moment env store) form v
     → IsOfForm (moment env store) (unless_alias aliases form) v
 form-unless aliases env store None v of_form = of_form
-form-unless aliases env store (Some (fact.Number n)) v of_form = of_form
-form-unless aliases env store (Some (Plus root n)) v of_form = by (is_among root aliases)
+form-unless aliases env store (Some form) v of_form = by (bound_rests aliases form)
   where
-    by : (among : Bool) → IsOfForm (moment env store) (cond among None (Some (Plus root n))) v
+    by : (among : Bool) → IsOfForm (moment env store) (cond among None (Some form)) v
     by true = tt
     by false = of_form
 
-pub form-apart : (aliases : List ℕ) (form : Option Bound) → IsFormApart aliases (unless_alias aliases form)
-form-apart aliases None root n is = absurd (none-some (Plus root n) is)
-form-apart aliases (Some (fact.Number m)) root n is = absurd (let none : fact.Number m ≡ Plus root n = same_Some (fact.Number m) (Plus root n) is in cc)
-form-apart aliases (Some (Plus other m)) root n is = by (is_among other aliases) refl is
+-- a form that is left is that which there was, and rests on no alias
+pub unless-some : (aliases : List ℕ) (form : Option Bound) (b : Bound) → unless_alias aliases form ≡ Some b
+    → (form ≡ Some b) × (bound_rests aliases b ≡ false)
+unless-some aliases None b is = absurd (none-some b is)
+unless-some aliases (Some form) b is = by (bound_rests aliases form) refl is
   where
-    root-of : (a b : ℕ) (k l : ℤ) → Plus a k ≡ Plus b l → a ≡ b
-    root-of a b k l is = cc
+    by : (among : Bool) → bound_rests aliases form ≡ among → cond among None (Some form) ≡ Some b
+        → (Some form ≡ Some b) × (bound_rests aliases b ≡ false)
+    by true here is = absurd (none-some b is)
+    by false here is = (is, subst (λ (c : Bound). bound_rests aliases c ≡ false) (same_Some form b is) here)
 
-    by : (among : Bool) → is_among other aliases ≡ among → cond among None (Some (Plus other m)) ≡ Some (Plus root n) → is_among root aliases ≡ false
-    by true here is = absurd (none-some (Plus root n) is)
-    by false here is =
-        subst (λ (r : ℕ). is_among r aliases ≡ false) (root-of other root m n (same_Some (Plus other m) (Plus root n) is)) here
-
-number-of : (env : Environment) (root : ℕ) (form : Option Bound) (n : ℤ) (before after : Store) → HasNumber (moment env after) root n
-    → IsOfForm (moment env before) form (Number n) → IsNumberOf env root form before after
-number-of env root None n before after has of_form = tt
-number-of env root (Some bound) n before after has (m, same, is_bound) = (m, has ∙ ap (λ (w : Value). Some w) same, is_bound)
+pub form-apart : (aliases : List ℕ) (form : Option Bound) → IsFormApart aliases (unless_alias aliases form)
+form-apart aliases form bound is = (unless-some aliases form bound is).1
 
 -- ---- the store of a value
 
@@ -116,7 +105,7 @@ module _ (tree : Tree) (pairs : List (ℕ × ℕ)) (block activations : ℕ) (en
   some-range types (Some range) id v same some inside = (range, sym same, inside)
 
   -- a value of an ordinal variable's range lies in its type
-  pub whole-typed : (n : ℤ) → is_some (variable_values tree root) ≡ true → IsIn (limits_at (all_limits tree) root) (Number n)
+  pub whole-typed : (n : ℤ) → is_some (values_at (rows_of tree) root) ≡ true → IsIn (row_limits (rows_of tree) root) (Number n)
       → AreTyped tree env root (whole n)
   whole-typed n ordinal inside pair place listed place_is =
       let variable = declared tree pairs block activations env proper root (seen tree pairs block activations env proper root home at) in
@@ -126,10 +115,8 @@ module _ (tree : Tree) (pairs : List (ℕ × ℕ)) (block activations : ℕ) (en
       (sym place_is ∙ ap (λ (p : List Step × Value). store.part (env.variables root) p.0) (sym same)
       ∙ ap (λ (found : Option Place). store.part found []) at ∙ ap (λ (s : List Step). Some (record home { steps = s })) (append-nil home.steps)) in
       let typed : place_type tree place ≡ Some variable.0.type_id = ap (place_type tree) own ∙ proper.typed root home variable.0 at variable.1 in
-      let values : variable_values tree root ≡ range_of tree.types variable.0.type_id =
-      ap (option_and_then (λ (v : Variable). range_of tree.types v.type_id)) variable.1 in
-      let lies = some-range tree.types (variable_values tree root) variable.0.type_id (Number n) values ordinal
-      (subst (λ (range : Interval). IsIn range (Number n)) (values-limits tree root variable.0 variable.1) inside) in
+      let lies = some-range tree.types (values_at (rows_of tree) root) variable.0.type_id (Number n) (own-values tree root variable.0 variable.1) ordinal
+      inside in
       (variable.0.type_id, typed, subst (λ (p : List Step × Value). LiesIn tree.types variable.0.type_id p.1) same lies)
 
   abbrev aliases : List ℕ
@@ -137,7 +124,7 @@ module _ (tree : Tree) (pairs : List (ℕ × ℕ)) (block activations : ℕ) (en
 
   -- what an assignment tells of the aliases
   abbrev told : Interval → List Stored
-  told range = record { type_id = variable_type tree root; range = range } ∷ []
+  told range = record { type_id = type_at (rows_of tree) root; range = range } ∷ []
 
   module _ (n : ℤ) (before after : Store) (are : AreWritten env aliases root (whole n) before after) (typed : AreTyped tree env root (whole n)) where
     stored-as : (range : Interval) → HasMember range n → AreStoredAs tree env root (whole n) (told range)
@@ -147,10 +134,12 @@ module _ (tree : Tree) (pairs : List (ℕ × ℕ)) (block activations : ℕ) (en
         same_Some (part home []) place
         (sym (ap (λ (found : Option Place). store.part found []) at)
         ∙ ap (λ (p : List Step × Value). store.part (env.variables root) p.0) same ∙ place_is) in
-        let same_type : variable_type tree root ≡ Some own =
-        whole-type tree pairs block activations env proper root home own at (ap (place_type tree) there ∙ type_is) in (
-          record { type_id = variable_type tree root; range = range },
-          at-head (record { type_id = variable_type tree root; range = range }) [],
+        let variable = declared tree pairs block activations env proper root (seen tree pairs block activations env proper root home at) in
+        let one : variable.0.type_id ≡ own =
+        whole-type tree pairs block activations env proper root home own variable.0 at variable.1 (ap (place_type tree) there ∙ type_is) in
+        let same_type : type_at (rows_of tree) root ≡ Some own = own-row_type tree root variable.0 variable.1 ∙ ap Some one in (
+          record { type_id = type_at (rows_of tree) root; range = range },
+          at-head (record { type_id = type_at (rows_of tree) root; range = range }) [],
           same_type,
           subst (λ (p : List Step × Value). IsIn range p.1) same inside,
         )
@@ -158,28 +147,23 @@ module _ (tree : Tree) (pairs : List (ℕ × ℕ)) (block activations : ℕ) (en
     assigned-ready : (range : Interval) → HasMember range n → (state : State) → Knows (all_parts tree) variables env state before
         → IsReady tree variables env aliases (with_aliases_stored tree aliases (told range) state) before after
     assigned-ready range inside state known =
-        aliases-ready tree variables env (shows tree pairs block activations env proper) aliases (told range) state before after
+        aliases-ready tree variables env aliases (told range) state before after
         (are-aliased tree pairs block activations env proper aliases root (whole n) before after are typed (told range) (stored-as range inside)) known
 
     -- behind an assignment
     pub assigned-knows : (range : Interval) (form : Option Bound) (state : State) → HasMember range n → IsOfForm (moment env before) form (Number n)
         → Knows (all_parts tree) variables env state before
         → Knows (all_parts tree) variables env
-        (assigned_to root range (unless_alias aliases form) (with_aliases_stored tree aliases (told range) state)) after
+        (assigned root range (unless_alias aliases form) (with_aliases_stored tree aliases (told range) state)) after
     assigned-knows range form state inside of_form known =
         let ready_state = with_aliases_stored tree aliases (told range) state in
         let ready = assigned-ready range inside state known in
         let own = unless_alias aliases form in
-        let of_own = form-unless aliases env before form (Number n) of_form in
-        let has = whole-has env aliases root n before after are in
-        record {
-          variables = assigned-known variables env aliases ready_state.variables before after root range own (Number n) within-variables
-              (one-kept env aliases root (whole n) before after are) has ready.knows.variables ready.variables_loose inside of_own (form-apart aliases form);
-          components = changes-hold (all_parts tree) (components-inner tree) env root aliases own ready_state.components before after
-              (whole-changes env aliases root (whole n) before after are
-              (λ pair listed. sym (ap (λ (p : List Step × Value). p.0) (whole-only n pair listed))))
-              (number-of env root own n before after has of_own) ready.components_loose ready.knows.components;
-        }
+        let changes = whole-changes env aliases root (whole n) before after are
+        (λ pair listed. sym (ap (λ (p : List Step × Value). p.0) (whole-only n pair listed))) in
+        assignments-hold (all_parts tree) (table_of tree) (are-rows tree) env aliases ready_state before after root range own (Number n) within-variables
+        changes (whole-has env aliases root n before after are) ready.knows ready.loose inside (form-unless aliases env before form (Number n) of_form)
+        (form-apart aliases form)
 
 -- ---- a control variable, of which no alias is visible
 
@@ -188,35 +172,10 @@ pub ended-knows : (tree : Tree) (env : Environment) (way : Way) (state : State) 
     → way.control < length tree.variables.items → AreWritten env [] way.control (whole (next_value way.direction n)) before after
     → HasNumber (moment env before) way.control n → HasMember way.last.values y → Between way.direction x y n → int_eq n y ≡ false
     → MayBe env after way.last.form y → Knows (all_parts tree) (length tree.variables.items) env state before
-    → Knows (all_parts tree) (length tree.variables.items) env (over_change way.control (next way) (turn_ended way) state) after
+    → Knows (all_parts tree) (length tree.variables.items) env (turn_ended way state) after
 ended-knows tree env way state before after x y n within are has other between apart last known =
     let m = next_value way.direction n in
-    let now = whole-has env [] way.control m before after are in
-    record {
-      variables = ended-known (length tree.variables.items) env way state.variables before after x y n within
-          (one-kept env [] way.control (whole m) before after are) has other between apart now last known.variables;
-      components = changes-hold (all_parts tree) (components-inner tree) env way.control [] (next way) state.components before after
-          (whole-changes env [] way.control (whole m) before after are (λ pair listed. sym (ap (λ (p : List Step × Value). p.0) (whole-only m pair listed))))
-          (number-of env way.control (next way) m before after now (next-of_form env before way.control way.direction n has))
-          (none-loose (all_parts tree) env state.components after) known.components;
-    }
-
--- where a variable is its bound
-pub bound-knows : (rows : List Parts) (roots : ℕ) (env : Environment) (state : State) (store : Store) (root : ℕ) (own : Option Bound) (x : ℤ)
-    → HasNumber (moment env store) root x → ((b : Bound) → own ≡ Some b → IsBound (moment env store) b x) → Knows rows roots env state store
-    → Knows rows roots env (over_bound root own (replaced root own) state) store
-bound-knows rows roots env state store root own x has may known = record {
-  variables = replaced-known roots env state.variables store root own x has may known.variables;
-  components = bounds-hold rows env root own x state.components store has may known.components;
-}
-
--- where it became undefined
-pub gone-knows : (tree : Tree) (env : Environment) → Shows (length tree.variables.items) env → (root : ℕ) (state : State) (before after : Store)
-    → IsKept env (root ∷ []) (root ∷ []) before after → OneChanges env root [] before after
-    → ((v : Value) → value_at (moment env after) root [] ≡ Some v → ⊥) → Knows (all_parts tree) (length tree.variables.items) env state before
-    → Knows (all_parts tree) (length tree.variables.items) env (over_change root None (with_undefined root) state) after
-gone-knows tree env shown root state before after kept changes none known = record {
-  variables = undefined-known (length tree.variables.items) env shown state.variables root before after kept none known.variables;
-  components = changes-hold (all_parts tree) (components-inner tree) env root [] None state.components before after changes tt
-      (none-loose (all_parts tree) env state.components after) known.components;
-}
+    let changes = whole-changes env [] way.control (whole m) before after are
+    (λ pair listed. sym (ap (λ (p : List Step × Value). p.0) (whole-only m pair listed))) in
+    ended-known (all_parts tree) (table_of tree) (are-rows tree) env way state before after x y n within changes has other between apart
+    (whole-has env [] way.control m before after are) last known

@@ -1,18 +1,11 @@
 -- The claims of a certificate that names what the program has name what they may: what a caller may know, and at the end of a block its own result.
 use Rattle.std.proofs.Common.{arith, ◌≡◌, ⊎_elim, inl, inr, ◌∙◌, sym, ap, refl, subst, ℕ, suc, Bool, true, false, cond, not}
-use Rattle.std.proofs.Common.{◌&&◌, ◌||◌, nat_eq, List, [], ◌∷◌, ◌++◌, length, map, Option, Some, None}
+use Rattle.std.proofs.Common.{◌&&◌, ◌||◌, nat_eq, List, [], ◌∷◌, ◌++◌, length, map}
 use Rattle.std.specs.List.{Contains, list_all, range_with_len}
-use Rattle.std.specs.Option.{option_and_then}
 use Rattle.std.specs.Prelude.{nat_lt, slice_get}
 use Rattle.std.proofs.lemmas.Bool.{and_parts, cases_lt, eqb-true, false≢true, not-true, or_cases, or_parts}
 use Rattle.std.proofs.lemmas.List.{get_or_past, length-map}
-use Rattle.std.proofs.lemmas.List.Elements.{All-contains}
 use Rattle.std.proofs.lemmas.List.FromFn.{get_or-map-range_with_len, length-range_with_len}
-use Rattle.std.proofs.lemmas.List.Sums.{AllPass-from_list_all}
-use Rattle.std.proofs.lemmas.Option.{same_Some}
-use Rattle.types.specs.Forms.{Array, Boolean, Char, Enumeration, Form, Integer, Record, Subrange}
-use Rattle.types.specs.Types.{form_at, form_range, is_ordinal}
-use Rattle.types.specs.declared.form.TypeId.{TypeId}
 use Rattle.typed_tree.specs.WellFormed.{is_declared, is_local_kind, is_result_kind, is_round, is_value_kind, is_visible, of_one, outline_of}
 use Rattle.typed_tree.specs.declared.tree.Tree.{Tree}
 use Rattle.typed_tree.specs.declared.tree.Variable.{Variable}
@@ -20,35 +13,27 @@ use Rattle.certificate.specs.declared.Certificate.{Certificate}
 use Rattle.certificate.specs.declared.Section.{Section as KeptSection}
 use Rattle.certificate.specs.declared.facts.Fact.{Fact as KeptFact}
 use Rattle.certificate.specs.declared.facts.Fact.TheVariants as kept
-use Rattle.certificate.specs.Contents.{contents, is_empty, said_fact, said_path, section_of}
+use Rattle.certificate.specs.Contents.{contents, is_empty, said_fact, section_of}
 use Rattle.domain.specs.declared.facts.Bound.{Bound as KeptBound}
 use Rattle.domain.specs.declared.facts.Bound.TheVariants as kept_bound
 use Rattle.domain.specs.Facts.{Fact, said_bound}
-use Rattle.domain.specs.Facts as fact
-use Rattle.abstract_state.specs.Loops.{is_among}
-use Rattle.abstract_state.proofs.Given.{entire-steps}
-use Rattle.leaf_rows.specs.Rows.{Named, part_named, variable_named}
-use Rattle.structured_states.specs.Loops.{has_ordinals, is_ordinal_variable}
+use Rattle.checker_state.specs.Loops.{is_among}
 use Rattle.certificate.specs.declared.AliasPair.{AliasPair}
 use Rattle.certificate.specs.Contents.{Section}
 use Rattle.cert_checker.proofs.HiddenControls.{IsKnownPair}
-use Rattle.call_states.specs.Sections.{BlockClaims, all_block_claims, all_pairs, block_claims_at, block_claims_in, no_block_claims, pair_of}
-use Rattle.call_states.proofs.Lists.{of-flat, of-map}
-use Rattle.exit_states.proofs.BehindExits.{FitsOrdinals, IsOwnResult, IsResultOf, MayEnd}
-use Rattle.call_states.proofs.Given.{AreOutward}
-use Rattle.call_states.proofs.Given as given
-use Rattle.call_states.proofs.Headings.{one-there}
-use Rattle.call_states.proofs.LedComponents.{path-ordinal}
-use Rattle.call_states.proofs.Parameters.{IsOutward}
-use Rattle.certificate_names.specs.Names.{block_is_known, bound_roots, exit_is_known, fact_is_known, fact_is_on, fact_roots, has_elements, is_array}
-use Rattle.certificate_names.specs.Names.{has_parameter, is_changed_value, pair_is_known}
-use Rattle.certificate_names.specs.Names.{is_known, is_lasting, is_named, is_of_loops, is_outward, is_own_result, names, section_is_known}
-use Rattle.expression_checker.proofs.Sound.{World}
-use Rattle.expression_checker.proofs.CallLaws.{AreClaims}
-
--- a test that all pass, each of them passes
-each-passes : {A : Type 0} (test : A → Bool) (items : List A) (item : A) → list_all test items ≡ true → Contains items item → test item ≡ true
-each-passes test items item all inside = All-contains (λ x. test x ≡ true) items item (AllPass-from_list_all test items all) inside
+use Rattle.checker_calls.specs.Sections.{BlockClaims, all_block_claims, all_pairs, block_claims_at, block_claims_in, no_block_claims, pair_of}
+use Rattle.checker_calls.proofs.AliasedStores.{all-pass}
+use Rattle.checker_calls.proofs.Lists.{of-flat, of-map}
+use Rattle.checker_calls.proofs.BehindExits.{IsOwnResult, IsResultOf, MayEnd}
+use Rattle.checker_calls.proofs.Given.{AreOutward}
+use Rattle.checker_calls.proofs.Given as given
+use Rattle.checker_calls.proofs.Headings.{one-there}
+use Rattle.checker_calls.proofs.Parameters.{IsOutward}
+use Rattle.cert_checker.specs.Names.{block_is_known, bound_roots, exit_is_known, fact_is_known, fact_is_on, fact_roots}
+use Rattle.cert_checker.specs.Names.{has_parameter, is_changed_value, pair_is_known}
+use Rattle.cert_checker.specs.Names.{is_known, is_lasting, is_of_loops, is_outward, is_own_result, section_is_known}
+use Rattle.checker_expressions.proofs.Sound.{World}
+use Rattle.checker_expressions.proofs.CallLaws.{AreClaims}
 
 nothing-in : {A : Type 0} (items : List A) (item : A) → is_empty items ≡ true → Contains items item → ⊥
 nothing-in [] item none inside = omega (arith, inside.1)
@@ -96,55 +81,7 @@ roots-same (kept.Order root other n) = refl
 -- the variables that a fact names pass a test
 each-root : (test : ℕ → Bool) (one : KeptFact) (root : ℕ) → list_all test (fact_roots one) ≡ true → Contains (given.fact_roots (said_fact one)) root
     → test root ≡ true
-each-root test one root all inside = each-passes test (fact_roots one) root all (subst (λ (roots : List ℕ). Contains roots root) (roots-same one) inside)
-
-named-part : (test : TypeId → Bool) (found : Option Named) → is_named test found ≡ true → (named : Named) × (found ≡ Some named) × (test named.type_id ≡ true)
-named-part test None is = absurd (false≢true is)
-named-part test (Some named) is = (named, refl, is)
-
-not-ordinal_array : (types : List Form) (id : TypeId) → is_ordinal types id ≡ true → is_array types id ≡ true → ⊥
-not-ordinal_array types id ordinal array = by (form_at types id) ordinal array
-  where
-    by : (form : Option Form) → Rattle.std.specs.Prelude.is_some (option_and_then form_range form) ≡ true → has_elements form ≡ true → ⊥
-    by (Some (Array packed index element)) ordinal array = false≢true ordinal
-    by (Some (Record packed fields)) ordinal array = false≢true ordinal
-    by None ordinal array = false≢true array
-    by (Some Integer) ordinal array = false≢true array
-    by (Some Boolean) ordinal array = false≢true array
-    by (Some Char) ordinal array = false≢true array
-    by (Some (Enumeration last)) ordinal array = false≢true array
-    by (Some (Subrange host first last)) ordinal array = false≢true array
-
-ordinal-there : (tree : Tree) (root : ℕ) → is_ordinal_variable tree root ≡ true
-    → (variable : Variable) × (slice_get tree.variables.items root ≡ Some variable) × (is_ordinal tree.types variable.type_id ≡ true)
-ordinal-there tree root is = by (slice_get tree.variables.items root) refl is
-  where
-    by : (found : Option Variable) → slice_get tree.variables.items root ≡ found → has_ordinals tree.types found ≡ true
-        → (variable : Variable) × (slice_get tree.variables.items root ≡ Some variable) × (is_ordinal tree.types variable.type_id ≡ true)
-    by None found is = absurd (false≢true is)
-    by (Some variable) found is = (variable, found, is)
-
-fits-ordinals : (tree : Tree) (one : KeptFact) → fact_is_known tree one ≡ true → FitsOrdinals tree (said_fact one)
-fits-ordinals tree (kept.Range path range) is = tt
-fits-ordinals tree (kept.Order root other n) is = tt
-fits-ordinals tree (kept.Defined path) is = λ ordinal.
-    let variable = ordinal-there tree path.root ordinal in
-    let named = named-part (λ id. true) (part_named tree (said_path path)) is in
-    path-ordinal tree (said_path path) variable.0 named.0 variable.1 variable.2 named.1
-fits-ordinals tree (kept.Stretch path first last) is = by (is_ordinal_variable tree path.root) refl
-  where
-    by : (ordinal : Bool) → is_ordinal_variable tree path.root ≡ ordinal → ordinal ≡ false
-    by false ordinal = refl
-    by true ordinal =
-        let variable = ordinal-there tree path.root ordinal in
-        let named = named-part (is_array tree.types) (part_named tree (said_path path)) (and_parts (names tree (is_array tree.types) path) _ is).0 in
-        let entire = entire-steps (said_path path).steps (path-ordinal tree (said_path path) variable.0 named.0 variable.1 variable.2 named.1) in
-        let own : Some (record { steps = []; type_id = variable.0.type_id }) ≡ Some named.0 =
-        sym (ap (λ (steps : List fact.Step). variable_named tree.types steps (Some variable.0)) entire)
-        ∙ sym (ap (variable_named tree.types (said_path path).steps) variable.1) ∙ named.1 in
-        let same = same_Some (record { steps = []; type_id = variable.0.type_id }) named.0 own in
-        absurd (not-ordinal_array tree.types variable.0.type_id variable.2
-        (ap (λ (n : Named). is_array tree.types n.type_id) same ∙ named.2))
+each-root test one root all inside = all-pass test (fact_roots one) root (subst (λ (roots : List ℕ). Contains roots root) (roots-same one) inside) all
 
 -- what is known where a block begins
 entry-outward : (tree : Tree) (block : ℕ) (one : KeptFact) → fact_is_on tree (is_outward tree block) one ≡ true → AreOutward tree block (said_fact one)
@@ -181,7 +118,6 @@ exit-may tree section one is =
           ap (of_one (λ (v : Variable). nat_eq v.block section.block && is_value_kind v.kind)) variable_is ∙ value in
           let none = not-true (is_changed_value tree section root) (each root inside).1 in
           sym (ap (λ (b : Bool). b && is_among root section.changes.items) declared) ∙ none;
-      ordinals = fits-ordinals tree one parts.0;
     }))
     (or_cases (fact_is_known tree one && is_own_result tree section.block one) (fact_is_on tree (is_lasting tree section) one) is)
 
@@ -257,10 +193,10 @@ known-section tree section is =
         let c = and_parts (list_all (fact_is_on tree (is_outward tree section.block)) section.entry.items)
         (list_all (exit_is_known tree section) section.exit.items) b.1 in
         record {
-          changes = λ root inside. each-passes (is_outward tree section.block) section.changes.items root b.0 inside;
-          entry = λ fact inside. each-passes (fact_is_on tree (is_outward tree section.block)) section.entry.items fact c.0 inside;
-          exit = λ fact inside. each-passes (exit_is_known tree section) section.exit.items fact c.1 inside;
-          aliases = λ pair inside. each-passes (pair_is_known tree section.block) section.aliases.items pair a.0 inside;
+          changes = λ root inside. all-pass (is_outward tree section.block) section.changes.items root inside b.0;
+          entry = λ fact inside. all-pass (fact_is_on tree (is_outward tree section.block)) section.entry.items fact inside c.0;
+          exit = λ fact inside. all-pass (exit_is_known tree section) section.exit.items fact inside c.1;
+          aliases = λ pair inside. all-pass (pair_is_known tree section.block) section.aliases.items pair inside a.0;
         }
 
 module _ (world : World) (certificate : Certificate) (blocks_are : world.blocks ≡ all_block_claims world.tree certificate)
@@ -277,7 +213,7 @@ module _ (world : World) (certificate : Certificate) (blocks_are : world.blocks 
       (comes-from tree certificate number)
 
   known-here : (section : KeptSection) → Contains certificate.sections.items section → IsKnownSection tree section
-  known-here section inside = known-section tree section (each-passes (section_is_known tree) certificate.sections.items section names_known inside)
+  known-here section inside = known-section tree section (all-pass (section_is_known tree) certificate.sections.items section inside names_known)
 
   no-one : {A : Type 0} (items : List A) (item : A) → items ≡ [] → Contains items item → ⊥
   no-one items item none inside =

@@ -1,14 +1,14 @@
 -- The control variables of the for statements in a program are ones of ordinal types, so none of them has rows of components.
 use Rattle.std.proofs.Common.{arith, ◌≡◌, ⊎_elim, ◌∙◌, sym, ap, subst, ℕ, ◌+◌, Bool, true, ◌&&◌, nat_eq, nat_lt, List, [], ◌∷◌, ◌++◌, length, map}
 use Rattle.std.proofs.Common.{Option, Some, None}
-use Rattle.std.specs.Prelude.{flat_map, slice_get, slice_index_or}
+use Rattle.std.specs.Prelude.{flat_map, is_some, option_map, slice_get, slice_index_or}
 use Rattle.std.specs.List.{list_all}
 use Rattle.std.specs.Option.{option_and_then}
 use Rattle.std.proofs.lemmas.Bool.{and_parts, eqb-true, false≢true, false_from_ne_true, or_cases}
-use Rattle.std.proofs.lemmas.List.{length-map}
 use Rattle.std.proofs.lemmas.List.Folds.{list_any-append}
 use Rattle.types.specs.Forms.{Form}
-use Rattle.types.specs.Types.{is_ordinal}
+use Rattle.types.specs.Forms.{Array, Record}
+use Rattle.types.specs.Types.{form_kind, form_range, is_ordinal, is_structured_kind}
 use Rattle.typed_tree.specs.Accesses.{is_type, led}
 use Rattle.typed_tree.specs.Loops.{AreLoops, Inside, IsLoop, all_inside, inside_of, statement_inside}
 use Rattle.typed_tree.specs.WellFormed.{all_hold, are_whole, is_control, is_declared, is_local_kind, is_visible, is_well_formed_expr, is_well_formed_stmt}
@@ -23,15 +23,14 @@ use Rattle.typed_tree.specs.declared.tree.Stmt.TheViews.{roll-Stmt}
 use Rattle.typed_tree.specs.declared.tree.Stmt.TheFolds.{map-Stmt, fold-roll-Stmt, ind-Stmt}
 use Rattle.typed_tree.specs.declared.tree.Tree.{Tree}
 use Rattle.typed_tree.specs.declared.tree.Variable.{Variable}
-use Rattle.abstract_state.specs.Loops.{is_among}
-use Rattle.leaf_rows.specs.Rows.{Parts, all_parts, no_parts, parts_of, rows_of}
-use Rattle.leaf_rows.proofs.Accessed.{leaf-of, parts-at}
-use Rattle.component_states.specs.Laws.{AreEntire}
-use Rattle.structured_states.specs.Loops.{controls_inside, controls_of, has_ordinals, is_ordinal_variable}
-use Rattle.call_states.proofs.FormalRows.{not-both}
-use Rattle.call_states.proofs.Headings.{one-there}
-use Rattle.expression_checker.proofs.Fitting.{some-at}
-use Rattle.expression_checker.proofs.SoundAccesses.{leads-seen, leads-type}
+use Rattle.checker_state.specs.Loops.{is_among}
+use Rattle.checker_rows.specs.Rows.{Parts, all_parts, no_parts}
+use Rattle.cert_checker.specs.Names.{has_ordinals, is_ordinal_variable}
+use Rattle.checker_rows.proofs.Accessed.{IsLeafRow, row-is}
+use Rattle.checker_state.specs.Knows.{AreEntire}
+use Rattle.checker_loops.specs.Loops.{controls_inside, controls_of}
+use Rattle.checker_calls.proofs.Headings.{one-there}
+use Rattle.checker_expressions.proofs.SoundAccesses.{leads-seen, leads-type}
 
 -- ---- the loops of parts
 
@@ -177,18 +176,26 @@ module _ (tree : Tree) (block : ℕ) where
 
 -- ---- they have no rows
 
-pub ordinal-entire : (tree : Tree) (controls : List ℕ) → AreOrdinal tree controls → AreEntire (all_parts tree) controls
-ordinal-entire tree controls ordinal k within =
-    false_from_ne_true (is_among (slice_index_or (all_parts tree) k no_parts).root controls) (λ among.
-    let count = length-map (rows_of tree) (parts_of tree) in
-    let at = some-at (rows_of tree) k (omega (arith, count, within)) in
-    let leaf = leaf-of tree.types 0 tree.variables.items k at.0 at.1 in
-    let zero_root : 0 + leaf.root ≡ leaf.root = omega arith in
-    let root : (slice_index_or (all_parts tree) k no_parts).root ≡ leaf.root =
-    ap (λ (p : Parts). p.root) (parts-at tree k at.0 at.1) ∙ leaf.root_is ∙ zero_root in
-    let of_type : has_ordinals tree.types (slice_get tree.variables.items leaf.root) ≡ true =
-    subst (λ (r : ℕ). is_ordinal_variable tree r ≡ true) root (ordinal (slice_index_or (all_parts tree) k no_parts).root among) in
-    not-both tree.types leaf.variable.type_id (sym (ap (has_ordinals tree.types) leaf.variable_is) ∙ of_type) leaf.structured)
+ordinal-scalar : (form : Option Form) → is_some (option_and_then form_range form) ≡ true → is_structured_kind (option_map form_kind form) ≡ true → ⊥
+ordinal-scalar (Some (Array packed index element)) is structured = false≢true is
+ordinal-scalar (Some (Record packed fields)) is structured = false≢true is
+ordinal-scalar form is structured = false≢true structured
+
+pub ordinal-entire : (tree : Tree) (controls : List ℕ) → AreOrdinal tree controls → AreEntire (all_parts tree) (length tree.variables.items) controls
+ordinal-entire tree controls ordinal row steps behind of_row =
+    false_from_ne_true (is_among (slice_index_or (all_parts tree) row no_parts).root controls) (λ among.
+    ⊎_elim (λ own. let within = own.within in omega (arith, behind, within)) (λ is. of-leaf is among) (row-is tree row steps of_row))
+  where
+    of-leaf : IsLeafRow tree row steps → is_among (slice_index_or (all_parts tree) row no_parts).root controls ≡ true → ⊥
+    of-leaf is among =
+        let leaf = is.leaf in
+        let zero_root : 0 + leaf.root ≡ leaf.root = omega arith in
+        let root : (slice_index_or (all_parts tree) row no_parts).root ≡ leaf.root =
+        ap (λ (p : Parts). p.root) is.parts_are ∙ leaf.root_is ∙ zero_root in
+        let of_type : has_ordinals tree.types (slice_get tree.variables.items leaf.root) ≡ true =
+        subst (λ (r : ℕ). is_ordinal_variable tree r ≡ true) root (ordinal (slice_index_or (all_parts tree) row no_parts).root among) in
+        ordinal-scalar (slice_get tree.types leaf.variable.type_id.index)
+        (sym (ap (has_ordinals tree.types) leaf.variable_is) ∙ of_type) leaf.structured
 
 -- inside a loop of the table
 pub inside-ordinal : (tree : Tree) (block number : ℕ) (controls : List ℕ) → AreOrdinal tree controls → IsLoop tree.loops.items block (number, controls)

@@ -20,16 +20,16 @@ use Rattle.meaning.specs.Effect.{Action, State, and_then, begin_with, end_with, 
 use Rattle.meaning.specs.Effect as effect
 use Rattle.meaning.specs.Meaning.{Argument, Calls, activated, calls_of, environment_of, executed, result_of}
 use Rattle.meaning.specs.Laws.{state_after}
-use Rattle.call_states.specs.Environments.{Leaves}
-use Rattle.call_states.specs.Sections.{BlockClaims, all_block_claims, block_claims_at, block_claims_in, no_block_claims}
-use Rattle.expression_checker.specs.Walk.{Context, Walking}
-use Rattle.expression_checker.specs.Walk as flow
+use Rattle.checker_state.specs.State.{Dead}
+use Rattle.checker_calls.specs.Environments.{Leaves}
+use Rattle.checker_calls.specs.Sections.{BlockClaims, all_block_claims, block_claims_at, block_claims_in, no_block_claims}
+use Rattle.checker_expressions.specs.Walk.{Context, Walking}
+use Rattle.checker_expressions.specs.Walk as flow
 use Rattle.cert_checker.specs.Promise.{CallsChangeWhatTheyList}
 use Rattle.cert_checker.specs.Walk.{begin, block_walk, blocks_walk, facts_given, first_context, program_walk, result_use, statement_walk}
-use Rattle.component_states.specs.States.{dead}
-use Rattle.expression_checker.specs.declared.fault.Rule.TheVariants.{Exit}
-use Rattle.expression_checker.proofs.EffectsKept.{Keeps, Leaving, Standing, keeps-fetch, keeps-give, keeps-then, leaves-itself, leaves-same, leaves-then}
-use Rattle.expression_checker.proofs.EffectsCalls.{CallsLeave, StandsIn, Yields, activation_from, standing_from, yields-then}
+use Rattle.checker_expressions.specs.declared.fault.Rule.TheVariants.{Exit}
+use Rattle.checker_expressions.proofs.EffectsKept.{Keeps, Leaving, Standing, keeps-fetch, keeps-give, keeps-then, leaves-itself, leaves-same, leaves-then}
+use Rattle.checker_expressions.proofs.EffectsCalls.{CallsLeave, StandsIn, Yields, activation_from, standing_from, yields-then}
 use Rattle.cert_checker.proofs.EffectsParameters.{activation-grounds, declare-theirs, keeps-passing, well-body}
 use Rattle.cert_checker.proofs.EffectsStatements.{statement-kept}
 
@@ -88,7 +88,7 @@ module _ (tree : Tree) (well : IsWellFormed tree) (certificate : Certificate) (u
   pub body-here : (number : ℕ) (block : Block) → slice_get tree.blocks.items number ≡ Some block → BodyYields tree blocks number block
   body-here number block is =
       subst (λ (n : ℕ). BodyYields tree blocks n block) (zero-add number)
-      (bodies-yield (first_context tree certificate) 0 tree.blocks.items (record { state = dead tree; unbroken = unbroken; value_is = refl }) number block is)
+      (bodies-yield (first_context tree certificate) 0 tree.blocks.items (record { state = Dead; unbroken = unbroken; value_is = refl }) number block is)
 
   module _ (calls : Calls) (leave : CallsLeave tree blocks calls) (number : ℕ) (block : Block) (is : slice_get tree.blocks.items number ≡ Some block)
       (arguments : List Argument) (caller : Environment) (s : State) where

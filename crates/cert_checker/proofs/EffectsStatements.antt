@@ -35,30 +35,30 @@ use Rattle.meaning.specs.Effect.{Action, give, is_in, number_of}
 use Rattle.meaning.specs.Effect as effect
 use Rattle.meaning.specs.Meaning.{Calls, Execution, Surroundings, accessed, effect_of, effect_step, parameter_of, value_of, values_of, whole_of}
 use Rattle.meaning.specs.Meaning as meaning
-use Rattle.abstract_state.specs.Conditions.{bound_form, condition_of}
-use Rattle.abstract_state.specs.Forms.{root_of}
-use Rattle.abstract_state.specs.Loops.{with_undefined}
-use Rattle.abstract_state.specs.declared.known.Known.{Known}
-use Rattle.abstract_state.specs.declared.known.Known.TheVariants.{Ordinal}
-use Rattle.domain.specs.Facts.{Bound}
+use Rattle.checker_state.specs.Conditions.{bound_form, condition_of}
+use Rattle.checker_state.specs.Forms.{root_of}
+use Rattle.checker_state.specs.Loops.{with_undefined}
+use Rattle.checker_state.specs.declared.value.Known.{Known}
+use Rattle.checker_state.specs.declared.value.Known.TheVariants.{Ordinal}
+use Rattle.checker_state.specs.Bounds.{Bound}
 use Rattle.domain.specs.Interval.{Interval}
-use Rattle.component_states.specs.Components.{Reach}
-use Rattle.component_states.specs.States.{State, over_bound, over_change, over_variables}
-use Rattle.structured_states.specs.Cases.{arm_start, constants_before}
-use Rattle.structured_states.specs.Loops.{claims_at, round_of, with_own}
-use Rattle.structured_states.specs.Ways.{Way, next, turn_begun, turn_ended, way_of, way_out, where_counts}
-use Rattle.call_states.specs.Sections.{BlockClaims}
-use Rattle.call_states.specs.Starts.{is_own}
-use Rattle.expression_checker.specs.declared.fault.Rule.TheVariants.{Changes, LoopEntry, LoopTurn}
-use Rattle.expression_checker.specs.Walk.{Context, Walking, may_change, value_walk}
-use Rattle.expression_checker.specs.Walk as flow
+use Rattle.checker_state.specs.Stores.{Reach}
+use Rattle.checker_state.specs.State.{State}
+use Rattle.checker_loops.specs.Cases.{arm_start, constants_before}
+use Rattle.checker_loops.specs.Loops.{claims_at, round_of, with_own}
+use Rattle.checker_loops.specs.Ways.{Way, turn_begun, turn_ended, way_of, way_out, where_counts}
+use Rattle.checker_calls.specs.Sections.{BlockClaims}
+use Rattle.checker_calls.specs.Starts.{is_own}
+use Rattle.checker_expressions.specs.declared.fault.Rule.TheVariants.{Changes, LoopEntry, LoopTurn}
+use Rattle.checker_expressions.specs.Walk.{Context, Walking, may_change, value_walk}
+use Rattle.checker_expressions.specs.Walk as flow
 use Rattle.cert_checker.specs.Walk.{Stores, assign, assign_to, statement_step, statement_walk, store_to, stores_made}
 use Rattle.cert_checker.specs.Walk as walk
-use Rattle.expression_checker.proofs.EffectsKept.{CanGive, IsOwn, Keeps, MayWriteTo, Standing, own-write, under-write}
-use Rattle.expression_checker.proofs.EffectsKept.{keeps-enter, keeps-give, keeps-line_ended, keeps-looped, keeps-require, keeps-stop, keeps-store}
-use Rattle.expression_checker.proofs.EffectsKept.{keeps-store_all, keeps-then, keeps-turn, keeps-undefine, keeps-when}
-use Rattle.expression_checker.proofs.EffectsCalls.{CallsLeave, DeclareTheirs, Grounds, StandsIn, Yields, may-here, yields-asked, yields-then}
-use Rattle.expression_checker.proofs.Effects.{access-kept, call-kept, parameter-kept, under-accessed, value-kept, whole-kept}
+use Rattle.checker_expressions.proofs.EffectsKept.{CanGive, IsOwn, Keeps, MayWriteTo, Standing, own-write, under-write, keeps-enter, keeps-give}
+use Rattle.checker_expressions.proofs.EffectsKept.{keeps-line_ended, keeps-looped, keeps-require, keeps-stop, keeps-store, keeps-store_all, keeps-then}
+use Rattle.checker_expressions.proofs.EffectsKept.{keeps-turn, keeps-undefine, keeps-when}
+use Rattle.checker_expressions.proofs.EffectsCalls.{CallsLeave, DeclareTheirs, Grounds, StandsIn, Yields, may-here, yields-asked, yields-then}
+use Rattle.checker_expressions.proofs.Effects.{access-kept, call-kept, parameter-kept, under-accessed, value-kept, whole-kept}
 
 -- ---- what the walk of a statement tells of those in it
 
@@ -313,10 +313,10 @@ module _ (tree : Tree) (blocks : List BlockClaims) (declares : DeclareTheirs tre
       → ((context : Context) → In context → Yields context walking tt → Keeps at (execution here)) → (context : Context) → In context
       → Yields context (walk.for_walk head walking way) tt → Keeps at (execution here)
   kept-turns head way execution walking kept context stands yields =
-      let ways = walk.parted (over_variables (where_counts true way)) (over_variables (where_counts false way))
+      let ways = walk.parted (where_counts true way) (where_counts false way)
       (walk.for_turns head walking way) (flow.give tt) in
-      let one = yields-then context ways (λ _. flow.changed_by (over_change way.control None (with_undefined way.control))) tt yields in
-      let turns = (yields-parted context (over_variables (where_counts true way)) (over_variables (where_counts false way))
+      let one = yields-then context ways (λ _. flow.changed_by (with_undefined way.control)) tt yields in
+      let turns = (yields-parted context (where_counts true way) (where_counts false way)
       (walk.for_turns head walking way) (flow.give tt) one.1).0 in
       let begun = walk.begin_way in
       let two = yields-then context (walk.tested_way way)
@@ -325,9 +325,9 @@ module _ (tree : Tree) (blocks : List BlockClaims) (declares : DeclareTheirs tre
       let steady = walk.steady_in context head.loop_number two.0 in
       let round = yields-round tree blocks block context stands head.loop_number head.place (Some two.0.control) (walk.for_round steady walking)
       (record { state = three.2.state; unbroken = three.2.unbroken; value_is = three.2.value_is }) in
-      let end = λ (ended : State). flow.◌>>=◌ (flow.with_state (over_change steady.control (next steady) (turn_ended steady) ended))
-      (λ _. flow.give (over_bound steady.control steady.last.form (way_out steady) ended)) in
-      let four = yields-then round.inner (flow.changed_by (over_variables (turn_begun steady)))
+      let end = λ (ended : State). flow.◌>>=◌ (flow.with_state (turn_ended steady ended))
+      (λ _. flow.give (way_out steady ended)) in
+      let four = yields-then round.inner (flow.changed_by (turn_begun steady))
       (λ _. flow.◌>>=◌ walking (λ _. flow.◌>>=◌ walk.here end)) round.behind round.yields in
       let five = yields-then round.inner walking (λ _. flow.◌>>=◌ walk.here end) round.behind four.2 in
       kept round.inner round.stands five.1
@@ -362,7 +362,7 @@ module _ (tree : Tree) (blocks : List BlockClaims) (declares : DeclareTheirs tre
   keeps-arm site base index walk_rows (row ∷ rows) [] n well context stands yields = keeps-stop at (Unit {0}) (ending.Error site)
   keeps-arm site base index walk_rows (row ∷ rows) (arm ∷ arms) n well context stands yields =
       let parts = and_parts (well_stmt arm.0) (all_hold (map well_stmt (bodies arms))) well in
-      let start = over_variables (arm_start index (slice_get walk_rows 0)) base in
+      let start = arm_start index (slice_get walk_rows 0) base in
       let others = walk.arms_walk base index (drop 1 walk_rows) (map statement_walk (bodies arms)) in
       let one = yields-then context (walk.arm_walk start (statement_walk arm.0)) (λ _. others) tt yields in
       let first = arm.1 parts.0 context stands (record { state = start; unbroken = one.1.unbroken; value_is = refl }) in

@@ -5,7 +5,7 @@ use Rattle.typed_tree.specs.declared.tree.Assignment.{Assignment}
 use Rattle.typed_tree.specs.declared.tree.CaseHead.{CaseHead}
 use Rattle.typed_tree.specs.declared.tree.ForHead.{ForHead}
 use Rattle.typed_tree.specs.declared.tree.Selector.{Selector}
-use Rattle.domain.specs.Facts.{Bound}
+use Rattle.checker_state.specs.Bounds.{Bound}
 use Rattle.typed_tree.specs.declared.tree.Expr.{Expr}
 use Rattle.typed_tree.specs.declared.tree.Stmt.{Stmt}
 use Rattle.typed_tree.specs.declared.tree.Stmt.TheOpen.{Stmt-F}
@@ -18,28 +18,28 @@ use Rattle.typed_tree.specs.declared.tree.Tree.{Tree}
 use Rattle.typed_tree.specs.declared.tree.Block.{Block}
 use Rattle.typed_tree.specs.Entries.{joined, entries_of_expression, entries_of_parameter, statement_entries, entries_of_block, entries_of_statement, entries_of}
 use Rattle.certificate.specs.declared.Certificate.{Certificate}
-use Rattle.abstract_state.specs.declared.known.Known.{Known}
-use Rattle.abstract_state.specs.declared.known.Known.TheVariants.{Ordinal}
+use Rattle.checker_state.specs.declared.value.Known.{Known}
+use Rattle.checker_state.specs.declared.value.Known.TheVariants.{Ordinal}
 use Rattle.cert_checker.specs.Promise.{LinksEntries}
-use Rattle.component_states.specs.Components.{Reach}
-use Rattle.component_states.specs.States.{State, dead, joined_states, over_variables}
-use Rattle.call_states.specs.Sections.{block_claims_at}
-use Rattle.call_states.specs.Starts.{block_start}
-use Rattle.structured_states.specs.Loops.{claims_at, head_of, round_of, with_own}
-use Rattle.structured_states.specs.Ways.{Way, turn_begun, way_of, where_counts}
+use Rattle.checker_state.specs.Stores.{Reach}
+use Rattle.checker_state.specs.State.{Dead, State}
+use Rattle.checker_state.specs.Joins.{joined_states}
+use Rattle.checker_calls.specs.Sections.{block_claims_at}
+use Rattle.checker_calls.specs.Starts.{block_start}
+use Rattle.checker_loops.specs.Loops.{claims_at, head_of, round_of, with_own}
+use Rattle.checker_state.specs.State.{table_of}
+use Rattle.checker_loops.specs.Ways.{Way, turn_begun, way_of, where_counts}
 use Rattle.std.specs.declared.alloc.Global.{Global}
 use Rattle.std.specs.declared.vec.Vec.{Vec}
-use Rattle.abstract_state.specs.Conditions.{bound_form, condition_of}
-use Rattle.abstract_state.specs.Forms.{root_of}
-use Rattle.structured_states.specs.Cases.{arm_start, constants_before}
+use Rattle.checker_state.specs.Conditions.{bound_form, condition_of}
+use Rattle.checker_state.specs.Forms.{root_of}
+use Rattle.checker_loops.specs.Cases.{arm_start, constants_before}
 use Rattle.place.specs.declared.Place.{Place}
-use Rattle.expression_checker.specs.Walk.{Context, Walking, ◌>>=◌, access_walk, index_pieces, numbers_of, fitting, value_walk, parameter_walk, whole_walk}
-use Rattle.cert_checker.specs.Walk.{first_context, assign_to, arms_walk, case_walk, for_round, for_turns, for_walk, index_test, loop_walk}
-use Rattle.cert_checker.specs.Walk.{steady_in}
+use Rattle.checker_expressions.specs.Walk.{Context, Walking, ◌>>=◌, access_walk, index_pieces, numbers_of, fitting, value_walk, parameter_walk, whole_walk}
+use Rattle.cert_checker.specs.Walk.{first_context, assign_to, arms_walk, case_walk, for_round, for_turns, for_walk, index_test, loop_walk, steady_in}
 use Rattle.cert_checker.specs.Walk.{tested_way, while_round, repeat_round, statement_step, statement_walk, where_so, all_of, block_walk, blocks_walk}
 use Rattle.cert_checker.specs.Walk.{begin_way, program_walk, reach_stored, result_use}
-use Rattle.expression_checker.proofs.Entered.{Enters, access-entered, and_no_more, and_then, call-entered, parameter-entered, value-entered}
-use Rattle.expression_checker.proofs.Entered.{whole-entered}
+use Rattle.checker_expressions.proofs.Entered.{Enters, access-entered, and_no_more, and_then, call-entered, parameter-entered, value-entered, whole-entered}
 
 -- what comes behind the value of an assignment
 abbrev stores : Assignment → Reach → Known → Walking (Unit {0})
@@ -89,14 +89,14 @@ loop-entered number place control round numbers each context state =
     let loop = round_of context.tree context.pairs context.claims number in
     let own = with_own control loop in
     let within : Context = record context { rounds = context.rounds ++ loop ∷ [] } in
-    let start = head_of context.tree context.limits own claims.facts state in
+    let start = head_of context.tree own claims.facts state in
     and_no_more (round within start).linked [] numbers (each within start) refl
 
 module _ (head : ForHead) (body : Walking (Unit {0})) (numbers : List ℕ) (each : Enters body numbers) where
   -- a for enters what its body does
   for_round-entered : (way : Way) → Enters (for_round way body) numbers
   for_round-entered way context state =
-      let begun = over_variables (turn_begun way) state in
+      let begun = turn_begun way state in
       and_no_more (body context begun).linked [] numbers (each context begun) refl
 
   turns_of-entered : (way : Way) → Enters (for_turns head body way) numbers
@@ -108,7 +108,7 @@ module _ (head : ForHead) (body : Walking (Unit {0})) (numbers : List ℕ) (each
 
   for-entered : (way : Way) → Enters (for_walk head body way) numbers
   for-entered way context state =
-      let start = over_variables (where_counts true way) state in
+      let start = where_counts true way state in
       let turns = for_turns head body way context start in
       and_no_more (turns.linked ++ []) [] numbers
       (and_no_more turns.linked [] numbers (turns_of-entered way context start) refl) refl
@@ -118,10 +118,11 @@ arms-entered : (base : State) (index : Option ℕ) (rows : List (Vec ℤ Global)
     → Enters (arms_walk base index rows (map statement_walk (map (λ s. s.0) arms))) (joined (map entries_of_statement (map (λ s. s.0) arms)))
 arms-entered base index rows [] context state = refl
 arms-entered base index rows (arm ∷ arms) context state =
-    let start = over_variables (arm_start index (slice_get rows 0)) base in
+    let start = arm_start index (slice_get rows 0) base in
     let first = statement_walk arm.0 context start in
-    let rest = arms_walk base index (drop 1 rows) (map statement_walk (map (λ s. s.0) arms)) context (joined_states state first.after) in
-    and_then first.linked rest.linked _ _ (arm.1 context start) (arms-entered base index (drop 1 rows) arms context (joined_states state first.after))
+    let met = joined_states (table_of context.tree) state first.after in
+    let rest = arms_walk base index (drop 1 rows) (map statement_walk (map (λ s. s.0) arms)) context met in
+    and_then first.linked rest.linked _ _ (arm.1 context start) (arms-entered base index (drop 1 rows) arms context met)
 
 case-entered : (head : CaseHead) (arms : List EnteredStmt) (known : Known)
     → Enters (case_walk head (map statement_walk (map (λ s. s.0) arms)) known) (joined (map entries_of_statement (map (λ s. s.0) arms)))
@@ -245,7 +246,7 @@ blocks-entered number (block ∷ blocks) context state =
 
 -- and that over a program
 pub program-entered : (tree : Tree) (certificate : Certificate) → numbers_of (program_walk tree certificate).linked ≡ entries_of tree
-program-entered tree certificate = blocks-entered 0 tree.blocks.items (first_context tree certificate) (dead tree)
+program-entered tree certificate = blocks-entered 0 tree.blocks.items (first_context tree certificate) Dead
 
 pub links_entries : (tree : Tree) (certificate : Certificate) → LinksEntries tree certificate
 links_entries tree certificate = record { of_block = block-entered; of_program = program-entered tree certificate }

@@ -12,11 +12,11 @@ use Rattle.typed_tree.specs.declared.tree.Tree.{Tree}
 use Rattle.typed_tree.specs.declared.tree.Variable.{Variable}
 use Rattle.typed_tree.specs.declared.tree.VariableKind.{VariableKind}
 use Rattle.typed_tree.specs.declared.tree.VariableKind.TheVariants as kind
-use Rattle.abstract_state.specs.Loops.{is_among}
-use Rattle.structured_states.specs.Pairs.{aliases_of}
-use Rattle.call_states.proofs.Headings.{is-declared, one-there, well-placed}
-use Rattle.call_states.proofs.Places.{listed-pair}
-use Rattle.certificate_names.specs.Names.{has_parameter, is_outward, is_round_about, is_variable_parameter}
+use Rattle.checker_state.specs.Loops.{is_among}
+use Rattle.checker_loops.specs.Pairs.{aliases_of}
+use Rattle.checker_calls.proofs.Headings.{is-declared, one-there, well-placed}
+use Rattle.checker_calls.proofs.Places.{listed-pair}
+use Rattle.cert_checker.specs.Names.{has_parameter, is_outward, is_round_about, is_variable_parameter}
 
 -- a pair is one of a block
 abbrev pub IsKnownPair : Tree → ℕ → ℕ → Type 0

@@ -1,48 +1,22 @@
 -- A variable becomes undefined: no other changes, and values lie in their types as before.
-use Rattle.std.proofs.Common.{◌≡◌, ◌≢◌, ⊎_elim, ◌∙◌, sym, ap, refl, subst, ℕ, Bool, true, false, cond, ◌||◌, nat_eq, List, [], ◌∷◌, Option, Some, None}
-use Rattle.std.proofs.Common.{append-nil, inl, inr, ◌⊎◌, ◌++◌, not}
-use Rattle.std.specs.List.{list_all}
-use Rattle.std.proofs.lemmas.Bool.{and_parts, both_ways, cases_eq, eq-eqb, eqb-true, false_from_ne_true, or_cases}
+use Rattle.std.proofs.Common.{◌≡◌, ◌≢◌, ◌∙◌, sym, ap, refl, subst, ℕ, Bool, true, false, cond, ◌||◌, nat_eq, List, [], Option, Some, None}
+use Rattle.std.proofs.Common.{append-nil, inl, inr, ◌⊎◌, ◌++◌}
+use Rattle.std.proofs.lemmas.Bool.{both_ways, cases_eq, false_from_ne_true}
 use Rattle.std.proofs.lemmas.List.Folds.{list_any-append}
 use Rattle.std.proofs.lemmas.Option.{none-some}
 use Rattle.types.specs.declared.form.Step.{Step}
-use Rattle.typed_tree.specs.WellFormed.{is_visible, outline_of}
 use Rattle.typed_tree.specs.declared.tree.Tree.{Tree}
 use Rattle.meaning.specs.declared.store.Value.{Value}
 use Rattle.meaning.specs.Store.{Environment, Place, Store, place_eq, stored, undefined}
-use Rattle.abstract_state.specs.Holds.{part_of, value_at}
-use Rattle.abstract_state.specs.Knows.{IsKept, moment}
-use Rattle.abstract_state.specs.Loops.{is_among}
-use Rattle.abstract_state.proofs.Apart.{entire-stored, entry-kept, part, parts-same, place-itself}
-use Rattle.component_states.specs.Laws.{OneChanges}
-use Rattle.structured_states.proofs.Touched.{all_control}
-use Rattle.structured_states.specs.Loops.{Round, touched}
-use Rattle.expression_checker.proofs.Keeping.{Keeps}
-use Rattle.call_states.specs.Environments.{Begun, Proper, Typed}
-use Rattle.call_states.proofs.AliasedStores.{IsApart, all-pass}
-
--- ---- what no block shows
-
--- none of the aliases has a place
-pub hidden-aliases : (tree : Tree) (pairs : List (ℕ × ℕ)) (block activations : ℕ) (env : Environment) → Proper tree pairs block activations env
-    → (roots : List ℕ) → list_all (λ root. not (is_visible (outline_of tree) block root)) roots ≡ true → (alias : ℕ) → is_among alias roots ≡ true
-    → env.variables alias ≡ None
-hidden-aliases tree pairs block activations env proper roots hidden alias among =
-    proper.only alias (not-so (is_visible (outline_of tree) block alias) (each roots hidden among))
-  where
-    not-so : (b : Bool) → not b ≡ true → b ≡ false
-    not-so true is = absurd (cc)
-    not-so false is = refl
-
-    each : (roots : List ℕ) → list_all (λ root. not (is_visible (outline_of tree) block root)) roots ≡ true → is_among alias roots ≡ true
-        → not (is_visible (outline_of tree) block alias) ≡ true
-    each [] all among = absurd (cc)
-    each (root ∷ roots) all among =
-        let parts = and_parts (not (is_visible (outline_of tree) block root)) (list_all (λ root. not (is_visible (outline_of tree) block root)) roots) all in
-        ⊎_elim
-        (λ (same : nat_eq root alias ≡ true).
-        subst (λ (r : ℕ). not (is_visible (outline_of tree) block r) ≡ true) (eqb-true root alias same) parts.0)
-        (λ later. each roots parts.1 later) (or_cases (nat_eq root alias) (is_among alias roots) among)
+use Rattle.checker_state.specs.Holds.{part_of, value_at, moment}
+use Rattle.checker_state.specs.Knows.{IsKept, OneChanges}
+use Rattle.checker_state.specs.Loops.{is_among}
+use Rattle.checker_state.proofs.Apart.{entire-stored, entry-kept, part, parts-same, place-itself}
+use Rattle.checker_loops.proofs.Touched.{all_control}
+use Rattle.checker_loops.specs.Loops.{Round, touched}
+use Rattle.checker_expressions.proofs.Keeping.{Keeps}
+use Rattle.checker_calls.specs.Environments.{Begun, Typed}
+use Rattle.checker_calls.proofs.AliasedStores.{IsApart, all-pass}
 
 -- ---- a variable becomes undefined
 
@@ -90,16 +64,11 @@ module _ (env : Environment) (store : Store) (root : ℕ) (home : Place) (at : e
   apart-among other roots is isnt same =
       both_ways (is_among other roots) isnt (subst (λ (r : ℕ). is_among r roots ≡ true) same is)
 
-  pub gone-kept : (touched controls : List ℕ) → is_among root touched ≡ true → is_among root controls ≡ true → IsKept env touched controls store gone
+  gone-kept : (touched controls : List ℕ) → is_among root touched ≡ true → is_among root controls ≡ true → IsKept env touched controls store gone
   gone-kept touched controls is_touched is_control = record {
     values = λ other among steps. gone-others other (apart-among other touched is_touched among) steps;
     defined = λ other among steps has. (has.0, gone-others other (apart-among other controls is_control among) steps ∙ has.1);
   }
-
-  pub gone-alone : IsKept env (root ∷ []) (root ∷ []) store gone
-  gone-alone =
-      let own : is_among root (root ∷ []) ≡ true = ap (λ (same : Bool). same || false) (eq-eqb root root refl) in
-      gone-kept (root ∷ []) (root ∷ []) own own
 
   -- in each loop is a for statement that it controls
   pub gone-keeps : (rounds : List Round) → all_control root rounds ≡ true → Keeps env rounds store gone

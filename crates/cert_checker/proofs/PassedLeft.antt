@@ -18,19 +18,19 @@ use Rattle.meaning.specs.Effect as effect
 use Rattle.meaning.specs.Laws.{state_after}
 use Rattle.meaning.specs.Meaning.{Argument, Calls, effect_of, environment_of}
 use Rattle.meaning.specs.Store.{Environment, Place}
-use Rattle.abstract_state.specs.Loops.{is_among}
-use Rattle.call_states.specs.Environments.{IsListed, LeavesPassed}
-use Rattle.call_states.specs.Sections.{BlockClaims, all_block_claims, block_claims_at}
-use Rattle.call_states.specs.Starts.{is_own, is_passed_value}
-use Rattle.call_states.proofs.Lists.{contains-among}
-use Rattle.call_states.proofs.Callee.{IsCalled, Outer, Own, PassedTo, Seen, activation_of, place-for_fits, seen-as}
-use Rattle.call_states.proofs.Entered.{roots-are}
+use Rattle.checker_state.specs.Loops.{is_among}
+use Rattle.checker_calls.specs.Environments.{IsListed, LeavesPassed}
+use Rattle.checker_calls.specs.Sections.{BlockClaims, all_block_claims, block_claims_at}
+use Rattle.checker_calls.specs.Starts.{is_own, is_passed_value}
+use Rattle.checker_calls.proofs.Lists.{contains-among}
+use Rattle.checker_calls.proofs.Callee.{IsCalled, Outer, Own, PassedTo, Seen, activation_of, place-for_fits, seen-as}
+use Rattle.checker_calls.proofs.Entered.{roots-are}
 use Rattle.cert_checker.specs.Walk.{program_walk}
 use Rattle.cert_checker.proofs.EffectsParameters.{behind, behind-grounds, declare-theirs, well-body}
 use Rattle.cert_checker.proofs.EffectsRoutines.{body-here}
 use Rattle.cert_checker.proofs.EffectsStatements.{statement-kept}
-use Rattle.expression_checker.proofs.EffectsCalls.{CallsLeave}
-use Rattle.expression_checker.proofs.EffectsKept.{LeavesSo}
+use Rattle.checker_expressions.proofs.EffectsCalls.{CallsLeave}
+use Rattle.checker_expressions.proofs.EffectsKept.{LeavesSo}
 
 no-own_value : (one : VariableKind) → (is_local_kind one || is_result_kind one) ≡ true → is_value_kind one ≡ true → ⊥
 no-own_value kind.ValueParameter own value = both_ways false refl own

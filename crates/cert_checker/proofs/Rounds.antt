@@ -1,32 +1,21 @@
 -- What the turns of a loop change, the loop touches, and the aliases of that: at its head, and inside it as far as they are visible.
-use Rattle.std.proofs.Common.{◌≡◌, ⊎_elim, ◌∙◌, ap, subst, ℕ, Bool, true, false, ◌||◌, nat_eq, List, [], ◌∷◌, ◌++◌, Some}
+use Rattle.std.proofs.Common.{◌≡◌, ⊎_elim, ◌∙◌, ap, subst, ℕ, true, false, ◌||◌, nat_eq, List, [], ◌∷◌, ◌++◌, Some}
 use Rattle.std.proofs.Common.{None}
 use Rattle.std.specs.Prelude.{slice_get}
-use Rattle.std.proofs.lemmas.Bool.{false_from_ne_true, or_cases, or_left, or_right}
+use Rattle.std.proofs.lemmas.Bool.{both_ways, false_from_ne_true, or_cases, or_left, or_right}
 use Rattle.std.proofs.lemmas.List.Elements.{Contains-push_cases}
 use Rattle.typed_tree.specs.declared.tree.Loop.{Loop}
 use Rattle.typed_tree.specs.declared.tree.Tree.{Tree}
 use Rattle.meaning.specs.Store.{Environment, Store}
-use Rattle.abstract_state.specs.Knows.{IsKept}
-use Rattle.abstract_state.specs.Loops.{is_among}
-use Rattle.structured_states.specs.Loops.{Round, aliases_there, round_of}
-use Rattle.structured_states.specs.Pairs.{Listed, aliases_in, aliases_of, all_aliases_in, blocks_seen, declared_aliases, declares}
-use Rattle.structured_states.proofs.Touched.{touched_parts}
-use Rattle.call_states.proofs.Lists.{among-contains, contains-among, filtered, of-flat}
-use Rattle.call_states.proofs.Places.{listed-pair, pair-back, pair-listed}
-use Rattle.call_states.proofs.SeenAliases.{all-alias-seen}
-use Rattle.expression_checker.specs.Walk.{Context}
-use Rattle.expression_checker.proofs.Sound.{Goes, IsClosed, World, is_seen, listed_in}
-
-not-both : (b : Bool) → b ≡ true → b ≡ false → ⊥
-not-both b is isnt = cc
-
-false-true : ◌≡◌ {A = Bool} false true → ⊥
-false-true is = cc
-
--- an alias of a variable has it as an alias
-pub aliases-back : (pairs : List (ℕ × ℕ)) (root alias : ℕ) → is_among alias (aliases_of pairs root) ≡ true → is_among root (aliases_of pairs alias) ≡ true
-aliases-back pairs root alias is = pair-listed pairs alias root (pair-back pairs root alias (listed-pair pairs root alias is))
+use Rattle.checker_state.specs.Knows.{IsKept}
+use Rattle.checker_state.specs.Loops.{is_among}
+use Rattle.checker_loops.specs.Loops.{Round, aliases_there, round_of}
+use Rattle.checker_loops.specs.Pairs.{Listed, aliases_in, aliases_of, all_aliases_in, blocks_seen, declared_aliases, declares}
+use Rattle.checker_loops.proofs.Touched.{touched_parts}
+use Rattle.checker_calls.proofs.Lists.{among-contains, contains-among, filtered, of-flat}
+use Rattle.checker_calls.proofs.SeenAliases.{all-alias-seen}
+use Rattle.checker_expressions.specs.Walk.{Context}
+use Rattle.checker_expressions.proofs.Sound.{Goes, IsClosed, World, is_seen, listed_in}
 
 -- an alias that is visible in a block is listed
 alias-listed : (world : World) (block root alias : ℕ) → is_among alias (aliases_in (listed_in world) block root) ≡ true
@@ -50,10 +39,10 @@ kept-wider world block env root before after kept = record {
     narrow other apart =
         false_from_ne_true (is_among other (root ∷ aliases_in (listed_in world) block root))
         (λ is.
-        not-both (is_among other (root ∷ aliases_of world.pairs root))
+        both_ways (is_among other (root ∷ aliases_of world.pairs root)) apart
         (⊎_elim (λ same. or_left (nat_eq root other) (is_among other (aliases_of world.pairs root)) same)
         (λ alias. or_right (nat_eq root other) (is_among other (aliases_of world.pairs root)) (alias-listed world block root other alias))
-        (or_cases (nat_eq root other) (is_among other (aliases_in (listed_in world) block root)) is)) apart)
+        (or_cases (nat_eq root other) (is_among other (aliases_in (listed_in world) block root)) is)))
 
 -- ---- a loop
 
@@ -93,7 +82,6 @@ pub goes-inside : (world : World) (context : Context) (round : Round) → IsClos
     → Goes world (record context { rounds = context.rounds ++ round ∷ [] })
 goes-inside world context round closed goes = record {
   tree_is = goes.tree_is;
-  limits_are = goes.limits_are;
   pairs_are = goes.pairs_are;
   blocks_are = goes.blocks_are;
   closed = λ other inside. ⊎_elim (λ old. goes.closed other old) (λ same. subst (λ (r : Round). IsClosed world context.block r) same closed)

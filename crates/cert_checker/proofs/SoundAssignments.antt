@@ -1,10 +1,10 @@
 -- Assignments are sound: the target is accessed, the value is evaluated and tested, and then it is stored.
-use Rattle.std.proofs.Common.{arith, ◌≡◌, ◌∙◌, sym, ap, refl, subst, ℕ, zero, suc, ◌<◌, Bool, true, false, cond, ◌&&◌, nat_lt, length, List, [], ◌∷◌}
+use Rattle.std.proofs.Common.{arith, ◌≡◌, ◌∙◌, sym, ap, refl, subst, ℕ, zero, suc, ◌<◌, Bool, true, false, cond, not, ◌&&◌, nat_lt, length, List, [], ◌∷◌}
 use Rattle.std.proofs.Common.{Option, Some, None}
 use Rattle.std.specs.List.{Contains, list_all}
 use Rattle.std.specs.Option.{option_and_then}
 use Rattle.std.specs.Prelude.{is_some, slice_get}
-use Rattle.std.proofs.lemmas.Bool.{and_parts, ltb-true}
+use Rattle.std.proofs.lemmas.Bool.{and_parts, false≢true, ltb-true}
 use Rattle.std.proofs.lemmas.Option.{same_Some}
 use Rattle.types.proofs.Scalars.{ordinal_component}
 use Rattle.types.specs.Components.{components_of}
@@ -25,7 +25,7 @@ use Rattle.typed_tree.specs.declared.tree.Selector.{Selector}
 use Rattle.typed_tree.specs.declared.tree.Stmt.TheOpen.Stmt-F.{Assign}
 use Rattle.typed_tree.specs.declared.tree.Tree.{Tree}
 use Rattle.typed_tree.specs.declared.tree.Variable.{Variable}
-use Rattle.domain.specs.Facts.{Bound}
+use Rattle.checker_state.specs.Bounds.{Bound}
 use Rattle.domain.specs.Interval.{Interval}
 use Rattle.meaning.specs.declared.store.Value.{Value}
 use Rattle.meaning.specs.declared.store.Value.TheVariants.{Number}
@@ -33,38 +33,36 @@ use Rattle.meaning.specs.Store.{Environment, Place as StorePlace, Store, part}
 use Rattle.meaning.specs.Effect as effect
 use Rattle.meaning.specs.Effect.{is_in}
 use Rattle.meaning.specs.Meaning.{Surroundings, accessed, value_of, values_of}
-use Rattle.abstract_state.specs.declared.known.Known.{Known}
-use Rattle.abstract_state.specs.declared.known.Known.TheVariants.{Ordinal}
-use Rattle.abstract_state.specs.Conditions.{bound_form}
-use Rattle.abstract_state.specs.Holds.{IsIn}
-use Rattle.abstract_state.specs.Knows.{IsOfForm, moment}
-use Rattle.abstract_state.proofs.Ranged.{IsKnown}
-use Rattle.abstract_state.proofs.Refined.{expression-kept, form-known}
-use Rattle.leaf_rows.specs.Limits.{all_limits, limits_at, limits_or_integer}
-use Rattle.leaf_rows.specs.Rows.{rows_accessed, rows_of}
-use Rattle.leaf_rows.proofs.Components.{Has, only}
-use Rattle.component_states.specs.Components.{At, Entire, Inside, Reach}
-use Rattle.structured_states.specs.Loops.{all_list}
-use Rattle.call_states.specs.Aliases.{variable_values}
-use Rattle.call_states.specs.Environments.{LiesIn, type_led}
-use Rattle.call_states.proofs.AliasedTypes.{values-limits}
-use Rattle.call_states.proofs.FormalRows.{variable-accessed}
-use Rattle.call_states.proofs.Passed.{indexes-integer, reached-later}
-use Rattle.expression_checker.specs.declared.fault.Rule.TheVariants.{Changes}
-use Rattle.expression_checker.proofs.Fitting.{passed-lies}
-use Rattle.expression_checker.specs.Walk as flow
-use Rattle.expression_checker.specs.Walk.{Context, Walked, Walking, followed, may_change, value_walk}
-use Rattle.expression_checker.proofs.Sound.{Any_value, Good, IsValue, SoundCalls, SoundFrom, World, declared_in, from-then, good-weaker}
-use Rattle.expression_checker.proofs.Sound.{is_seen, sites_in, sound-anywhere, sound-here, types_in, unbroken-left}
-use Rattle.expression_checker.proofs.SoundAccesses.{LeadsTo, leads-seen, leads-tests, no-way, part-none, required-leaves, required-true, type-of}
-use Rattle.expression_checker.proofs.SoundCalls.{CallLaws}
-use Rattle.expression_checker.proofs.SoundExpressions.{SoundAction, access-sound, value-sound}
-use Rattle.expression_checker.proofs.SoundOperations.{IsKnownOf, fitting-sound}
-use Rattle.expression_checker.proofs.SoundRows.{AreComponentsOf, IsReachedBy, Leads, rows-are}
+use Rattle.checker_state.specs.declared.value.Known.{Known}
+use Rattle.checker_state.specs.declared.value.Known.TheVariants.{Ordinal}
+use Rattle.checker_state.specs.Conditions.{bound_form}
+use Rattle.checker_state.specs.Holds.{IsIn, moment}
+use Rattle.checker_state.specs.Knows.{IsOfForm}
+use Rattle.checker_expressions.proofs.Sound.{IsKnown, Any_value, Good, IsValue, SoundCalls, SoundFrom, World, declared_in, from-then, good-weaker, is_seen}
+use Rattle.checker_expressions.proofs.Sound.{kept-rule, sites_in, sound-anywhere, sound-here, types_in, unbroken-left}
+use Rattle.checker_state.proofs.Refined.{expression-kept, forms-tell}
+use Rattle.checker_rows.specs.Limits.{limits_or_integer, row_limits}
+use Rattle.checker_rows.specs.Rows.{rows_accessed, rows_of, values_at}
+use Rattle.checker_rows.proofs.Numbered.{own-values}
+use Rattle.checker_rows.proofs.Components.{Has, only}
+use Rattle.checker_state.specs.Stores.{Reach}
+use Rattle.checker_loops.specs.Loops.{all_list}
+use Rattle.checker_calls.specs.Environments.{LiesIn, type_led}
+use Rattle.checker_calls.proofs.FormalRows.{empty-way, variable-accessed}
+use Rattle.checker_calls.proofs.Passed.{indexes-integer, reached-later, AreComponentsOf, IsReachedBy, Leads}
+use Rattle.checker_expressions.specs.declared.fault.Rule.TheVariants.{Changes}
+use Rattle.checker_expressions.proofs.Fitting.{passed-lies}
+use Rattle.checker_expressions.specs.Walk as flow
+use Rattle.checker_expressions.specs.Walk.{Context, Walked, Walking, followed, may_change, value_walk}
+use Rattle.checker_expressions.proofs.SoundAccesses.{LeadsTo, leads-seen, leads-tests, part-none, required-leaves, required-true, type-of}
+use Rattle.checker_expressions.proofs.SoundCalls.{CallLaws}
+use Rattle.checker_expressions.proofs.SoundExpressions.{SoundAction, access-sound, value-sound}
+use Rattle.checker_expressions.proofs.SoundOperations.{IsKnownOf, fitting-sound}
+use Rattle.checker_rows.proofs.Accessed.{rows-are}
 use Rattle.cert_checker.specs.Walk as walk
-use Rattle.cert_checker.specs.Walk.{Stores, alike, ends_at_index, reach_before, reach_of_store, reach_stored}
+use Rattle.cert_checker.specs.Walk.{Stores, alike, ends_at_index, is_some_index, reach_before, reach_of_store, reach_stored}
 use Rattle.cert_checker.proofs.Targets.{alike-at, alike-targets}
-use Rattle.cert_checker.proofs.Written.{Fit, Foretold, kept-rule, listed-good, stores-good}
+use Rattle.cert_checker.proofs.Written.{Fit, Foretold, listed-good, stores-good}
 
 -- ---- what is accessed
 
@@ -86,25 +84,23 @@ alone v w (suc k, within, is) = absurd (omega (arith, within))
 
 -- an entire variable of an ordinal type has its values
 pub ordinal-values : (tree : Tree) (root : ℕ) → is_type (is_ordinal tree.types) (accesses.accessed tree.variables.items tree.types root []) ≡ true
-    → is_some (variable_values tree root) ≡ true
-ordinal-values tree root typed = by (slice_get tree.variables.items root) typed
+    → is_some (values_at (rows_of tree) root) ≡ true
+ordinal-values tree root typed = by (slice_get tree.variables.items root) refl typed
   where
-    by : (found : Option Variable)
+    by : (found : Option Variable) → slice_get tree.variables.items root ≡ found
         → is_type (is_ordinal tree.types) (option_and_then (λ (v : Variable). led tree.types [] v.type_id) found) ≡ true
-        → is_some (option_and_then (λ (v : Variable). range_of tree.types v.type_id) found) ≡ true
-    by None is = absurd (cc)
-    by (Some variable) is = is
+        → is_some (values_at (rows_of tree) root) ≡ true
+    by None there is = absurd (cc)
+    by (Some variable) there is = ap is_some (own-values tree root variable there) ∙ is
 
 -- what is stored to is reached
 stored-reached : (env : Environment) (store : Store) (selectors : List Selector) (way : List Step) (reach : Reach)
     → IsReachedBy env store selectors way reach → IsReachedBy env store selectors way (reach_of_store selectors reach)
-stored-reached env store selectors way Entire reached = reached
-stored-reached env store selectors way (At index) reached = by (ends_at_index selectors)
+stored-reached env store selectors way reach reached = by (is_some_index reach.indexes && not (ends_at_index selectors))
   where
-    by : (last : Bool) → IsReachedBy env store selectors way (cond last (At index) (Inside index))
-    by true = reached
-    by false = reached.1
-stored-reached env store selectors way (Inside index) on = on
+    by : (inner : Bool) → IsReachedBy env store selectors way (cond inner (record reach { is_all = false }) reach)
+    by true = record { indexes = reached.indexes; all = λ is. absurd (false≢true is); none = reached.none }
+    by false = reached
 
 -- what is reached when a value was evaluated behind the access
 pub reached-then : (outline : Outline) (block : ℕ) (tree : Tree) (env : Environment) (before after : Store) (root : ℕ) (selectors : List Selector)
@@ -126,8 +122,8 @@ reached-then outline block tree env before after root selectors reach place hold
       way = leads.way;
       place_is = leads.place_is;
       matches = leads.matches;
-      reached = reached-later tree env before after selectors leads.way reach
-          (λ n first. indexes-integer outline block selectors leads.way n tests leads.matches first) leads.reached;
+      reached = reached-later tree env before after selectors leads.way reach (indexes-integer outline block selectors leads.way tests leads.matches)
+          leads.reached;
     }
 
 -- ---- values that pass a test
@@ -148,18 +144,18 @@ module _ (world : World) where
 
   -- and one of an entire variable
   pub entire-lies : (root : ℕ) (fits : RangeTest) (v : Value) → has_type fits root [] ≡ true → is_in fits.range v ≡ true
-      → (is_some (variable_values world.tree root) ≡ true) × IsIn (limits_at (all_limits world.tree) root) v
+      → (is_some (values_at (rows_of world.tree) root) ≡ true) × IsIn (row_limits (rows_of world.tree) root) v
   entire-lies root fits v typed passes =
       let own = passed-typed root [] fits v typed passes in
       let variable = variable-accessed world.tree root [] own.0 own.1 in
-      let values : variable_values world.tree root ≡ Some own.2.0 =
-      ap (option_and_then (λ (one : Variable). range_of (types_in world) one.type_id)) variable.1
+      let values : values_at (rows_of world.tree) root ≡ Some own.2.0 =
+      own-values world.tree root variable.0 variable.1
       ∙ ap (range_of (types_in world)) (same_Some variable.0.type_id own.0 variable.2) ∙ own.2.1 in (
         ap is_some values,
-        subst (λ (range : Interval). IsIn range v) (sym (values-limits world.tree root variable.0 variable.1 ∙ ap limits_or_integer values)) own.2.2,
+        subst (λ (range : Interval). IsIn range v) (sym (ap limits_or_integer values)) own.2.2,
       )
 
-module _ (world : World) (limits_are : world.limits ≡ all_limits world.tree) (block : ℕ) (env : Surroundings) (laws : CallLaws world)
+module _ (world : World) (block : ℕ) (env : Surroundings) (laws : CallLaws world)
     (calls : SoundCalls world env.calls) where
   abbrev visible : Environment
   visible = env.visible
@@ -182,20 +178,20 @@ module _ (world : World) (limits_are : world.limits ≡ all_limits world.tree) (
       let rows = rows-are world.tree root selectors id of_type in
       let scalar = ordinal_component (types_in world) id (ap is_some lies.1) in
       let values = v ∷ [] in
-      let touched = λ (tree : Tree). rows_accessed (rows_of tree) root selectors in
+      let touched = λ (tree : Tree). rows_accessed tree root selectors in
       let components = one-component (types_in world) id v scalar lies in
       let many = sym components.count in
       let fit =
-      subst (λ (tree : Tree). Fit world limits_are block visible root at.0 at.1 selectors id rows reach leads.way leads.matches values many
+      subst (λ (tree : Tree). Fit world block visible root at.0 at.1 selectors id rows reach leads.way leads.matches values many
       (alike range (touched tree))) (sym here.stands.goes.tree_is)
       (record {
         structured = λ none. absurd (some none);
         are = λ one listed. (alike-at range (touched world.tree) one listed).0;
-        targets = alike-targets world.tree root selectors id rows visible store leads.way leads.matches values many (λ none. absurd (some none)) range
+        targets = alike-targets world.tree root selectors id rows visible store leads.way leads.matches values many range
             (λ w listed. subst (IsIn range) (alone v w listed) inside);
       }) in
       let reached = subst (λ (x : Store). IsReachedBy visible x selectors leads.way reach) (sym same) leads.reached in
-      let good = stores-good world limits_are block visible root at.0 at.1 selectors id rows reach leads.way leads.matches values many of_type components
+      let good = stores-good world block visible root at.0 at.1 selectors id rows reach leads.way leads.matches values many of_type components
       becomes (alike range (touched context.tree)) fit context state s reached unbroken here place leads.place_is in
       let P = Foretold world visible context (walk.assign_component becomes root selectors reach (Ordinal range) context state) s.store in
       subst (λ (p : Option StorePlace). Good world P s (effect.store p v s)) (part-none place)
@@ -217,12 +213,11 @@ module _ (world : World) (limits_are : world.limits ≡ all_limits world.tree) (
       let may = kept-rule (may_change context root) Changes becomes (unbroken-left asked.broken last.broken unbroken) in
       let own = entire-lies world root fits v typed passes in
       let entire : place ≡ visible.variables root =
-      leads.place_is ∙ ap (part (visible.variables root)) (no-way leads.way leads.matches) ∙ part-none (visible.variables root) in
+      leads.place_is ∙ ap (part (visible.variables root)) (empty-way leads.way leads.matches) ∙ part-none (visible.variables root) in
       subst (λ (p : Option StorePlace). Good world (Foretold world visible context (followed asked last) s.store) s (effect.store p v s)) (sym entire)
       (good-weaker world (Foretold world visible context last s.store) (Foretold world visible context (followed asked last) s.store) s
       (effect.store (visible.variables root) v s) (λ done w stored then. record { tie = tt; stands = then.so.stands; kept = then.so.kept })
-      (listed-good world limits_are block visible root at.0 at.1 n range form context state s here own.0
-      (subst (λ (limits : List Interval). IsIn (limits_at limits root) v) (sym limits_are) own.1) inside
+      (listed-good world block visible root at.0 at.1 n range form context state s here own.0 own.1 inside
       (subst (λ (x : Store). IsOfForm (moment visible x) form v) (sym same) of_form) (and_parts (all_list root context.rounds) _ may).0))
   value-stored becomes root (selector ∷ selectors) fits form typed seen reach place known v passes inside store of_form leads
       context state s same unbroken part_of here =
@@ -300,7 +295,7 @@ module _ (world : World) (limits_are : world.limits ≡ all_limits world.tree) (
           (λ known v s t is from inside.
           test-sound t.store
           (reached-then outline block world.tree visible store t.store root selectors reach place (holds_call value) tests
-          (λ quiet. expression-kept value quiet env s t v is ∙ from) leads) known v inside (form-known value env s t v is))
+          (λ quiet. expression-kept value quiet env s t v is ∙ from) leads) known v inside (forms-tell value env s t v is))
 
   pub assignment-sound : (assignment : Assignment) → stmt_is_well_formed outline block (Assign assignment) ≡ true
       → SoundAction world block visible (assigned assignment) (walk.assignment_walk assignment)

@@ -2,9 +2,10 @@
 use Rattle.std.proofs.Common.{arith, ◌≡◌, ⊎_elim, inl, inr, ◌∙◌, sym, ap, refl, subst, ℕ, zero, suc, ◌+◌, ◌<◌, Bool, true, false, cond, ◌&&◌, nat_eq}
 use Rattle.std.proofs.Common.{zero-add, ◌||◌, pos, List, [], ◌∷◌, ◌++◌, Option, Some, None}
 use Rattle.std.specs.Prelude.{◌≤◌, nat_lt, slice_get}
-use Rattle.std.specs.List.{All, Contains, cons_option}
-use Rattle.std.proofs.lemmas.Bool.{and_parts, eqb-true, ltb-true}
-use Rattle.std.proofs.lemmas.List.Elements.{All-contains, All-tail}
+use Rattle.std.specs.List.{Contains}
+use Rattle.types.specs.declared.form.Step.{Step}
+use Rattle.std.proofs.lemmas.Bool.{and_parts, ltb-true}
+use Rattle.std.proofs.lemmas.List.Elements.{All-contains}
 use Rattle.std.proofs.lemmas.Option.{none-some}
 use Rattle.certificate.specs.declared.Certificate.{Certificate}
 use Rattle.typed_tree.specs.Loops.{AreLoops, loops_of_block}
@@ -15,7 +16,7 @@ use Rattle.typed_tree.specs.declared.tree.FunctionResult.{FunctionResult}
 use Rattle.typed_tree.specs.declared.tree.Tree.{Tree}
 use Rattle.typed_tree.specs.declared.tree.Variable.{Variable}
 use Rattle.typed_tree.proofs.Blocks.{are_loops_at}
-use Rattle.domain.specs.Facts.{Fact, Path, Range, Defined, Stretch, Order}
+use Rattle.domain.specs.Facts.{Fact, Range, Defined, Stretch, Order}
 use Rattle.domain.specs.Interval.{Interval, common}
 use Rattle.meaning.specs.declared.store.Value.{Value}
 use Rattle.meaning.specs.declared.store.Value.TheVariants.{Number}
@@ -24,45 +25,48 @@ use Rattle.meaning.specs.Effect.{Reply, Visit}
 use Rattle.meaning.specs.Laws.{state_after}
 use Rattle.meaning.specs.Meaning.{Argument, Calls, activated, assign_all, calls_of, effect_of, environment_of, executed, result_of}
 use Rattle.meaning.specs.Store.{Environment, Place, Store, held, stored}
-use Rattle.abstract_state.specs.Holds as entire
-use Rattle.abstract_state.specs.Holds.{IsIn, is_named, value_at}
-use Rattle.abstract_state.specs.Knows.{moment}
-use Rattle.abstract_state.specs.State.{is_defined, is_entire, unless_empty}
-use Rattle.abstract_state.specs.State as variables
-use Rattle.abstract_state.proofs.Knows.{defined-stored, entire-value, nonempty-known, read-in}
-use Rattle.abstract_state.proofs.Ranged.{common-in}
-use Rattle.component_states.specs.Holds.{Knows}
-use Rattle.component_states.specs.States.{State, dead}
-use Rattle.leaf_rows.specs.Limits.{all_limits, limits_or_integer}
-use Rattle.structured_states.specs.Loops.{gives_claims, is_ordinal_variable, names_entire, plain, plain_facts}
-use Rattle.call_states.specs.Aliases.{variable_values}
-use Rattle.call_states.specs.Environments.{Fine, Leaves, LeavesPassed, Proper}
-use Rattle.exit_states.specs.Exit.{claimed_of_variable, exit_range, result_range}
-use Rattle.call_states.specs.Sections.{BlockClaims, all_block_claims, all_pairs, block_claims_at}
-use Rattle.call_states.specs.Starts.{block_start}
-use Rattle.call_states.proofs.AliasedTypes.{declared, in-types, seen, values-limits}
-use Rattle.call_states.proofs.Assigned.{all_assigned, assigns-all}
-use Rattle.call_states.proofs.Callee.{IsCalled, callee-proper}
-use Rattle.call_states.proofs.Claimed.{AllHold, given-claims}
-use Rattle.call_states.proofs.Entered.{begun-behind, roots-are, typed-behind}
-use Rattle.call_states.proofs.Headings.{heading-at, same-numbers, well-heading}
-use Rattle.call_states.proofs.Started.{called-start}
-use Rattle.expression_checker.specs.declared.fault.Rule.TheVariants.{Exit}
-use Rattle.expression_checker.specs.Walk.{Context, Walked, followed}
-use Rattle.expression_checker.proofs.Sound.{Called, Good, Goes, Here, IsPartOf, LiesInResult, Returned, SoundCalls, World}
-use Rattle.expression_checker.proofs.Sound.{activation_of, errs-here, good-give, good-then, good-weaker, nothing-new, open-here, over-known}
-use Rattle.expression_checker.proofs.Sound.{part-left, part-right, parts_in, proper-grown, sites_in, unbroken-left, unbroken-right, variables_in}
-use Rattle.expression_checker.proofs.SoundCalls.{CallLaws}
+use Rattle.checker_state.specs.Holds.{Holds, IsIn, IsOfRow, component_at, moment, value_at}
+use Rattle.checker_state.specs.Loops.{is_among}
+use Rattle.checker_state.specs.State as claim
+use Rattle.checker_state.specs.State.{Claim, Dead, Live, State, Table, has_number, is_defined, range_of, row_at}
+use Rattle.checker_state.proofs.Knows.{defined-stored, entire-value, nonempty-known, read-in, visible-within}
+use Rattle.checker_state.proofs.Rows.{of_own, root-own}
+use Rattle.checker_state.proofs.Ranged.{common-in}
+use Rattle.checker_state.specs.Knows.{Knows}
+use Rattle.checker_rows.specs.Limits.{row_limits}
+use Rattle.checker_rows.specs.Rows.{all_parts, rows_of}
+use Rattle.checker_loops.specs.Loops.{all_said, gives_claims, rows_named, said}
+use Rattle.checker_state.specs.State.{table_of}
+use Rattle.checker_loops.proofs.Tabled.{are-rows}
+use Rattle.checker_calls.specs.Environments.{Fine, Leaves, LeavesPassed, Proper}
+use Rattle.checker_calls.specs.Exit.{claimed_of_row, exit_range, result_range}
+use Rattle.checker_calls.specs.Sections.{BlockClaims, all_block_claims, all_pairs, block_claims_at}
+use Rattle.checker_calls.specs.Starts.{block_start}
+use Rattle.checker_calls.proofs.AliasedTypes.{in-types}
+use Rattle.checker_calls.proofs.Assigned.{all_assigned, assigns-all}
+use Rattle.checker_calls.proofs.Callee.{IsCalled, callee-proper}
+use Rattle.checker_calls.proofs.Claimed.{AllHold}
+use Rattle.checker_calls.proofs.Given.{given-claims}
+use Rattle.checker_calls.proofs.Lists.{among-contains, contains-more, in-flat, in-map}
+use Rattle.checker_calls.proofs.Entered.{begun-behind, roots-are, typed-behind}
+use Rattle.checker_calls.proofs.Headings.{heading-at, same-numbers, well-heading}
+use Rattle.checker_calls.proofs.Started.{called-start}
+use Rattle.checker_expressions.specs.declared.fault.Rule.TheVariants.{Exit}
+use Rattle.checker_expressions.specs.Walk.{Context, Walked, followed}
+use Rattle.checker_expressions.proofs.Sound.{Called, Good, Goes, Here, IsPartOf, LiesInResult, Returned, SoundCalls, World, activation_of, errs-here, good-give}
+use Rattle.checker_expressions.proofs.Sound.{good-then, good-weaker, kept-rule, nothing-new, open-here, part-left, part-right, parts_in, proper-grown, sites_in}
+use Rattle.checker_expressions.proofs.Sound.{unbroken-left, unbroken-right, variables_in}
+use Rattle.checker_expressions.proofs.SoundCalls.{CallLaws}
 use Rattle.cert_checker.specs.Walk.{begin, block_walk, blocks_walk, facts_given, first_context, program_walk, result_use, statement_walk}
 use Rattle.cert_checker.proofs.EffectsParameters.{well-body}
 use Rattle.cert_checker.proofs.EffectsRoutines.{calls-leave}
 use Rattle.cert_checker.proofs.PassedLeft.{passed-left}
-use Rattle.expression_checker.proofs.EffectsCalls.{CallsLeave}
+use Rattle.checker_expressions.proofs.EffectsCalls.{CallsLeave}
 use Rattle.typed_tree.specs.Threats.{controls_but}
 use Rattle.cert_checker.proofs.HiddenControls.{IsKnownPair, hidden-controls}
 use Rattle.cert_checker.proofs.SparedCalls.{SpareControls, spared-calls}
 use Rattle.cert_checker.proofs.SoundForms.{statement-sound}
-use Rattle.cert_checker.proofs.Written.{Foretold, kept-rule}
+use Rattle.cert_checker.proofs.Written.{Foretold}
 
 -- ---- the walk over each block
 
@@ -93,47 +97,36 @@ blocks-walked world context start (first ∷ blocks) state unbroken part (suc nu
 
 -- ---- where a result lies
 
-false-true : ◌≡◌ {A = Bool} false true → ⊥
-false-true is = cc
+-- what is held of a variable by its number is defined
+number-defined : (table : Table) (state : State) (root : ℕ) → has_number table state root ≡ true → is_defined state root ≡ true
+number-defined table Dead root is = refl
+number-defined table (Live known) root is = (and_parts (nat_lt root table.variables) (row_at known root).is_defined is).1
 
-rest-holds : (P : Fact → Type 0) (first : Option Fact) (facts : List Fact) → All P (cons_option first facts) → All P facts
-rest-holds P None facts all = all
-rest-holds P (Some fact) facts all = All-tail P fact facts all
+module _ (tree : Tree) (env : Environment) (store : Store) (claims : List Fact) (hold : AllHold tree claims env store) (row : ℕ) (steps : List Step)
+    (v : Value) (of_row : IsOfRow (all_parts tree) row steps) (value : component_at (all_parts tree) (moment env store) row steps ≡ Some v) where
+  claimed-in : (test : Bool) (known range : Interval) → IsIn known v → (test ≡ true → IsIn range v) → IsIn (cond test (common known range) known) v
+  claimed-in true known range inside own = common-in known range v inside (own refl)
+  claimed-in false known range inside own = inside
 
-no-steps : (path : Path) → is_entire path.steps ≡ true → is_named path.steps [] ≡ true
-no-steps path entire = by path.steps entire
-  where
-    by : (steps : List _) → is_entire steps ≡ true → is_named steps [] ≡ true
-    by [] is = refl
-    by (step ∷ steps) is = absurd (false-true is)
-
-module _ (tree : Tree) (root : ℕ) (env : Environment) (store : Store) (v : Value) (value : value_at (moment env store) root [] ≡ Some v) where
-  abbrev IsSo : Fact → Type 0
-  IsSo fact = entire.Holds fact (moment env store)
-
-  ranged-in : (path : Path) (range known : Interval) (entire_is : Bool) → names_entire tree path ≡ entire_is → (same : Bool)
-      → nat_eq path.root root ≡ same → (facts : List Fact) → All IsSo (cons_option (cond entire_is (Some (Range path range)) None) facts) → IsIn known v
-      → IsIn (cond (entire_is && same) (common known range) known) v
-  ranged-in path range known false names same is facts all inside = inside
-  ranged-in path range known true names false is facts all inside = inside
-  ranged-in path range known true names true is facts all inside =
-      let holds = All-contains IsSo (Range path range ∷ facts) (Range path range) all (0, omega arith, refl) in
-      let whole = (and_parts (is_entire path.steps) (is_ordinal_variable tree path.root) names).0 in
-      common-in known range v inside
-      (holds [] v (no-steps path whole) (subst (λ (r : ℕ). value_at (moment env store) r [] ≡ Some v) (sym (eqb-true path.root root is)) value))
+  claim-in : (one : Fact) → Contains claims one → (known : Interval) → IsIn known v → IsIn (claimed_of_row tree row one known) v
+  claim-in (Range path range) listed known inside =
+      let named = rows_named tree path in
+      claimed-in (is_among row named) known range inside
+      (λ among.
+      All-contains (λ (c : Claim). Holds (all_parts tree) c (moment env store)) (all_said tree claims) (claim.Range row range) hold
+      (in-flat (said tree) claims (Range path range) (claim.Range row range) listed
+      (in-map (λ r. claim.Range r range) named row (among-contains named row among))) steps v of_row value)
+  claim-in (Defined path) listed known inside = inside
+  claim-in (Stretch path first last) listed known inside = inside
+  claim-in (Order one other number) listed known inside = inside
 
   -- a value lies where claims that hold say
-  pub exit-in : (facts : List Fact) (known : Interval) → All IsSo (plain_facts tree facts) → IsIn known v → IsIn (exit_range tree root facts known) v
-  exit-in [] known all inside = inside
-  exit-in (Range path range ∷ facts) known all inside =
-      exit-in facts (claimed_of_variable tree root (Range path range) known)
-      (rest-holds IsSo (plain tree (Range path range)) (plain_facts tree facts) all)
-      (ranged-in path range known (names_entire tree path) refl (nat_eq path.root root) refl (plain_facts tree facts) all inside)
-  exit-in (Defined path ∷ facts) known all inside =
-      exit-in facts known (rest-holds IsSo (plain tree (Defined path)) (plain_facts tree facts) all) inside
-  exit-in (Stretch path first last ∷ facts) known all inside = exit-in facts known all inside
-  exit-in (Order one other number ∷ facts) known all inside =
-      exit-in facts known (rest-holds IsSo (Some (Order one other number)) (plain_facts tree facts) all) inside
+  pub exit-in : (facts : List Fact) → ((one : Fact) → Contains facts one → Contains claims one) → (known : Interval) → IsIn known v
+      → IsIn (exit_range tree row facts known) v
+  exit-in [] there known inside = inside
+  exit-in (one ∷ facts) there known inside =
+      exit-in facts (λ other later. there other (contains-more one facts other later)) (claimed_of_row tree row one known)
+      (claim-in one (there one (0, omega arith, refl)) known inside)
 
 -- ---- replies
 
@@ -172,7 +165,6 @@ result-leaves (Some result) visible s t v is = by (held s.store (visible.variabl
 abbrev pub program_world : Tree → Certificate → World
 program_world tree certificate = record {
   tree = tree;
-  limits = all_limits tree;
   ids = (program_walk tree certificate).open_ids;
   linked = (program_walk tree certificate).linked;
   pairs = all_pairs certificate;
@@ -198,7 +190,6 @@ module _ (tree : Tree) (certificate : Certificate) (unbroken : (program_walk tre
   goes : (number : ℕ) → Goes world (within number)
   goes number = record {
     tree_is = refl;
-    limits_are = refl;
     pairs_are = refl;
     blocks_are = refl;
     closed = λ round inside. absurd (omega (arith, inside.1));
@@ -207,7 +198,7 @@ module _ (tree : Tree) (certificate : Certificate) (unbroken : (program_walk tre
   walked : (number : ℕ) (block : Block) → slice_get tree.blocks.items number ≡ Some block → IsWalked world first number block
   walked number block is =
       subst (λ (n : ℕ). IsWalked world first n block) (zero-add number)
-      (blocks-walked world first 0 tree.blocks.items (dead tree) unbroken (record { ids = λ id inside. inside; linked = λ one inside. inside }) number block is)
+      (blocks-walked world first 0 tree.blocks.items Dead unbroken (record { ids = λ id inside. inside; linked = λ one inside. inside }) number block is)
 
   block-loops : (number : ℕ) (block : Block) → slice_get tree.blocks.items number ≡ Some block → AreLoops tree.loops.items number (loops_of_block block)
   block-loops number block is =
@@ -258,7 +249,7 @@ module _ (tree : Tree) (certificate : Certificate) (unbroken : (program_walk tre
         → Knows (parts_in world) (variables_in world) visible begun ready.store
         → Good world (Foretold world visible (within number) body ready.store) ready (effect_of block.body (record { visible = visible; calls = calls }) ready)
     body-good spared ready fine proper known =
-        statement-sound world refl number block block_is (record { visible = visible; calls = calls }) laws sound spared
+        statement-sound world number block block_is (record { visible = visible; calls = calls }) laws sound spared
         (hidden-controls tree well world.pairs pairs_known number) block.body (well-body tree well number block block_is)
         (record {
           roots = controls_but number 0 tree.blocks.items;
@@ -280,7 +271,7 @@ module _ (tree : Tree) (certificate : Certificate) (unbroken : (program_walk tre
     Ends v store = LiesInResult world number block.heading.result v × AllHold tree claims.exit visible store
 
     exit-holds : (store : Store) → Knows (parts_in world) (variables_in world) visible used.after store → AllHold tree claims.exit visible store
-    exit-holds store known = given-claims tree (variables_in world) visible used.after store claims.exit known exit-given
+    exit-holds store known = given-claims tree visible used.after store claims.exit known exit-given
 
     module _ (t : effect.State) (here : Here world number visible (within number) body.after t) where
       module _ (result : FunctionResult) (result_is : block.heading.result ≡ Some result) (below : result.defined < sites_in world) (home : Place)
@@ -296,9 +287,10 @@ module _ (tree : Tree) (certificate : Certificate) (unbroken : (program_walk tre
 
         fetched-good : (found : Option Value) → stored t.store home ≡ found → Good world Found t (effect.fetched found result.defined t)
         fetched-good None is =
-            let closed = is_defined body.after.variables result.root in
+            let closed = has_number (table_of tree) body.after result.root in
             let unclosed : closed ≡ true → ⊥ = λ so.
-            let at = defined-stored (variables_in world) visible body.after.variables t.store result.root home at_home here.stands.known.variables so in
+            let at = defined-stored (parts_in world) (table_of tree) (are-rows tree) visible body.after t.store here.stands.known result.root home at_home
+            (number-defined (table_of tree) body.after result.root so) in
             none-some at.0 (sym is ∙ at.1) in
             let part : IsPartOf world own_use = subst (IsPartOf world) use-is used-part in
             record {
@@ -309,22 +301,24 @@ module _ (tree : Tree) (certificate : Certificate) (unbroken : (program_walk tre
         fetched-good (Some v) is =
             let n = variables_in world in
             let known = here.stands.known in
-            let range = variables.range_of body.after.variables result.root in
-            let inside : IsIn range v = read-in n visible body.after.variables t.store result.root home v at_home known.variables is in
+            let range = range_of body.after result.root in
+            let inside = read-in (parts_in world) (table_of tree) (are-rows tree) visible body.after t.store known result.root home at_home v is in
             let after : Knows (parts_in world) n visible own_use.after t.store =
-            over-known (parts_in world) n visible body.after (unless_empty range) t.store known
-            (nonempty-known n visible range body.after.variables t.store v inside known.variables) in
+            nonempty-known (parts_in world) (table_of tree) (are-rows tree) visible body.after t.store known range v inside in
             let exits = exit-holds t.store
             (subst (λ (w : Walked (Unit {0})). Knows (parts_in world) n visible w.after t.store) (sym use-is) after) in
-            let value : value_at (moment visible t.store) result.root [] ≡ Some v = entire-value visible t.store result.root home at_home ∙ is in
-            let few = t.activations in
-            let seen_in = in-types tree world.pairs number few visible t.store here.proper here.fine.typed in
-            let variable = declared tree world.pairs number few visible here.proper result.root
-            (seen tree world.pairs number few visible here.proper result.root home at_home) in
-            let typed : IsIn (limits_or_integer (variable_values tree result.root)) v =
-            subst (λ (r : Interval). IsIn r v) (values-limits tree result.root variable.0 variable.1) (seen_in.ranges result.root v value) in
-            good-give world Found v t here.fine
-            (exit-in tree result.root visible t.store v value claims.exit (limits_or_integer (variable_values tree result.root)) exits.variables typed, exits)
+            let m = moment visible t.store in
+            let bound = visible-within n visible known.shows result.root home at_home in
+            let value : component_at (parts_in world) m result.root [] ≡ Some v =
+            ap (λ (r : ℕ). value_at m r []) (root-own (parts_in world) (table_of tree) (are-rows tree) m result.root bound)
+            ∙ entire-value visible t.store result.root home at_home ∙ is in
+            let of_row = of_own (parts_in world) (table_of tree) (are-rows tree) m result.root bound in
+            let typed = (in-types tree world.pairs number t.activations visible t.store here.proper here.fine.typed).components result.root [] v of_row value in
+            good-give world Found v t here.fine (
+              exit-in tree visible t.store claims.exit exits result.root [] v of_row value claims.exit (λ one listed. listed)
+                  (row_limits (rows_of tree) result.root) typed,
+              exits,
+            )
 
       -- the result of a function is visible in its block
       result-well : (result : FunctionResult) → block.heading.result ≡ Some result

@@ -15,21 +15,20 @@ use Rattle.meaning.specs.declared.outcome.Ending.TheVariants.{Error}
 use Rattle.meaning.specs.Effect as effect
 use Rattle.meaning.specs.Meaning.{Execution, Surroundings, arm_of, is_among}
 use Rattle.meaning.specs.Store.{Environment, Store}
-use Rattle.abstract_state.specs.State as variables
-use Rattle.abstract_state.specs.State.{range_of}
-use Rattle.abstract_state.specs.Forms.{Form, Literal, Signed, Entire, Moved, Other, bound_of, root_of}
-use Rattle.abstract_state.specs.Holds.{HasNumber, Moment}
-use Rattle.abstract_state.specs.Knows as entire
-use Rattle.abstract_state.specs.Knows.{IsOfForm, moment}
-use Rattle.abstract_state.proofs.Bounded.{narrowed-known, root-here}
-use Rattle.abstract_state.proofs.Ranged.{common-in}
-use Rattle.leaf_rows.specs.Rows.{Parts}
-use Rattle.component_states.specs.States.{State, joined_states, over_variables}
-use Rattle.component_states.specs.Holds.{Knows}
-use Rattle.component_states.proofs.Joins.{join-holds}
-use Rattle.structured_states.specs.Cases.{arm_start, at_constants, constants_before}
-use Rattle.expression_checker.specs.Walk.{Context, Walking}
+use Rattle.checker_state.specs.State.{State, Table, range_of}
+use Rattle.checker_state.specs.Forms.{Form, Literal, Signed, Entire, Moved, Other, bound_of, root_of}
+use Rattle.checker_state.specs.Holds.{HasNumber, Moment, moment}
+use Rattle.checker_state.specs.Knows.{AreRows, IsOfForm, Knows}
+use Rattle.checker_state.specs.State.{table_of}
+use Rattle.checker_state.proofs.Bounded.{narrowed-holds, root-here}
+use Rattle.checker_state.proofs.Ranged.{common-in}
+use Rattle.checker_rows.specs.Rows.{Parts}
+use Rattle.checker_state.specs.Joins.{joined_states}
+use Rattle.checker_loops.specs.Cases.{arm_start, at_constants, constants_before}
+use Rattle.checker_expressions.specs.Walk.{Context, Walking}
+use Rattle.checker_expressions.proofs.Sound.{Stands, World, stands-as}
 use Rattle.cert_checker.specs.Walk.{arms_walk}
+use Rattle.cert_checker.proofs.SoundLoops.{joined-one}
 
 -- an entire variable has the number of the expression that it is
 pub entire-number : (form : Form) (m : Moment) (n : ℤ) (root : ℕ) → IsOfForm m (bound_of form) (Number n) → root_of form ≡ Some root → HasNumber m root n
@@ -44,23 +43,29 @@ entire-number (Moved other k) m n root of_form is = absurd (cc)
 entire-number Other m n root of_form is = absurd (cc)
 
 -- what is known at an arm whose constants have the value of the index
-pub at-constants_known : (roots : ℕ) (env : Environment) (store : Store) (index : Option ℕ) (row : List ℤ) (base : variables.State) (n : ℤ)
-    → ((root : ℕ) → index ≡ Some root → HasNumber (moment env store) root n) → is_among row n ≡ true → entire.Knows roots env base store
-    → entire.Knows roots env (at_constants index row base) store
-at-constants_known roots env store None row base n has among known = known
-at-constants_known roots env store (Some root) row base n has among known =
-    narrowed-known roots env store base root (common (range_of base root) (hull row)) n (has root refl)
-    (common-in (range_of base root) (hull row) (Number n) (root-here roots env store base root n known (has root refl)) (among-hull row n among)) known
+pub at-constants_known : (rows : List Parts) (table : Table) → AreRows rows table
+    → (env : Environment) (store : Store) (index : Option ℕ) (row : List ℤ) (base : State) (n : ℤ)
+    → ((root : ℕ) → index ≡ Some root → HasNumber (moment env store) root n) → is_among row n ≡ true → Knows rows table.variables env base store
+    → Knows rows table.variables env (at_constants index row base) store
+at-constants_known rows table are env store None row base n has among known = known
+at-constants_known rows table are env store (Some root) row base n has among known =
+    let here = root-here rows table are env known.shows store base root n known.holds (has root refl) in
+    record {
+      shows = known.shows;
+      holds = narrowed-holds rows table are env known.shows store base root (common (range_of base root) (hull row)) n (has root refl)
+          (common-in (range_of base root) (hull row) (Number n) here (among-hull row n among)) known.holds;
+    }
 
 -- what is known behind an arm is known behind those after it
-pub arms-behind : (parts : List Parts) (roots : ℕ) (env : Environment) (store : Store) (base : State) (index : Option ℕ) (rows : List (Vec ℤ Global))
-    (arms : List (Walking (Unit {0}))) (context : Context) (behind : State) → Knows parts roots env behind store
-    → Knows parts roots env (arms_walk base index rows arms context behind).after store
-arms-behind parts roots env store base index rows [] context behind known = known
-arms-behind parts roots env store base index rows (arm ∷ arms) context behind known =
-    let first = arm context (over_variables (arm_start index (slice_get rows 0)) base) in
-    arms-behind parts roots env store base index (drop 1 rows) arms context (joined_states behind first.after)
-    (join-holds.from_one parts roots env behind first.after store known)
+pub arms-behind : (world : World) (env : Environment) (store : Store) (base : State) (index : Option ℕ) (rows : List (Vec ℤ Global))
+    (arms : List (Walking (Unit {0}))) (context : Context) (behind : State) → Stands world env context behind store
+    → Stands world env context (arms_walk base index rows arms context behind).after store
+arms-behind world env store base index rows [] context behind stands = stands
+arms-behind world env store base index rows (arm ∷ arms) context behind stands =
+    let first = arm context (arm_start index (slice_get rows 0) base) in
+    arms-behind world env store base index (drop 1 rows) arms context (joined_states (table_of context.tree) behind first.after)
+    (stands-as world env context behind (joined_states (table_of context.tree) behind first.after) store stands
+    (joined-one world env context behind first.after store stands))
 
 -- the constants before a first arm, and before the others
 pub first-constants : (row : Vec ℤ Global) (rows : List (Vec ℤ Global)) (arms : ℕ) (n : ℤ)

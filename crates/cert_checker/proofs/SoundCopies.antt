@@ -22,26 +22,27 @@ use Rattle.meaning.specs.Store.{Environment, Place as StorePlace, Store}
 use Rattle.meaning.specs.Effect as effect
 use Rattle.meaning.specs.Meaning as meaning
 use Rattle.meaning.specs.Meaning.{Surroundings, accessed, values_of}
-use Rattle.abstract_state.proofs.Refined.{whole-kept}
-use Rattle.leaf_rows.specs.Limits.{all_limits}
-use Rattle.leaf_rows.specs.Rows.{rows_accessed, rows_of}
-use Rattle.leaf_rows.proofs.Accessed.{row-leaf, rows-count}
-use Rattle.component_states.specs.Components.{Reach}
-use Rattle.expression_checker.specs.Walk as flow
-use Rattle.expression_checker.proofs.Fitting.{contains-at, copy-for, same-type}
-use Rattle.expression_checker.proofs.Sound.{Any_value, Good, SoundCalls, SoundFrom, World, declared_in, from-then, is_seen, sound-anywhere, sound-here}
-use Rattle.expression_checker.proofs.Sound.{types_in}
-use Rattle.expression_checker.proofs.SoundAccesses.{IsWholeIn, LeadsTo, leads-seen, leads-tests, leads-type, type-of}
-use Rattle.expression_checker.proofs.SoundCalls.{CallLaws}
-use Rattle.expression_checker.proofs.SoundExpressions.{SoundAction, access-sound, whole_value-sound}
-use Rattle.expression_checker.proofs.SoundRows.{IsReachedBy, IsWhole, Leads, rows-are}
+use Rattle.checker_state.proofs.Refined.{whole-kept}
+use Rattle.checker_rows.specs.Rows.{rows_accessed}
+use Rattle.checker_rows.proofs.Numbered.{has-contains}
+use Rattle.checker_rows.proofs.Accessed.{row-leaf, rows-count, rows-are}
+use Rattle.checker_state.specs.Stores.{Reach}
+use Rattle.checker_expressions.specs.Walk as flow
+use Rattle.checker_expressions.proofs.Fitting.{copy-for, same-type}
+use Rattle.checker_expressions.proofs.Sound.{Any_value, Good, SoundCalls, SoundFrom, World, declared_in, from-then, is_seen, sound-anywhere, sound-here}
+use Rattle.checker_expressions.proofs.Sound.{types_in}
+use Rattle.checker_expressions.proofs.SoundAccesses.{IsWholeIn, LeadsTo, leads-seen, leads-tests, leads-type, type-of}
+use Rattle.checker_expressions.proofs.SoundCalls.{CallLaws}
+use Rattle.checker_expressions.proofs.SoundExpressions.{SoundAction, access-sound, whole_value-sound}
+use Rattle.checker_calls.proofs.Passed.{IsReachedBy, Leads}
+use Rattle.checker_expressions.proofs.SoundRows.{IsWhole}
 use Rattle.cert_checker.specs.Walk as walk
 use Rattle.cert_checker.specs.Walk.{paired, reach_stored}
 use Rattle.cert_checker.proofs.SoundAssignments.{reached-then}
-use Rattle.cert_checker.proofs.Targets.{paired-at, paired-targets}
+use Rattle.cert_checker.proofs.Targets.{paired-at, paired-targets, structured-whole}
 use Rattle.cert_checker.proofs.Written.{Fit, Foretold, stores-good}
 
-module _ (world : World) (limits_are : world.limits ≡ all_limits world.tree) (block : ℕ) (env : Surroundings) (laws : CallLaws world)
+module _ (world : World) (block : ℕ) (env : Surroundings) (laws : CallLaws world)
     (calls : SoundCalls world env.calls) where
   abbrev visible : Environment
   visible = env.visible
@@ -66,7 +67,7 @@ module _ (world : World) (limits_are : world.limits ≡ all_limits world.tree) (
 
   module _ (root : ℕ) (selectors : List Selector) (target : TypeId) (leads : access_type root selectors ≡ Some target) where
     abbrev under : List ℕ
-    under = rows_accessed (rows_of world.tree) root selectors
+    under = rows_accessed world.tree root selectors
 
     -- ---- the copy
 
@@ -81,24 +82,25 @@ module _ (world : World) (limits_are : world.limits ≡ all_limits world.tree) (
         let at = here.proper.visible root seen in
         let rows = rows-are world.tree root selectors target leads in
         let many = sym copy.components.count in
-        let long : length under ≡ length ranges = rows-count world.tree root selectors target leads (λ none. copy.structured) ∙ sym copy.many in
+        let long : length under ≡ length ranges = rows-count world.tree root selectors target leads ∙ sym copy.many in
         let way = leads_place.way in
         let matches = leads_place.matches in
-        let stores = λ (tree : Tree). paired (rows_accessed (rows_of tree) root selectors) ranges in
+        let stores = λ (tree : Tree). paired (rows_accessed tree root selectors) ranges in
         let fit =
-        subst (λ (tree : Tree). Fit world limits_are block visible root at.0 at.1 selectors target rows reach way matches values many (stores tree))
+        subst (λ (tree : Tree). Fit world block visible root at.0 at.1 selectors target rows reach way matches values many (stores tree))
         (sym here.stands.goes.tree_is)
         (record {
-          structured = λ none. copy.structured;
-          are = λ one listed. let at = paired-at under ranges one listed in contains-at under at.j one.0 at.row_is;
-          targets = paired-targets world.tree root selectors target rows visible store way matches values many (λ none. copy.structured) ranges long copy.lie
+          structured = λ none.
+              structured-whole world.tree root target (subst (λ (s : List Selector). access_type root s ≡ Some target) none leads) copy.structured;
+          are = λ one listed. let at = paired-at under ranges one listed in has-contains under one.0 (at.j, at.row_is);
+          targets = paired-targets world.tree root selectors target rows visible store way matches values many ranges long copy.lie
               (λ rest j row at of_row. row-leaf world.tree root selectors target leads way rest j row matches at of_row);
         }) in
         let reached = subst (λ (x : Store). IsReachedBy visible x selectors way reach) (sym same) leads_place.reached in
         subst (λ (own : List Form).
         Good world (Foretold world visible context (walk.copy_to becomes root selectors reach ranges context state) s.store) s
         (effect.store_all place (components_of own target) values s)) (sym here.proper.types_are)
-        (stores-good world limits_are block visible root at.0 at.1 selectors target rows reach way matches values many leads copy.components becomes
+        (stores-good world block visible root at.0 at.1 selectors target rows reach way matches values many leads copy.components becomes
         (stores context.tree) fit context state s reached unbroken here place leads_place.place_is)
 
   -- the target is accessed, and then comes the value

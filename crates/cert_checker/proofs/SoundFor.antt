@@ -14,7 +14,7 @@ use Rattle.typed_tree.specs.declared.tree.Direction.TheVariants.{To, DownTo}
 use Rattle.typed_tree.specs.declared.tree.ForHead.{ForHead}
 use Rattle.typed_tree.specs.declared.tree.RangeTest.{RangeTest}
 use Rattle.domain.specs.Interval.{Interval, HasMember}
-use Rattle.domain.specs.Facts.{Bound}
+use Rattle.checker_state.specs.Bounds.{Bound}
 use Rattle.meaning.specs.declared.store.Value.TheVariants.{Number}
 use Rattle.meaning.specs.Counting.{has_values, next_value, value_behind}
 use Rattle.meaning.specs.Effect as effect
@@ -23,49 +23,46 @@ use Rattle.meaning.specs.Meaning as meaning
 use Rattle.meaning.specs.Meaning.{Surroundings}
 use Rattle.meaning.specs.Laws.{state_after}
 use Rattle.meaning.specs.Store.{Environment, Place as StorePlace, Store, is_beginning, overlap, stored as stored_at, undefined, written}
-use Rattle.abstract_state.specs.declared.known.Known.TheVariants.{Ordinal}
-use Rattle.abstract_state.specs.State.{limits_of}
-use Rattle.abstract_state.specs.Loops.{is_among, with_undefined}
-use Rattle.abstract_state.specs.Holds.{HasNumber, IsIn}
-use Rattle.abstract_state.specs.Knows as entire
-use Rattle.abstract_state.specs.Knows.{IsKept, IsOfForm, moment}
-use Rattle.abstract_state.proofs.Ranged.{is_in-limits, limits-is_in}
-use Rattle.component_states.specs.States.{State, over_bound, over_change, over_variables}
-use Rattle.component_states.specs.Holds.{Knows}
-use Rattle.component_states.specs.Laws.{AreEntire}
-use Rattle.leaf_rows.specs.Limits.{all_limits, limits_at}
-use Rattle.structured_states.specs.Loops.{Round, controls_inside, round_of, touched, with_own}
-use Rattle.structured_states.proofs.Touched.{all_control}
-use Rattle.structured_states.specs.Pairs.{aliases_of, aliases_in}
-use Rattle.structured_states.specs.Ways as ways
-use Rattle.structured_states.specs.Ways.{End, Way, entered, met, step, turn_begun, turn_ended, way_of, way_out, where_counts, with_values}
-use Rattle.structured_states.proofs.OnWay.{Between, MayBe, begun-known, counts-known, counts-ordered, entered-known, kept-may, met-in, next-between}
-use Rattle.structured_states.proofs.OnWay.{ordered-itself, untouched-form}
-use Rattle.structured_states.proofs.Touched.{inside-uncontrolled, inside-untouched, own-controls}
-use Rattle.call_states.specs.Aliases.{variable_values}
-use Rattle.call_states.specs.Environments.{Fine, LiesUnder, Proper}
-use Rattle.call_states.proofs.AliasedStores.{AreWritten, IsApart, all-pass, hidden-apart, one-kept}
-use Rattle.call_states.proofs.AliasedTypes.{declared, shows, written-begun, written-typed}
-use Rattle.call_states.proofs.SeenAliases.{apart-seen, listed_pairs}
-use Rattle.expression_checker.specs.Walk as flow
-use Rattle.expression_checker.specs.Walk.{Context, Walked, Walking, followed}
-use Rattle.expression_checker.proofs.Keeping.{Keeps, keeps-itself, keeps-then}
-use Rattle.expression_checker.proofs.Sound.{Any_value, Good, Goes, Here, IsForetold, IsPartOf, Passes, Stands, World, good-give, good-then, good-weaker}
-use Rattle.expression_checker.proofs.Sound.{here-behind, is_seen, nothing-new, over-known, part-left, part-right, parts_in, proper-grown, sites_in, stands-as}
-use Rattle.expression_checker.proofs.Sound.{unbroken-left, unbroken-right, variables_in}
-use Rattle.expression_checker.proofs.SoundCalls.{in_world, by-world}
-use Rattle.expression_checker.proofs.SoundOperations.{within-sound}
+use Rattle.checker_state.specs.declared.value.Known.TheVariants.{Ordinal}
+use Rattle.checker_rows.specs.Limits.{limits_of, row_limits}
+use Rattle.checker_rows.specs.Rows.{rows_of, values_at}
+use Rattle.checker_state.specs.Loops.{is_among, with_undefined}
+use Rattle.checker_state.specs.Holds.{HasNumber, IsIn, moment}
+use Rattle.checker_state.specs.Knows.{IsKept, IsOfForm, Knows, AreEntire}
+use Rattle.checker_state.proofs.Ranged.{is_in-limits, limits-is_in}
+use Rattle.checker_state.proofs.Assigned.{undefined-known}
+use Rattle.checker_state.proofs.Looped.{replaced-known}
+use Rattle.checker_state.specs.State.{State}
+use Rattle.checker_loops.specs.Loops.{Round, controls_inside, round_of, touched, with_own}
+use Rattle.checker_state.specs.State.{table_of}
+use Rattle.checker_loops.proofs.Tabled.{are-rows}
+use Rattle.checker_loops.proofs.Touched.{all_control, inside-uncontrolled, inside-untouched, own-controls}
+use Rattle.checker_loops.specs.Pairs.{aliases_of, aliases_in}
+use Rattle.checker_loops.specs.Ways.{End, Way, entered, met, turn_begun, turn_ended, way_of, way_out, where_counts, with_values}
+use Rattle.checker_loops.proofs.OnWay.{Between, MayBe, begun-known, counts-known, counts-ordered, entered-known, kept-may, met-in, next-between, ordered-itself}
+use Rattle.checker_loops.proofs.OnWay.{untouched-form}
+use Rattle.checker_calls.specs.Environments.{Fine, LiesUnder, Proper}
+use Rattle.checker_calls.proofs.AliasedStores.{AreWritten, IsApart, all-pass, hidden-apart, one-kept}
+use Rattle.checker_calls.proofs.AliasedTypes.{declared, written-begun, written-typed}
+use Rattle.checker_calls.proofs.SeenAliases.{apart-seen, listed_pairs}
+use Rattle.checker_expressions.specs.Walk as flow
+use Rattle.checker_expressions.specs.Walk.{Context, Walked, Walking, followed}
+use Rattle.checker_expressions.proofs.Keeping.{Keeps, keeps-itself, keeps-then}
+use Rattle.checker_expressions.proofs.Sound.{Any_value, Good, Goes, Here, IsForetold, IsPartOf, Passes, Stands, World, good-give, good-then, good-weaker}
+use Rattle.checker_expressions.proofs.Sound.{here-behind, is_seen, nothing-new, part-left, part-right, parts_in, proper-grown, sites_in, stands-as}
+use Rattle.checker_expressions.proofs.Sound.{unbroken-left, unbroken-right, variables_in}
+use Rattle.checker_expressions.proofs.SoundCalls.{in_world, by-world}
+use Rattle.checker_expressions.proofs.SoundOperations.{within-sound}
 use Rattle.cert_checker.specs.Walk as walk
 use Rattle.cert_checker.specs.Walk.{steady_in}
-use Rattle.cert_checker.proofs.Changes.{assigned-knows, bound-knows, ended-knows, gone-knows, whole, whole-has, whole-typed, whole-written}
-use Rattle.cert_checker.proofs.Keeping.{gone-alone, gone-begun, gone-changes, gone-keeps, gone-none, gone-typed}
+use Rattle.cert_checker.proofs.Changes.{assigned-knows, ended-knows, whole, whole-has, whole-typed, whole-written}
+use Rattle.cert_checker.proofs.Keeping.{gone-begun, gone-changes, gone-keeps, gone-none, gone-typed}
 use Rattle.cert_checker.proofs.Rounds.{StandsIn, goes-inside, loop-closed}
 use Rattle.cert_checker.proofs.SparedCalls.{IsAlone}
-use Rattle.expression_checker.proofs.EffectsKept.{Keeps as KeepsAt, lies-itself, watching}
-use Rattle.abstract_state.proofs.Knows.{entire-value}
+use Rattle.checker_expressions.proofs.EffectsKept.{Keeps as KeepsAt, lies-itself, watching}
+use Rattle.checker_state.proofs.Knows.{entire-value}
 use Rattle.cert_checker.proofs.SoundLoops.{AreControlled, AreFine, RoundEnds, SoundAmong, all-controls, here-as, inner, inner-controlled, loop-good}
-use Rattle.cert_checker.proofs.SoundLoops.{loop_begun, rounds-outer, rounds-own}
-use Rattle.cert_checker.proofs.SoundLoops.{turn-then, ways-good, with_head}
+use Rattle.cert_checker.proofs.SoundLoops.{loop_begun, rounds-outer, rounds-own, turn-then, ways-good, with_head}
 use Rattle.cert_checker.proofs.Written.{Foretold}
 
 -- a number between two of a range lies in the range
@@ -120,7 +117,7 @@ control-keeps env root rounds before after kept controls round inside = record {
 
 -- the values of a variable's type
 abbrev typed_values : World → ℕ → Interval
-typed_values world root = limits_at (all_limits world.tree) root
+typed_values world root = row_limits (rows_of world.tree) root
 
 -- a test for a variable names a site of the table, and what passes is one of those values
 pub record IsTestFor (world : World) (root : ℕ) (fits : RangeTest) : Type 0 where
@@ -135,14 +132,14 @@ all_in world head = head.control ∷ controls_inside world.tree head.loop_number
 pub record IsOwn (world : World) (block : ℕ) (env : Environment) (few : ℕ) (control : ℕ) : Type 0 where
   pub proper : Proper world.tree world.pairs block few env
   pub seen : is_seen world block control ≡ true
-  pub ordinal : is_some (variable_values world.tree control) ≡ true
+  pub ordinal : is_some (values_at (rows_of world.tree) control) ≡ true
   pub hidden : (alias : ℕ) → is_among alias (aliases_of world.pairs control) ≡ true → is_seen world block alias ≡ false
 
 -- what the text tells of the control variable of a for statement: it is visible, and its aliases aren't, in each loop round the statement it controls
 -- one, and what is executed leaves it where it alone lies
 pub record IsControl (world : World) (block : ℕ) (env : Surroundings) (execution : meaning.Execution) (context : Context) (control : ℕ) : Type 0 where
   pub seen : is_seen world block control ≡ true
-  pub ordinal : is_some (variable_values world.tree control) ≡ true
+  pub ordinal : is_some (values_at (rows_of world.tree) control) ≡ true
   pub hidden : (alias : ℕ) → is_among alias (aliases_of world.pairs control) ≡ true → is_seen world block alias ≡ false
   pub controls : all_control control context.rounds ≡ true
   pub left : (place : StorePlace) → IsAlone place control env.visible → KeepsAt (watching place env.visible) (execution env)
@@ -218,7 +215,7 @@ module _ (world : World) (block : ℕ) (env : Environment) (few : ℕ) (control 
         gives = record { so = refl; fine = record { typed = later.typed; begun = later.begun }; grown = omega arith };
       })
 
-module _ (world : World) (ranges : world.limits ≡ all_limits world.tree) (block : ℕ) (env : Surroundings)
+module _ (world : World) (block : ℕ) (env : Surroundings)
     (head : ForHead) (in_table : StandsIn world block head.loop_number) (execution : meaning.Execution) (body : Walking (Unit {0}))
     (among : List ℕ) (inside_are : controls_inside world.tree head.loop_number ≡ among)
     (one : SoundAmong {A = Unit {0}} {B = Unit {0}} among world block env.visible Any_value (execution env) body) where
@@ -302,10 +299,10 @@ module _ (world : World) (ranges : world.limits ≡ all_limits world.tree) (bloc
           (inside-kept visible head.control loop start later (rounds-own visible context.rounds loop start later kept))
 
       abbrev again_state : State
-      again_state = over_change head.control (ways.next steady) (turn_ended steady) ended
+      again_state = turn_ended steady ended
 
       abbrev out_state : State
-      out_state = over_bound head.control steady.last.form (way_out steady) ended
+      out_state = way_out steady ended
 
       abbrev Ends : Option ℤ → Type 0
       Ends more = RoundEnds world visible within rounds at Fits again_state out_state start more later
@@ -315,7 +312,7 @@ module _ (world : World) (ranges : world.limits ≡ all_limits world.tree) (bloc
       round-out same =
           let forms = later-forms start later body-kept (fits.1, fits.2) in (
             stands-as world visible within ended out_state later stands
-                (bound-knows (parts_in world) (variables_in world) visible ended later head.control steady.last.form y
+                (replaced-known (parts_in world) (variables_in world) visible ended later head.control steady.last.form y
                 (subst (λ (m : ℤ). HasNumber (moment visible later) head.control m) same still) forms.1 stands.known),
             body-kept,
           )
@@ -359,19 +356,18 @@ module _ (world : World) (ranges : world.limits ≡ all_limits world.tree) (bloc
         (walk.for_round steady body within state).value (at n s.store)) s (meaning.for_round head y execution env n s)
     round-good state n s grown fine unbroken part stands fits =
         let start = at n s.store in
-        let begun = over_variables (turn_begun steady) state in
+        let begun = turn_begun steady state in
         let turn : Walked (Unit {0}) = body within begun in
         let ended = turn.after in
-        let again = over_change head.control (ways.next steady) (turn_ended steady) ended in
-        let out = over_bound head.control steady.last.form (way_out steady) ended in
+        let again = turn_ended steady ended in
+        let out = way_out steady ended in
         let rest : Walked State = followed (flow.with_state again within ended) (flow.give out within again) in
         let P = RoundEnds world visible within rounds at Fits again out start in
         let more = value_behind head.direction y n in
         let next = λ (used : Unit {0}). effect.◌>>=◌ (execution env) (λ done. effect.give more) in
         let begun_stands = stands-as world visible within state begun start stands
-        (over-known (parts_in world) (variables_in world) visible state (turn_begun steady) start stands.known
-        (begun-known (variables_in world) visible start steady state.variables x y n (at-number n s.store) in_first in_last fits.0 fits.1 fits.2
-        stands.known.variables)) in
+        (begun-known (parts_in world) (table_of world.tree) (are-rows world.tree) visible start steady state x y n (at-number n s.store) in_first in_last
+        fits.0 fits.1 fits.2 stands.known) in
         good-then world (λ (done : Unit {0}) store. store ≡ start) P s (effect.store (visible.variables head.control) (Number n) s)
         (λ written. effect.◌>>=◌ effect.use_turn next)
         (number-stored world block visible few head.control is_own n s grown fine (on-way n fits.0))
@@ -418,7 +414,7 @@ module _ (world : World) (ranges : world.limits ≡ all_limits world.tree) (bloc
 
     module _ (context : Context) (state : State) (x y : ℤ)
         (text : IsControl world block env execution context head.control) (held : AreControlled among context)
-        (controls_are : AreEntire (parts_in world) (all_in world head))
+        (controls_are : AreEntire (parts_in world) (variables_in world) (all_in world head))
         (first_tested : IsTestFor world head.control head.first.fits) (last_tested : IsTestFor world head.control head.last.fits)
         (counts : has_values head.direction x y ≡ true) where
       abbrev first : Walked Interval
@@ -496,9 +492,9 @@ module _ (world : World) (ranges : world.limits ≡ all_limits world.tree) (bloc
             (walk.begin_way tested (record (in_world world context) { block = b }) last.after).after start)
             (sym here.block_is)
             (assigned-knows tree pairs block few visible here.proper head.control place at_place x v.store start are typed first.value way.first.form
-            (over_variables (entered tested) last.after) in_first (may-of_form v.store way.first.form x forms.0)
-            (over-known (parts_in world) (variables_in world) visible last.after (entered tested) v.store here.stands.known
-            (entered-known (variables_in world) visible v.store tested last.after.variables x y in_first in_last counts here.stands.known.variables))))
+            (entered tested last.after) in_first (may-of_form v.store way.first.form x forms.0)
+            (entered-known (parts_in world) (table_of world.tree) (are-rows world.tree) visible v.store tested last.after x y in_first in_last counts
+            here.stands.known)))
 
         rounds-good : Good world (Foretold world visible context turns v.store) v (rounds_action v)
         rounds-good =
@@ -524,13 +520,13 @@ module _ (world : World) (ranges : world.limits ≡ all_limits world.tree) (bloc
                   begun_kept)
                   told.so.kept;
             })
-            (loop-good world ranges block visible head.loop_number head.place (Some head.control) (meaning.for_round head y execution env)
+            (loop-good world block visible head.loop_number head.place (Some head.control) (meaning.for_round head y execution env)
             (walk.for_round (steady_in context head.loop_number tested) body)
             (at context tested.first tested.last x y few is_own here.block_is in_first in_last x_typed y_typed controls within left)
             (Fits context tested.first tested.last x y few is_own here.block_is in_first in_last x_typed y_typed controls within left) context begun.after x v
             (at-fine context tested.first tested.last x y few is_own here.block_is in_first in_last x_typed y_typed controls within left)
             (goes-in context last.after v here)
-            (subst (λ (tree : Tree). AreEntire (parts_in world) (head.control ∷ controls_inside tree head.loop_number))
+            (subst (λ (tree : Tree). AreEntire (parts_in world) (variables_in world) (head.control ∷ controls_inside tree head.loop_number))
             (sym here.stands.goes.tree_is) controls_are)
             (λ n t grown fine unbroken part stands fits.
             round-good context tested.first tested.last x y few is_own here.block_is in_first in_last x_typed y_typed controls within left
@@ -563,17 +559,18 @@ module _ (world : World) (ranges : world.limits ≡ all_limits world.tree) (bloc
 
         -- the test of the last bound, and then the rounds
         last-good : (start : Store) (u : effect.State) → Keeps visible context.rounds start u.store → Here world block visible context first.after u
-            → entire.Knows (variables_in world) visible state.variables u.store
+            → Knows (parts_in world) (variables_in world) visible state u.store
             → Forms u.store → HasMember way.last.values y → IsIn first.value (Number x) → first_test ≡ true
             → Good world (Foretold world visible context whole_walked start) u
             (effect.◌>>=◌ (effect.require last_test head.last.fits.site) (λ done. rounds_action) u)
         last-good start u kept here known forms inside in_first x_fits =
             good-then world (IsForetold world visible (Passes last_test (Number y)) context last u.store) (Foretold world visible context whole_walked start) u
             (effect.require last_test head.last.fits.site u) (λ done. rounds_action)
-            (within-sound world block visible (limits_of head.last.fits.range) head.last.fits.site (met way.last.form state.variables way.last.values)
+            (within-sound world block visible (limits_of head.last.fits.range) head.last.fits.site (met way.last.form state way.last.values)
             (Number y) last_test last_tested.below
             (is_in-limits head.last.fits.range (Number y)) (limits-is_in head.last.fits.range (Number y))
-            (met-in (variables_in world) visible u.store way.last.form state.variables way.last.values y forms.1 known inside) context first.after u
+            (met-in (parts_in world) (table_of world.tree) (are-rows world.tree) visible u.store way.last.form state way.last.values y forms.1 known inside)
+            context first.after u
             (unbroken-left last.broken given.broken (unbroken-right first.broken from_last.broken tests_unbroken))
             (part-left world last given (part-right world first from_last from-first)) here)
             (λ done v is told.
@@ -598,26 +595,26 @@ module _ (world : World) (ranges : world.limits ≡ all_limits world.tree) (bloc
             good-then world (IsForetold world visible (Passes first_test (Number x)) context first t.store)
             (Foretold world visible context whole_walked t.store) t (effect.require first_test head.first.fits.site t)
             (λ done. effect.◌>>=◌ (effect.require last_test head.last.fits.site) (λ done. rounds_action))
-            (within-sound world block visible (limits_of head.first.fits.range) head.first.fits.site (met way.first.form state.variables way.first.values)
+            (within-sound world block visible (limits_of head.first.fits.range) head.first.fits.site (met way.first.form state way.first.values)
             (Number x) first_test first_tested.below
             (is_in-limits head.first.fits.range (Number x)) (limits-is_in head.first.fits.range (Number x))
-            (met-in (variables_in world) visible t.store way.first.form state.variables way.first.values x forms.0 here.stands.known.variables in_first) context
-            state t
+            (met-in (parts_in world) (table_of world.tree) (are-rows world.tree) visible t.store way.first.form state way.first.values x forms.0
+            here.stands.known in_first) context state t
             (unbroken-left first.broken from_last.broken tests_unbroken) (part-left world first from_last from-first) here)
             (λ done u is told.
             let same = required-same first_test head.first.fits.site t u done is in
             last-good t.store u told.so.kept (here-behind world block visible (Passes first_test (Number x)) context state first t u done here told)
-            (subst (λ (s : effect.State). entire.Knows (variables_in world) visible state.variables s.store) same.1 here.stands.known.variables)
+            (subst (λ (s : effect.State). Knows (parts_in world) (variables_in world) visible state s.store) same.1 here.stands.known)
             (subst (λ (s : effect.State). Forms s.store) same.1 forms) in_last told.so.tie.0 same.0)
 
     -- ---- the whole statement, from the values of its bounds
 
     module _ (context : Context) (state : State) (x y : ℤ)
         (text : IsControl world block env execution context head.control) (held : AreControlled among context)
-        (controls_are : AreEntire (parts_in world) (all_in world head))
+        (controls_are : AreEntire (parts_in world) (variables_in world) (all_in world head))
         (first_tested : IsTestFor world head.control head.first.fits) (last_tested : IsTestFor world head.control head.last.fits) where
       abbrev where_so : Bool → State
-      where_so b = over_variables (where_counts b way) state
+      where_so b = where_counts b way state
 
       abbrev taken : Walked (Unit {0})
       taken = walk.for_turns head body way context (where_so true)
@@ -626,10 +623,10 @@ module _ (world : World) (ranges : world.limits ≡ all_limits world.tree) (bloc
       never = flow.give tt context (where_so false)
 
       abbrev both : Walked (Unit {0})
-      both = walk.either_of taken never
+      both = walk.either_of context taken never
 
       abbrev behind : Walked (Unit {0})
-      behind = flow.changed_by (over_change head.control None (with_undefined head.control)) context both.after
+      behind = flow.changed_by (with_undefined head.control) context both.after
 
       abbrev statement : Walked (Unit {0})
       statement = walk.for_walk head body way context state
@@ -655,8 +652,8 @@ module _ (world : World) (ranges : world.limits ≡ all_limits world.tree) (bloc
                 tie = tt;
                 stands = record {
                   goes = here.stands.goes;
-                  known = gone-knows world.tree visible (shows world.tree world.pairs block few visible here.proper) head.control both.after u.store gone
-                      (gone-alone visible u.store head.control own_home own_at own_apart) (gone-changes visible u.store head.control own_home own_at own_apart)
+                  known = undefined-known (parts_in world) (table_of world.tree) (are-rows world.tree) visible both.after head.control u.store gone
+                      (is-variable world block visible few head.control is_own) (gone-changes visible u.store head.control own_home own_at own_apart)
                       (gone-none visible u.store head.control own_home own_at own_apart) here.stands.known;
                 };
                 kept = keeps-then visible context.rounds start u.store gone kept
@@ -681,8 +678,7 @@ module _ (world : World) (ranges : world.limits ≡ all_limits world.tree) (bloc
           let counts = has_values head.direction x y in
           let here_so : (b : Bool) → counts ≡ b → Here world block visible context (where_so b) t =
           λ b is. here-as world block visible context state (where_so b) t here
-          (over-known (parts_in world) (variables_in world) visible state (where_counts b way) t.store here.stands.known
-          (counts-known (variables_in world) visible t.store way b state.variables x y is one other here.stands.known.variables)) in
+          (counts-known (parts_in world) (table_of world.tree) (are-rows world.tree) visible t.store way b state x y is one other here.stands.known) in
           good-then world (Foretold world visible context both t.store) (Foretold world visible context statement t.store) t
           (cond counts turns (effect.give tt) t) (λ done. effect.undefine (visible.variables head.control))
           (ways-good world visible turns (effect.give tt) taken never counts context t

@@ -5,7 +5,7 @@ use Rattle.std.specs.declared.alloc.Global.{Global}
 use Rattle.std.specs.declared.vec.Vec.{Vec}
 use Rattle.std.specs.List.{list_all, list_any}
 use Rattle.std.specs.Prelude.{slice_get}
-use Rattle.std.proofs.lemmas.Bool.{and_parts, eq-eqb, ltb-true, or_left, or_right}
+use Rattle.std.proofs.lemmas.Bool.{and_parts, both_ways, eq-eqb, ltb-true, or_left, or_right}
 use Rattle.std.proofs.lemmas.List.Folds.{list_any-append}
 use Rattle.std.proofs.lemmas.List.{length-map}
 use Rattle.std.proofs.lemmas.List.Elements.{Contains-append_left}
@@ -36,50 +36,48 @@ use Rattle.meaning.specs.Store.{Environment, Place as StorePlace, Store}
 use Rattle.meaning.specs.Effect as effect
 use Rattle.meaning.specs.Meaning as meaning
 use Rattle.meaning.specs.Meaning.{Execution, Surroundings, effect_of, is_so, parameter_of, value_of}
-use Rattle.abstract_state.specs.declared.known.Known.{Known}
-use Rattle.abstract_state.specs.declared.known.Known.TheVariants.{Ordinal}
-use Rattle.abstract_state.specs.Conditions.{bound_form, condition_of}
-use Rattle.abstract_state.specs.Forms.{root_of}
-use Rattle.abstract_state.specs.Holds.{HasNumber}
-use Rattle.abstract_state.specs.Knows.{IsOfForm, moment}
-use Rattle.abstract_state.specs.State.{unless_empty}
-use Rattle.abstract_state.proofs.Knows.{nonempty-known}
-use Rattle.abstract_state.proofs.Ranged.{IsKnown, common-in}
-use Rattle.abstract_state.proofs.Refined.{expression-kept, form-known}
-use Rattle.component_states.specs.Laws.{AreEntire}
-use Rattle.component_states.specs.States.{State, dead, is_dead, joined_states, over_variables}
-use Rattle.component_states.proofs.Joins.{join-holds}
-use Rattle.structured_states.specs.Cases.{at_constants, constants_before}
-use Rattle.leaf_rows.specs.Limits.{all_limits}
-use Rattle.structured_states.specs.Loops.{controls_inside, controls_of}
-use Rattle.structured_states.specs.Pairs.{aliases_of}
-use Rattle.abstract_state.specs.Loops.{is_among}
-use Rattle.structured_states.specs.Ways.{form_before, way_of}
-use Rattle.structured_states.proofs.OnWay.{of-form_may}
-use Rattle.expression_checker.specs.Walk as flow
-use Rattle.expression_checker.specs.Walk.{Context, Walked, Walking, followed, parameter_walk, passed_piece_of, value_walk}
-use Rattle.expression_checker.proofs.Keeping.{keeps-then}
-use Rattle.expression_checker.proofs.Sound.{Any_value, Good, Here, IsForetold, IsPartOf, IsValue, SoundCalls, World, closed-passes, errs-here}
-use Rattle.expression_checker.proofs.Sound.{good-then, good-weaker, here-behind, is_seen, nothing-new, open-here, over-known, part-left, part-right, parts_in}
-use Rattle.expression_checker.proofs.Sound.{sites_in, sound-enter, sound-give, sound-given, sound-then, sound-written, stands-as, types_in, unbroken-left}
-use Rattle.expression_checker.proofs.Sound.{unbroken-right, variables_in}
-use Rattle.expression_checker.proofs.SoundAccesses.{leads-type}
-use Rattle.expression_checker.proofs.SoundCalls.{CallLaws}
-use Rattle.expression_checker.proofs.SoundExpressions.{SoundAction, parameter-sound, procedure-sound, value-sound}
+use Rattle.checker_state.specs.declared.value.Known.{Known}
+use Rattle.checker_state.specs.declared.value.Known.TheVariants.{Ordinal}
+use Rattle.checker_state.specs.Conditions.{bound_form, condition_of}
+use Rattle.checker_state.specs.Forms.{root_of}
+use Rattle.checker_state.specs.Holds.{HasNumber, moment}
+use Rattle.checker_state.specs.Knows.{IsOfForm, AreEntire}
+use Rattle.checker_state.specs.State.{Dead, State, is_dead}
+use Rattle.checker_expressions.proofs.Sound.{IsKnown, Any_value, Good, Here, IsForetold, IsPartOf, IsValue, SoundCalls, World, closed-passes, errs-here}
+use Rattle.checker_expressions.proofs.Sound.{good-then, good-weaker, here-behind, is_seen, nonempty-stands, nothing-new, open-here, part-left, part-right}
+use Rattle.checker_expressions.proofs.Sound.{parts_in, sites_in, sound-enter, sound-give, sound-given, sound-then, sound-written, stands-as, types_in}
+use Rattle.checker_expressions.proofs.Sound.{unbroken-left, unbroken-right, variables_in}
+use Rattle.checker_state.proofs.Ranged.{common-in}
+use Rattle.checker_state.proofs.Refined.{expression-kept, forms-tell}
+use Rattle.checker_state.specs.Joins.{joined_states}
+use Rattle.checker_loops.specs.Cases.{at_constants, constants_before}
+use Rattle.checker_loops.specs.Loops.{controls_inside, controls_of}
+use Rattle.checker_state.specs.State.{table_of}
+use Rattle.checker_loops.proofs.Tabled.{are-rows}
+use Rattle.checker_loops.specs.Pairs.{aliases_of}
+use Rattle.checker_state.specs.Loops.{is_among}
+use Rattle.checker_loops.specs.Ways.{form_before, way_of}
+use Rattle.checker_loops.proofs.OnWay.{of-form_may}
+use Rattle.checker_expressions.specs.Walk as flow
+use Rattle.checker_expressions.specs.Walk.{Context, Walked, Walking, followed, parameter_walk, passed_piece_of, value_walk}
+use Rattle.checker_expressions.proofs.Keeping.{keeps-then}
+use Rattle.checker_expressions.proofs.SoundAccesses.{leads-type}
+use Rattle.checker_expressions.proofs.SoundCalls.{CallLaws}
+use Rattle.checker_expressions.proofs.SoundExpressions.{SoundAction, parameter-sound, procedure-sound, value-sound}
 use Rattle.cert_checker.specs.Walk as walk
 use Rattle.cert_checker.specs.Walk.{statement_walk}
-use Rattle.cert_checker.proofs.Controls.{AreOrdinal, all-ordinal, control-ordinal, control-seen, controls-ordinal, inside-ordinal, loops-parts, one-ordinal}
-use Rattle.cert_checker.proofs.Controls.{control-declared, ordinal-entire}
+use Rattle.cert_checker.proofs.Controls.{AreOrdinal, all-ordinal, control-ordinal, control-seen, controls-ordinal, inside-ordinal, loops-parts}
+use Rattle.cert_checker.proofs.Controls.{one-ordinal, control-declared, ordinal-entire}
 use Rattle.cert_checker.proofs.SoundAssignments.{assigned, assignment-sound, entire-lies, has_type, ordinal-values, site-within}
 use Rattle.cert_checker.proofs.SoundCase.{arm-missing, arms-behind, at-constants_known, entire-number, first-constants}
 use Rattle.cert_checker.proofs.SoundCopies.{copied, copying-sound}
 use Rattle.cert_checker.proofs.SoundFor.{IsControl, IsTestFor, for-good}
 use Rattle.cert_checker.proofs.SparedCalls.{Controls, IsAlone, SpareControls}
 use Rattle.cert_checker.proofs.SparedText.{MayChangeOthers, text-kept}
-use Rattle.expression_checker.proofs.EffectsKept.{watching}
-use Rattle.structured_states.proofs.Touched.{all_control}
+use Rattle.checker_expressions.proofs.EffectsKept.{watching}
+use Rattle.checker_loops.proofs.Touched.{all_control}
 use Rattle.cert_checker.proofs.Rounds.{StandsIn}
-use Rattle.cert_checker.proofs.SoundLoops.{AreControlled, SoundAmong, here-as, sound-choice, sound-loop, sound-repeat, sound-while}
+use Rattle.cert_checker.proofs.SoundLoops.{AreControlled, SoundAmong, here-as, joined-other, sound-choice, sound-loop, sound-repeat, sound-while}
 use Rattle.cert_checker.proofs.Written.{Foretold}
 
 -- one of two actions, by a truth value
@@ -98,9 +96,6 @@ only-other true b isnt is = absurd (cc)
 either-way : {P : Type 0} (b : Bool) → (b ≡ true → P) → (b ≡ false → P) → P
 either-way true one other = one refl
 either-way false one other = other refl
-
-true-isnt_false : (b : Bool) → b ≡ true → b ≡ false → ⊥
-true-isnt_false b is isnt = cc
 
 among-left : (root : ℕ) (first second : List ℕ) → is_among root first ≡ true → is_among root (first ++ second) ≡ true
 among-left root first second is =
@@ -147,7 +142,7 @@ among-then controls world block env action next walking walk_next one two contex
     (two context first.after t held (unbroken-right first.broken second.broken unbroken) (part-right world first second part)
     (here-behind {B = Unit {0}} world block env Any_value context state first s t done here told)))
 
-module _ (world : World) (limits_are : world.limits ≡ all_limits world.tree) (block : ℕ) (own_block : Block)
+module _ (world : World) (block : ℕ) (own_block : Block)
     (own_is : slice_get world.tree.blocks.items block ≡ Some own_block) (env : Surroundings) (laws : CallLaws world)
     (calls : SoundCalls world env.calls) (spared_by : SpareControls world.tree env.calls)
     (hidden : (control alias : ℕ) → is_control (outline_of world.tree) block control ≡ true → is_among alias (aliases_of world.pairs control) ≡ true
@@ -259,7 +254,7 @@ module _ (world : World) (limits_are : world.limits ≡ all_limits world.tree) (
 
   -- the control variables inside a loop have no rows
   inside-entire : (number : ℕ) (controls : List ℕ) → AreOrdinal world.tree controls → IsLoop world.tree.loops.items block (number, controls)
-      → AreEntire (parts_in world) (controls_inside world.tree number)
+      → AreEntire (parts_in world) (variables_in world) (controls_inside world.tree number)
   inside-entire number controls ordinal is =
       ordinal-entire world.tree (controls_inside world.tree number) (inside-ordinal world.tree block number controls ordinal is)
 
@@ -292,7 +287,7 @@ module _ (world : World) (limits_are : world.limits ≡ all_limits world.tree) (
   control-tested control fits well =
       let parts = and_parts (is_well_formed_test outline block fits) (has_type world fits control []) well in
       record {
-        below = site-within world limits_are block env laws calls fits parts.0;
+        below = site-within world block env laws calls fits parts.0;
         typed = λ n passes. (entire-lies world control fits (Number n) parts.1 passes).1;
       }
 
@@ -308,7 +303,7 @@ module _ (world : World) (limits_are : world.limits ≡ all_limits world.tree) (
   bounds-good : (head : ForHead) (execution : Execution) (walking : Walking (Unit {0})) (among : List ℕ)
       → controls_inside world.tree head.loop_number ≡ among
       → SoundAmong {A = Unit {0}} {B = Unit {0}} among world block visible Any_value (execution env) walking
-      → AreEntire (parts_in world) (head.control ∷ controls_inside world.tree head.loop_number) → StandsIn world block head.loop_number
+      → AreEntire (parts_in world) (variables_in world) (head.control ∷ controls_inside world.tree head.loop_number) → StandsIn world block head.loop_number
       → IsTestFor world head.control head.first.fits → IsTestFor world head.control head.last.fits
       → (from to : Known) (a b : Value) (context : Context) (state : State) (t : effect.State)
       → IsControl world block env execution context head.control → AreControlled among context
@@ -318,7 +313,7 @@ module _ (world : World) (limits_are : world.limits ≡ all_limits world.tree) (
       → Good world (Foretold world visible context (walked_bounds head walking from to context state) t.store) t (from_bounds head execution a b t)
   bounds-good head execution walking among inside_are one controls_are stands first_tested last_tested (Ordinal from) (Ordinal to)
       (Number x) (Number y) context state t text held unbroken part here first_form last_form in_first in_last =
-      for-good world limits_are block env head stands execution walking among inside_are one from to context state
+      for-good world block env head stands execution walking among inside_are one from to context state
       x y text held controls_are first_tested last_tested t unbroken part here
       (of-form_may visible t.store (form_before head.first.value head.last.value) x first_form)
       (of-form_may visible t.store (bound_form head.last.value) y last_form) in_first in_last
@@ -336,7 +331,7 @@ module _ (world : World) (limits_are : world.limits ≡ all_limits world.tree) (
       → controls_inside world.tree head.loop_number ≡ among
       → SoundAmong {A = Unit {0}} {B = Unit {0}} among world block visible Any_value (execution env) walking
       → ((context : Context) → all_control head.control context.rounds ≡ true → IsControl world block env execution context head.control)
-      → AreEntire (parts_in world) (head.control ∷ controls_inside world.tree head.loop_number) → StandsIn world block head.loop_number
+      → AreEntire (parts_in world) (variables_in world) (head.control ∷ controls_inside world.tree head.loop_number) → StandsIn world block head.loop_number
       → well_expr head.first.value ≡ true → IsTestFor world head.control head.first.fits
       → well_expr head.last.value ≡ true → IsTestFor world head.control head.last.fits
       → SoundAmong {A = Unit {0}} {B = Unit {0}} (head.control ∷ among) world block visible Any_value
@@ -367,7 +362,7 @@ module _ (world : World) (limits_are : world.limits ≡ all_limits world.tree) (
       (part-left world to rest more_part) here_first)
       (λ b u last_is last_told.
       let here_last = here-behind world block visible IsValue context from.after to t u b here_first last_told in
-      let form = form-behind first last t.store u.store a (λ quiet. expression-kept last quiet env t u b last_is) (form-known first env s t a first_is) in
+      let form = form-behind first last t.store u.store a (λ quiet. expression-kept last quiet env t u b last_is) (forms-tell first env s t a first_is) in
       good-weaker world (Foretold world visible context rest u.store) Q u (finish a b u)
       (λ done w is then. record {
         tie = tt;
@@ -377,7 +372,7 @@ module _ (world : World) (limits_are : world.limits ≡ all_limits world.tree) (
       })
       (bounds-good head execution walking among inside_are one controls_are stands first_tested last_tested from.value to.value a b context to.after u
       (text context own_held) inside_held (unbroken-right to.broken rest.broken more_unbroken) (part-right world to rest more_part) here_last form
-      (form-known last env t u b last_is) first_told.so.tie last_told.so.tie)))
+      (forms-tell last env t u b last_is) first_told.so.tie last_told.so.tie)))
 
   -- ---- case statements
 
@@ -398,10 +393,10 @@ module _ (world : World) (limits_are : world.limits ≡ all_limits world.tree) (
   arms-good site base index n context t here has rows [] behind well text held unbroken part among = absurd (cc)
   arms-good site base index n context t here has [] (arm ∷ arms) behind well text held unbroken part among = absurd (cc)
   arms-good site base index n context t here has (row ∷ rows) (arm ∷ arms) behind well text held unbroken part among =
-      let start = over_variables (at_constants index row.items) base in
+      let start = at_constants index row.items base in
       let first = statement_walk arm.0 context start in
       let met = walk.arm_walk start (statement_walk arm.0) context behind in
-      let rest = arms_walked base index rows arms context (joined_states behind first.after) in
+      let rest = arms_walked base index rows arms context (joined_states (table_of context.tree) behind first.after) in
       let whole = followed met rest in
       let own_part = part-left world met rest part in
       let first_part : IsPartOf world first = record { ids = own_part.ids; linked = own_part.linked } in
@@ -417,20 +412,20 @@ module _ (world : World) (limits_are : world.limits ≡ all_limits world.tree) (
       (λ done u gives told. record {
         tie = tt;
         stands = stands-as world visible context first.after whole.after u.store told.so.stands
-            (arms-behind (parts_in world) (variables_in world) visible u.store base index rows (map statement_walk (bodies arms)) context
-            (joined_states behind first.after)
-            (join-holds.from_other (parts_in world) (variables_in world) visible behind first.after u.store told.so.stands.known));
+            (arms-behind world visible u.store base index rows (map statement_walk (bodies arms)) context
+            (joined_states (table_of context.tree) behind first.after)
+            (stands-as world visible context first.after (joined_states (table_of context.tree) behind first.after) u.store told.so.stands
+            (joined-other world visible context behind first.after u.store told.so.stands))).known;
         kept = told.so.kept;
       })
       (arm.1 parts.0 text_parts.0 context start t (λ root is. held root (among-left root first_inside.controls others_inside.controls is))
       (unbroken-left first.broken rest.broken unbroken) first_part
       (here-as world block visible context base start t here
-      (over-known (parts_in world) (variables_in world) visible base (at_constants index row.items) t.store here.stands.known
-      (at-constants_known (variables_in world) visible t.store index row.items base.variables n has is here.stands.known.variables)))))
+      (at-constants_known (parts_in world) (table_of world.tree) (are-rows world.tree) visible t.store index row.items base n has is here.stands.known))))
       (λ isnt.
       good-weaker world (Foretold world visible context rest t.store) (Foretold world visible context whole t.store) t (others t)
       (λ done u gives told. record { tie = tt; stands = told.so.stands; kept = told.so.kept })
-      (arms-good site base index n context t here has rows arms (joined_states behind first.after) parts.1 text_parts.1
+      (arms-good site base index n context t here has rows arms (joined_states (table_of context.tree) behind first.after) parts.1 text_parts.1
       (λ root is. held root (among-right root first_inside.controls others_inside.controls is))
       (unbroken-right first.broken rest.broken unbroken)
       (part-right world met rest part)
@@ -461,26 +456,25 @@ module _ (world : World) (limits_are : world.limits ≡ all_limits world.tree) (
       let test = flow.tested closed site passed context state in
       let tested = walk.index_test site constants range context state in
       let root = root_of (condition_of head.index).form in
-      let rest = walk.arms_walk test.after root rows walks context (dead context.tree) in
+      let rest = walk.arms_walk test.after root rows walks context Dead in
       let whole = walked_index head arms (Ordinal range) context state in
       let same_length = length-map (bodies arms) statement_walk in
       either-way (meaning.is_among constants n)
       (λ among.
       let base_here = here-as world block visible context state test.after t here
-      (over-known (parts_in world) (variables_in world) visible state (unless_empty passed) t.store here.stands.known
-      (nonempty-known (variables_in world) visible passed state.variables t.store (Number n)
-      (common-in range (hull constants) (Number n) inside (among-hull constants n among)) here.stands.known.variables)) in
+      (nonempty-stands world visible context passed state t.store (Number n)
+      (common-in range (hull constants) (Number n) inside (among-hull constants n among)) here.stands).known in
       good-weaker world (Foretold world visible context rest t.store) (Foretold world visible context whole t.store) t
       (from_index head arms (Number n) t)
       (λ done u gives told. record { tie = tt; stands = told.so.stands; kept = told.so.kept })
       (arms-good site test.after root n context t base_here (λ r is. entire-number (condition_of head.index).form (moment visible t.store) n r form is) rows
-      arms (dead context.tree) well text held (unbroken-right tested.broken rest.broken unbroken) (part-right world tested rest part)
+      arms Dead well text held (unbroken-right tested.broken rest.broken unbroken) (part-right world tested rest part)
       (subst (λ k. meaning.is_among (constants_before k rows) n ≡ true) same_length among)))
       (λ missing.
       let unclosed : (is_dead state || closed) ≡ true → ⊥ = λ is.
-      true-isnt_false (meaning.is_among constants n)
+      both_ways (meaning.is_among constants n) missing
       (closed-passes (parts_in world) (variables_in world) visible state t.store closed (meaning.is_among constants n) here.stands.known
-      (λ covered_is. covered-among range constants n covered_is inside) is) missing in
+      (λ covered_is. covered-among range constants n covered_is inside) is) in
       subst (λ (reply : effect.Reply (Unit {0})). Good world (Foretold world visible context whole t.store) t reply)
       (sym (arm-missing site rows (map effect_of (bodies arms)) n env t
       (subst (λ k. meaning.is_among (constants_before k rows) n ≡ false) (same_length ∙ sym (length-map (bodies arms) effect_of)) missing)))
@@ -512,7 +506,7 @@ module _ (world : World) (limits_are : world.limits ≡ all_limits world.tree) (
         kept = keeps-then visible context.rounds s.store t.store u.store told.so.kept then.so.kept;
       })
       (case-good head arms first.value v context first.after t below well text held (unbroken-right first.broken rest.broken unbroken)
-      (part-right world first rest part) (here-behind world block visible IsValue context state first s t v here told) (form-known index env s t v is)
+      (part-right world first rest part) (here-behind world block visible IsValue context state first s t v here told) (forms-tell index env s t v is)
       told.so.tie))
 
   abbrev StmtLayer : Stmt-F Stmt → Type 0
@@ -526,13 +520,13 @@ module _ (world : World) (limits_are : world.limits ≡ all_limits world.tree) (
   statement-layer (Empty number) well text =
       plainly [] world block visible (effect.enter number visible) (flow.enter number) (sound-enter world block visible number)
   statement-layer (Assign assignment) well text =
-      let does = assigned world limits_are block env laws calls assignment in
+      let does = assigned world block env laws calls assignment in
       entered-among [] assignment.number does (walk.assignment_walk assignment)
-      (plainly [] world block visible does (walk.assignment_walk assignment) (assignment-sound world limits_are block env laws calls assignment well))
+      (plainly [] world block visible does (walk.assignment_walk assignment) (assignment-sound world block env laws calls assignment well))
   statement-layer (Copy copying) well text =
-      let does = copied world limits_are block env laws calls copying in
+      let does = copied world block env laws calls copying in
       entered-among [] copying.number does (walk.copying_walk copying)
-      (plainly [] world block visible does (walk.copying_walk copying) (copying-sound world limits_are block env laws calls copying well))
+      (plainly [] world block visible does (walk.copying_walk copying) (copying-sound world block env laws calls copying well))
   statement-layer (Write writing) well text =
       let written = meaning.all_of (map parameter_of writing.parameters.items) env in
       let walked = walk.all_of (map parameter_walk writing.parameters.items) in
@@ -590,7 +584,7 @@ module _ (world : World) (limits_are : world.limits ≡ all_limits world.tree) (
         controls = text.controls;
       } in
       entered-among inside.controls head.number (effect.looped round tt) (walk.loop_walk head.loop_number head.place None walked)
-      (sound-loop inside.controls world limits_are block visible head.loop_number head.place round tt walked
+      (sound-loop inside.controls world block visible head.loop_number head.place round tt walked
       (inside-entire head.loop_number inside.controls (controls-ordinal world.tree block body.value.0 parts.1) loop)
       (loop.0, loop.1, loop.2) (ap controls_of loop.1 ∙ loop.3)
       (λ a. sound-while inside.controls world block env head.condition (effect_of body.value.0) (statement_walk body.value.0)
@@ -611,7 +605,7 @@ module _ (world : World) (limits_are : world.limits ≡ all_limits world.tree) (
         controls = text.controls;
       } in
       entered-among inside.controls head.number (effect.looped round tt) (walk.loop_walk head.loop_number head.place None walked)
-      (sound-loop inside.controls world limits_are block visible head.loop_number head.place round tt walked
+      (sound-loop inside.controls world block visible head.loop_number head.place round tt walked
       (inside-entire head.loop_number inside.controls (all-ordinal world.tree block inner parts.0) loop)
       (loop.0, loop.1, loop.2) (ap controls_of loop.1 ∙ loop.3)
       (λ a. sound-repeat inside.controls world block env head.condition body bodies (all-sound statements.items parts.0 own)

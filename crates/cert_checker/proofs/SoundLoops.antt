@@ -5,8 +5,7 @@ use Rattle.std.specs.Prelude.{◌≤◌}
 use Rattle.std.proofs.lemmas.List.Elements.{Contains-append_left, Contains-append_right}
 use Rattle.std.proofs.lemmas.List.Folds.{list_all-append}
 use Rattle.std.proofs.lemmas.Bool.{and_from}
-use Rattle.domain.specs.Interval.{Interval}
-use Rattle.expression_checker.specs.declared.fault.Rule.TheVariants.{LoopEntry, LoopTurn}
+use Rattle.checker_expressions.specs.declared.fault.Rule.TheVariants.{LoopEntry, LoopTurn}
 use Rattle.typed_tree.specs.declared.tree.Expr.{Expr}
 use Rattle.typed_tree.specs.declared.tree.Tree.{Tree}
 use Rattle.place.specs.declared.Place.{Place as SourcePlace}
@@ -18,34 +17,33 @@ use Rattle.meaning.specs.Effect as effect
 use Rattle.meaning.specs.Effect.{Action, and_then}
 use Rattle.meaning.specs.Meaning as meaning
 use Rattle.meaning.specs.Meaning.{Surroundings, is_so, value_of}
-use Rattle.abstract_state.specs.Conditions.{branched}
-use Rattle.abstract_state.specs.declared.known.Known.{Known}
-use Rattle.abstract_state.specs.declared.known.Known.TheVariants.{Ordinal}
-use Rattle.abstract_state.specs.Knows.{IsKept}
-use Rattle.abstract_state.specs.Loops.{is_among}
-use Rattle.abstract_state.proofs.Ranged.{IsKnown}
-use Rattle.abstract_state.proofs.Refined.{branched-known}
-use Rattle.component_states.specs.States.{State, joined_states}
-use Rattle.component_states.specs.Holds.{Knows}
-use Rattle.component_states.specs.Laws.{AreEntire}
-use Rattle.component_states.proofs.Joins.{join-holds}
-use Rattle.leaf_rows.specs.Limits.{all_limits}
-use Rattle.structured_states.specs.Loops.{Round, claims_at, controls_inside, gives_claims, head_of, round_of, touched, with_own}
-use Rattle.structured_states.proofs.Touched.{all_control}
-use Rattle.call_states.specs.Environments.{Fine, Proper}
-use Rattle.call_states.proofs.AliasedTypes.{in-types, shows}
-use Rattle.call_states.proofs.Claimed.{AllHold, given-claims}
-use Rattle.expression_checker.specs.Walk as flow
+use Rattle.checker_state.specs.declared.value.Known.{Known}
+use Rattle.checker_state.specs.declared.value.Known.TheVariants.{Ordinal}
+use Rattle.checker_state.specs.Knows.{IsKept, Knows, AreEntire}
+use Rattle.checker_state.specs.Loops.{is_among}
+use Rattle.checker_expressions.proofs.Sound.{IsKnown, Any_value, Good, Goes, Here, IsForetold, IsPartOf, IsValue, Sound, Stands, World, good-give, good-then}
+use Rattle.checker_expressions.proofs.Sound.{good-weaker, here-behind, kept-rule, nothing-new, part-left, part-right, parts_in, proper-grown, stands-as}
+use Rattle.checker_expressions.proofs.Sound.{unbroken-left, unbroken-right, variables_in}
+use Rattle.checker_state.specs.State.{State}
+use Rattle.checker_state.specs.Joins.{joined_states}
+use Rattle.checker_state.proofs.Joined.{join-holds}
+use Rattle.checker_state.proofs.Refined.{conditions-tell}
+use Rattle.checker_loops.specs.Loops.{Round, claims_at, controls_inside, gives_claims, head_of, round_of, touched, with_own}
+use Rattle.checker_state.specs.State.{table_of}
+use Rattle.checker_loops.proofs.Tabled.{are-rows}
+use Rattle.checker_loops.proofs.Touched.{all_control}
+use Rattle.checker_calls.specs.Environments.{Fine, Proper}
+use Rattle.checker_calls.proofs.AliasedTypes.{in-types}
+use Rattle.checker_calls.proofs.Claimed.{AllHold}
+use Rattle.checker_calls.proofs.Given.{given-claims}
+use Rattle.checker_expressions.specs.Walk as flow
 use Rattle.cert_checker.specs.Walk as walk
-use Rattle.expression_checker.specs.Walk.{Context, Walked, Walking, followed, value_walk}
+use Rattle.checker_expressions.specs.Walk.{Context, Walked, Walking, followed, value_walk}
 use Rattle.cert_checker.specs.Walk.{where_so}
-use Rattle.expression_checker.proofs.Keeping.{Keeps, keeps-itself, keeps-then}
-use Rattle.expression_checker.proofs.Sound.{Any_value, Good, Goes, Here, IsForetold, IsPartOf, IsValue, Sound, Stands, World, good-give, good-then, good-weaker}
-use Rattle.expression_checker.proofs.Sound.{here-behind, nothing-new, over-known, part-left, part-right, parts_in, proper-grown, stands-as, unbroken-left}
-use Rattle.expression_checker.proofs.Sound.{unbroken-right, variables_in}
+use Rattle.checker_expressions.proofs.Keeping.{Keeps, keeps-itself, keeps-then}
 use Rattle.cert_checker.proofs.Heads.{head-of_known}
 use Rattle.cert_checker.proofs.Rounds.{StandsIn, goes-inside, loop-closed}
-use Rattle.cert_checker.proofs.Written.{Foretold, kept-rule}
+use Rattle.cert_checker.proofs.Written.{Foretold}
 
 -- ---- control variables
 
@@ -96,25 +94,39 @@ pub chosen-here : (world : World) (block : ℕ) (env : Surroundings) (condition 
     → Here world block env.visible context (where_so (is_so v) condition known state) t
 chosen-here world block env condition (Ordinal range) v s t context state is inside here =
     here-as world block env.visible context state (where_so (is_so v) condition (Ordinal range) state) t here
-    (over-known (parts_in world) (variables_in world) env.visible state (branched (is_so v) condition range) t.store here.stands.known
-    (branched-known (variables_in world) env condition s t v range state.variables is inside here.stands.known.variables))
+    (conditions-tell (parts_in world) (table_of world.tree) (are-rows world.tree) env condition s t v range state is inside here.stands.known)
 
 -- behind one of two ways the joined state holds
+abbrev JoinedKnown : World → Environment → State → State → Store → Tree → Type 0
+JoinedKnown world env one other store tree = Knows (parts_in world) (variables_in world) env (joined_states (table_of tree) one other) store
+
+pub joined-one : (world : World) (env : Environment) (context : Context) (one other : State) (store : Store) → Stands world env context one store
+    → Knows (parts_in world) (variables_in world) env (joined_states (table_of context.tree) one other) store
+joined-one world env context one other store stands =
+    subst (JoinedKnown world env one other store) (sym stands.goes.tree_is)
+    (join-holds.from_one (parts_in world) (table_of world.tree) (are-rows world.tree) env one other store stands.known)
+
+pub joined-other : (world : World) (env : Environment) (context : Context) (one other : State) (store : Store) → Stands world env context other store
+    → Knows (parts_in world) (variables_in world) env (joined_states (table_of context.tree) one other) store
+joined-other world env context one other store stands =
+    subst (JoinedKnown world env one other store) (sym stands.goes.tree_is)
+    (join-holds.from_other (parts_in world) (table_of world.tree) (are-rows world.tree) env one other store stands.known)
+
 one-way : (world : World) (env : Environment) (context : Context) (one other : Walked (Unit {0})) (start store : Store) (done : Unit {0})
-    → Foretold world env context one start done store → Foretold world env context (walk.either_of one other) start done store
+    → Foretold world env context one start done store → Foretold world env context (walk.either_of context one other) start done store
 one-way world env context one other start store done told = record {
   tie = tt;
-  stands = stands-as world env context one.after (joined_states one.after other.after) store told.stands
-      (join-holds.from_one (parts_in world) (variables_in world) env one.after other.after store told.stands.known);
+  stands = stands-as world env context one.after (joined_states (table_of context.tree) one.after other.after) store told.stands
+      (joined-one world env context one.after other.after store told.stands);
   kept = told.kept;
 }
 
 other-way : (world : World) (env : Environment) (context : Context) (one other : Walked (Unit {0})) (start store : Store) (done : Unit {0})
-    → Foretold world env context other start done store → Foretold world env context (walk.either_of one other) start done store
+    → Foretold world env context other start done store → Foretold world env context (walk.either_of context one other) start done store
 other-way world env context one other start store done told = record {
   tie = tt;
-  stands = stands-as world env context other.after (joined_states one.after other.after) store told.stands
-      (join-holds.from_other (parts_in world) (variables_in world) env one.after other.after store told.stands.known);
+  stands = stands-as world env context other.after (joined_states (table_of context.tree) one.after other.after) store told.stands
+      (joined-other world env context one.after other.after store told.stands);
   kept = told.kept;
 }
 
@@ -123,14 +135,14 @@ pub ways-good : (world : World) (env : Environment) (one_action other_action : A
     (context : Context) (t : effect.State)
     → (b ≡ true → one.broken ≡ [] → IsPartOf world one → Good world (Foretold world env context one t.store) t (one_action t))
     → (b ≡ false → other.broken ≡ [] → IsPartOf world other → Good world (Foretold world env context other t.store) t (other_action t))
-    → (walk.either_of one other).broken ≡ [] → IsPartOf world (walk.either_of one other)
-    → Good world (Foretold world env context (walk.either_of one other) t.store) t (cond b one_action other_action t)
+    → (walk.either_of context one other).broken ≡ [] → IsPartOf world (walk.either_of context one other)
+    → Good world (Foretold world env context (walk.either_of context one other) t.store) t (cond b one_action other_action t)
 ways-good world env one_action other_action one other true context t taken skipped unbroken part =
-    good-weaker world (Foretold world env context one t.store) (Foretold world env context (walk.either_of one other) t.store) t (one_action t)
+    good-weaker world (Foretold world env context one t.store) (Foretold world env context (walk.either_of context one other) t.store) t (one_action t)
     (λ done u is told. one-way world env context one other t.store u.store done told.so)
     (taken refl (unbroken-left one.broken other.broken unbroken) (part-left world one other (record { ids = part.ids; linked = part.linked })))
 ways-good world env one_action other_action one other false context t taken skipped unbroken part =
-    good-weaker world (Foretold world env context other t.store) (Foretold world env context (walk.either_of one other) t.store) t (other_action t)
+    good-weaker world (Foretold world env context other t.store) (Foretold world env context (walk.either_of context one other) t.store) t (other_action t)
     (λ done u is told. other-way world env context one other t.store u.store done told.so)
     (skipped refl (unbroken-right one.broken other.broken unbroken) (part-right world one other (record { ids = part.ids; linked = part.linked })))
 
@@ -269,18 +281,18 @@ with_head context number control = context.rounds ++ at_head context number cont
 abbrev pub loop_begun : Context → ℕ → Option ℕ → State → State
 loop_begun context number control state =
     let own = at_head context number control in
-    head_of context.tree context.limits own (claims_at context.claims number).facts state
+    head_of context.tree own (claims_at context.claims number).facts state
 
 -- what a round begins with leaves the store as it has to be
 abbrev pub AreFine : {A : Type 0} → World → ℕ → (at : A → Store → Store) → (Fits : A → Store → Type 0) → Type 0
 AreFine {A} world few at Fits =
     (a : A) (t : effect.State) → few ≤ t.activations → Fine world.tree t → Fits a (at a t.store) → Fine world.tree (record t { store = at a t.store })
 
-module _ {A : Type 0} (world : World) (ranges : world.limits ≡ all_limits world.tree) (block : ℕ) (env : Environment) (few : ℕ)
+module _ {A : Type 0} (world : World) (block : ℕ) (env : Environment) (few : ℕ)
     (proper : Proper world.tree world.pairs block few env) (context : Context) (number : ℕ) (control : Option ℕ) (state : State)
     (start : Store) (at : A → Store → Store) (Fits : A → Store → Type 0) (at_fine : AreFine world few at Fits) (again out : State)
     (stands : Stands world env context state start) (goes : Goes world (inner context number))
-    (controls_are : AreEntire (parts_in world) (at_head context number control).controls) where
+    (controls_are : AreEntire (parts_in world) (variables_in world) (at_head context number control).controls) where
   abbrev facts : List Fact
   facts = (claims_at context.claims number).facts
 
@@ -309,19 +321,16 @@ module _ {A : Type 0} (world : World) (ranges : world.limits ≡ all_limits worl
   head-stands t fine kept hold = record {
     goes = goes;
     known =
-        let Known = λ (tree : Tree) (limits : List Interval).
-        Knows (parts_in world) (variables_in world) env (head_of tree limits own facts state) t.store in
-        subst (λ (tree : Tree). Known tree context.limits) (sym stands.goes.tree_is)
-        (subst (λ (limits : List Interval). Known world.tree limits) (sym (stands.goes.limits_are ∙ ranges))
-        (head-of_known world.tree env (shows world.tree world.pairs block few env proper) own facts state start t.store controls_are
-        (rounds-own env context.rounds own start t.store kept) (in-types world.tree world.pairs block few env t.store proper fine.typed) hold
-        stands.known));
+        let Known = λ (tree : Tree). Knows (parts_in world) (variables_in world) env (head_of tree own facts state) t.store in
+        subst Known (sym stands.goes.tree_is)
+        (head-of_known world.tree env own facts state start t.store controls_are (rounds-own env context.rounds own start t.store kept)
+        (in-types world.tree world.pairs block few env t.store proper fine.typed) hold stands.known);
   }
 
   given-there : (given_state : State) (store : Store) → Knows (parts_in world) (variables_in world) env given_state store
       → gives_claims context.tree given_state facts ≡ true → AllHold world.tree facts env store
   given-there given_state store known given =
-      given-claims world.tree (variables_in world) env given_state store facts known
+      given-claims world.tree env given_state store facts known
       (subst (λ (tree : Tree). gives_claims tree given_state facts ≡ true) stands.goes.tree_is given)
 
   -- behind a round
@@ -336,10 +345,10 @@ module _ {A : Type 0} (world : World) (ranges : world.limits ≡ all_limits worl
       (head-stands (record t { store = at b t.store }) (at_fine b t grown fine fits) all (given-there again (at b t.store) stood.known given), all, fits)
 
 -- a loop whose rounds are sound
-pub loop-good : {A : Type 0} (world : World) → world.limits ≡ all_limits world.tree → (block : ℕ) (env : Environment) (number : ℕ) (place : SourcePlace)
+pub loop-good : {A : Type 0} (world : World) → (block : ℕ) (env : Environment) (number : ℕ) (place : SourcePlace)
     (control : Option ℕ) (round : effect.Round A) (walking : Walking State) (at : A → Store → Store) (Fits : A → Store → Type 0) (context : Context)
     (state : State) (a : A) (s : effect.State) → AreFine world s.activations at Fits → Goes world (inner context number)
-    → AreEntire (parts_in world) (at_head context number control).controls
+    → AreEntire (parts_in world) (variables_in world) (at_head context number control).controls
     → ((b : A) (t : effect.State) → s.activations ≤ t.activations → Fine world.tree t
     → (walking (inner context number) (loop_begun context number control state)).broken ≡ []
     → IsPartOf world (walking (inner context number) (loop_begun context number control state))
@@ -351,7 +360,7 @@ pub loop-good : {A : Type 0} (world : World) → world.limits ≡ all_limits wor
     → Fine world.tree s → Proper world.tree world.pairs block s.activations env
     → Stands world env context state (at a s.store) → Fits a (at a s.store)
     → Good world (Foretold world env context (walk.loop_walk number place control walking context state) (at a s.store)) s (effect.looped round a s)
-loop-good {A} world ranges block env number place control round walking at Fits context state a s at_fine goes controls_are each unbroken part
+loop-good {A} world block env number place control round walking at Fits context state a s at_fine goes controls_are each unbroken part
     fine proper stands fits =
     let facts = (claims_at context.claims number).facts in
     let own = at_head context number control in
@@ -368,20 +377,20 @@ loop-good {A} world ranges block env number place control round walking at Fits 
     let whole = walk.loop_walk number place control walking context state in
     let few = s.activations in
     let from_entry = unbroken-right entry.broken (turn.broken ++ (turned.broken ++ [])) unbroken in
-    let given = given-there world ranges block env few proper context number control state start at Fits at_fine turn.after turn.value stands goes
+    let given = given-there world block env few proper context number control state start at Fits at_fine turn.after turn.value stands goes
     controls_are state start stands.known (kept-rule (gives_claims context.tree state facts) LoopEntry place
     (unbroken-left entry.broken (turn.broken ++ (turned.broken ++ [])) unbroken)) in
     let given_again = kept-rule (gives_claims context.tree turn.after facts) LoopTurn place
     (unbroken-left turned.broken [] (unbroken-right turn.broken (turned.broken ++ []) from_entry)) in
     let turn_part : IsPartOf world turn = part-left world turn after_turn
     (part-right world entering from_head (part-right world entry (followed entering from_head) part)) in
-    let P = AtHead world ranges block env few proper context number control state start at Fits at_fine turn.after turn.value stands goes
+    let P = AtHead world block env few proper context number control state start at Fits at_fine turn.after turn.value stands goes
     controls_are in
-    let Q : Store → Type 0 = AtOut world ranges block env few proper context number control state start at Fits at_fine turn.after turn.value stands goes
+    let Q : Store → Type 0 = AtOut world block env few proper context number control state start at Fits at_fine turn.after turn.value stands goes
     controls_are in
     let begun_kept = keeps-itself env rounds start in
     let first : P a s.store = (
-      head-stands world ranges block env few proper context number control state start at Fits at_fine turn.after turn.value stands goes controls_are
+      head-stands world block env few proper context number control state start at Fits at_fine turn.after turn.value stands goes controls_are
           (record s { store = start }) (at_fine a s (omega arith) fine fits) begun_kept given,
       begun_kept,
       fits,
@@ -390,7 +399,7 @@ loop-good {A} world ranges block env number place control round walking at Fits 
     λ b t now grown holds.
     good-weaker world (RoundEnds world env within rounds at Fits turn.after turn.value (at b t.store)) (Turns P Q) t (round b t)
     (λ more u is told.
-    round-turns world ranges block env few proper context number control state start at Fits at_fine turn.after turn.value stands goes controls_are
+    round-turns world block env few proper context number control state start at Fits at_fine turn.after turn.value stands goes controls_are
     given_again (at b t.store) holds.1 more u (let later = told.grown in omega (arith, grown, later)) told.fine told.so)
     (each b t grown now (unbroken-left turn.broken (turned.broken ++ []) from_entry) turn_part holds.0 holds.2) in
     good-weaker world (λ (done : Unit {0}) store. Q store) (Foretold world env context whole start) s (effect.looped round a s)
@@ -405,21 +414,21 @@ plain-ends world env context again out start None store told = told
 plain-ends world env context again out start (Some a) store (stood, kept) = (stood, kept, tt)
 
 -- a loop that is no for statement
-pub sound-loop : {A : Type 0} (controls : List ℕ) (world : World) → world.limits ≡ all_limits world.tree → (block : ℕ) (env : Environment)
+pub sound-loop : {A : Type 0} (controls : List ℕ) (world : World) → (block : ℕ) (env : Environment)
     (number : ℕ) (place : SourcePlace) (round : effect.Round A) (a : A)
-    (walking : Walking State) → AreEntire (parts_in world) (controls_inside world.tree number)
+    (walking : Walking State) → AreEntire (parts_in world) (variables_in world) (controls_inside world.tree number)
     → StandsIn world block number → controls_inside world.tree number ≡ controls → ((b : A) → SoundRound controls world block env (round b) walking)
     → SoundAmong {A = Unit {0}} {B = Unit {0}} controls world block env Any_value (effect.looped round a) (walk.loop_walk number place None walking)
-sound-loop {A} controls world ranges block env number place round a walking controls_are stands inside_are each context state s held unbroken part here =
+sound-loop {A} controls world block env number place round a walking controls_are stands inside_are each context state s held unbroken part here =
     let within = inner context number in
     let begun = loop_begun context number None state in
     let turn = walking within begun in
     let goes = here.stands.goes in
-    loop-good world ranges block env number place None round walking (λ b store. store) (λ b store. Unit {0}) context state a s
+    loop-good world block env number place None round walking (λ b store. store) (λ b store. Unit {0}) context state a s
     (λ b t grown fine fits. record { typed = fine.typed; begun = fine.begun })
     (goes-inside world context (round_of context.tree context.pairs context.claims number)
     (loop-closed world context.block context number goes.tree_is goes.pairs_are (stands.0, stands.1, stands.2 ∙ sym here.block_is)) goes)
-    (subst (λ (tree : Tree). AreEntire (parts_in world) (controls_inside tree number)) (sym goes.tree_is) controls_are)
+    (subst (λ (tree : Tree). AreEntire (parts_in world) (variables_in world) (controls_inside tree number)) (sym goes.tree_is) controls_are)
     (λ b t grown fine unbroken part holds fits.
     good-weaker world (EndsHold world env within turn.after turn.value t.store {A = A})
     (RoundEnds world env within within.rounds (λ b store. store) (λ b store. Unit {0}) turn.after turn.value t.store) t (round b t)

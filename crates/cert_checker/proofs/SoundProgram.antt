@@ -25,18 +25,19 @@ use Rattle.meaning.specs.declared.outcome.Ending.TheVariants.{Error}
 use Rattle.meaning.specs.Effect as effect
 use Rattle.meaning.specs.Effect.{Reply, Visit}
 use Rattle.meaning.specs.Meaning.{calls_of, ended, environment_of, first_state, program_activation, run, run_of}
-use Rattle.call_states.specs.Environments.{Fine}
-use Rattle.call_states.specs.Sections.{BlockClaims, all_pairs, block_claims_at, block_claims_in}
-use Rattle.call_states.proofs.AliasedStores.{head-or_tail}
-use Rattle.call_states.proofs.Claimed.{AllHold}
-use Rattle.call_states.proofs.Started.{no-claims, program-proper, program-start}
-use Rattle.expression_checker.specs.Walk.{Linked, numbers_of}
-use Rattle.expression_checker.specs.Visits.{moment_of, visits_of}
-use Rattle.component_states.specs.Holds.{StateHolds}
-use Rattle.expression_checker.proofs.Sound.{ErrsWithin, Meets, New, World, parts_in, sites_in}
-use Rattle.expression_checker.proofs.CallLaws.{call-laws}
-use Rattle.expression_checker.proofs.SoundCalls.{CallLaws}
-use Rattle.certificate_names.specs.Names.{block_is_known, claims_are_known, is_known, is_of_loops, section_is_known}
+use Rattle.checker_rows.proofs.Numbered.{contains-has, has-contains, in-filter}
+use Rattle.checker_calls.specs.Environments.{Fine}
+use Rattle.checker_calls.specs.Sections.{BlockClaims, all_pairs, block_claims_at, block_claims_in}
+use Rattle.checker_calls.proofs.AliasedStores.{head-or_tail}
+use Rattle.checker_calls.proofs.Claimed.{AllHold}
+use Rattle.checker_calls.proofs.Started.{no-claims, program-proper, program-start}
+use Rattle.checker_expressions.specs.Walk.{Linked, numbers_of}
+use Rattle.checker_expressions.specs.Visits.{moment_of, visits_of}
+use Rattle.checker_state.specs.Holds.{StateHolds}
+use Rattle.checker_expressions.proofs.Sound.{ErrsWithin, Meets, New, World, parts_in, sites_in}
+use Rattle.checker_expressions.proofs.CallLaws.{call-laws}
+use Rattle.checker_expressions.proofs.SoundCalls.{CallLaws}
+use Rattle.cert_checker.specs.Names.{block_is_known, claims_are_known, is_known, is_of_loops, section_is_known}
 use Rattle.cert_checker.specs.Promise.{open_in, ClosedNeverErr, HoldsAt, StatesHold}
 use Rattle.cert_checker.specs.Walk.{program_walk}
 use Rattle.cert_checker.proofs.ClaimsKnown.{are-claims, pairs-known}
@@ -141,26 +142,11 @@ errs-within : (world : World) (reply : Reply (Unit {0})) (id : ℕ) → ErrsWith
 errs-within world (effect.Gives done s) id told is = absurd (cc)
 errs-within world (effect.Stops e s) id told is = told id is
 
-kept-later : {X : Type 0} (keep : Bool) (x y : X) (xs : List X) → Contains xs y → Contains (cond keep (x ∷ xs) xs) y
-kept-later true x y xs inside = (suc inside.0, omega (arith, inside.1), inside.2)
-kept-later false x y xs inside = inside
-
-kept-first : {X : Type 0} (keep : Bool) (x y : X) (xs : List X) → keep ≡ true → x ≡ y → Contains (cond keep (x ∷ xs) xs) y
-kept-first true x y xs keeps is = (0, omega arith, is)
-kept-first false x y xs keeps is = absurd (cc)
-
--- an element that passes the test is kept
-kept : {X : Type 0} (test : X → Bool) (xs : List X) (y : X) → test y ≡ true → (k : ℕ) → k < length xs → get_or xs k y ≡ y → Contains (filter test xs) y
-kept test [] y passes k within is = absurd (omega arith)
-kept test (x ∷ xs) y passes zero within is = kept-first (test x) x y (filter test xs) (ap test is ∙ passes) is
-kept test (x ∷ xs) y passes (suc k) within is = kept-later (test x) x y (filter test xs) (kept test xs y passes k (omega arith) is)
-
 among-open : (ids : List ℕ) (sites : List Site) (site : Site) → Contains ids site.id → Contains sites site → Contains (open_in ids sites) site
 among-open ids sites site listed inside =
     let test = λ (other : Site). list_any (λ id. id == other.id) ids in
-    kept test sites site
-    (list_any_at (λ id. id == site.id) ids listed.0 site.id listed.1 (eq-eqb (get_or ids listed.0 site.id) site.id listed.2))
-    inside.0 inside.1 inside.2
+    let passes = list_any_at (λ id. id == site.id) ids listed.0 site.id listed.1 (eq-eqb (get_or ids listed.0 site.id) site.id listed.2) in
+    has-contains (filter test sites) site (in-filter test sites site (contains-has sites site inside) passes)
 
 element-at : {X : Type 0} (xs : List X) (k : ℕ) → k < length xs → (x : X) × (get_or xs k x ≡ x)
 element-at [] k within = absurd (omega arith)

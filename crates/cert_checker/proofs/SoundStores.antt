@@ -1,43 +1,39 @@
 -- Stores to components of rows are sound: what is known behind them holds.
-use Rattle.std.proofs.Common.{◌≡◌, ⊎_elim, inl, inr, ◌∙◌, sym, ap, refl, subst, ℕ, ℤ, ◌+ℤ◌, Bool, true, false, cond, length, arith, List, [], ◌∷◌}
+use Rattle.std.proofs.Common.{◌≡◌, ⊎_elim, inl, inr, ◌∙◌, sym, ap, refl, subst, ℕ, ◌≤◌, ℤ, Bool, true, false, length, List, [], ◌∷◌}
 use Rattle.std.proofs.Common.{Option, Some, None}
 use Rattle.std.specs.Prelude.{map, slice_index_or}
 use Rattle.std.specs.List.{Contains}
-use Rattle.std.proofs.lemmas.Option.{none-some, same_Some}
+use Rattle.std.proofs.lemmas.Bool.{false≢true}
+use Rattle.std.proofs.lemmas.List.{length-map}
+use Rattle.std.proofs.lemmas.Option.{same_Some}
 use Rattle.types.specs.declared.form.Step.{Step}
 use Rattle.typed_tree.specs.declared.tree.Selector.{Selector}
 use Rattle.typed_tree.specs.declared.tree.Tree.{Tree}
-use Rattle.domain.specs.Facts as fact
-use Rattle.domain.specs.Facts.{Bound, Plus}
+use Rattle.checker_state.specs.Bounds.{Bound}
 use Rattle.domain.specs.Interval.{Interval}
 use Rattle.meaning.specs.declared.store.Value.{Value}
-use Rattle.meaning.specs.declared.store.Value.TheVariants.{Number}
 use Rattle.meaning.specs.Store.{Environment, Place, Store}
 use Rattle.meaning.specs.Store as store
-use Rattle.abstract_state.specs.State as variables
-use Rattle.abstract_state.specs.Holds.{IsBound, IsIn, value_at}
-use Rattle.abstract_state.specs.Knows as entire
-use Rattle.abstract_state.specs.Knows.{moment}
-use Rattle.abstract_state.specs.Loops.{is_among, with_touched}
-use Rattle.abstract_state.proofs.Apart.{part}
-use Rattle.abstract_state.proofs.Looped as looped
-use Rattle.leaf_rows.specs.Limits.{all_limits, limits_at}
-use Rattle.leaf_rows.specs.Rows.{Parts, all_parts, no_parts, rows_of, type_at}
-use Rattle.leaf_rows.proofs.Accessed.{components-inner, rows-apart}
-use Rattle.component_states.specs.Components.{At, Components, Entire, Index, Inside, Reach, all_stored}
-use Rattle.component_states.specs.Holds.{ComponentsHold, IsOfRow, Knows, component_at}
-use Rattle.component_states.specs.Laws.{AreApart, AreComponents, AreLoose, AreStored, IsReach, IsReachApart, IsReached, bound_rests}
-use Rattle.component_states.specs.States.{State}
-use Rattle.component_states.proofs.Stored.{formless-hold, stores-hold}
-use Rattle.structured_states.specs.Pairs.{aliases_in}
-use Rattle.call_states.specs.Aliases.{Stored, index_unless_alias, reach_unless_alias, unless_alias, with_aliases_stored}
-use Rattle.call_states.specs.Environments.{Proper, Typed, place_type}
-use Rattle.call_states.proofs.Aliased.{aliases-ready}
-use Rattle.call_states.proofs.AliasedStores.{AreWritten, Pairs, at-head, head-or_tail, in-tail, one-kept, own-came, value-defined}
-use Rattle.call_states.proofs.AliasedTypes.{AreStoredAs, AreTyped, are-aliased, in-types, row-type, shows, written-typed}
-use Rattle.call_states.proofs.Passed.{IsIndexOn, IsReachedBy}
-use Rattle.call_states.proofs.SeenAliases.{listed_pairs}
+use Rattle.checker_state.specs.Holds.{IsIn, IsOfRow, component_at, indexes_of, moment, value_at}
+use Rattle.checker_state.proofs.Apart.{part}
+use Rattle.checker_rows.specs.Rows.{Parts, all_parts, no_parts, rows_of, type_at}
+use Rattle.checker_state.specs.Stores.{Index, Reach, all_stored, with_joined}
+use Rattle.checker_state.specs.Knows.{AreIndexes, AreRows, AreStored, BeginWith, IsFormApart, IsLooseIn, IsReach, IsReachApart, IsReached, Knows}
+use Rattle.checker_state.specs.State.{State, Table}
+use Rattle.checker_state.proofs.Stored.{formless-hold, stores-hold}
+use Rattle.checker_state.specs.State.{table_of}
+use Rattle.checker_loops.specs.Pairs.{aliases_in}
+use Rattle.checker_loops.proofs.Tabled.{are-rows}
+use Rattle.checker_calls.specs.Aliases.{Stored, index_unless_alias, reach_unless_alias, with_aliases_stored}
+use Rattle.checker_calls.specs.Environments.{Proper, place_type}
+use Rattle.checker_calls.proofs.Aliased.{aliases-ready}
+use Rattle.checker_calls.proofs.AliasedStores.{AreWritten, Pairs, own-came, value-defined}
+use Rattle.checker_calls.proofs.Lists.{in-map, of-map}
+use Rattle.checker_calls.proofs.AliasedTypes.{AreStoredAs, AreTyped, are-aliased, row-type}
+use Rattle.checker_calls.proofs.Passed.{AreIndexesOn, IsReachedBy}
+use Rattle.checker_calls.proofs.SeenAliases.{listed_pairs}
 use Rattle.cert_checker.specs.Walk.{Stores}
+use Rattle.cert_checker.proofs.Changes.{form-apart, unless-some}
 
 abbrev pub root_at : List Parts → ℕ → ℕ
 root_at rows row = (slice_index_or rows row no_parts).root
@@ -87,8 +83,10 @@ module _ (rows : List Parts) (env : Environment) (aliases : List ℕ) (root : �
         let own = reached one steps inside of_row is_reached in
         let has = written.has own.0 own.1 in
         (has.0, from-root one inside steps (Some has.0) after (subst (λ (s : List Step). value_at (moment env after) root s ≡ Some has.0) own.2 has.1));
-    all = λ one steps v reach_is inside of_row is.
-        let own = reached one steps inside of_row (subst (λ (r : Reach). IsReached env before r steps) (sym reach_is) tt) in
+    all = λ one steps v all none inside of_row is.
+        let every : (numbers : List ℤ) × AreIndexes env before reach.indexes numbers × BeginWith numbers (indexes_of steps) =
+        ([], subst (λ (indexes : List Index). AreIndexes env before indexes []) (sym none) tt, tt) in
+        let own = reached one steps inside of_row (all, every) in
         let here = subst (λ (s : List Step). value_at (moment env after) root s ≡ Some v) (sym own.2) (at-root one inside steps (Some v) after is) in
         let last = written.sure own.0 v own.1 here in
         own-in one steps v inside of_row (last.0, last.1, last.2 ∙ own.2, last.3);
@@ -96,89 +94,85 @@ module _ (rows : List Parts) (env : Environment) (aliases : List ℕ) (root : �
 
 -- ---- reaches without the forms that rest on aliases
 
-unless-some : (aliases : List ℕ) (form : Option Bound) (b : Bound) → unless_alias aliases form ≡ Some b
-    → (form ≡ Some b) × (bound_rests aliases b ≡ false)
-unless-some aliases None b is = absurd (none-some b is)
-unless-some aliases (Some (fact.Number n)) b is =
-    (is, subst (λ (c : Bound). bound_rests aliases c ≡ false) (same_Some (fact.Number n) b is) (none-rest aliases))
-  where
-    none-rest : (aliases : List ℕ) → bound_rests aliases (fact.Number n) ≡ false
-    none-rest [] = refl
-    none-rest (alias ∷ aliases) = none-rest aliases
-unless-some aliases (Some (Plus root n)) b is = by (is_among root aliases) refl is
-  where
-    by : (among : Bool) → is_among root aliases ≡ among → cond among None (Some (Plus root n)) ≡ Some b
-        → (Some (Plus root n) ≡ Some b) × (bound_rests aliases b ≡ false)
-    by true here is = absurd (none-some b is)
-    by false here is = (is, subst (λ (c : Bound). bound_rests aliases c ≡ false) (same_Some (Plus root n) b is) here)
-
 pub reach-apart : (aliases : List ℕ) (reach : Reach) → IsReachApart aliases (reach_unless_alias aliases reach)
-reach-apart aliases Entire = tt
-reach-apart aliases (At index) = λ b is. (unless-some aliases index.form b is).1
-reach-apart aliases (Inside index) = tt
+reach-apart aliases reach all index inside =
+    let (one, listed, same) = of-map (index_unless_alias aliases) reach.indexes index inside in
+    subst (λ (i : Index). IsFormApart aliases i.form) same (form-apart aliases one.form)
 
 pub reached-unless : (env : Environment) (before : Store) (selectors : List Selector) (way : List Step) (aliases : List ℕ) (reach : Reach)
     → IsReachedBy env before selectors way reach → IsReachedBy env before selectors way (reach_unless_alias aliases reach)
-reached-unless env before selectors way aliases Entire none = none
-reached-unless env before selectors way aliases (At index) (one, on) = (one, on-unless env before way aliases index on)
-  where
-    on-unless : (env : Environment) (before : Store) (way : List Step) (aliases : List ℕ) (index : Index) → IsIndexOn env before index way
-        → IsIndexOn env before (index_unless_alias aliases index) way
-    on-unless env before way aliases index on = record {
-      number = on.number;
-      is_first = on.is_first;
-      in_range = on.in_range;
-      of_form = λ b is. on.of_form b (unless-some aliases index.form b is).0;
-    }
-reached-unless env before selectors way aliases (Inside index) on = record {
-  number = on.number;
-  is_first = on.is_first;
-  in_range = on.in_range;
-  of_form = λ b is. on.of_form b (unless-some aliases index.form b is).0;
+reached-unless env before selectors way aliases reach reached = record {
+  indexes = on-unless reach.indexes (indexes_of way) reached.indexes;
+  all = λ is. length-map reach.indexes (index_unless_alias aliases) ∙ reached.all is;
+  none = λ is. reached.none (none-mapped reach.indexes is);
 }
+  where
+    none-mapped : (indexes : List Index) → map (index_unless_alias aliases) indexes ≡ [] → indexes ≡ []
+    none-mapped [] is = refl
+    none-mapped (index ∷ indexes) is = absurd (cc)
+
+    on-unless : (indexes : List Index) (numbers : List ℤ) → AreIndexesOn env before indexes numbers
+        → AreIndexesOn env before (map (index_unless_alias aliases) indexes) numbers
+    on-unless [] numbers on = tt
+    on-unless (index ∷ indexes) [] on = absurd on
+    on-unless (index ∷ indexes) (number ∷ numbers) on = (
+      record { in_range = on.0.in_range; of_form = λ b is. on.0.of_form b (unless-some aliases index.form b is).0 },
+      on-unless indexes numbers on.1,
+    )
 
 -- ---- what is known behind stores
 
-some-number : (m n : ℤ) → Some (Number m) ≡ Some (Number n) → m ≡ n
-some-number m n is = cc
+-- the form of each index that is reached is known
+abbrev pub AreFormed : List Index → Type 0
+AreFormed [] = Unit {0}
+AreFormed (index ∷ indexes) = ((b : Bound) × (index.form ≡ Some b)) × AreFormed indexes
 
--- a bound is one number
-pub bound-once : (env : Environment) (store : Store) (bound : Bound) (m n : ℤ) → IsBound (moment env store) bound m → IsBound (moment env store) bound n → m ≡ n
-bound-once env store (fact.Number k) m n one other = sym one ∙ other
-bound-once env store (Plus root k) m n (a, a_has, a_is) (b, b_has, b_is) =
-    sym a_is ∙ ap (λ (x : ℤ). x +ℤ k) (some-number a b (sym a_has ∙ b_has)) ∙ b_is
+-- of two indexes and more a store tells as if only some were reached
+deep-same : (one two : Index) (more : List Index) (stores : Stores) (state : State)
+    → all_stored (record { indexes = one ∷ two ∷ more; is_all = true }) stores state
+    ≡ all_stored (record { indexes = one ∷ two ∷ more; is_all = false }) stores state
+deep-same one two more [] state = refl
+deep-same one two more (store ∷ stores) state = deep-same one two more stores (with_joined store.0 store.1 state)
 
--- the form of an index is known, if it is the index that is reached
-abbrev pub IsFormed : Reach → Type 0
-IsFormed Entire = Unit {0}
-IsFormed (At index) = (b : Bound) × (index.form ≡ Some b)
-IsFormed (Inside index) = Unit {0}
+module _ (rows : List Parts) (table : Table) (rows_are : AreRows rows table) (env : Environment) (aliases : List ℕ) (root : ℕ) (home : Place)
+    (at : env.variables root ≡ Some home) (pairs : Pairs) (stores : Stores) (before after : Store) (targets : AreTargets rows root pairs stores)
+    (inner : (one : ℕ × Interval) → Contains stores one → table.variables ≤ one.0) (written : AreWritten env aliases root pairs before after)
+    (state : State) (loose : IsLooseIn rows env aliases state after) (known : Knows rows table.variables env state before) where
+  abbrev Known : Reach → Type 0
+  Known reach = Knows rows table.variables env (all_stored reach stores state) after
 
-module _ (rows : List Parts) (inner : AreComponents rows) (apart : AreApart rows) (roots : ℕ) (env : Environment) (aliases : List ℕ) (root : ℕ)
-    (home : Place) (at : env.variables root ≡ Some home) (pairs : Pairs) (stores : Stores) (before after : Store)
-    (targets : AreTargets rows root pairs stores) (written : AreWritten env aliases root pairs before after) (state : variables.State)
-    (held : entire.Knows roots env state before) (known : Components) (loose : AreLoose rows env aliases known after)
-    (holds : ComponentsHold rows known (moment env before)) where
-  by-law : (reach : Reach) → IsReach env before reach → IsReachApart aliases reach → AreReached rows env reach pairs stores before
-      → ComponentsHold rows (all_stored state reach stores known) (moment env after)
+  by-law : (reach : Reach) → IsReach env before reach → IsReachApart aliases reach → AreReached rows env reach pairs stores before → Known reach
   by-law reach is free reached =
-      stores-hold rows inner apart roots env aliases state known reach stores before after held is free
-      (are-stored rows env aliases root home at pairs stores before after targets written reach reached) loose holds
+      stores-hold rows table rows_are env aliases state reach stores before after inner is free
+      (are-stored rows env aliases root home at pairs stores before after targets written reach reached) loose known
+
+  -- where only some are reached
+  by-some : (indexes : List Index) → Known (record { indexes = indexes; is_all = false })
+  by-some indexes =
+      by-law (record { indexes = indexes; is_all = false }) (λ all. absurd (false≢true all)) (λ all. absurd (false≢true all))
+      (λ one steps inside of_row is. absurd (false≢true is.0))
 
   -- behind stores to what is reached
   pub stored-known : (reach : Reach) → IsReach env before reach → IsReachApart aliases reach
-      → (IsFormed reach → AreReached rows env reach pairs stores before)
-      → ComponentsHold rows (all_stored state reach stores known) (moment env after)
-  stored-known Entire is free reached = by-law Entire is free (reached tt)
-  stored-known (Inside index) is free reached = by-law (Inside index) is free (reached tt)
-  stored-known (At index) is free reached = by index.form refl
+      → (AreFormed reach.indexes → AreReached rows env reach pairs stores before) → Known reach
+  stored-known reach is free reached = by reach.is_all reach.indexes is free reached
     where
-      by : (form : Option Bound) → index.form ≡ form → ComponentsHold rows (all_stored state (At index) stores known) (moment env after)
-      by None none =
-          formless-hold rows inner apart roots env aliases state known index none stores before after held
-          (are-stored rows env aliases root home at pairs stores before after targets written (Inside index) (λ one steps inside of_row none. absurd none))
-          loose holds
-      by (Some b) form_is = by-law (At index) is free (reached (b, form_is))
+      by : (all : Bool) (indexes : List Index) → IsReach env before (record { indexes = indexes; is_all = all })
+          → IsReachApart aliases (record { indexes = indexes; is_all = all })
+          → (AreFormed indexes → AreReached rows env (record { indexes = indexes; is_all = all }) pairs stores before)
+          → Known (record { indexes = indexes; is_all = all })
+      by false indexes is free reached = by-some indexes
+      by true [] is free reached = by-law (record { indexes = []; is_all = true }) is free (reached tt)
+      by true (one ∷ two ∷ more) is free reached =
+          subst (λ (s : State). Knows rows table.variables env s after) (sym (deep-same one two more stores state)) (by-some (one ∷ two ∷ more))
+      by true (index ∷ []) is free reached = formed index.form refl
+        where
+          formed : (form : Option Bound) → index.form ≡ form → Known (record { indexes = index ∷ []; is_all = true })
+          formed None none =
+              formless-hold rows table rows_are env aliases state index none stores before after inner
+              (are-stored rows env aliases root home at pairs stores before after targets written (record { indexes = index ∷ []; is_all = false })
+              (λ one steps inside of_row is. absurd (false≢true is.0))) loose known
+          formed (Some b) form_is = by-law (record { indexes = index ∷ []; is_all = true }) is free (reached ((b, form_is), tt))
 
 -- ---- what the aliases may get
 
@@ -202,57 +196,31 @@ module _ (tree : Tree) (pairs : List (ℕ × ℕ)) (block activations : ℕ) (en
       let same = row-type tree pairs block activations env proper one.0 pair.0 home own row.2 (home-at one row.1)
       (ap (place_type tree) (place-is pair.0 place place_is) ∙ type_is) ordinal in (
         record { type_id = type_at (rows_of tree) one.0; range = one.1 },
-        mapped (λ (o : ℕ × Interval). record { type_id = type_at (rows_of tree) o.0; range = o.1 }) stores one row.1,
+        in-map (λ (o : ℕ × Interval). record { type_id = type_at (rows_of tree) o.0; range = o.1 }) stores one row.1,
         same,
         targets.in_ranges pair one listed row.1 row.2,
       )
-    where
-      mapped : {A B : Type 0} (f : A → B) (xs : List A) (x : A) → Contains xs x → Contains (map f xs) (f x)
-      mapped f [] x (k, within, is) = absurd (omega (arith, within))
-      mapped f (first ∷ xs) x inside =
-          ⊎_elim (λ same. subst (λ (y : _). Contains (f first ∷ map f xs) (f y)) same (at-head (f first) (map f xs)))
-          (λ later. in-tail (f first) (f x) (map f xs) (mapped f xs x later)) (head-or_tail first x xs inside)
 
 -- ---- a state behind stores
 
 -- what is known where values were stored to what is reached of a variable
 pub made-knows : (tree : Tree) (pairs : List (ℕ × ℕ)) (block activations : ℕ) (env : Environment) (proper : Proper tree pairs block activations env)
     (root : ℕ) (home : Place) → env.variables root ≡ Some home → (values : Pairs) (stores : Stores) → AreTargets (all_parts tree) root values stores
-    → (before after : Store) → AreWritten env (aliases_in (listed_pairs tree pairs) block root) root values before after
-    → AreTyped tree env root values → Typed tree before
+    → ((one : ℕ × Interval) → Contains stores one → length tree.variables.items ≤ one.0)
+    → (before after : Store) → AreWritten env (aliases_in (listed_pairs tree pairs) block root) root values before after → AreTyped tree env root values
     → (reach : Reach) → IsReach env before (reach_unless_alias (aliases_in (listed_pairs tree pairs) block root) reach)
-    → (IsFormed (reach_unless_alias (aliases_in (listed_pairs tree pairs) block root) reach)
+    → (AreFormed (reach_unless_alias (aliases_in (listed_pairs tree pairs) block root) reach).indexes
     → AreReached (all_parts tree) env (reach_unless_alias (aliases_in (listed_pairs tree pairs) block root) reach) values stores before)
     → (state : State) → Knows (all_parts tree) (length tree.variables.items) env state before
     → Knows (all_parts tree) (length tree.variables.items) env
-    (record {
-      variables = with_touched (limits_at (all_limits tree)) root
-          (with_aliases_stored tree (aliases_in (listed_pairs tree pairs) block root)
-          (map (λ (one : ℕ × Interval). record { type_id = type_at (rows_of tree) one.0; range = one.1 }) stores) state).variables;
-      components = all_stored
-          (with_aliases_stored tree (aliases_in (listed_pairs tree pairs) block root)
-          (map (λ (one : ℕ × Interval). record { type_id = type_at (rows_of tree) one.0; range = one.1 }) stores) state).variables
-          (reach_unless_alias (aliases_in (listed_pairs tree pairs) block root) reach) stores
-          (with_aliases_stored tree (aliases_in (listed_pairs tree pairs) block root)
-          (map (λ (one : ℕ × Interval). record { type_id = type_at (rows_of tree) one.0; range = one.1 }) stores) state).components;
-    }) after
-made-knows tree pairs block activations env proper root home at values stores targets before after written typed typed_store reach is_reach reached state
-    known =
+    (all_stored (reach_unless_alias (aliases_in (listed_pairs tree pairs) block root) reach) stores
+    (with_aliases_stored tree (aliases_in (listed_pairs tree pairs) block root)
+    (map (λ (one : ℕ × Interval). record { type_id = type_at (rows_of tree) one.0; range = one.1 }) stores) state)) after
+made-knows tree pairs block activations env proper root home at values stores targets inner before after written typed reach is_reach reached state known =
     let aliases = aliases_in (listed_pairs tree pairs) block root in
-    let parts = all_parts tree in
-    let variables = length tree.variables.items in
-    let shown = shows tree pairs block activations env proper in
     let told_of = told tree pairs block activations env proper root home at values stores targets in
-    let ready_state = with_aliases_stored tree aliases told_of state in
-    let ready = aliases-ready tree variables env shown aliases told_of state before after
+    let ready = aliases-ready tree (length tree.variables.items) env aliases told_of state before after
     (are-aliased tree pairs block activations env proper aliases root values before after written typed told_of
     (targets-told tree pairs block activations env proper root home at values stores targets)) known in
-    let after_typed = written-typed tree env aliases root values before after written typed typed_store in
-    let in_limits = in-types tree pairs block activations env after proper after_typed in
-    record {
-      variables = looped.stored-known variables env shown (limits_at (all_limits tree)) root aliases ready_state.variables before after
-          (one-kept env aliases root values before after written) (λ v is. in_limits.ranges root v is) ready.knows.variables ready.variables_loose;
-      components = stored-known parts (components-inner tree) (rows-apart tree) variables env aliases root home at values stores before after targets written
-          ready_state.variables ready.knows.variables ready_state.components ready.components_loose ready.knows.components (reach_unless_alias aliases reach)
-          is_reach (reach-apart aliases reach) reached;
-    }
+    stored-known (all_parts tree) (table_of tree) (are-rows tree) env aliases root home at values stores before after targets inner written
+    (with_aliases_stored tree aliases told_of state) ready.loose ready.knows (reach_unless_alias aliases reach) is_reach (reach-apart aliases reach) reached

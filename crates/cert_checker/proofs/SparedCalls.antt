@@ -21,10 +21,10 @@ use Rattle.meaning.specs.Laws.{state_after}
 use Rattle.meaning.specs.Meaning.{Activation, Argument, Calls, OfPlace, OfRow, OfValue, activated, calls_of, environment_of, executed, own_place}
 use Rattle.meaning.specs.Meaning.{place_for, place_passed}
 use Rattle.meaning.specs.Store.{Environment, Place}
-use Rattle.call_states.specs.Environments.{LiesUnder}
-use Rattle.call_states.proofs.Callee.{Outer, Own, PassedTo, Seen, either-cond, seen-as}
-use Rattle.expression_checker.proofs.EffectsKept.{IsOwn, Keeps, Leaving, MayWrite, Standing, keeps-give, keeps-stop, keeps-then, leaves-same}
-use Rattle.expression_checker.proofs.EffectsKept.{leaves-then, watching}
+use Rattle.checker_calls.specs.Environments.{LiesUnder}
+use Rattle.checker_calls.proofs.Callee.{Outer, Own, PassedTo, Seen, either-cond, seen-as}
+use Rattle.checker_expressions.proofs.EffectsKept.{IsOwn, Keeps, Leaving, MayWrite, Standing, keeps-give, keeps-stop, keeps-then, leaves-same, leaves-then}
+use Rattle.checker_expressions.proofs.EffectsKept.{watching}
 use Rattle.cert_checker.proofs.EffectsParameters.{keeps-received}
 use Rattle.cert_checker.proofs.EffectsRoutines.{keeps-end, keeps-result, leaves-begun}
 use Rattle.cert_checker.proofs.SparedText.{AllMayPass, CallsKeep, MayChangeOthers, text-kept}

@@ -46,11 +46,11 @@ use Rattle.meaning.specs.Meaning.{Argument, Calls, Combination, Evaluation, Exec
 use Rattle.meaning.specs.Meaning.{combined, default_width, effect_of, effect_step, in_turn, link_of, link_step, operated, parameter_of, passed_step}
 use Rattle.meaning.specs.Meaning.{passing_of, selected, value_of, value_step, values_of, whole_of, width_of, written_of, OfPlace, OfRow}
 use Rattle.meaning.specs.Meaning as meaning
-use Rattle.expression_checker.proofs.EffectsKept.{CanGive, IsOwn, Keeps, MayChange, MayWriteTo, Standing, can-then, given-same, own-write, under-write}
-use Rattle.expression_checker.proofs.EffectsKept.{keeps-combined, keeps-enter, keeps-fetch, keeps-fetch_all, keeps-give, keeps-line_ended, keeps-looped}
-use Rattle.expression_checker.proofs.EffectsKept.{keeps-operated, keeps-require, keeps-stop, keeps-store, keeps-store_all, keeps-then, keeps-turn, keeps-valued}
-use Rattle.expression_checker.proofs.EffectsKept.{keeps-undefine, keeps-when, keeps-write}
-use Rattle.expression_checker.proofs.Effects.{under-accessed}
+use Rattle.checker_expressions.proofs.EffectsKept.{CanGive, IsOwn, Keeps, MayChange, MayWriteTo, Standing, can-then, given-same, own-write, under-write}
+use Rattle.checker_expressions.proofs.EffectsKept.{keeps-combined, keeps-enter, keeps-fetch, keeps-fetch_all, keeps-give, keeps-line_ended, keeps-looped}
+use Rattle.checker_expressions.proofs.EffectsKept.{keeps-operated, keeps-require, keeps-stop, keeps-store, keeps-store_all, keeps-then, keeps-turn}
+use Rattle.checker_expressions.proofs.EffectsKept.{keeps-valued, keeps-undefine, keeps-when, keeps-write}
+use Rattle.checker_expressions.proofs.Effects.{under-accessed}
 
 -- a variable that is passed may be written
 abbrev pub MayPass : Standing → Argument → Type 0

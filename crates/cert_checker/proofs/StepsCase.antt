@@ -1,161 +1,34 @@
--- What the checker did over a case statement, from what it did over the parts of it.
-use Rattle.std.proofs.Common.{rules, ◌≡◌, ◌≤◌, ◌<◌, refl, sym, subst, ap, ◌∙◌, ℕ, zero, suc, ◌+◌, add-one, ℤ, Bool, List, [], ◌∷◌, ◌++◌, append-nil, length}
-use Rattle.std.proofs.Common.{map, drop, get_or, Option, Result, Ok, Err}
-use Rattle.std.specs.Prelude.{slice_get}
-use Rattle.std.specs.Result.{IsErr, IsErrAnd}
-use Rattle.std.specs.declared.vec.Vec.{Vec}
+-- What the checker did over the arms of a case, from what it did over each.
+use Rattle.std.proofs.Common.{◌≡◌, ◌≤◌, ◌<◌, ◌∙◌, refl, sym, ap, ap₂, subst, false, Option, ℕ, zero, suc, ◌+◌, ℤ, List, [], ◌∷◌, ◌++◌, length, map, drop, get_or}
+use Rattle.std.proofs.Common.{append-nil, add-one, slice_get}
 use Rattle.std.specs.declared.alloc.Global.{Global}
+use Rattle.std.specs.declared.vec.Vec.{Vec}
 use Rattle.std.proofs.lemmas.List.{length-map}
-use Rattle.typed_tree.specs.declared.tree.CaseHead.{CaseHead}
-use Rattle.typed_tree.specs.declared.tree.Stmt.{Stmt}
-use Rattle.typed_tree.specs.declared.tree.Stmt.TheVariants as stmt
-use Rattle.typed_tree.specs.declared.tree.Stmt.TheFolds.{the_lemmas as stmt_lemmas}
 use Rattle.domain.specs.Interval.{Interval, common}
 use Rattle.domain.specs.Numbers.{hull, is_covered}
-use Rattle.expression_checker.specs.declared.fault.CheckFault.{CheckFault}
-use Rattle.expression_checker.specs.Visits.{Visits, all_counted}
+use Rattle.typed_tree.specs.declared.tree.CaseHead.{CaseHead}
+use Rattle.typed_tree.specs.declared.tree.Stmt.{Stmt}
+use Rattle.typed_tree.specs.declared.tree.Tree.{Tree}
+use Rattle.checker_state.specs.declared.value.Known.{Known}
+use Rattle.checker_state.specs.declared.value.Known.TheVariants.{Ordinal}
+use Rattle.checker_state.specs.Conditions.{condition_of}
+use Rattle.checker_state.specs.Forms.{root_of}
+use Rattle.checker_state.specs.Joins.{joined_states}
+use Rattle.checker_state.specs.State.{Dead, State, table_of}
+use Rattle.checker_trail.specs.declared.state.State.{State as Kept}
+use Rattle.checker_trail.specs.declared.trail.Branch.{Branch}
+use Rattle.checker_trail.specs.Trail as trail
+use Rattle.checker_trail.specs.Trail.{Comes, Core, EndsAt, core, seen, seen_core}
+use Rattle.checker_trail.proofs.Ways as ways
+use Rattle.checker_loops.specs.Cases.{arm_start, constants_before}
+use Rattle.checker_expressions.specs.View.{state_of}
+use Rattle.checker_expressions.specs.declared.fault.Breach.{Breach}
+use Rattle.checker_expressions.specs.Walk.{Context, Linked, Walked, Walking, ◌>>=◌, followed, tested}
 use Rattle.cert_checker.specs.declared.walk.Walk.{Walk}
-use Rattle.abstract_state.specs.declared.known.Known.TheVariants.{Ordinal}
-use Rattle.component_states.specs.declared.state.State.{State as Kept}
-use Rattle.component_states.specs.States.{State, dead, joined_states, over_variables}
-use Rattle.abstract_state.specs.Conditions.{condition_of}
-use Rattle.abstract_state.specs.Forms.{root_of}
-use Rattle.structured_states.specs.Cases.{arm_start, constants_before}
-use Rattle.structured_states.proofs.Claims.{item-cut, drop-past}
-use Rattle.expression_checker.specs.Walk.{IsBreachOf, Walked, Walking, ◌>>=◌, give, numbers_of, tested}
-use Rattle.cert_checker.specs.Walk.{arm_walk, arms_walk, case_walk, from_entry, here, index_test, index_walk, no_more, statement_walk}
-use Rattle.cert_checker.specs.View.{Goes, IsMoved, Meets, at_state, context_of, said_state, viewed_in}
-use Rattle.expression_checker.proofs.Begun.{begun-all}
-use Rattle.expression_checker.proofs.Steps.{left-same}
-use Rattle.cert_checker.proofs.Steps.{Does, Stops, goes-as, goes-stopped, goes-then, moved-loops, moved-same, viewed-moved, viewed-same, walks-give}
-use Rattle.expression_checker.specs.View.{state_of}
-
-pub statement-Case : (head : CaseHead) (arms : Vec Stmt Global)
-    → statement_walk (stmt.Case head arms) ≡ from_entry head.number (index_walk head (map statement_walk arms.items))
-statement-Case head arms = search (rules, stmt_lemmas)
-
--- the index has a value
-module _ (head : CaseHead) (arms : List Stmt) (range : Interval) (count : ℕ) (count_is : count ≡ length arms) (old : Walk) (before : Visits) where
-  abbrev inner : List (Walking (Unit {0}))
-  inner = map statement_walk arms
-
-  abbrev rows : List (Vec ℤ Global)
-  rows = head.constants.items
-
-  abbrev index_root : Option ℕ
-  index_root = root_of (condition_of head.index).form
-
-  abbrev from_test : State → Walking (Unit {0})
-  from_test base = arms_walk base index_root rows inner
-
-  abbrev test : ℕ → Walking State
-  test n = index_test head.site (constants_before n rows) range
-
-  many : count ≡ length inner
-  many = count_is ∙ sym (length-map arms statement_walk)
-
-  -- the index was tested: what is known then, and the arms
-  pub case-tested : (root : Option ℕ) (constants : List (Vec ℤ Global)) (base : Kept) (tested new : Walk) (after : Visits)
-      (result : Result (Unit {0}) CheckFault)
-      → root ≡ index_root → constants ≡ rows → Does (test count) old before tested before (viewed_in old base)
-      → Goes (arms_walk (viewed_in tested base) root constants inner) tested before result new after
-      → Goes (case_walk head inner (Ordinal range)) old before result new after
-  case-tested root constants base tested new after result root_is constants_are one two = λ ready.
-      goes-then (test (length inner)) from_test old tested new before before after (viewed_in old base) result
-      (subst (λ n. Does (test n) old before tested before (viewed_in old base)) many one)
-      (subst (λ r. Goes (arms_walk (viewed_in old base) r rows inner) tested before result new after) root_is
-      (subst (λ l. Goes (arms_walk (viewed_in old base) root l inner) tested before result new after) constants_are
-      (subst (λ s. Goes (arms_walk s root constants inner) tested before result new after) (viewed-same old tested base (one ready).context_is) two))) ready
-
-  pub case-not_tested : (new : Walk) (after : Visits) (fault : CheckFault) → Stops (test count) old before after fault
-      → Goes (case_walk head inner (Ordinal range)) old before (Err fault) new after
-  case-not_tested new after fault is =
-      goes-stopped (test (length inner)) from_test old new before after fault (subst (λ n. Stops (test n) old before after fault) many is)
-
--- ---- the test of an index
-
-pub index-done : (site : ℕ) (constants : List ℤ) (range : Interval) (closed : Bool) (passed value : Interval) (base : Kept) (old mid new : Walk)
-    (visits : Visits)
-    → closed ≡ is_covered range constants → passed ≡ common range (hull constants)
-    → Does (tested closed site passed) old visits mid visits value
-    → base ≡ mid.flow.state → state_of new.flow ≡ dead (context_of mid).tree → new ≡ at_state new.flow.state mid
-    → Does (index_test site constants range) old visits new visits (viewed_in old base)
-index-done site constants range closed passed value base old mid new visits closed_is passed_is one base_is dead_is only = λ first_ready.
-    let first = tested (is_covered range constants) site (common range (hull constants)) in
-    let rest = here >>= λ base. (no_more >>= λ _. give base) in
-    goes-then first (λ _. rest) old mid new visits visits visits value (Ok (viewed_in old base))
-    (subst (λ c. Does (tested c site (common range (hull constants))) old visits mid visits value) closed_is
-    (subst (λ p. Does (tested closed site p) old visits mid visits value) passed_is one))
-    (λ ready. record {
-      context_is = ap context_of only;
-      aliases_are = ap (λ (w : Walk). w.aliases.now) only;
-      value_is = sym (viewed-same old mid base (one first_ready).context_is) ∙ ap (viewed_in mid) base_is;
-      state_is = dead_is;
-      open_is = ap (λ (w : Walk). w.flow.open_ids.items) only ∙ sym (append-nil mid.flow.open_ids.items);
-      visits_are = refl;
-      unbroken = refl;
-    }) first_ready
-
--- the checker gave up there
-pub index-stopped : (site : ℕ) (constants : List ℤ) (range : Interval) (closed : Bool) (passed : Interval) (old new : Walk) (visits : Visits)
-    (fault : CheckFault) (result : Result Kept CheckFault)
-    → closed ≡ is_covered range constants → passed ≡ common range (hull constants) → IsErr result × IsErrAnd result (λ e. e ≡ fault)
-    → Stops (tested closed site passed) old visits visits fault
-    → Goes (index_test site constants range) old visits (said_state old result) new visits
-index-stopped site constants range closed passed old new visits fault (Ok base) closed_is passed_is left stopped = absurd left.1
-index-stopped site constants range closed passed old new visits fault (Err other) closed_is passed_is left stopped =
-    let first = tested (is_covered range constants) site (common range (hull constants)) in
-    let rest = here >>= λ base. (no_more >>= λ _. give base) in
-    subst (λ f. Goes {A = State} (index_test site constants range) old visits (Err f) new visits) (sym left.1)
-    (goes-stopped first (λ _. rest) old new visits visits fault
-    (subst (λ c. Stops (tested c site (common range (hull constants))) old visits visits fault) closed_is
-    (subst (λ p. Stops (tested closed site p) old visits visits fault) passed_is stopped)))
-
--- ---- an arm
-
-module _ (start : Kept) (arm : Walking (Unit {0})) (old begun : Walk) (begins : begun.flow.state ≡ start)
-    (only : begun ≡ at_state begun.flow.state old) where
-  abbrev was : Walked (Unit {0})
-  was = arm (context_of old) (viewed_in old start)
-
-  moved : IsMoved (viewed_in old start) old begun
-  moved = record { only_state = only; says = viewed-moved old begun start begins only }
-
-  same : arm (context_of begun) (state_of begun.flow) ≡ was
-  same = moved-same arm (viewed_in old start) old begun moved
-
-  pub arm-done : (behind : Kept) (done new : Walk) (before after : Visits) (result : Result (Unit {0}) CheckFault) → behind ≡ old.flow.state
-      → Does arm begun before done after tt → Meets behind done result new → Goes (arm_walk (viewed_in old start) arm) old before result new after
-  arm-done behind done new before after (Ok value) behind_is walked met = λ ready.
-      let one = walked (moved-loops (viewed_in old start) old begun moved ready) in
-      let same_context : context_of done ≡ context_of old = one.context_is ∙ ap context_of only in
-      record {
-        context_is = ap context_of met.only_state ∙ same_context;
-        aliases_are = ap (λ (w : Walk). w.aliases.now) met.only_state ∙ one.aliases_are ∙ ap (λ (w : Walk). w.aliases.now) only;
-        value_is = refl;
-        state_is = met.says ∙ ap (λ s. joined_states s (state_of done.flow)) (viewed-same old done behind same_context ∙ ap (viewed_in old) behind_is)
-            ∙ ap (joined_states (state_of old.flow)) (one.state_is ∙ ap (λ w. w.after) same);
-        open_is = ap (λ (w : Walk). w.flow.open_ids.items) met.only_state ∙ one.open_is
-            ∙ ap (λ (w : Walk). w.flow.open_ids.items ++ (arm (context_of begun) (state_of begun.flow)).open_ids) only
-            ∙ ap (λ w. old.flow.open_ids.items ++ w.open_ids) same;
-        visits_are = one.visits_are ∙ ap (λ w. all_counted (numbers_of w.linked) before) same;
-        unbroken = ap (λ w. w.broken) (sym same) ∙ one.unbroken;
-      }
-  arm-done behind done new before after (Err fault) behind_is walked is = λ ready.
-      let whole = arm_walk (viewed_in old start) arm (context_of old) (state_of old.flow) in
-      let one = walked (moved-loops (viewed_in old start) old begun moved ready) in
-      record {
-        breach_is = subst (IsBreachOf whole) (sym is) tt;
-        visits_are = begun-all (numbers_of whole.linked) before after (one.visits_are ∙ ap (λ w. all_counted (numbers_of w.linked) before) same);
-      }
-
-  pub arm-stopped : (new : Walk) (before after : Visits) (fault : CheckFault) → Stops arm begun before after fault
-      → Goes (arm_walk (viewed_in old start) arm) old before (Err fault) new after
-  arm-stopped new before after fault is = λ ready.
-      left-same (arm (context_of begun) (state_of begun.flow)) (arm_walk (viewed_in old start) arm (context_of old) (state_of old.flow)) before after fault
-      (ap (λ w. w.broken) same) (ap (λ w. w.linked) same) (is (moved-loops (viewed_in old start) old begun moved ready))
-
--- ---- the arms, from one of them on
+use Rattle.cert_checker.specs.Walk.{arm_walk, arms_walk, case_walk, statement_walk}
+use Rattle.cert_checker.specs.View.{AreLoops, Came, Does, Goes, Noted, arms_from_here, at_state, context_of}
+use Rattle.cert_checker.proofs.Steps.{drop-past, goes-here, goes-then, item-cut, loops-same, noted-nothing, noted-then}
+use Rattle.cert_checker.proofs.StepsWays.{IsBack, MeetsFirst, StaysLong, context-back}
 
 get-drop : {X : Type 0} (xs : List X) (i : ℕ) → slice_get (drop i xs) 0 ≡ slice_get xs i
 get-drop [] zero = refl
@@ -169,45 +42,162 @@ drop-more [] (suc i) = refl
 drop-more (x ∷ xs) zero = refl
 drop-more (x ∷ xs) (suc i) = drop-more xs i
 
--- what is left from an arm on
-abbrev pub arms_from : State → Option ℕ → List (Vec ℤ Global) → List Stmt → ℕ → Walking (Unit {0})
-arms_from base index rows arms i = arms_walk base index (drop i rows) (map statement_walk (drop i arms))
+module _ (index : Option ℕ) (rows : List (Vec ℤ Global)) (arms : List Stmt) where
+  -- the arms that are left, from one of them on
+  abbrev pub arms_left : ℕ → State → Walking (Unit {0})
+  arms_left i base = arms_walk base index (drop i rows) (map statement_walk (drop i arms))
 
-from-cut : (base : State) (index : Option ℕ) (rows : List (Vec ℤ Global)) (arms : List Stmt) (i : ℕ) (arm : Stmt) → i < length arms → arm ≡ get_or arms i arm
-    → arms_from base index rows arms i
-    ≡ (arm_walk (over_variables (arm_start index (slice_get rows i)) base) (statement_walk arm) >>= λ _. arms_from base index rows arms (i + 1))
-from-cut base index rows arms i arm inside is =
-    ap (λ (l : List Stmt). arms_walk base index (drop i rows) (map statement_walk l)) (item-cut arms i arm inside is)
-    ∙ ap (λ row. arm_walk (over_variables (arm_start index row) base) (statement_walk arm) >>= λ _.
-    arms_walk base index (drop 1 (drop i rows)) (map statement_walk (drop (i + 1) arms))) (get-drop rows i)
-    ∙ ap (λ more. arm_walk (over_variables (arm_start index (slice_get rows i)) base) (statement_walk arm) >>= λ _.
-    arms_walk base index more (map statement_walk (drop (i + 1) arms))) (rw add-one (drop-more rows i))
+  -- the next of them
+  abbrev next_arm : ℕ → Stmt → State → Walking (Unit {0})
+  next_arm i arm base = arm_walk (arm_start index (slice_get rows i) base) (statement_walk arm)
 
-module _ (base : State) (index : Option ℕ) (rows : List (Vec ℤ Global)) (arms : List Stmt) (i : ℕ) (arm : Stmt) (inside : i < length arms)
-    (is : arm ≡ get_or arms i arm) (start : State) (start_is : start ≡ over_variables (arm_start index (slice_get rows i)) base) where
-  abbrev first : Walking (Unit {0})
-  first = arm_walk (over_variables (arm_start index (slice_get rows i)) base) (statement_walk arm)
+  left-cut : (i : ℕ) (arm : Stmt) → i < length arms → arm ≡ get_or arms i arm → (base : State)
+      → (next_arm i arm base >>= λ _. arms_left (i + 1) base) ≡ arms_left i base
+  left-cut i arm inside is base =
+      sym (ap (λ (left : List Stmt). arms_walk base index (drop i rows) (map statement_walk left)) (item-cut arms i arm inside is)
+      ∙ ap (λ row. arm_walk (arm_start index row base) (statement_walk arm) >>= λ _.
+      arms_walk base index (drop 1 (drop i rows)) (map statement_walk (drop (i + 1) arms))) (get-drop rows i)
+      ∙ ap (λ more. next_arm i arm base >>= λ _. arms_walk base index more (map statement_walk (drop (i + 1) arms))) (rw add-one (drop-more rows i)))
 
-  pub arms-step : (old mid new : Walk) (before between after : Visits) (value : Unit {0}) (result : Result (Unit {0}) CheckFault)
-      → Does (arm_walk start (statement_walk arm)) old before mid between value
-      → Goes (arms_from base index rows arms (i + 1)) mid between result new after → Goes (arms_from base index rows arms i) old before result new after
-  arms-step old mid new before between after value result one two =
-      goes-as (arms_from base index rows arms i) (first >>= λ _. arms_from base index rows arms (i + 1)) old new before after result
-      (from-cut base index rows arms i arm inside is)
-      (goes-then first (λ _. arms_from base index rows arms (i + 1)) old mid new before between after value result
-      (subst (λ s. Does (arm_walk s (statement_walk arm)) old before mid between value) start_is one) two)
+  -- the checker went over those that are left, from a mark on, where a branch leads behind those before
+  abbrev pub GoesLeft : ℕ → ℕ → Walk → Branch → Walk → Type 0
+  GoesLeft mark i here behind new = Does here new
+      ((end : Core) → mark ≡ length here.flow.state.trail.items → EndsAt (core here.flow.state.known) behind end
+      → Came (arms_left i (state_of here.flow) (context_of here) (seen_core end)) here new tt)
 
-  pub arms-stopped : (old new : Walk) (before after : Visits) (fault : CheckFault)
-      → Stops (arm_walk start (statement_walk arm)) old before after fault
-      → Goes (arms_from base index rows arms i) old before (Err fault) new after
-  arms-stopped old new before after fault stopped =
-      goes-as (arms_from base index rows arms i) (first >>= λ _. arms_from base index rows arms (i + 1)) old new before after (Err fault)
-      (from-cut base index rows arms i arm inside is)
-      (goes-stopped first (λ _. arms_from base index rows arms (i + 1)) old new before after fault
-      (subst (λ s. Stops (arm_walk s (statement_walk arm)) old before after fault) start_is stopped))
+  -- before the first of them no way behind them is known
+  pub arms-begin : (mark : ℕ) (old : Walk) {dead back : Kept} {behind : Branch} {new : Walk} → mark ≡ length old.flow.state.trail.items
+      → trail.Moves (λ _. Dead) old.flow.state dead → StaysLong dead back → IsBack mark dead back behind
+      → GoesLeft mark 0 (at_state back old) behind new → Goes (arms_from_here index rows (map statement_walk arms)) old new tt
+  arms-begin mark old {dead = dead} {back = back} {behind = behind} {new = new} is dies back_long is_back left_goes = record {
+    unless_short = λ long.
+        let rest = left_goes.unless_short long in
+        let died = dies.unless_short (back_long rest.was_long) in
+        record {
+          was_long = died.was_long;
+          has_done = λ ready.
+              let left = ways.took-back mark is died.goes is_back rest.was_long in
+              let same : context_of (at_state back old) ≡ context_of old = context-back old old back refl left.same_table in
+              let came = rest.has_done (loops-same old (at_state back old) same refl ready) (core dead.known)
+              (is ∙ sym (ap length left.trail_is)) (ways.ends-from (core back.known) (core old.flow.state.known) left.core_is left.ends) in
+              let walked_is : arms_left 0 (seen back) (context_of (at_state back old)) (seen dead) ≡ arms_left 0 (state_of old.flow) (context_of old) Dead =
+              ap₂ (λ (s : State) (c : Context). arms_left 0 s c (seen dead)) (ways.left-seen left) same
+              ∙ ap (arms_left 0 (state_of old.flow) (context_of old)) died.seen_is in
+              let told = subst (λ w. Came w (at_state back old) new tt) walked_is came in
+              record {
+                goes = ways.goes-then (ways.goes-back left) told.goes;
+                noted = record {
+                  context_is = told.noted.context_is ∙ same;
+                  aliases_are = told.noted.aliases_are;
+                  open_is = told.noted.open_is;
+                  broken_is = told.noted.broken_is;
+                };
+                value_is = refl;
+                state_is = told.state_is;
+              };
+        };
+  }
 
-pub arms-end : (base : State) (index : Option ℕ) (rows : List (Vec ℤ Global)) (arms : List Stmt) (i : ℕ) (old : Walk) (visits : Visits) → length arms ≤ i
-    → Goes (arms_from base index rows arms i) old visits (Ok tt) old visits
-arms-end base index rows arms i old visits past =
-    subst (λ (l : List Stmt). Goes (arms_walk base index (drop i rows) (map statement_walk l)) old visits (Ok tt) old visits) (sym (drop-past arms i past))
-    (λ ready. walks-give tt old visits)
+  -- the next of them: it is walked from the mark, and meets what is known behind those before
+  pub arms-step : (mark i : ℕ) (arm : Stmt) (at : Walk) {begun met back : Kept} {walked : Walk} {behind next : Branch} {new : Walk}
+      → i < length arms → arm ≡ get_or arms i arm → trail.Moves (arm_start index (slice_get rows i)) at.flow.state begun
+      → Goes (statement_walk arm) (at_state begun at) walked tt → StaysLong walked.flow.state met
+      → MeetsFirst mark walked.flow.state met behind → StaysLong met back → IsBack mark met back next
+      → GoesLeft mark (i + 1) (at_state back walked) next new → GoesLeft mark i at behind new
+  arms-step mark i arm at {begun = begun} {met = met} {back = back} {walked = walked} {behind = behind} {next = next} {new = new} inside is begins
+      walk_goes met_long meets back_long is_back left_goes = record {
+    unless_short = λ long.
+        let rest = left_goes.unless_short long in
+        let one = walk_goes.unless_short (met_long (back_long rest.was_long)) in
+        let start = begins.unless_short one.was_long in
+        record {
+          was_long = start.was_long;
+          has_done = λ ready end marks ends.
+              let context = context_of at in
+              let base = state_of at.flow in
+              let at_start : context_of (at_state begun at) ≡ context =
+              ap (λ (tree : Tree). record context { tree = tree }) start.goes.same_table in
+              let came = one.has_done (loops-same at (at_state begun at) at_start refl ready) in
+              let armed = statement_walk arm context (arm_start index (slice_get rows i) base) in
+              let armed_is : statement_walk arm (context_of (at_state begun at)) (seen begun) ≡ armed =
+              ap₂ (λ (c : Context) (s : State). statement_walk arm c s) at_start start.seen_is in
+              let did = subst (λ w. Came w (at_state begun at) walked tt) armed_is came in
+              let meeting = (meets at.flow.state end marks (ways.goes-then start.goes did.goes) ends).unless_short (back_long rest.was_long) in
+              let left = ways.took-back mark marks meeting.goes is_back rest.was_long in
+              let same : context_of (at_state back walked) ≡ context =
+              context-back at walked back (did.noted.context_is ∙ at_start) left.same_table in
+              let joined = joined_states (table_of context.tree) (seen_core end) armed.after in
+              let met_is : seen met ≡ joined =
+              meeting.seen_is
+              ∙ ap₂ (λ (c : Context) (s : State). joined_states (table_of c.tree) (seen_core end) s) (did.noted.context_is ∙ at_start) did.state_is in
+              let more = rest.has_done (loops-same at (at_state back walked) same did.noted.aliases_are ready) (core met.known)
+              (marks ∙ sym (ap length left.trail_is)) (ways.ends-from (core back.known) (core at.flow.state.known) left.core_is left.ends) in
+              let left_is : arms_left (i + 1) (seen back) (context_of (at_state back walked)) (seen met) ≡ arms_left (i + 1) base context joined =
+              ap₂ (λ (s : State) (c : Context). arms_left (i + 1) s c (seen met)) (ways.left-seen left) same
+              ∙ ap (arms_left (i + 1) base context) met_is in
+              let told = subst (λ w. Came w (at_state back walked) new tt) left_is more in
+              let at_back : Noted (next_arm i arm base context (seen_core end)) at (at_state back walked) = record {
+                context_is = same;
+                aliases_are = did.noted.aliases_are;
+                open_is = did.noted.open_is;
+                broken_is = did.noted.broken_is;
+              } in
+              let both : Came ((next_arm i arm base >>= λ _. arms_left (i + 1) base) context (seen_core end)) at new tt = record {
+                goes = ways.goes-then (ways.goes-back left) told.goes;
+                noted = noted-then at_back told.noted;
+                value_is = refl;
+                state_is = told.state_is;
+              } in
+              subst (λ walking. Came (walking context (seen_core end)) at new tt) (left-cut i arm inside is base) both;
+        };
+  }
+
+  -- none is left
+  pub arms-end : (mark i : ℕ) (at : Walk) {last : Kept} {behind : Branch} → length arms ≤ i → StaysLong at.flow.state last
+      → ((end : Core) → EndsAt (core at.flow.state.known) behind end → Comes end at.flow.state last)
+      → GoesLeft mark i at behind (at_state last at)
+  arms-end mark i at {last = last} {behind = behind} past last_long comes = record {
+    unless_short = λ long. record {
+      was_long = last_long long;
+      has_done = λ ready end marks ends.
+          let come = (comes end ends).unless_short long in
+          subst (λ (left : List Stmt).
+          Came (arms_walk (state_of at.flow) index (drop i rows) (map statement_walk left) (context_of at) (seen_core end)) at (at_state last at) tt)
+          (sym (drop-past arms i past)) (record {
+            goes = come.goes;
+            noted = noted-nothing at (at_state last at) (ap (λ (tree : Tree). record (context_of at) { tree = tree }) come.goes.same_table) refl
+                refl refl refl refl;
+            value_is = refl;
+            state_is = ap seen_core come.core_is;
+          });
+    };
+  }
+
+-- ---- the index
+
+-- what comes behind a test of an index
+pub case-tested : (head : CaseHead) (arms : List Stmt) (count : ℕ) (index : Option ℕ) (rows : List (Vec ℤ Global)) (range : Interval) (known : Known)
+    {old mid new : Walk} {passed : Interval} → count ≡ length arms → index ≡ root_of (condition_of head.index).form → rows ≡ head.constants.items
+    → known ≡ Ordinal range
+    → Goes (tested (is_covered range (constants_before count head.constants.items)) head.site
+    (common range (hull (constants_before count head.constants.items)))) old mid passed
+    → Goes (arms_from_here index rows (map statement_walk arms)) mid new tt → Goes (case_walk head (map statement_walk arms) known) old new tt
+case-tested head arms count index rows range known {old = old} {mid = mid} {new = new} {passed = passed} count_is index_is rows_are known_is test rest =
+    let walks = map statement_walk arms in
+    let many : count ≡ length walks = count_is ∙ sym (length-map arms statement_walk) in
+    let test_of = λ (n : ℕ). tested (is_covered range (constants_before n head.constants.items)) head.site
+    (common range (hull (constants_before n head.constants.items))) in
+    let tests : Goes (test_of (length walks)) old mid passed = subst (λ (n : ℕ). Goes (test_of n) old mid passed) many test in
+    let arms_go : Goes (arms_from_here (root_of (condition_of head.index).form) head.constants.items walks) mid new tt =
+    subst (λ (i : Option ℕ). Goes (arms_from_here i head.constants.items walks) mid new tt) index_is
+    (subst (λ (l : List (Vec ℤ Global)). Goes (arms_from_here index l walks) mid new tt) rows_are rest) in
+    let first = test_of (length walks) (context_of old) (state_of old.flow) in
+    let last = λ (ids : List ℕ) (breaches : List Breach) (linked : List Linked).
+    followed (record first { open_ids = ids; broken = breaches; linked = linked })
+    (arms_walk first.after (root_of (condition_of head.index).form) head.constants.items walks (context_of old) Dead) in
+    subst (λ (k : Known). Goes (case_walk head walks k) old new tt) (sym known_is)
+    (goes-here (test_of (length walks) >>= λ _. arms_from_here (root_of (condition_of head.index).form) head.constants.items walks)
+    (case_walk head walks (Ordinal range))
+    (ap₂ (λ ids breaches. last ids breaches first.linked) (sym (append-nil first.open_ids)) (sym (append-nil first.broken))
+    ∙ ap (last (first.open_ids ++ []) (first.broken ++ [])) (sym (append-nil first.linked)))
+    (goes-then (test_of (length walks)) (λ _. arms_from_here (root_of (condition_of head.index).form) head.constants.items walks) tests arms_go))

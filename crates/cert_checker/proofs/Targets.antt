@@ -1,15 +1,18 @@
 -- What an access reaches of the rows under it, where values are stored to the components of a type there.
-use Rattle.std.proofs.Common.{arith, ◌≡◌, ⊎_elim, ◌∙◌, sym, ap, refl, subst, ℕ, suc, ℤ, true, List, [], ◌∷◌, ◌++◌, Some}
+use Rattle.std.proofs.Common.{arith, ◌≡◌, ⊎_elim, ◌∙◌, sym, ap, refl, subst, ℕ, suc, ◌<◌, ◌≤◌, ℤ, true, List, [], ◌∷◌, ◌++◌, Some, map}
 use Rattle.std.proofs.Common.{length, Option}
 use Rattle.std.specs.Prelude.{slice_get}
 use Rattle.std.specs.List.{Contains}
-use Rattle.std.proofs.lemmas.Option.{same_Some, slice_get-get_or}
+use Rattle.std.proofs.lemmas.Bool.{false≢true}
+use Rattle.std.proofs.lemmas.Option.{same_Some}
 use Rattle.types.specs.Components.{components_of}
 use Rattle.types.specs.declared.form.Step.{Step}
 use Rattle.types.specs.declared.form.Step.TheVariants as step
 use Rattle.types.specs.declared.form.TypeId.{TypeId}
 use Rattle.types.specs.Types.{is_structured}
-use Rattle.typed_tree.specs.Accesses.{accessed, index_count}
+use Rattle.typed_tree.specs.Accesses.{accessed}
+use Rattle.typed_tree.specs.WellFormed.{of_one}
+use Rattle.typed_tree.specs.declared.tree.Variable.{Variable}
 use Rattle.typed_tree.specs.declared.tree.Selector.{Selector}
 use Rattle.typed_tree.specs.declared.tree.Selector.TheVariants.{Element, Field}
 use Rattle.typed_tree.specs.declared.tree.Tree.{Tree}
@@ -17,26 +20,25 @@ use Rattle.domain.specs.Interval.{Interval}
 use Rattle.meaning.specs.declared.store.Value.{Value}
 use Rattle.meaning.specs.Store.{Environment, Place, Store}
 use Rattle.meaning.specs.Store as store
-use Rattle.abstract_state.specs.Holds.{IsIn}
-use Rattle.abstract_state.proofs.Apart.{part}
-use Rattle.leaf_rows.specs.Leaves.{Leaf, is_named, leaves_of}
-use Rattle.leaf_rows.specs.Rows.{all_parts, first_index, rows_accessed, rows_of}
-use Rattle.component_states.specs.Components.{At, Entire, Inside, Reach}
-use Rattle.component_states.specs.Holds.{IsOfRow}
-use Rattle.component_states.specs.Laws.{IsReach, IsReached}
-use Rattle.call_states.specs.Environments.{Proper, place_type}
-use Rattle.expression_checker.proofs.Fitting.{contains-at}
-use Rattle.expression_checker.proofs.SoundRows.{AreComponentsOf, IsReachedBy, LieIn, Matches, RowsAre, first-then, one-way}
+use Rattle.checker_state.specs.Holds.{IsIn, IsOfRow, indexes_of, moment}
+use Rattle.checker_state.proofs.Apart.{part}
+use Rattle.checker_rows.specs.Leaves.{Leaf, is_named, leaves_of}
+use Rattle.checker_rows.specs.Rows.{all_parts, is_structured_variable, leaf_step, rows_accessed}
+use Rattle.checker_rows.proofs.Numbered.{below-or, has-contains}
+use Rattle.checker_state.specs.Stores.{Index, Reach}
+use Rattle.checker_state.specs.Knows.{AreIndexes, BeginWith, IsReach, IsReached}
+use Rattle.checker_calls.specs.Environments.{Proper, place_type}
+use Rattle.checker_calls.proofs.Passed.{AreComponentsOf, AreIndexesOn, IsReachedBy, LieIn}
+use Rattle.checker_rows.proofs.Selected.{Matches}
+use Rattle.checker_rows.proofs.Accessed.{RowsAre}
+use Rattle.checker_calls.proofs.Reached.{bound-one}
+use Rattle.checker_calls.proofs.FormalRows.{under-plain, variable-accessed, variable-row}
+use Rattle.checker_expressions.proofs.SoundRows.{indexes-many, indexes-then}
 use Rattle.cert_checker.specs.Walk.{Stores, alike, paired}
-use Rattle.cert_checker.proofs.SoundStores.{AreReached, AreTargets, IsFormed, bound-once}
-use Rattle.call_states.proofs.AliasedStores.{Pairs, at-head, head-or_tail, in-tail}
-use Rattle.call_states.proofs.AliasedTypes.{AreTyped}
-use Rattle.call_states.proofs.Fitting.{part-accessed}
-
--- ---- lists
-
-pub at-contained : {X : Type 0} (xs : List X) (x : X) → Contains xs x → (k : ℕ) × (slice_get xs k ≡ Some x)
-at-contained xs x (k, within, is) = (k, slice_get-get_or xs k x within ∙ ap (λ (y : _). Some y) is)
+use Rattle.cert_checker.proofs.SoundStores.{AreFormed, AreReached, AreTargets}
+use Rattle.checker_calls.proofs.AliasedStores.{Pairs, at-head, head-or_tail, in-tail}
+use Rattle.checker_calls.proofs.AliasedTypes.{AreTyped}
+use Rattle.checker_calls.proofs.Fitting.{part-accessed}
 
 -- ---- components with values
 
@@ -149,84 +151,119 @@ paired-has (first ∷ rows) (range ∷ ranges) same row inside =
 
 -- ---- ways
 
-number-same : (m n : ℤ) → Some m ≡ Some n → m ≡ n
-number-same m n is = cc
+number-same : (i j : ℤ) (more others : List ℤ) → i ∷ more ≡ j ∷ others → (i ≡ j) × (more ≡ others)
+number-same i j more others is = (cc, cc)
 
--- with one index there is one way to it
-pub only-way : (selectors : List Selector) (way other : List Step) (number : ℤ) → index_count selectors ≡ 1 → Matches selectors way → Matches selectors other
-    → first_index way ≡ Some number → first_index other ≡ Some number → way ≡ other
-only-way [] way other number one matches others is at = absurd (omega (arith, one))
-only-way (selector ∷ selectors) [] other number one matches others is at = absurd (cc)
-only-way (selector ∷ selectors) (s ∷ way) [] number one matches others is at = absurd (cc)
-only-way (Element fits cells ∷ selectors) (step.Element i ∷ way) (step.Element j ∷ other) number one matches others is at =
-    let same : i ≡ j = number-same i j (is ∙ sym at) in
-    let none : index_count selectors ≡ 0 = omega (arith, one) in
-    ap (λ (n : ℤ). step.Element n ∷ way) same ∙ ap (λ (w : List Step). step.Element j ∷ w) (one-way selectors way other none matches.2 others.2)
-only-way (Element fits cells ∷ selectors) (step.Element i ∷ way) (step.Field b ∷ other) number one matches others is at = absurd others
-only-way (Element fits cells ∷ selectors) (step.Field a ∷ way) (t ∷ other) number one matches others is at = absurd matches
-only-way (Field position offset ∷ selectors) (step.Element i ∷ way) (t ∷ other) number one matches others is at = absurd matches
-only-way (Field position offset ∷ selectors) (step.Field a ∷ way) (step.Element j ∷ other) number one matches others is at = absurd others
-only-way (Field position offset ∷ selectors) (step.Field a ∷ way) (step.Field b ∷ other) number one matches others is at =
+-- to the same indexes selectors have one way
+pub same-way : (selectors : List Selector) (way other : List Step) → Matches selectors way → Matches selectors other → indexes_of way ≡ indexes_of other
+    → way ≡ other
+same-way [] [] [] matches others is = refl
+same-way [] [] (t ∷ other) matches others is = absurd others
+same-way [] (s ∷ way) other matches others is = absurd matches
+same-way (Element fits cells ∷ selectors) [] other matches others is = absurd matches
+same-way (Field position offset ∷ selectors) [] other matches others is = absurd matches
+same-way (Element fits cells ∷ selectors) (s ∷ way) [] matches others is = absurd others
+same-way (Field position offset ∷ selectors) (s ∷ way) [] matches others is = absurd others
+same-way (Element fits cells ∷ selectors) (step.Element i ∷ way) (step.Element j ∷ other) matches others is =
+    let same = number-same i j (indexes_of way) (indexes_of other) is in
+    ap (λ (n : ℤ). step.Element n ∷ way) same.0 ∙ ap (λ (w : List Step). step.Element j ∷ w) (same-way selectors way other matches.2 others.2 same.1)
+same-way (Element fits cells ∷ selectors) (step.Element i ∷ way) (step.Field b ∷ other) matches others is = absurd others
+same-way (Element fits cells ∷ selectors) (step.Field a ∷ way) (t ∷ other) matches others is = absurd matches
+same-way (Field position offset ∷ selectors) (step.Element i ∷ way) (t ∷ other) matches others is = absurd matches
+same-way (Field position offset ∷ selectors) (step.Field a ∷ way) (step.Element j ∷ other) matches others is = absurd others
+same-way (Field position offset ∷ selectors) (step.Field a ∷ way) (step.Field b ∷ other) matches others is =
     let same : a ≡ b = sym matches.0 ∙ others.0 in
     ap (λ (p : ℕ). step.Field p ∷ way) same
-    ∙ ap (λ (w : List Step). step.Field b ∷ w) (only-way selectors way other number one matches.1 others.1 is at)
+    ∙ ap (λ (w : List Step). step.Field b ∷ w) (same-way selectors way other matches.1 others.1 is)
 
--- where selectors take an index, the way has a first one
-pub has-first : (selectors : List Selector) (way : List Step) → index_count selectors ≡ 1 → Matches selectors way
-    → (number : ℤ) × (first_index way ≡ Some number)
-has-first [] way one matches = absurd (omega (arith, one))
-has-first (Element fits cells ∷ selectors) [] one matches = absurd matches
-has-first (Field position offset ∷ selectors) [] one matches = absurd matches
-has-first (Element fits cells ∷ selectors) (step.Element i ∷ way) one matches = (i, refl)
-has-first (Element fits cells ∷ selectors) (step.Field a ∷ way) one matches = absurd matches
-has-first (Field position offset ∷ selectors) (step.Element i ∷ way) one matches = absurd matches
-has-first (Field position offset ∷ selectors) (step.Field a ∷ way) one matches = has-first selectors way one matches.1
+-- indexes whose forms are known are the same numbers wherever they are
+forms-same : (env : Environment) (store : Store) (indexes : List Index) (numbers own : List ℤ) → AreFormed indexes → AreIndexes env store indexes numbers
+    → AreIndexesOn env store indexes own → length own ≡ length indexes → numbers ≡ own
+forms-same env store [] [] [] formed are on many = refl
+forms-same env store [] [] (n ∷ own) formed are on many = absurd (omega (arith, many))
+forms-same env store [] (number ∷ numbers) own formed are on many = absurd are
+forms-same env store (index ∷ indexes) [] own formed are on many = absurd are
+forms-same env store (index ∷ indexes) (number ∷ numbers) [] formed are on many = absurd on
+forms-same env store (index ∷ indexes) (number ∷ numbers) (n ∷ own) ((b, form_is), formed) are on many =
+    let same = bound-one (moment env store) b number n (are.0 b form_is) (on.0.of_form b form_is) in
+    ap (λ (m : ℤ). m ∷ numbers) same
+    ∙ ap (λ (all : List ℤ). n ∷ all) (forms-same env store indexes numbers own formed are.1 on.1 (omega (arith, many)))
+
+-- the first indexes of a way, as many as there are
+begin-same : (numbers indexes more : List ℤ) → length numbers ≡ length indexes → BeginWith numbers (indexes ++ more) → numbers ≡ indexes
+begin-same [] [] more many begins = refl
+begin-same [] (index ∷ indexes) more many begins = absurd (omega (arith, many))
+begin-same (number ∷ numbers) [] more many begins = absurd (omega (arith, many))
+begin-same (number ∷ numbers) (index ∷ indexes) more many begins =
+    ap (λ (n : ℤ). n ∷ numbers) (sym begins.0)
+    ∙ ap (λ (all : List ℤ). index ∷ all) (begin-same numbers indexes more (omega (arith, many)) begins.1)
+
+on-indexes : (env : Environment) (store : Store) (indexes : List Index) (numbers : List ℤ) → AreIndexesOn env store indexes numbers
+    → length numbers ≡ length indexes → AreIndexes env store indexes numbers
+on-indexes env store [] [] on many = tt
+on-indexes env store [] (number ∷ numbers) on many = absurd (omega (arith, many))
+on-indexes env store (index ∷ indexes) [] on many = absurd on
+on-indexes env store (index ∷ indexes) (number ∷ numbers) on many = (on.0.of_form, on-indexes env store indexes numbers on.1 (omega (arith, many)))
+
+-- what is accessed is no variable's own row, unless that is an entire variable which isn't structured
+pub behind-variables : (tree : Tree) (root : ℕ) (selectors : List Selector) → (selectors ≡ [] → is_structured_variable tree root ≡ true) → (row : ℕ)
+    → Contains (rows_accessed tree root selectors) row → length tree.variables.items ≤ row
+behind-variables tree root selectors structured row inside =
+    ⊎_elim
+    (λ (within : row < length tree.variables.items).
+    let own = variable-row tree root selectors row inside within in
+    absurd (false≢true
+    (sym (under-plain tree root (map leaf_step selectors) row inside within)
+    ∙ subst (λ (r : ℕ). is_structured_variable tree r ≡ true) own.0 (structured own.1))))
+    (λ beyond. let is = beyond.1 in omega (arith, is)) (below-or (length tree.variables.items) row)
+
+-- a structured variable as a whole
+pub structured-whole : (tree : Tree) (root : ℕ) (id : TypeId) → accessed tree.variables.items tree.types root [] ≡ Some id
+    → is_structured tree.types id ≡ true → is_structured_variable tree root ≡ true
+structured-whole tree root id typed structured =
+    let variable = variable-accessed tree root [] id typed in
+    ap (of_one (λ (v : Variable). is_structured tree.types v.type_id)) variable.1
+    ∙ ap (is_structured tree.types) (same_Some variable.0.type_id id variable.2) ∙ structured
 
 -- ---- what is reached
 
 module _ (tree : Tree) (root : ℕ) (selectors : List Selector) (id : TypeId) (rows : RowsAre tree root selectors id) (env : Environment) (store : Store)
     (way : List Step) (matches : Matches selectors way) where
   abbrev touched : List ℕ
-  touched = rows_accessed (rows_of tree) root selectors
+  touched = rows_accessed tree root selectors
 
   abbrev Behind : List Step → Type 0
   Behind steps = (rest : List Step) × (steps ≡ way ++ rest) × Contains (components_of tree.types id) rest
 
-  behind-by : (row : ℕ) (steps : List Step) → Contains touched row → IsOfRow (all_parts tree) row steps
-      → ((other rest : List Step) → steps ≡ other ++ rest → Matches selectors other → way ≡ other) → Behind steps
-  behind-by row steps inside of_row same =
-      let lies = rows.lies row steps inside of_row in
-      (lies.1, lies.2 ∙ ap (λ (w : List Step). w ++ lies.1) (sym (same lies.0 lies.1 lies.2 lies.3)), lies.4)
-
   -- what is reached of the rows lies behind the way
-  pub reached-behind : (reach : Reach) → IsReachedBy env store selectors way reach → IsFormed reach → (row : ℕ) (steps : List Step) → Contains touched row
-      → IsOfRow (all_parts tree) row steps → IsReached env store reach steps → Behind steps
-  reached-behind Entire none formed row steps inside of_row reached =
-      behind-by row steps inside of_row (λ other rest is others. one-way selectors way other none matches others)
-  reached-behind (At index) (one, on) (b, form_is) row steps inside of_row (number, is_index, first) =
-      let same : on.number ≡ number = bound-once env store b on.number number (on.of_form b form_is) (is_index.of_form b form_is) in
-      behind-by row steps inside of_row
-      (λ other rest is others.
-      let own = has-first selectors other one others in
-      let here : Some own.0 ≡ Some number = sym (first-then other rest own.0 own.1) ∙ ap first_index (sym is) ∙ first in
-      only-way selectors way other number one matches others (on.is_first ∙ ap (λ (n : ℤ). Some n) same)
-      (own.1 ∙ here))
-  reached-behind (Inside index) on formed row steps inside of_row reached = absurd reached
+  pub reached-behind : (reach : Reach) → IsReachedBy env store selectors way reach → AreFormed reach.indexes → (row : ℕ) (steps : List Step)
+      → Contains touched row → IsOfRow (all_parts tree) row steps → IsReached env store reach steps → Behind steps
+  reached-behind reach reached formed row steps inside of_row (all, (numbers, are, begins)) =
+      let (other, rest, is, others, has) = rows.lies row steps inside of_row in
+      let count = reached.all all in
+      let many = indexes-many selectors way matches in
+      let own = forms-same env store reach.indexes numbers (indexes_of way) formed are reached.indexes (omega (arith, many, count)) in
+      let both = indexes-many selectors other others in
+      let as_many : length numbers ≡ length (indexes_of way) = ap length own in
+      let first = begin-same numbers (indexes_of other) (indexes_of rest) (omega (arith, as_many, many, both))
+      (subst (BeginWith numbers) (ap indexes_of is ∙ indexes-then other rest) begins) in
+      let same : way ≡ other = same-way selectors way other matches others (sym own ∙ first) in
+      (rest, is ∙ ap (λ (w : List Step). w ++ rest) (sym same), has)
 
   pub is-reach : (reach : Reach) → IsReachedBy env store selectors way reach → IsReach env store reach
-  is-reach Entire none = tt
-  is-reach (At index) (one, on) = (on.number, record { of_form = on.of_form })
-  is-reach (Inside index) on = tt
+  is-reach reach reached all =
+      let count = reached.all all in
+      let many = indexes-many selectors way matches in
+      (indexes_of way, on-indexes env store reach.indexes (indexes_of way) reached.indexes (omega (arith, many, count)))
 
   -- ---- values for the components of the type
 
-  module _ (values : List Value) (many : length (components_of tree.types id) ≡ length values)
-      (structured : selectors ≡ [] → is_structured tree.types id ≡ true) where
+  module _ (values : List Value) (many : length (components_of tree.types id) ≡ length values) where
     abbrev pairs : Pairs
     pairs = zipped way (components_of tree.types id) values
 
     pub zipped-reached : (stores : Stores) → ((one : ℕ × Interval) → Contains stores one → Contains touched one.0) → (reach : Reach)
-        → IsReachedBy env store selectors way reach → IsFormed reach → AreReached (all_parts tree) env reach pairs stores store
+        → IsReachedBy env store selectors way reach → AreFormed reach.indexes → AreReached (all_parts tree) env reach pairs stores store
     zipped-reached stores are reach reached formed one steps inside of_row is =
         let behind = reached-behind reach reached formed one.0 steps (are one inside) of_row is in
         let found = zipped-has way (components_of tree.types id) values many behind.0 behind.2 in
@@ -235,7 +272,7 @@ module _ (tree : Tree) (root : ℕ) (selectors : List Selector) (id : TypeId) (r
     zipped-row : (pair : List Step × Value) → Contains pairs pair → (row : ℕ) × Contains touched row × IsOfRow (all_parts tree) row pair.0
     zipped-row pair inside =
         let at = zipped-at way (components_of tree.types id) values pair inside in
-        let found = rows.covers way at.rest structured matches (contains-at (components_of tree.types id) at.k at.rest at.rest_is) in
+        let found = rows.covers way at.rest matches (has-contains (components_of tree.types id) at.rest (at.k, at.rest_is)) in
         (found.0, found.1, subst (IsOfRow (all_parts tree) found.0) (sym at.steps_are) found.2)
 
     -- each row with the same range
@@ -249,7 +286,7 @@ module _ (tree : Tree) (root : ℕ) (selectors : List Selector) (id : TypeId) (r
       in_ranges = λ pair one inside listed of_row.
           let at = zipped-at way (components_of tree.types id) values pair inside in
           subst (λ (r : Interval). IsIn r pair.1) (sym (alike-at range touched one listed).1)
-          (each pair.1 (contains-at values at.k pair.1 at.value_is));
+          (each pair.1 (has-contains values pair.1 (at.k, at.value_is)));
     }
 
     -- each with its own
@@ -258,7 +295,7 @@ module _ (tree : Tree) (root : ℕ) (selectors : List Selector) (id : TypeId) (r
         → (leaf : Leaf) × (slice_get (leaves_of tree.types id) j ≡ Some leaf) × (is_named leaf.steps rest ≡ true))
         → AreTargets (all_parts tree) root pairs (paired touched ranges)
     paired-targets ranges same lie named = record {
-      roots = λ one inside. let at = paired-at touched ranges one inside in rows.root_is one.0 (contains-at touched at.j one.0 at.row_is);
+      roots = λ one inside. let at = paired-at touched ranges one inside in rows.root_is one.0 (has-contains touched one.0 (at.j, at.row_is));
       in_rows = λ pair inside.
           let found = zipped-row pair inside in
           let range = paired-has touched ranges same found.0 found.1 in

@@ -1,5 +1,5 @@
 -- What a run leaves that stores a value, or the values of components one after another; and that the walk over such stores foretells it.
-use Rattle.std.proofs.Common.{arith, ◌≡◌, ⊎_elim, ◌∙◌, sym, ap, ap₂, refl, subst, ℕ, ◌≤◌, ℤ, Bool, true, false, ◌||◌, length, List, [], ◌∷◌}
+use Rattle.std.proofs.Common.{arith, ◌≡◌, ⊎_elim, ◌∙◌, sym, ap, ap₂, subst, ℕ, ◌≤◌, ℤ, true, ◌||◌, length, List, [], ◌∷◌}
 use Rattle.std.proofs.Common.{◌++◌, Option, Some}
 use Rattle.std.specs.List.{Contains}
 use Rattle.std.specs.Prelude.{is_some, map, slice_get}
@@ -7,64 +7,55 @@ use Rattle.std.proofs.lemmas.Bool.{and_parts}
 use Rattle.types.specs.Components.{components_of}
 use Rattle.types.specs.declared.form.Step.{Step}
 use Rattle.types.specs.declared.form.TypeId.{TypeId}
-use Rattle.types.specs.Types.{is_structured}
 use Rattle.place.specs.declared.Place.{Place}
 use Rattle.typed_tree.specs.declared.tree.Selector.{Selector}
 use Rattle.typed_tree.specs.declared.tree.Tree.{Tree}
 use Rattle.typed_tree.specs.Accesses.{accessed}
 use Rattle.typed_tree.specs.WellFormed.{of_one}
-use Rattle.domain.specs.Facts.{Bound}
+use Rattle.checker_state.specs.Bounds.{Bound}
 use Rattle.domain.specs.Interval.{HasMember, Interval}
 use Rattle.meaning.specs.declared.store.Value.{Value}
 use Rattle.meaning.specs.declared.store.Value.TheVariants.{Number}
 use Rattle.meaning.specs.Store.{Environment, Place as StorePlace, Store, part, written}
 use Rattle.meaning.specs.Effect as effect
-use Rattle.abstract_state.specs.declared.known.Known.TheVariants.{Ordinal}
-use Rattle.abstract_state.specs.Holds.{IsIn}
-use Rattle.abstract_state.specs.Loops.{with_touched}
-use Rattle.abstract_state.specs.Knows.{IsKept, IsOfForm, moment}
-use Rattle.abstract_state.proofs.Apart.{part as part_at}
-use Rattle.leaf_rows.specs.Limits.{all_limits, limits_at}
-use Rattle.leaf_rows.specs.Rows.{rows_accessed, rows_of, type_at}
-use Rattle.component_states.specs.Components.{Reach, all_stored}
-use Rattle.component_states.specs.Holds.{Knows}
-use Rattle.component_states.specs.States.{State}
-use Rattle.structured_states.proofs.Touched.{all_control}
-use Rattle.structured_states.specs.Loops.{Round, all_list}
-use Rattle.structured_states.specs.Pairs.{aliases_of, Listed, aliases_in}
-use Rattle.call_states.specs.Aliases.{reach_unless_alias, unless_alias, variable_type, variable_values, with_aliases_stored}
-use Rattle.call_states.specs.Starts.{is_own}
-use Rattle.call_states.specs.Environments.{Fine, Proper}
-use Rattle.call_states.proofs.AliasedStores.{AreWritten, Pairs, at-head, head-or_tail, in-tail, none-written}
-use Rattle.call_states.proofs.AliasedStores.{one-kept, one-written, written-then}
-use Rattle.call_states.proofs.AliasedTypes.{AreTyped, IsClosedIn, control-keeps, listed-keeps, written-begun, written-typed}
-use Rattle.call_states.proofs.SeenAliases.{apart-seen}
-use Rattle.expression_checker.specs.declared.fault.Rule.{Rule}
-use Rattle.expression_checker.specs.declared.fault.Rule.TheVariants.{Changes}
-use Rattle.expression_checker.specs.Walk.{Context, Walked, breach_unless, followed}
-use Rattle.expression_checker.specs.Walk as flow
-use Rattle.expression_checker.proofs.Keeping.{Keeps}
-use Rattle.expression_checker.proofs.Sound.{Any_value, Good, Here, IsForetold, World, good-give, good-then, good-weaker, nothing-new, parts_in}
-use Rattle.expression_checker.proofs.Sound.{declared_in, listed_in, types_in, unbroken-left, variables_in}
+use Rattle.checker_state.specs.declared.value.Known.TheVariants.{Ordinal}
+use Rattle.checker_state.specs.Holds.{IsIn, moment}
+use Rattle.checker_state.specs.Knows.{IsKept, IsOfForm, Knows}
+use Rattle.checker_state.proofs.Apart.{part as part_at}
+use Rattle.checker_rows.specs.Limits.{row_limits}
+use Rattle.checker_rows.specs.Rows.{is_structured_variable, rows_accessed, rows_of, type_at, values_at}
+use Rattle.checker_state.specs.Changes.{assigned}
+use Rattle.checker_state.specs.Stores.{Reach, all_stored}
+use Rattle.checker_state.specs.State.{State}
+use Rattle.checker_loops.specs.Loops.{Round, all_list}
+use Rattle.checker_loops.specs.Pairs.{aliases_of, Listed, aliases_in}
+use Rattle.checker_calls.specs.Aliases.{reach_unless_alias, unless_alias, with_aliases_stored}
+use Rattle.checker_calls.specs.Starts.{is_own}
+use Rattle.checker_calls.specs.Environments.{Fine, Proper}
+use Rattle.checker_calls.proofs.AliasedStores.{AreWritten, Pairs, at-head, head-or_tail, in-tail, none-written, one-kept, one-written, written-then}
+use Rattle.checker_calls.proofs.AliasedTypes.{AreTyped, IsClosedIn, listed-keeps, written-begun, written-typed}
+use Rattle.checker_calls.proofs.SeenAliases.{apart-seen}
+use Rattle.checker_expressions.specs.declared.fault.Rule.TheVariants.{Changes}
+use Rattle.checker_expressions.specs.Walk.{Context, Walked, followed}
+use Rattle.checker_expressions.specs.Walk as flow
+use Rattle.checker_expressions.proofs.Sound.{Any_value, Good, Here, IsForetold, World, good-give, good-then, good-weaker, kept-rule, nothing-new, parts_in}
+use Rattle.checker_expressions.proofs.Sound.{declared_in, listed_in, types_in, unbroken-left, variables_in}
 use Rattle.cert_checker.proofs.Rounds.{kept-wider}
-use Rattle.expression_checker.proofs.SoundAccesses.{part-then}
-use Rattle.expression_checker.proofs.SoundRows.{AreComponentsOf, IsReachedBy, Matches, RowsAre}
+use Rattle.checker_expressions.proofs.SoundAccesses.{part-then}
+use Rattle.checker_calls.proofs.Passed.{AreComponentsOf, IsReachedBy}
+use Rattle.checker_rows.proofs.Selected.{Matches}
+use Rattle.checker_rows.proofs.Accessed.{RowsAre}
 use Rattle.cert_checker.specs.Walk as walk
 use Rattle.cert_checker.specs.Walk.{Stores}
 use Rattle.cert_checker.proofs.Changes.{assigned-knows, whole, whole-typed, whole-written}
 use Rattle.cert_checker.proofs.SoundStores.{AreTargets, made-knows, reached-unless}
-use Rattle.cert_checker.proofs.Targets.{is-reach, zipped, zipped-reached, zipped-typed}
+use Rattle.cert_checker.proofs.Targets.{behind-variables, is-reach, zipped, zipped-reached, zipped-typed}
 
 -- what a walk over a statement foretells
 abbrev pub Foretold : World → Environment → Context → Walked (Unit {0}) → Store → Unit {0} → Store → Type 0
 Foretold world env context walked start = IsForetold {A = Unit {0}} {B = Unit {0}} world env Any_value context walked start
 
--- a rule that no breach speaks of is kept
-pub kept-rule : (kept : Bool) (rule : Rule) (place : Place) → breach_unless kept rule place ≡ [] → kept ≡ true
-kept-rule true rule place is = refl
-kept-rule false rule place is = absurd (cc)
-
-module _ (world : World) (limits_are : world.limits ≡ all_limits world.tree) (block : ℕ) (env : Environment) where
+module _ (world : World) (block : ℕ) (env : Environment) where
   abbrev aliases : ℕ → List ℕ
   aliases root = aliases_in (listed_in world) block root
 
@@ -87,30 +78,28 @@ module _ (world : World) (limits_are : world.limits ≡ all_limits world.tree) (
         → Knows (parts_in world) (variables_in world) env (walk.assign root form (Ordinal range) context state).after after
     assign-known n range form context state s after here are typed inside of_form =
         let goes = here.stands.goes in
-        let assigned = λ (tree : Tree) (listed : Listed) (b : ℕ).
-        walk.assigned_to root range (unless_alias (aliases_in listed b root) form)
-        (with_aliases_stored tree (aliases_in listed b root) (record { type_id = variable_type tree root; range = range } ∷ []) state) in
+        let behind = λ (tree : Tree) (listed : Listed) (b : ℕ).
+        assigned root range (unless_alias (aliases_in listed b root) form)
+        (with_aliases_stored tree (aliases_in listed b root) (record { type_id = type_at (rows_of tree) root; range = range } ∷ []) state) in
         let K = λ (after_state : State). Knows (parts_in world) (variables_in world) env after_state after in
-        subst (λ (tree : Tree). K (assigned tree context.pairs context.block)) (sym goes.tree_is)
-        (subst (λ (listed : Listed). K (assigned world.tree listed context.block)) (sym goes.pairs_are)
-        (subst (λ (b : ℕ). K (assigned world.tree (listed_in world) b)) (sym here.block_is)
+        subst (λ (tree : Tree). K (behind tree context.pairs context.block)) (sym goes.tree_is)
+        (subst (λ (listed : Listed). K (behind world.tree listed context.block)) (sym goes.pairs_are)
+        (subst (λ (b : ℕ). K (behind world.tree (listed_in world) b)) (sym here.block_is)
         (assigned-knows world.tree world.pairs block s.activations env here.proper root home at n s.store after are typed range form state inside of_form
         here.stands.known)))
 
-    -- a value is assigned, and of the loops round it nothing else changes
-    assign-good : (n : ℤ) (range : Interval) (form : Option Bound) (context : Context) (state : State) (s : effect.State)
-        → Here world block env context state s → is_some (variable_values world.tree root) ≡ true → IsIn (limits_at world.limits root) (Number n)
-        → HasMember range n → IsOfForm (moment env s.store) form (Number n)
-        → ((after : Store) → IsKept env (root ∷ aliases root) [] s.store after → Keeps env context.rounds s.store after)
+    -- a value is assigned to a variable that each loop round it lists
+    pub listed-good : (n : ℤ) (range : Interval) (form : Option Bound) (context : Context) (state : State) (s : effect.State)
+        → Here world block env context state s → is_some (values_at (rows_of world.tree) root) ≡ true → IsIn (row_limits (rows_of world.tree) root) (Number n)
+        → HasMember range n → IsOfForm (moment env s.store) form (Number n) → all_list root context.rounds ≡ true
         → Good world (Foretold world env context (walk.assign root form (Ordinal range) context state) s.store) s
         (effect.store (env.variables root) (Number n) s)
-    assign-good n range form context state s here ordinal own inside of_form keeps =
+    listed-good n range form context state s here ordinal own inside of_form listed =
         let before = s.store in
         let after = written before home (Number n) in
         let apart = apart-seen world.tree world.pairs block s.activations env here.proper root home at in
         let are = whole-written env (aliases root) root home at apart before n in
-        let typed = whole-typed world.tree world.pairs block s.activations env here.proper root home at n ordinal
-        (subst (λ (limits : List Interval). IsIn (limits_at limits root) (Number n)) limits_are own) in
+        let typed = whole-typed world.tree world.pairs block s.activations env here.proper root home at n ordinal own in
         let P = Foretold world env context (walk.assign root form (Ordinal range) context state) before in
         subst (λ (place : Option StorePlace). Good world P s (effect.store place (Number n) s)) (sym at)
         (record {
@@ -120,7 +109,9 @@ module _ (world : World) (limits_are : world.limits ≡ all_limits world.tree) (
             so = record {
               tie = tt;
               stands = record { goes = here.stands.goes; known = assign-known n range form context state s after here are typed inside of_form };
-              kept = keeps after (one-kept env (aliases root) root (whole n) before after are);
+              kept =
+                  listed-keeps world.tree world.pairs block s.activations env here.proper root home at context.rounds (closed-here context state s here)
+                  before after (wider root before after (one-kept env (aliases root) root (whole n) before after are)) listed;
             };
             fine = record {
               typed = written-typed world.tree env (aliases root) root (whole n) before after are typed here.fine.typed;
@@ -130,30 +121,6 @@ module _ (world : World) (limits_are : world.limits ≡ all_limits world.tree) (
             grown = omega arith;
           };
         })
-
-    -- to a variable that each loop round it lists
-    pub listed-good : (n : ℤ) (range : Interval) (form : Option Bound) (context : Context) (state : State) (s : effect.State)
-        → Here world block env context state s → is_some (variable_values world.tree root) ≡ true → IsIn (limits_at world.limits root) (Number n)
-        → HasMember range n → IsOfForm (moment env s.store) form (Number n) → all_list root context.rounds ≡ true
-        → Good world (Foretold world env context (walk.assign root form (Ordinal range) context state) s.store) s
-        (effect.store (env.variables root) (Number n) s)
-    listed-good n range form context state s here ordinal own inside of_form listed =
-        assign-good n range form context state s here ordinal own inside of_form
-        (λ after kept.
-        listed-keeps world.tree world.pairs block s.activations env here.proper root home at context.rounds (closed-here context state s here) s.store after
-        (wider root s.store after kept) listed)
-
-    -- to one that controls a for statement in each
-    pub control-good : (n : ℤ) (range : Interval) (form : Option Bound) (context : Context) (state : State) (s : effect.State)
-        → Here world block env context state s → is_some (variable_values world.tree root) ≡ true → IsIn (limits_at world.limits root) (Number n)
-        → HasMember range n → IsOfForm (moment env s.store) form (Number n) → all_control root context.rounds ≡ true
-        → Good world (Foretold world env context (walk.assign root form (Ordinal range) context state) s.store) s
-        (effect.store (env.variables root) (Number n) s)
-    control-good n range form context state s here ordinal own inside of_form controls =
-        assign-good n range form context state s here ordinal own inside of_form
-        (λ after kept.
-        control-keeps world.tree world.pairs block s.activations env here.proper root home at context.rounds (closed-here context state s here) s.store after
-        (wider root s.store after kept) controls)
 
   -- ---- stores of components, one after another
 
@@ -220,14 +187,14 @@ module _ (world : World) (limits_are : world.limits ≡ all_limits world.tree) (
       (rows : RowsAre world.tree root selectors id) (reach : Reach) (way : List Step) (matches : Matches selectors way) (values : List Value)
       (many : length (components_of (types_in world) id) ≡ length values) where
     abbrev touched : List ℕ
-    touched = rows_accessed (rows_of world.tree) root selectors
+    touched = rows_accessed world.tree root selectors
 
     abbrev pairs : Pairs
     pairs = zipped way (components_of (types_in world) id) values
 
     -- stores have rows under the access as their targets
     pub record Fit (stores : Stores) : Type 0 where
-      pub structured : selectors ≡ [] → is_structured (types_in world) id ≡ true
+      pub structured : selectors ≡ [] → is_structured_variable world.tree root ≡ true
       pub are : (one : ℕ × Interval) → Contains stores one → Contains touched one.0
       pub targets : AreTargets (parts_in world) root pairs stores
 
@@ -241,22 +208,17 @@ module _ (world : World) (limits_are : world.limits ≡ all_limits world.tree) (
         let reached_own = reached-unless env s.store selectors way own reach reached in
         let told = λ (tree : Tree). map (λ (one : ℕ × Interval). record { type_id = type_at (rows_of tree) one.0; range = one.1 }) stores in
         let ready = λ (tree : Tree) (own : List ℕ). with_aliases_stored tree own (told tree) state in
-        let made : Tree → List ℕ → List Interval → State =
-        λ tree own limits. record {
-          variables = with_touched (limits_at limits) root (ready tree own).variables;
-          components = all_stored (ready tree own).variables (reach_unless_alias own reach) stores (ready tree own).components;
-        } in
+        let made = λ (tree : Tree) (own : List ℕ). all_stored (reach_unless_alias own reach) stores (ready tree own) in
         let K = λ (after_state : State). Knows (parts_in world) (variables_in world) env after_state after in
-        subst (λ (tree : Tree). K (made tree (walk.aliases_here context root) context.limits)) (sym goes.tree_is)
-        (subst (λ (aliases : List ℕ). K (made world.tree aliases context.limits))
+        subst (λ (tree : Tree). K (made tree (walk.aliases_here context root))) (sym goes.tree_is)
+        (subst (λ (aliases : List ℕ). K (made world.tree aliases))
         (sym (ap₂ (λ (listed : Listed) (b : ℕ). aliases_in listed b root) goes.pairs_are here.block_is))
-        (subst (λ (limits : List Interval). K (made world.tree own limits)) (sym (goes.limits_are ∙ limits_are))
-        (made-knows world.tree world.pairs block s.activations env here.proper root home at pairs stores fit.targets s.store after are typed here.fine.typed
-        reach (is-reach world.tree root selectors id rows env s.store way matches (reach_unless_alias own reach) reached_own)
+        (made-knows world.tree world.pairs block s.activations env here.proper root home at pairs stores fit.targets
+        (λ one inside. behind-variables world.tree root selectors fit.structured one.0 (fit.are one inside)) s.store after are typed reach
+        (is-reach world.tree root selectors id rows env s.store way matches (reach_unless_alias own reach) reached_own)
         (λ formed.
-        zipped-reached world.tree root selectors id rows env s.store way matches values many fit.structured stores fit.are (reach_unless_alias own reach)
-        reached_own formed)
-        state here.stands.known)))
+        zipped-reached world.tree root selectors id rows env s.store way matches values many stores fit.are (reach_unless_alias own reach) reached_own formed)
+        state here.stands.known))
 
     -- the stores of a walk, where they break no rule, of values that are components of the type
     pub stores-good : accessed (declared_in world) (types_in world) root selectors ≡ Some id → AreComponentsOf (types_in world) id values

@@ -1,3 +1,7 @@
-pub mod View
 pub mod Walk
+pub mod Names
+pub mod NamesView
 pub mod Promise
+pub mod Laws
+pub mod View
+pub mod StoresView

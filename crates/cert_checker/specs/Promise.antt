@@ -14,19 +14,18 @@ use Rattle.meaning.specs.Effect.{Visit, State as Before}
 use Rattle.meaning.specs.Laws.{state_after}
 use Rattle.meaning.specs.Meaning.{Argument, calls_of, environment_of, run, meaning}
 use Rattle.meaning.specs.Store.{Environment, Place, stored}
-use Rattle.component_states.specs.States.{State}
-use Rattle.expression_checker.specs.declared.fault.CheckFault.{CheckFault}
-use Rattle.expression_checker.specs.declared.fault.CheckFault.TheVariants.{Memory, Foreign, Broken}
-use Rattle.certificate_names.specs.Names.{is_known}
-use Rattle.expression_checker.specs.Visits.{moment_of, visits_of}
-use Rattle.expression_checker.specs.Walk.{Context, IsBreachOf, Linked, numbers_of}
+use Rattle.checker_state.specs.State.{State}
+use Rattle.checker_expressions.specs.declared.fault.CheckFault.{CheckFault}
+use Rattle.checker_expressions.specs.declared.fault.CheckFault.TheVariants.{Memory, Foreign, Broken}
+use Rattle.cert_checker.specs.Names.{is_known}
+use Rattle.checker_expressions.specs.Visits.{moment_of, visits_of}
+use Rattle.checker_expressions.specs.Walk.{Context, IsBreachOf, Linked, numbers_of}
 use Rattle.cert_checker.specs.Walk.{block_walk, program_walk}
-use Rattle.abstract_state.specs.Holds.{Separate}
-use Rattle.component_states.specs.Holds.{StateHolds}
-use Rattle.leaf_rows.specs.Rows.{Parts, all_parts}
+use Rattle.checker_state.specs.Holds.{Separate, StateHolds}
+use Rattle.checker_rows.specs.Rows.{Parts, all_parts}
 use Rattle.certificate.specs.Contents.{contents}
-use Rattle.call_states.specs.Environments.{IsListed}
-use Rattle.call_states.specs.Sections.{all_pairs, block_claims_in}
+use Rattle.checker_calls.specs.Environments.{IsListed}
+use Rattle.checker_calls.specs.Sections.{all_pairs, block_claims_in}
 
 -- the sites of the table that the walk leaves open, in the order of the table
 abbrev pub open_in : List ℕ → List Site → List Site

@@ -1,119 +1,112 @@
 -- The checker's own values as the definitions see them, and that the checker has walked over a piece of a program.
 -- It does not say what a walk is.
-use Rattle.std.specs.Prelude.{◌≡◌, ℕ, true, List, [], ◌∷◌, ◌++◌, Option, Some, None, Result, Ok, Err, map}
+use Rattle.std.specs.Prelude.{◌≡◌, ℕ, ℤ, false, List, [], ◌∷◌, ◌++◌, Option, Some, None, map}
 use Rattle.std.specs.Global.{Vec}
-use denote.Ref.{Bor}
 use Rattle.std.specs.declared.alloc.Global.{Global}
 use Rattle.std.specs.declared.boxed.Box.{Box}
 use Rattle.std.specs.declared.vec.Vec.{Vec as VecIn}
-use Rattle.certificate.specs.declared.LoopClaims.{LoopClaims}
-use Rattle.typed_tree.specs.declared.tree.Tree.{Tree}
-use Rattle.typed_tree.specs.declared.tree.Stmt.{Stmt}
-use Rattle.domain.specs.Interval.{Interval}
-use Rattle.expression_checker.specs.declared.fault.CheckFault.{CheckFault}
-use Rattle.expression_checker.specs.declared.fault.CheckFault.TheVariants.{Memory}
-use Rattle.expression_checker.specs.declared.grounds.Grounds.{Grounds}
-use Rattle.component_states.specs.declared.state.State.{State as Kept}
-use Rattle.component_states.specs.View.{viewed}
-use Rattle.leaf_rows.specs.Rows.{rows_of, type_at}
-use Rattle.structured_states.specs.View.{all_loop_aliases, loop_of_round, said_claims, said_way}
-use Rattle.expression_checker.specs.Visits.{Visits, all_counted}
-use Rattle.cert_checker.specs.declared.walk.Walk.{Walk}
-use Rattle.structured_states.specs.declared.rounds.Round.{Round as KeptRound}
-use Rattle.structured_states.specs.declared.ways.Way.{Way as KeptWay}
-use Rattle.structured_states.specs.Loops.{Claims, Round, claims_at, gives_claims, head_of, round_of}
-use Rattle.structured_states.specs.Loops.{with_own}
-use Rattle.structured_states.specs.Ways.{Way}
 use Rattle.place.specs.declared.Place.{Place}
-use Rattle.component_states.specs.States.{State, dead, joined_states}
-use Rattle.call_states.specs.Aliases.{Stored}
-use Rattle.call_states.specs.Starts.{all_declared}
-use Rattle.expression_checker.specs.View as expressions
-use Rattle.expression_checker.specs.View.{IsLeft, state_of}
-use Rattle.expression_checker.specs.Walk.{Context, IsBreachOf, Walking, give, numbers_of}
-use Rattle.cert_checker.specs.Walk.{facts_given, statement_walk}
-use Rattle.expression_checker.specs.declared.fault.Rule.TheVariants.{LoopEntry, LoopTurn}
-
--- what a state says in the program of the checker
-abbrev pub viewed_in : Walk → Kept → State
-viewed_in walk state = viewed walk.flow.grounds.rows.now state
+use Rattle.certificate.specs.declared.Certificate.{Certificate}
+use Rattle.typed_tree.specs.declared.tree.Tree.{Tree}
+use Rattle.typed_tree.specs.declared.tree.Block.{Block}
+use Rattle.typed_tree.specs.declared.tree.Stmt.{Stmt}
+use Rattle.typed_tree.specs.Entries.{entries_of_statement, joined}
+use Rattle.domain.specs.Interval.{Interval}
+use Rattle.checker_rows.specs.Rows.{rows_of, type_at}
+use Rattle.checker_state.specs.State.{State, of_types}
+use Rattle.checker_trail.specs.declared.state.State.{State as Kept}
+use Rattle.checker_trail.specs.Trail as trail
+use Rattle.checker_trail.specs.Trail.{core, seen}
+use Rattle.checker_trail.specs.View.{type_rows}
+use Rattle.checker_loops.specs.declared.loops.Claims.{Claims as KeptClaims}
+use Rattle.checker_loops.specs.declared.rounds.Round.{Round as KeptRound}
+use Rattle.checker_loops.specs.Loops.{Claims, Round, claims_at, head_of, round_of, with_own}
+use Rattle.checker_loops.specs.View.{all_loop_aliases, claims_of_round, loop_of_round, said_claims}
+use Rattle.checker_calls.specs.Aliases.{Stored}
+use Rattle.checker_calls.specs.Sections.{all_block_claims, all_pairs, block_claims_at}
+use Rattle.checker_calls.specs.Starts.{all_declared, block_start}
+use Rattle.checker_calls.specs.View.{said_section}
+use Rattle.checker_expressions.specs.declared.fault.CheckFault.{CheckFault}
+use Rattle.checker_expressions.specs.declared.fault.CheckFault.TheVariants.{Memory, Foreign, Broken}
+use Rattle.checker_expressions.specs.declared.flow.Flow.{Flow}
+use Rattle.checker_expressions.specs.declared.grounds.Grounds.{Grounds}
+use Rattle.checker_expressions.specs.declared.fault.Rule.TheVariants.{Exit, LoopEntry, LoopTurn}
+use Rattle.checker_expressions.specs.View as expressions
+use Rattle.checker_expressions.specs.View.{first_of, state_of}
+use Rattle.checker_expressions.specs.Walk.{Context, Walked, Walking, ◌>>=◌, first_breach, give}
+use Rattle.cert_checker.specs.declared.walk.Walk.{Walk}
+use Rattle.cert_checker.specs.Walk.{arms_walk, begin, block_walk_by, facts_given, here, no_more, statement_walk}
 
 -- what a walk of the checker goes by
 abbrev pub context_of : Walk → Context
-context_of walk = expressions.context_of walk.flow.grounds (map said_claims walk.claims.items)
+context_of walk = expressions.context_of walk.flow (map said_claims walk.claims.now)
+
+-- the checker with another state
+abbrev pub at_state : Kept → Walk → Walk
+at_state state walk = record walk { flow = record (walk.flow) { state = state } }
 
 -- these are the aliases of what each loop of a program changes
 abbrev pub AreLoops : Context → List (Vec ℕ) → Type 0
 AreLoops context aliases =
     map (λ row. row.items) aliases ≡ all_loop_aliases context.tree context.pairs context.claims
 
--- these are the variables that each block of the checker's program declares
-abbrev pub AreDeclared : List (Vec ℕ) → Walk → Type 0
-AreDeclared declared walk = map (λ row. row.items) declared ≡ all_declared (context_of walk).tree
+-- ---- what the checker did
 
--- the checker came from an old to a new point as the walk of a piece does, and has its value; it counted the entries of
--- the piece; the piece breaks no rule; and it goes by what it went by before
-pub record Walks {A : Type 0} (walking : Walking A) (old : Walk) (before : Visits) (new : Walk) (after : Visits)
-    (value : A) : Type 0 where
+-- memory hadn't run out before, and this was done, if the checker has the aliases of the loops
+pub record Did (old : Walk) (done : Type 0) : Type 0 where
+  pub was_long : old.flow.state.is_short ≡ false
+  pub has_done : AreLoops (context_of old) old.aliases.now → done
+
+-- the same unless memory ran out
+pub record Does (old new : Walk) (done : Type 0) : Type 0 where
+  pub unless_short : new.flow.state.is_short ≡ false → Did old done
+
+-- what the checker noted from an old to a new point is what was walked: the sites that are left open, and the first rule
+-- that is broken; it goes by what it went by before
+pub record Noted {A : Type 0} (walked : Walked A) (old new : Walk) : Type 0 where
   pub context_is : context_of new ≡ context_of old
   pub aliases_are : new.aliases.now ≡ old.aliases.now
-  pub value_is : value ≡ (walking (context_of old) (state_of old.flow)).value
-  pub state_is : state_of new.flow ≡ (walking (context_of old) (state_of old.flow)).after
-  pub open_is :
-      new.flow.open_ids.items ≡ old.flow.open_ids.items ++ (walking (context_of old) (state_of old.flow)).open_ids
-  pub visits_are : after ≡ all_counted (numbers_of (walking (context_of old) (state_of old.flow)).linked) before
-  pub unbroken : (walking (context_of old) (state_of old.flow)).broken ≡ []
+  pub open_is : new.flow.open_ids.items ≡ old.flow.open_ids.items ++ walked.open_ids
+  pub broken_is : new.flow.broken ≡ first_of old.flow.broken (first_breach walked.broken)
 
--- the checker went over a piece of a program: it walked over it, or it gave up, for the first rule that the piece
--- breaks or for want of memory, and counted a beginning of the piece's entries
-abbrev pub Went : {A : Type 0} → Walking A → Walk → Visits → Result A CheckFault → Walk → Visits → Type 0
-Went walking old before (Ok value) new after = Walks walking old before new after value
-Went walking old before (Err fault) new after = IsLeft (walking (context_of old) (state_of old.flow)) before after fault
+-- the checker came from an old to a new point as was walked, and has the value; what it did to its state can be taken back
+pub record Came {A : Type 0} (walked : Walked A) (old new : Walk) (value : A) : Type 0 where
+  pub goes : trail.Goes old.flow.state new.flow.state
+  pub noted : Noted walked old new
+  pub value_is : value ≡ walked.value
+  pub state_is : state_of new.flow ≡ walked.after
 
--- it did so, if it has the aliases of the loops
-abbrev pub Goes : {A : Type 0} → Walking A → Walk → Visits → Result A CheckFault → Walk → Visits → Type 0
-Goes walking old before result new after =
-    AreLoops (context_of old) old.aliases.now → Went walking old before result new after
+-- the checker went over a piece of a program
+abbrev pub Goes : {A : Type 0} → Walking A → Walk → Walk → A → Type 0
+Goes walking old new value = Does old new (Came (walking (context_of old) (state_of old.flow)) old new value)
 
--- the checker with another state
-abbrev pub at_state : Kept → Walk → Walk
-at_state state walk = record walk { flow = record (walk.flow) { state = state } }
+-- ---- statements
 
--- the checker goes on from a state that says this, and nothing else of it changes
-pub record IsMoved (state : State) (old new : Walk) : Type 0 where
-  pub only_state : new ≡ at_state new.flow.state old
-  pub says : state_of new.flow ≡ state
-
--- the checker goes on from a changed state; or it found no memory
-abbrev pub Moves : {A : Type 0} → (State → State) → Walk → Result A CheckFault → Walk → Type 0
-Moves change old (Ok done) new = IsMoved (change (state_of old.flow)) old new
-Moves change old (Err fault) new = fault ≡ Memory
-
--- the checker goes on from one state, and has another; or it found no memory
-abbrev pub Parts : (one other : State → State) → Walk → Result Kept CheckFault → Walk → Type 0
-Parts one other old (Ok otherwise) new =
-    IsMoved (one (state_of old.flow)) old new × (viewed_in old otherwise ≡ other (state_of old.flow))
-Parts one other old (Err fault) new = fault ≡ Memory
-
--- the checker goes on where the way from an earlier state meets that to the present one; or it found no memory
-abbrev pub Meets : Kept → Walk → Result (Unit {0}) CheckFault → Walk → Type 0
-Meets before old (Ok done) new = IsMoved (joined_states (viewed_in old before) (state_of old.flow)) old new
-Meets before old (Err fault) new = fault ≡ Memory
-
--- the walk over the statement behind `else`, if there is one
+-- the walk over the statement behind `else`, if there is one, and its entries
 abbrev pub else_walk : Option (Box Stmt Global) → Walking (Unit {0})
 else_walk None = give tt
 else_walk (Some statement) = statement_walk statement.value
 
--- a state that the checker answers, as the definitions see it
-abbrev pub said_state : Walk → Result Kept CheckFault → Result State CheckFault
-said_state walk (Ok state) = Ok (viewed_in walk state)
-said_state walk (Err fault) = Err fault
+abbrev pub else_entries : Option (Box Stmt Global) → List ℕ
+else_entries None = []
+else_entries (Some statement) = entries_of_statement statement.value
 
--- so is the way of a control variable
-abbrev pub said_tested : Result KeptWay CheckFault → Result Way CheckFault
-said_tested (Ok way) = Ok (said_way way)
-said_tested (Err fault) = Err fault
+-- the entries of statements
+abbrev pub statements_entries : List Stmt → List ℕ
+statements_entries statements = joined (map entries_of_statement statements)
+
+-- the arms of a case from what is known here; before the first, no way behind it is known
+abbrev pub arms_from_here : Option ℕ → List (VecIn ℤ Global) → List (Walking (Unit {0})) → Walking (Unit {0})
+arms_from_here index rows arms = do
+  base ← here
+  _ ← no_more
+  arms_walk base index rows arms
+
+-- an ordinal of the type of a row
+abbrev pub row_stored : Tree → ℕ × Interval → Stored
+row_stored tree one = record { type_id = type_at (rows_of tree) one.0; range = one.1 }
+
+-- ---- loops
 
 -- what is claimed of the loop of a number in the program of the checker
 abbrev pub claims_in : ℕ → Walk → Claims
@@ -126,57 +119,115 @@ loop_in number walk = round_of (context_of walk).tree (context_of walk).pairs (c
 -- a loop of the checker is that of a number, perhaps of a for statement with a control variable
 pub record IsLoop (number : ℕ) (control : Option ℕ) (walk : Walk) (round : KeptRound) : Type 0 where
   pub own_is : round.own ≡ control
-  pub claims_are : said_claims round.claims ≡ claims_in number walk
+  pub claims_are : claims_of_round round ≡ claims_in number walk
   pub loop_is : loop_of_round round ≡ loop_in number walk
 
--- the checker came to the head of a loop, whose facts were given
-pub record AtHead (number : ℕ) (control : Option ℕ) (old new : Walk) : Type 0 where
-  pub given :
-      gives_claims (context_of old).tree (state_of old.flow) (claims_in number old).facts ≡ true
+-- the checker came to the head of a loop of a number and a place, where its facts are asked for
+pub record AtHead (number : ℕ) (place : Place) (control : Option ℕ) (old new : Walk) : Type 0 where
+  pub goes : trail.Goes old.flow.state new.flow.state
   pub context_is : context_of new
       ≡ record (context_of old) {
         rounds = (context_of old).rounds ++ loop_in number old ∷ [];
       }
   pub aliases_are : new.aliases.now ≡ old.aliases.now
   pub state_is : state_of new.flow
-      ≡ head_of (context_of old).tree (context_of old).limits (with_own control (loop_in number old))
-      (claims_in number old).facts (state_of old.flow)
-  pub open_is : new.flow.open_ids ≡ old.flow.open_ids
+      ≡ head_of (context_of old).tree (with_own control (loop_in number old)) (claims_in number old).facts
+      (state_of old.flow)
+  pub open_is : new.flow.open_ids.items ≡ old.flow.open_ids.items
+  pub broken_is : new.flow.broken
+      ≡ first_of old.flow.broken
+      (first_breach
+      (facts_given LoopEntry place (claims_in number old).facts (context_of old) (state_of old.flow)).broken)
 
--- the checker came to the head of a loop of a number and a place, or its facts weren't given, or it found no memory
-abbrev pub EntersLoop : ℕ → Place → Option ℕ → Walk → Result (Unit {0}) CheckFault → Walk → Type 0
-EntersLoop number place control old (Ok done) new =
-    AreLoops (context_of old) old.aliases.now → AtHead number control old new
-EntersLoop number place control old (Err fault) new = AreLoops (context_of old) old.aliases.now
-    → IsBreachOf (facts_given LoopEntry place (claims_in number old).facts (context_of old) (state_of old.flow))
-    fault
+abbrev pub EntersLoop : ℕ → Place → Option ℕ → Walk → Walk → Type 0
+EntersLoop number place control old new = Does old new (AtHead number place control old new)
 
--- the checker came behind a loop, whose facts were given
-pub record IsBehind (number : ℕ) (behind : Kept) (rounds : List Round) (old new : Walk) : Type 0 where
-  pub given :
-      gives_claims (context_of old).tree (state_of old.flow) (claims_in number old).facts ≡ true
+-- the checker is in a loop of a number and a place no longer, where its facts are asked for
+pub record IsOutside (number : ℕ) (place : Place) (rounds : List Round) (old new : Walk) : Type 0 where
+  pub goes : trail.Goes old.flow.state new.flow.state
   pub context_is : context_of new ≡ record (context_of old) { rounds = rounds }
   pub aliases_are : new.aliases.now ≡ old.aliases.now
-  pub state_is : state_of new.flow ≡ viewed_in old behind
-  pub open_is : new.flow.open_ids ≡ old.flow.open_ids
+  pub open_is : new.flow.open_ids.items ≡ old.flow.open_ids.items
+  pub broken_is : new.flow.broken
+      ≡ first_of old.flow.broken
+      (first_breach
+      (facts_given LoopTurn place (claims_in number old).facts (context_of old) (state_of old.flow)).broken)
 
--- the checker came behind a loop of a number and a place that is round it, or its facts weren't given
-abbrev pub LeavesLoop : ℕ → Place → Kept → Walk → Result (Unit {0}) CheckFault → Walk → Type 0
-LeavesLoop number place behind old (Ok done) new = AreLoops (context_of old) old.aliases.now
-    → (rounds : List Round) (own : Round) → (context_of old).rounds ≡ rounds ++ own ∷ []
-    → IsBehind number behind rounds old new
-LeavesLoop number place behind old (Err fault) new = AreLoops (context_of old) old.aliases.now
-    → IsBreachOf (facts_given LoopTurn place (claims_in number old).facts (context_of old) (state_of old.flow))
-    fault
+-- that of the loop round it which it entered last
+abbrev pub LeavesLoop : ℕ → Place → Walk → Walk → Type 0
+LeavesLoop number place old new = Does old new
+    ((rounds : List Round) (own : Round) → (context_of old).rounds ≡ rounds ++ own ∷ []
+    → IsOutside number place rounds old new)
 
--- an ordinal of the type of a row
-abbrev pub row_stored : Tree → ℕ × Interval → Stored
-row_stored tree one = record { type_id = type_at (rows_of tree) one.0; range = one.1 }
+-- ---- blocks
 
--- the checker before the first block, by these grounds and claims, and with these aliases of the loops
-pub record IsBegun (grounds : Grounds) (claims : VecIn (Option (Bor LoopClaims)) Global) (aliases : List (Vec ℕ))
-    (walk : Walk) : Type 0 where
-  pub context_is : context_of walk ≡ expressions.context_of grounds (map said_claims claims.items)
+-- these are the variables that each block of the checker's program declares
+abbrev pub AreDeclared : List (Vec ℕ) → Walk → Type 0
+AreDeclared declared walk = map (λ row. row.items) declared ≡ all_declared (context_of walk).tree
+
+-- the checker knows what types tell alone, as before each block and behind it
+abbrev pub KnowsTypes : Walk → Type 0
+KnowsTypes walk = state_of walk.flow ≡ of_types (type_rows (context_of walk).tree)
+
+-- what is known where a block of a number begins, by what is claimed of it
+abbrev pub start_of : ℕ → Flow → State
+start_of number flow =
+    block_start flow.state.table.now number (block_claims_at (map said_section flow.grounds.sections.items) number).entry
+
+-- a block of a number from its start to its end, by what is claimed of it
+abbrev pub begin_here : ℕ → Walking (Unit {0})
+begin_here number context = begin number (block_claims_at context.blocks number).entry context
+
+abbrev pub exit_here : ℕ → Place → Walking (Unit {0})
+exit_here number end context = facts_given Exit end (block_claims_at context.blocks number).exit context
+
+abbrev pub block_walk_here : ℕ → Block → Walking (Unit {0})
+block_walk_here number block context = block_walk_by number block (block_claims_at context.blocks number) context
+
+-- the checker walked from the start of a block
+abbrev pub Begins : Walking (Unit {0}) → List (Vec ℕ) → Walk → Walk → Type 0
+Begins walking declared old new = Does old new
+    (AreDeclared declared old → KnowsTypes old
+    → Came (walking (context_of old) (state_of old.flow)) old new tt)
+
+-- the checker walked over blocks, and knows what it knew before
+pub record Passed (walked : Walked (Unit {0})) (old new : Walk) : Type 0 where
+  pub core_is : core new.flow.state.known ≡ core old.flow.state.known
+  pub noted : Noted walked old new
+
+abbrev pub Passes : Walking (Unit {0}) → List (Vec ℕ) → Walk → Walk → Type 0
+Passes walking declared old new = Does old new
+    (AreDeclared declared old → KnowsTypes old
+    → Passed (walking (context_of old) (state_of old.flow)) old new)
+
+-- ---- the program
+
+-- what the checker goes by before the first block of a program, by a certificate
+pub record AreGrounds (tree : Tree) (certificate : Certificate) (grounds : Grounds) : Type 0 where
+  pub sections_are : map said_section grounds.sections.items ≡ all_block_claims tree certificate
+  pub pairs_are : grounds.pairs ≡ record { tree = tree; pairs = all_pairs certificate }
+  pub block_is : grounds.block ≡ 0
+  pub rounds_are : grounds.rounds.items ≡ []
+
+-- the checker before the first block, with this state, by these grounds and claims, and with these aliases of the loops
+pub record IsBegun (state : Kept) (grounds : Grounds) (claims : List KeptClaims) (aliases : List (Vec ℕ)) (walk : Walk)
+    : Type 0 where
+  pub state_is : walk.flow.state ≡ state
+  pub grounds_are : walk.flow.grounds ≡ grounds
+  pub claims_are : walk.claims.now ≡ claims
   pub aliases_are : walk.aliases.now ≡ aliases
-  pub state_is : state_of walk.flow ≡ dead (context_of walk).tree
   pub open_is : walk.flow.open_ids.items ≡ []
+  pub broken_is : walk.flow.broken ≡ None
+
+-- memory didn't run out, no rule is broken, and these are the ids of the sites that are left open
+pub record IsUnbroken (walk : Walk) (ids : List ℕ) : Type 0 where
+  pub is_long : walk.flow.state.is_short ≡ false
+  pub unbroken : walk.flow.broken ≡ None
+  pub ids_are : ids ≡ walk.flow.open_ids.items
+
+-- why the checker gives no verdict
+abbrev pub IsFaultOf : Walk → CheckFault → Type 0
+IsFaultOf walk Memory = Unit {0}
+IsFaultOf walk Foreign = ⊥
+IsFaultOf walk (Broken rule place) =
+    (walk.flow.state.is_short ≡ false) × (walk.flow.broken ≡ Some (record { rule = rule; place = place }))

@@ -2,7 +2,7 @@
 -- rules that are broken, and the state at each entry into a statement or expression (ISO 7185:1990, 6.7, 6.8).
 -- It does not say that a program does what the walk says of it.
 use Rattle.std.specs.Prelude.{ℕ, suc, ℤ, drop, slice_get, Bool, true, false, List, [], ◌∷◌, ◌++◌, Option, Some}
-use Rattle.std.specs.Prelude.{None, if◌then◌else◌, map, length, ◌-◌}
+use Rattle.std.specs.Prelude.{None, if◌then◌else◌, map, length, ◌-◌, ◌&&◌, not}
 use Rattle.std.specs.declared.alloc.Global.{Global}
 use Rattle.std.specs.declared.boxed.Box.{Box}
 use Rattle.std.specs.declared.vec.Vec.{Vec}
@@ -27,35 +27,37 @@ use Rattle.typed_tree.specs.declared.tree.Stmt.TheFolds.{fold-Stmt}
 use Rattle.typed_tree.specs.Calls.{holds_call, whole_holds_call}
 use Rattle.domain.specs.Interval.{Interval, common}
 use Rattle.domain.specs.Numbers.{hull, is_covered}
-use Rattle.domain.specs.Facts.{Bound, Fact}
-use Rattle.abstract_state.specs.declared.known.Known.{Known}
-use Rattle.abstract_state.specs.declared.known.Known.TheVariants.{Ordinal}
-use Rattle.abstract_state.specs.State.{is_defined, limits_of, range_of, unless_empty}
-use Rattle.abstract_state.specs.Changes.{assigned}
-use Rattle.abstract_state.specs.Conditions.{bound_form, branched, condition_of}
-use Rattle.abstract_state.specs.Forms.{root_of}
-use Rattle.abstract_state.specs.Loops.{with_touched, with_undefined}
-use Rattle.leaf_rows.specs.Limits.{all_limits, limits_at}
-use Rattle.leaf_rows.specs.Rows.{rows_accessed, rows_of, type_at}
-use Rattle.component_states.specs.Components.{At, Inside, Reach, all_stored}
-use Rattle.component_states.specs.States.{State, dead, joined_states, over_bound, over_change, over_variables}
-use Rattle.structured_states.specs.Cases.{arm_start, constants_before}
-use Rattle.structured_states.specs.Loops.{Round, all_claims, claims_at, gives_claims}
-use Rattle.structured_states.specs.Loops.{head_of, round_of, touched, with_own}
-use Rattle.structured_states.specs.Ways.{End, Way, entered, met, next, steady, turn_begun, turn_ended, way_of, way_out}
-use Rattle.structured_states.specs.Ways.{where_counts, with_values}
-use Rattle.structured_states.specs.Pairs.{aliases_in}
-use Rattle.call_states.specs.Sections.{BlockClaims, all_block_claims, all_pairs, block_claims_at}
-use Rattle.call_states.specs.Starts.{block_start}
-use Rattle.call_states.specs.Aliases.{Stored, reach_unless_alias, unless_alias, variable_type, with_aliases_stored}
-use Rattle.call_states.specs.Actuals.{unknown_reach}
-use Rattle.expression_checker.specs.declared.fault.Rule.{Rule}
-use Rattle.expression_checker.specs.declared.fault.Rule.TheVariants.{LoopEntry, LoopTurn, Exit, Changes}
-use Rattle.expression_checker.specs.Walk.{Context, Walked, Walking, ◌>>=◌, access_walk, asked, call_walk}
-use Rattle.expression_checker.specs.Walk.{changed_by, enter, fitting, followed, give, index_pieces}
-use Rattle.expression_checker.specs.Walk.{left_open}
-use Rattle.expression_checker.specs.Walk.{may_change, parameter_walk, passed_piece_of, tested, value_walk, whole_walk}
-use Rattle.expression_checker.specs.Walk.{with_state, within}
+use Rattle.domain.specs.Facts.{Fact}
+use Rattle.checker_state.specs.Bounds.{Bound}
+use Rattle.checker_state.specs.declared.value.Known.{Known}
+use Rattle.checker_state.specs.declared.value.Known.TheVariants.{Ordinal}
+use Rattle.checker_rows.specs.Limits.{limits_of}
+use Rattle.checker_state.specs.State.{Dead, State, has_number, range_of, unless_empty}
+use Rattle.checker_state.specs.Joins.{joined_states}
+use Rattle.checker_state.specs.Stores.{Index, Reach, all_stored}
+use Rattle.checker_state.specs.Changes.{assigned}
+use Rattle.checker_state.specs.Conditions.{bound_form, branched, condition_of}
+use Rattle.checker_state.specs.Forms.{root_of}
+use Rattle.checker_state.specs.Loops.{with_undefined}
+use Rattle.checker_rows.specs.Rows.{rows_accessed, rows_of, type_at}
+use Rattle.checker_loops.specs.Cases.{arm_start, constants_before}
+use Rattle.checker_loops.specs.Loops.{Round, all_claims, claims_at, gives_claims}
+use Rattle.checker_loops.specs.Loops.{head_of, round_of, touched, with_own}
+use Rattle.checker_state.specs.State.{table_of}
+use Rattle.checker_loops.specs.Ways.{End, Way, entered, met, steady, turn_begun, turn_ended, way_of, way_out}
+use Rattle.checker_loops.specs.Ways.{where_counts, with_values}
+use Rattle.checker_loops.specs.Pairs.{aliases_in}
+use Rattle.checker_calls.specs.Sections.{BlockClaims, all_block_claims, all_pairs, block_claims_at}
+use Rattle.checker_calls.specs.Starts.{block_start}
+use Rattle.checker_calls.specs.Aliases.{Stored, reach_unless_alias, unless_alias, with_aliases_stored}
+use Rattle.checker_calls.specs.Actuals.{unknown_reach}
+use Rattle.checker_expressions.specs.declared.fault.Rule.{Rule}
+use Rattle.checker_expressions.specs.declared.fault.Rule.TheVariants.{LoopEntry, LoopTurn, Exit, Changes}
+use Rattle.checker_expressions.specs.Walk.{Context, Walked, Walking, ◌>>=◌, access_walk, asked, call_walk}
+use Rattle.checker_expressions.specs.Walk.{changed_by, enter, fitting, followed, give, index_pieces}
+use Rattle.checker_expressions.specs.Walk.{left_open}
+use Rattle.checker_expressions.specs.Walk.{may_change, parameter_walk, passed_piece_of, tested, value_walk, whole_walk}
+use Rattle.checker_expressions.specs.Walk.{with_state, within}
 
 -- a variable is changed at a place: each loop round the place lists it, and so does the block, if need be
 abbrev pub change : Place → ℕ → Walking (Unit {0})
@@ -72,17 +74,13 @@ with_aliases context root stored state =
 
 -- an ordinal of a variable's type
 abbrev pub stored_in : Context → ℕ → Interval → Stored
-stored_in context root range = record { type_id = variable_type context.tree root; range = range }
-
--- what is known behind the assignment of a value of a range to a variable, perhaps of a bound form
-abbrev pub assigned_to : ℕ → Interval → Option Bound → State → State
-assigned_to root range form state = over_change root form (assigned root range form) state
+stored_in context root range = record { type_id = type_at (rows_of context.tree) root; range = range }
 
 -- the assignment of a value to a variable, perhaps of a bound form
 abbrev pub assign : ℕ → Option Bound → Known → Walking (Unit {0})
 assign root form (Ordinal range) context =
     changed_by
-    (λ state. assigned_to root range (unless_alias (aliases_here context root) form)
+    (λ state. assigned root range (unless_alias (aliases_here context root) form)
     (with_aliases context root (stored_in context root range ∷ []) state)) context
 
 -- the rows of a variable that get values, each with their range
@@ -94,17 +92,11 @@ abbrev pub stored_in_rows : Context → Stores → List Stored
 stored_in_rows context stores =
     map (λ one. record { type_id = type_at (rows_of context.tree) one.0; range = one.1 }) stores
 
--- values were stored to what is reached of a variable
-abbrev pub stored_to : ℕ → Reach → Stores → Context → State → State
-stored_to root reach stores context state = record {
-  variables = with_touched (limits_at context.limits) root state.variables;
-  components = all_stored state.variables reach stores state.components;
-}
-
+-- values are stored to what is reached of a variable
 abbrev pub stores_made : ℕ → Reach → Stores → Walking (Unit {0})
 stores_made root reach stores context =
     changed_by
-    (λ state. stored_to root (reach_unless_alias (aliases_here context root) reach) stores context
+    (λ state. all_stored (reach_unless_alias (aliases_here context root) reach) stores
     (with_aliases context root (stored_in_rows context stores) state)) context
 
 -- values are stored at a place
@@ -115,7 +107,7 @@ store_to place root reach stores = do
 
 -- the rows under what is accessed
 abbrev pub target_rows : Context → ℕ → List Selector → List ℕ
-target_rows context root selectors = rows_accessed (rows_of context.tree) root selectors
+target_rows context root selectors = rows_accessed context.tree root selectors
 
 -- the same range for each row
 abbrev pub alike : Interval → List ℕ → Stores
@@ -168,10 +160,15 @@ is_index selector = false
 abbrev pub ends_at_index : List Selector → Bool
 ends_at_index selectors = is_index (slice_get selectors (length selectors - 1))
 
+-- there is an index
+abbrev pub is_some_index : List Index → Bool
+is_some_index [] = false
+is_some_index (index ∷ indexes) = true
+
 -- what is reached where these selectors are stored to: a component of an element isn't all that there is of an index
 abbrev pub reach_of_store : List Selector → Reach → Reach
-reach_of_store selectors (At index) = if ends_at_index selectors then At index else Inside index
-reach_of_store selectors reach = reach
+reach_of_store selectors reach = if is_some_index reach.indexes && not (ends_at_index selectors)
+    then record reach { is_all = false } else reach
 
 -- the same, where the value may hold a call
 abbrev pub reach_stored : List Selector → Bool → Reach → Reach
@@ -203,17 +200,18 @@ copying_walk copying =
       copy_to copying.becomes target.root target.selectors.items (reach_stored target.selectors.items hold reach) ranges
 
 -- two pieces of which a run takes one, each walked from its own state; behind them the states are joined
-abbrev pub either_of : Walked (Unit {0}) → Walked (Unit {0}) → Walked (Unit {0})
-either_of one other = record (followed one other) { after = joined_states one.after other.after }
+abbrev pub either_of : Context → Walked (Unit {0}) → Walked (Unit {0}) → Walked (Unit {0})
+either_of context one other =
+    record (followed one other) { after = joined_states (table_of context.tree) one.after other.after }
 
 -- the state where a condition has a truth value
 abbrev pub where_so : Bool → Expr → Known → State → State
-where_so truth condition (Ordinal range) state = over_variables (branched truth condition range) state
+where_so truth condition (Ordinal range) state = branched truth condition range state
 
 -- two ways from a state, each of them taken from what is known there
 abbrev pub parted : (one_state other_state : State → State) → (one other : Walking (Unit {0})) → Walking (Unit {0})
 parted one_state other_state one other context state =
-    either_of (one context (one_state state)) (other context (other_state state))
+    either_of context (one context (one_state state)) (other context (other_state state))
 
 -- what is executed where a condition is true, and what is where it is false
 abbrev pub branches : Expr → (consequence alternative : Walking (Unit {0})) → Known → Walking (Unit {0})
@@ -262,7 +260,7 @@ facts_given rule place facts context state = asked (gives_claims context.tree st
 -- the state at the head of a loop, where a turn begins
 abbrev pub enter_head : Round → List Fact → Walking (Unit {0})
 enter_head round facts context state =
-    with_state (head_of context.tree context.limits round facts state) context state
+    with_state (head_of context.tree round facts state) context state
 
 -- inside a loop
 abbrev pub inside : {A : Type 0} → Round → Walking A → Walking A
@@ -295,7 +293,7 @@ repeat_walk head body = loop_walk head.loop_number head.place None (repeat_round
 
 -- the test of a bound: where its value lies that passes
 abbrev pub tested_end : State → End → Walking Interval
-tested_end start end = within (limits_of end.fits.range) end.fits.site (met end.form start.variables end.values)
+tested_end start end = within (limits_of end.fits.range) end.fits.site (met end.form start end.values)
 
 -- the tests of both bounds, by what is known where there are values
 abbrev pub tested_way : Way → Walking Way
@@ -308,11 +306,11 @@ tested_way way = do
 -- a round of a for: a turn, and then the control variable is the last bound, or has its next value
 abbrev pub for_round : Way → Walking (Unit {0}) → Walking State
 for_round way body = do
-  _ ← changed_by (over_variables (turn_begun way))
+  _ ← changed_by (turn_begun way)
   _ ← body
   ended ← here
-  _ ← with_state (over_change way.control (next way) (turn_ended way) ended)
-  give (over_bound way.control way.last.form (way_out way) ended)
+  _ ← with_state (turn_ended way ended)
+  give (way_out way ended)
 
 -- the way through the loop of a number, whose turns leave the forms of untouched bounds as they are
 abbrev pub steady_in : Context → ℕ → Way → Way
@@ -328,7 +326,7 @@ rounds_of head body way context =
 -- the control variable is the first bound, where a first turn may begin
 abbrev pub begin_way : Way → Walking (Unit {0})
 begin_way way context state =
-    assign way.control way.first.form (Ordinal way.first.values) context (over_variables (entered way) state)
+    assign way.control way.first.form (Ordinal way.first.values) context (entered way state)
 
 -- a for where there are values: the bounds are tested, and the control variable is the first
 abbrev pub for_turns : ForHead → Walking (Unit {0}) → Way → Walking (Unit {0})
@@ -340,9 +338,9 @@ for_turns head body way = do
 -- a for, from the values of its bounds: behind it the control variable is undefined
 abbrev pub for_walk : ForHead → Walking (Unit {0}) → Way → Walking (Unit {0})
 for_walk head body way = do
-  _ ← parted (over_variables (where_counts true way)) (over_variables (where_counts false way))
+  _ ← parted (where_counts true way) (where_counts false way)
       (for_turns head body way) (give tt)
-  changed_by (over_change way.control None (with_undefined way.control))
+  changed_by (with_undefined way.control)
 
 -- a for: its bounds, and then the rest
 abbrev pub bounds_walk : ForHead → Walking (Unit {0}) → Walking (Unit {0})
@@ -355,7 +353,7 @@ bounds_walk head body = do
 
 -- no run goes on
 abbrev pub no_more : Walking (Unit {0})
-no_more context = with_state (dead context.tree) context
+no_more = with_state Dead
 
 -- the test of an index at a site: what is known where it is one of the constants; no way behind the statement is known
 -- yet
@@ -369,13 +367,13 @@ index_test site constants range = do
 -- an arm, from what is known where it is executed; behind it the way meets those through the arms before
 abbrev pub arm_walk : State → Walking (Unit {0}) → Walking (Unit {0})
 arm_walk start arm context behind =
-    record (arm context start) { after = joined_states behind (arm context start).after }
+    record (arm context start) { after = joined_states (table_of context.tree) behind (arm context start).after }
 
 -- the arms, one after another, by the rows of constants
 abbrev pub arms_walk : State → Option ℕ → List (Vec ℤ Global) → List (Walking (Unit {0})) → Walking (Unit {0})
 arms_walk base index rows [] = give tt
 arms_walk base index rows (arm ∷ arms) = do
-  _ ← arm_walk (over_variables (arm_start index (slice_get rows 0)) base) arm
+  _ ← arm_walk (arm_start index (slice_get rows 0) base) arm
   arms_walk base index (drop 1 rows) arms
 
 -- a case, from the value of its index
@@ -414,8 +412,8 @@ abbrev pub result_use : Option FunctionResult → Walking (Unit {0})
 result_use None context state = give tt context state
 result_use (Some result) context state = record {
   value = tt;
-  after = over_variables (unless_empty (range_of state.variables result.root)) state;
-  open_ids = left_open (is_defined state.variables result.root) result.defined;
+  after = unless_empty (range_of state result.root) state;
+  open_ids = left_open (has_number (table_of context.tree) state result.root) result.defined;
   broken = [];
   linked = [];
 }
@@ -444,7 +442,6 @@ blocks_walk number (block ∷ blocks) = do
 abbrev pub first_context : Tree → Certificate → Context
 first_context tree certificate = record {
   tree = tree;
-  limits = all_limits tree;
   claims = all_claims tree certificate;
   blocks = all_block_claims tree certificate;
   pairs = record { tree = tree; pairs = all_pairs certificate };
@@ -454,4 +451,4 @@ first_context tree certificate = record {
 
 -- the walk over a program by a certificate, block by block
 abbrev pub program_walk : Tree → Certificate → Walked (Unit {0})
-program_walk tree certificate = blocks_walk 0 tree.blocks.items (first_context tree certificate) (dead tree)
+program_walk tree certificate = blocks_walk 0 tree.blocks.items (first_context tree certificate) Dead

@@ -7,20 +7,25 @@ ghost use Rattle.typed_tree.specs.Ids.{AreInOrder};
 ghost use Rattle.typed_tree.specs.WellFormed.{IsWellFormed};
 ghost use Rattle.cert_checker.specs.Promise.{CallsChangeWhatTheyList, ClosedNeverErr, IsRefusedFor, LinksEntries};
 ghost use Rattle.cert_checker.specs.Promise.{StatesHold, Valid};
-ghost use Rattle.cert_checker.specs.Walk.{program_walk};
 
+mod assignments;
 mod blocks;
+pub mod laws;
 mod loops;
+mod names;
 mod open_sites;
+mod program;
+mod reached;
 mod stores;
+mod visible;
 mod walk;
 
 use certificate::Certificate;
-use certificate_names::names::is_known;
-use expression_checker::fault::CheckFault;
-use expression_checker::visits::Visits;
-use leaf_rows::Rows;
+use checker_expressions::fault::CheckFault;
+use checker_rows::Rows;
+use names::is_known;
 use open_sites::open_sites;
+use program::program;
 use std::alloc::Global;
 use typed_tree::site::Site;
 use typed_tree::tree::Tree;
@@ -63,11 +68,9 @@ pub fn check(alloc: Global, tree: &Tree, certificate: &Certificate) -> Result<Ve
     if !is_known(&rows, certificate) {
         return Err(CheckFault::Foreign);
     }
-    let mut visits = Visits::new();
-    let walked = walk::program(alloc, &rows, certificate, &mut visits);
-    let entries = visits.finish(tree, &walked);
+    let found = program(alloc, &rows, certificate)?;
     Ok(Verdict {
-        open_sites: open_sites(alloc, &tree.sites, walked?)?,
-        visits: entries?,
+        open_sites: open_sites(alloc, &tree.sites, found.open_ids)?,
+        visits: found.visits,
     })
 }

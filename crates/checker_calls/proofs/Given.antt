@@ -49,7 +49,8 @@ use Rattle.checker_rows.proofs.Accessed.{IsOf}
 use Rattle.checker_state.proofs.Given.{first-of, value-is}
 use Rattle.checker_state.proofs.Bounded.{bound-here}
 use Rattle.checker_loops.proofs.Tabled.{are-rows}
-use Rattle.checker_loops.specs.Loops.{all_said, gives_claims, rows_named, said, said_bound, stretch_of, table_of}
+use Rattle.checker_loops.specs.Loops.{all_said, gives_claims, rows_named, said, said_bound, stretch_of}
+use Rattle.checker_state.specs.State.{table_of}
 use Rattle.checker_state.proofs.Bounds.{le-is, raised-is, told-of}
 use Rattle.checker_state.specs.Bounds.{Bound, constant, plus, raised_bound}
 use Rattle.checker_rows.specs.Rows.{all_parts, first_index, index_at, is_variable_row, rows_accessed, rows_of}

@@ -1,3 +1,4 @@
+pub mod Limited
 pub mod Lists
 pub mod Headings
 pub mod Passed
@@ -20,6 +21,14 @@ pub mod CallChanges
 pub mod Reached
 pub mod Fitting
 pub mod Bearers
+pub mod Beginning
+pub mod Bound
+pub mod Mapped
+pub mod Sectioned
+pub mod Spans
+pub mod Stored
+pub mod Told
+pub mod Within
 pub mod Started
 pub mod Borne
 pub mod ExitBearers
@@ -29,3 +38,7 @@ pub mod Given
 pub mod BehindExits
 pub mod Steady
 pub mod RowsBehind
+pub mod KnownRanges
+pub mod LeavesChanged
+pub mod GoneBehind
+pub mod HeldBehind

@@ -18,7 +18,7 @@ use Rattle.checker_state.specs.State.{Claim, Dead, Defined, Holds as Holding, Li
 use Rattle.checker_state.specs.Stores.{Index, Reach, all_of_row, gives_form, gives_index, gives_indexes, gives_reached, gives_some, range_stretch}
 use Rattle.checker_state.specs.Stores.{stretch_between}
 use Rattle.checker_state.specs.Holds.{AreBounds, AreDefined, HasComponent, IsBound, IsOfRow, LieBetween, Moment, Numbers, indexes_of, moment}
-use Rattle.checker_state.specs.Knows.{AreRows, IsIndex, Knows}
+use Rattle.checker_state.specs.Knows.{AreRows, Knows}
 use Rattle.checker_state.proofs.Given.{first-of, given-holds}
 use Rattle.checker_calls.proofs.Passed.{AreIndexesOn, IsIndexOn, IsReachedBy}
 

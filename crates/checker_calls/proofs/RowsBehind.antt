@@ -1,11 +1,11 @@
 -- What calls change row by row, and change by change.
 use Rattle.std.proofs.Common.{◌≡◌, ◌∙◌, ap, refl, ℕ, Bool, true, false, cond, List, [], ◌∷◌, ◌++◌}
-use Rattle.std.specs.Prelude.{filter}
 use Rattle.typed_tree.specs.declared.tree.Tree.{Tree}
 use Rattle.domain.specs.Facts.{Fact}
 use Rattle.domain.specs.Interval.{Interval, common}
 use Rattle.checker_state.specs.State.{State}
 use Rattle.checker_calls.specs.Exit.{Change, all_common, is_row, row_behind, rows_behind, rows_changed}
+use Rattle.checker_calls.specs.ExitView.{just}
 
 -- some rows, and then others
 pub behind-append : (tree : Tree) (changes : List Change) (rows more : List ℕ) (known : State)
@@ -24,16 +24,12 @@ pub all-common : (changes : List Change) (change : Change) (range : Interval)
 all-common [] change range = refl
 all-common (one ∷ changes) change range = all-common changes change (common range one.range)
 
--- the changes of just a row
-abbrev pub just : ℕ → List Change → List Change
-just row changes = filter (λ change. is_row row change.bearer) changes
-
 front : (b : Bool) (one : Change) (changes : List Change) (change : Change)
     → cond b (one ∷ changes ++ change ∷ []) (changes ++ change ∷ []) ≡ cond b (one ∷ changes) changes ++ change ∷ []
 front true one changes change = refl
 front false one changes change = refl
 
--- and one change more
+-- the changes of just a row, one change more
 pub just-more : (row : ℕ) (changes : List Change) (change : Change) (same : Bool) → is_row row change.bearer ≡ same
     → just row (changes ++ change ∷ []) ≡ cond same (just row changes ++ change ∷ []) (just row changes)
 just-more row [] change true same = ap (λ b. cond b (change ∷ []) []) same

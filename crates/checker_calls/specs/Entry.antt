@@ -11,7 +11,7 @@ use Rattle.checker_state.specs.State.{Dead, Held, Live, Ordered, Span, State, St
 use Rattle.checker_state.specs.State.{has_value}
 use Rattle.checker_state.specs.State.{is_below, is_dead, moved, range_of}
 use Rattle.checker_state.specs.Stores.{Index, Reach, gives_reached}
-use Rattle.checker_loops.specs.Loops.{table_of}
+use Rattle.checker_state.specs.State.{table_of}
 use Rattle.checker_rows.specs.Rows.{is_variable_row}
 use Rattle.checker_calls.specs.Actuals.{Actual, OfValue, OfRows, OfVariable, Bearer, Passed, Reached, Binding}
 use Rattle.checker_calls.specs.Actuals.{actual_of, bearers_named, bearers_of}

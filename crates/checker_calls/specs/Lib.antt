@@ -4,5 +4,7 @@ pub mod Actuals
 pub mod Aliases
 pub mod Entry
 pub mod Starts
+pub mod View
 pub mod Overlaps
 pub mod Exit
+pub mod ExitView

@@ -11,5 +11,11 @@ pub mod Effects
 pub mod Entered
 pub mod SoundCalls
 pub mod SoundExpressions
-pub mod Begun
+pub mod Counted
+pub mod Flows
 pub mod CallLaws
+pub mod Held
+pub mod Unrolled
+pub mod InTurn
+pub mod RowUses
+pub mod OfCalls

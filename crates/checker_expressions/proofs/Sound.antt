@@ -37,7 +37,8 @@ use Rattle.checker_calls.proofs.Passed.{AllFit}
 use Rattle.checker_calls.proofs.Reached.{alive}
 use Rattle.checker_expressions.specs.declared.fault.Rule.{Rule}
 use Rattle.checker_expressions.specs.Walk as walk
-use Rattle.checker_expressions.specs.Walk.{Breach, Context, Linked, Walked, Walking, followed, left_open}
+use Rattle.checker_expressions.specs.declared.fault.Breach.{Breach}
+use Rattle.checker_expressions.specs.Walk.{Context, Linked, Walked, Walking, followed, left_open}
 use Rattle.checker_expressions.specs.Visits.{moment_of, visits_of}
 use Rattle.checker_expressions.proofs.Keeping.{Keeps, keeps-itself, keeps-then}
 

@@ -50,7 +50,7 @@ use Rattle.checker_rows.specs.Leaves.{leaves_of}
 use Rattle.checker_rows.specs.Rows.{rows_accessed}
 use Rattle.checker_rows.proofs.Accessed.{rows-count}
 use Rattle.checker_loops.proofs.Tabled.{are-rows}
-use Rattle.checker_loops.specs.Loops.{table_of}
+use Rattle.checker_state.specs.State.{table_of}
 use Rattle.checker_rows.proofs.Components.{mapped-at}
 use Rattle.checker_rows.proofs.Numbered.{has-contains, some-at}
 use Rattle.checker_expressions.specs.Walk as walk

@@ -35,7 +35,7 @@ use Rattle.checker_state.specs.Holds.{HasComponent, IsOfRow, indexes_of}
 use Rattle.checker_state.specs.Knows.{Knows}
 use Rattle.checker_state.proofs.Ranged.{in-left, in-right}
 use Rattle.checker_state.proofs.Rows.{defined-holds}
-use Rattle.checker_loops.specs.Loops.{table_of}
+use Rattle.checker_state.specs.State.{table_of}
 use Rattle.checker_expressions.specs.Walk.{all_defined, all_joined, is_covered, ranges_of, text_range, with_used}
 
 -- ---- whole values

@@ -1,2 +1,4 @@
-pub mod Walk
+pub mod Rules
+pub mod View
 pub mod Visits
+pub mod Walk

@@ -1,6 +1,6 @@
 -- The entries into the statements and expressions of a program: those of a run, and how the checker counts those of its
 -- walk. It does not say what is entered.
-use Rattle.std.specs.Prelude.{◌≡◌, ◌⊎◌, ℕ, ◌+◌, ◌-◌, ◌^◌, min, Bool, true, ◌&&◌, List, [], ◌∷◌, nat_eq}
+use Rattle.std.specs.Prelude.{ℕ, ◌+◌, ◌-◌, ◌^◌, min, Bool, true, ◌&&◌, List, [], ◌∷◌, nat_eq}
 use Rattle.meaning.specs.Effect.{Reply, Gives, Stops, Visit}
 use Rattle.checker_state.specs.Holds.{Moment}
 
@@ -37,8 +37,3 @@ counted number visits = record {
 abbrev pub all_counted : List ℕ → Visits → Visits
 all_counted [] visits = visits
 all_counted (number ∷ numbers) visits = all_counted numbers (counted number visits)
-
--- entries of a beginning of these numbers were counted: none, or the first and then a beginning of the others
-abbrev pub HasBegun : List ℕ → (before after : Visits) → Type 0
-HasBegun [] before after = after ≡ before
-HasBegun (number ∷ numbers) before after = (after ≡ before) ⊎ HasBegun numbers (counted number before) after

@@ -43,6 +43,7 @@ use Rattle.domain.specs.Interval.{absolute, quotient, remainder, without_zero_en
 use Rattle.domain.specs.Interval.{complement, joined, truth_values, vacant}
 use Rattle.checker_state.specs.Bounds.{Bound}
 use Rattle.meaning.specs.Meaning.{overflow_of, overflow_of_both}
+use Rattle.checker_expressions.specs.declared.fault.Breach.{Breach}
 use Rattle.checker_expressions.specs.declared.fault.Rule.{Rule}
 use Rattle.checker_expressions.specs.declared.fault.Rule.TheVariants.{Aliases, CallEntry, Changes}
 use Rattle.checker_expressions.specs.declared.fault.CheckFault.{CheckFault}
@@ -55,7 +56,8 @@ use Rattle.checker_state.specs.Forms.{Form, Literal, Other, Operand, access_form
 use Rattle.checker_rows.specs.Rows.{rows_accessed}
 use Rattle.checker_state.specs.Stores.{Index, Reach, entire, gives_reached, is_entire}
 use Rattle.checker_state.specs.Loops.{is_among}
-use Rattle.checker_loops.specs.Loops.{Claims, Round, all_list, table_of}
+use Rattle.checker_loops.specs.Loops.{Claims, Round, all_list}
+use Rattle.checker_state.specs.State.{table_of}
 use Rattle.checker_loops.specs.Pairs.{Listed}
 use Rattle.checker_loops.specs.Ways.{single}
 use Rattle.checker_calls.specs.Sections.{BlockClaims, block_claims_at}
@@ -74,11 +76,6 @@ pub record Context : Type 0 where
   pub pairs : Listed
   pub block : ℕ
   pub rounds : List Round
-
--- a rule of certificates that is broken at a place
-pub record Breach : Type 0 where
-  pub rule : Rule
-  pub place : Place
 
 -- a state that is linked to a number, that of the statement or expression which is entered with it
 pub record Linked : Type 0 where

@@ -22,6 +22,31 @@ pub enum Rule {
     Changes,
 }
 
+impl Rule {
+    ghost use Rattle.checker_expressions.specs.Rules.{number_of};
+
+    /// Its number behind the letter C, from 2 to 7.
+    pub fn number(self) -> u8
+        ensures { result ≡ number_of self }
+    {
+        match self {
+            Rule::LoopEntry => 2,
+            Rule::LoopTurn => 3,
+            Rule::Exit => 4,
+            Rule::CallEntry => 5,
+            Rule::Aliases => 6,
+            Rule::Changes => 7,
+        }
+    }
+}
+
+/// A rule of certificates that is broken at a place.
+#[derive(Clone, Copy)]
+pub struct Breach {
+    pub rule: Rule,
+    pub place: Place,
+}
+
 /// Why a certificate gets no verdict.
 #[derive(Clone, Copy, Debug, Error)]
 pub enum CheckFault {

@@ -1,4 +1,13 @@
-//! The walk of the checker over an expression.
+//! Checks the expressions of a program (ISO 7185:1990, 6.7): what is known of their values, and which of their sites
+//! stay open, told in one walk over each expression.
 #![tactic(auto)]
 
+mod calls;
 pub mod fault;
+pub mod flow;
+pub mod grounds;
+mod operations;
+mod results;
+mod uses;
+pub mod visits;
+mod walk;

@@ -1,6 +1,11 @@
-pub mod Tabled
-pub mod Claims
-pub mod Constants
+pub mod Aliased
 pub mod Behind
-pub mod Touched
+pub mod ByBlock
+pub mod Claimed
+pub mod Constants
+pub mod Halves
 pub mod OnWay
+pub mod Partners
+pub mod Stepped
+pub mod Tabled
+pub mod Touched

@@ -5,7 +5,7 @@ use Rattle.checker_rows.specs.Rows.{all_parts}
 use Rattle.checker_rows.proofs.Accessed.{components-inner, indexes-are, rows-apart}
 use Rattle.checker_rows.proofs.Numbered.{own-parts}
 use Rattle.checker_state.specs.Knows.{AreRows}
-use Rattle.checker_loops.specs.Loops.{table_of}
+use Rattle.checker_state.specs.State.{table_of}
 
 pub are-rows : (tree : Tree) → AreRows (all_parts tree) (table_of tree)
 are-rows tree = record {

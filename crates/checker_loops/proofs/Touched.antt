@@ -3,14 +3,11 @@ use Rattle.std.proofs.Common.{◌≡◌, ◌∙◌, ap, refl, ℕ, Bool, true, f
 use Rattle.std.proofs.Common.{[], ◌∷◌, ◌++◌, Option, Some, None}
 use Rattle.std.proofs.lemmas.Bool.{eq-eqb}
 use Rattle.std.proofs.lemmas.List.Folds.{list_any-append}
-use Rattle.std.specs.List.{list_all}
+use Rattle.std.specs.List.{list_all, list_any}
+use Rattle.checker_state.specs.Bounds.{is_variable}
 use Rattle.checker_state.specs.Loops.{is_among}
 use Rattle.checker_loops.specs.Loops.{Round, touched, with_own}
-
--- the control variable of a for statement at the head, if there is one
-abbrev pub own_controls : Option ℕ → List ℕ
-own_controls None = []
-own_controls (Some control) = control ∷ []
+use Rattle.checker_loops.specs.View.{own_controls}
 
 -- in each of these loops is a for statement that a variable controls
 abbrev pub all_control : ℕ → List Round → Bool
@@ -56,3 +53,8 @@ or-first false b is = absurd (cc)
 -- a control variable is among those that control a for statement at the head
 pub own-controls : (control : ℕ) (loop : Round) → is_among control (with_own (Some control) loop).controls ≡ true
 own-controls control loop = or-first (nat_eq control control) (is_among control loop.controls) (eq-eqb control control refl)
+
+-- nothing rests on variables that has none
+pub none-rests : (roots : List ℕ) → list_any (λ root. is_variable root None) roots ≡ false
+none-rests [] = refl
+none-rests (root ∷ roots) = none-rests roots

@@ -12,7 +12,7 @@ use Rattle.domain.specs.Facts.{Path}
 use Rattle.checker_rows.specs.Limits.{row_limits}
 use Rattle.checker_rows.specs.Rows.{Named, index_at, part_named, rows_of, rows_touched, rows_under}
 use Rattle.checker_state.specs.Bounds.{Bound, constant, plus}
-use Rattle.checker_state.specs.State.{Claim, Holds, Ordered, Range, State, Stretched, Table}
+use Rattle.checker_state.specs.State.{Claim, Holds, Ordered, Range, State, Stretched, table_of}
 use Rattle.checker_state.specs.Loops.{gives_all, head, is_among}
 use Rattle.checker_state.specs.Stores.{all_of_row}
 use Rattle.checker_loops.specs.Pairs.{Listed, all_aliases_in}
@@ -40,10 +40,6 @@ rows_in tree root (Some named) = rows_under tree root named.steps
 
 abbrev pub rows_named : Tree → Path → List ℕ
 rows_named tree path = rows_in tree path.root (part_named tree path)
-
--- what is told of the rows of a program: how many variables there are, and where first indexes lie
-abbrev pub table_of : Tree → Table
-table_of tree = record { variables = length tree.variables.items; index = index_at (rows_of tree) }
 
 -- a stretch of first indexes of a row
 abbrev pub stretch_of : fact.Bound → fact.Bound → ℕ → Claim

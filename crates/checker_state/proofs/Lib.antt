@@ -14,3 +14,5 @@ pub mod Evaluated
 pub mod Refined
 pub mod Knows
 pub mod OfTree
+pub mod FormsOf
+pub mod HeldOrders

@@ -9,3 +9,5 @@ pub mod Stores
 pub mod Holds
 pub mod Knows
 pub mod Laws
+pub mod View
+pub mod Terms

@@ -3,13 +3,15 @@
 -- variables, and stretches of rows that are defined; and which facts that gives. It does not say how such a state comes
 -- about, nor what it means for a run.
 use Rattle.std.specs.Prelude.{ℕ, ℤ, pos, ◌+ℤ◌, int_le, Bool, true, false, not, ◌&&◌, ◌||◌, List, [], ◌∷◌, Option}
-use Rattle.std.specs.Prelude.{Some, None, if◌then◌else◌, nat_eq, nat_lt, slice_index_or, slice_set}
+use Rattle.std.specs.Prelude.{Some, None, if◌then◌else◌, length, nat_eq, nat_lt, slice_index_or, slice_set}
 use Rattle.std.specs.List.{list_any}
 use Rattle.std.specs.Cmp.Lexicographic.{slice_cmp}
 use Rattle.std.specs.Ordering.{int_cmp, nat_cmp, ordering_then}
 use Rattle.std.specs.declared.cmp.Ordering.{Ordering}
 use Rattle.std.specs.declared.cmp.Ordering.TheVariants.{Less, Equal, Greater}
 use Rattle.types.specs.declared.form.OrdinalRange.{OrdinalRange}
+use Rattle.typed_tree.specs.declared.tree.Tree.{Tree}
+use Rattle.checker_rows.specs.Rows.{index_at, rows_of}
 use Rattle.domain.specs.Interval.{Interval, is_included, is_vacant, vacant}
 use Rattle.checker_state.specs.Bounds.{Bound, bound_order, constant, is_at_most, is_variable, plus, raised_bound}
 
@@ -207,6 +209,9 @@ is_spanned known row (Some range) = list_any (covers known (all_of row range)) k
 pub record Table : Type 0 where
   pub variables : ℕ
   pub index : ℕ → Option OrdinalRange
+
+abbrev pub table_of : Tree → Table
+table_of tree = record { variables = length tree.variables.items; index = index_at (rows_of tree) }
 
 module _ (table : Table) where
   -- a variable that is there is known to be defined

@@ -1,7 +1,19 @@
-//! What the checker knows at a point of a program, in one state, and what holds of it.
+//! What the checker knows at a point of a program: bounds, what is held, forms of expressions; and what holds of states.
 #![tactic(auto)]
 
+mod bound;
+mod ends;
+mod forms;
+mod held;
 pub mod laws;
+mod reach;
+mod term;
 mod value;
 
+pub use bound::{Bound, Rebinding};
+pub use ends::{Ends, difference, sum};
+pub use forms::{bound_form, entire};
+pub use held::{Claim, Held, Order, Span, Stretch};
+pub use reach::{Index, Indexes, Reach};
+pub use term::Term;
 pub use value::Known;

@@ -1,17 +1,14 @@
 -- Paths, bounds and facts: what may be said of the variables at a point of a program (ISO 7185:1990, 6.5.1: a variable
 -- is undefined or has a value), and the order in which facts are listed, each once. It does not say what a fact means
 -- of a run.
-use Rattle.std.specs.Prelude.{ℕ, ℤ, Bool, List, [], ◌∷◌}
-use Rattle.std.specs.List.{list_any}
+use Rattle.std.specs.Prelude.{ℕ, ℤ, List}
 use Rattle.std.specs.Cmp.Lexicographic.{slice_cmp}
 use Rattle.std.specs.declared.cmp.Ordering.{Ordering}
 use Rattle.std.specs.declared.cmp.Ordering.TheVariants.{Less, Equal, Greater}
-use Rattle.std.specs.Ordering.{int_cmp, is_eq, nat_cmp, ordering_then}
+use Rattle.std.specs.Ordering.{int_cmp, nat_cmp, ordering_then}
 use Rattle.domain.specs.Interval.{Interval}
 use Rattle.domain.specs.declared.facts.Bound.{Bound as KeptBound}
 use Rattle.domain.specs.declared.facts.Bound.TheVariants as kept
-use Rattle.domain.specs.declared.facts.Fact.{Fact as KeptFact}
-use Rattle.domain.specs.declared.facts.Fact.TheVariants as kept_fact
 
 -- a step of a path: to all elements of an array, or to the field of a name
 pub data Step : Type 0 where
@@ -22,10 +19,6 @@ pub data Step : Type 0 where
 pub record Path : Type 0 where
   pub root : ℕ
   pub steps : List Step
-
--- the path of an entire variable
-abbrev pub entire : ℕ → Path
-entire root = record { root = root; steps = [] }
 
 -- a number, or the value of a variable plus a number
 pub data Bound : Type 0 where
@@ -77,42 +70,9 @@ subject_order (Stretch p a b) (Stretch q c d) =
 subject_order (Order a b m) (Order c d n) = ordering_then (nat_cmp a c) (nat_cmp b d)
 subject_order f g = nat_cmp (rank f) (rank g)
 
--- by the numbers of ranges, or of orders
-abbrev pub numbers_order : Fact → Fact → Ordering
-numbers_order (Range p a) (Range q b) = ordering_then (int_cmp a.first b.first) (int_cmp a.last b.last)
-numbers_order (Order a b m) (Order c d n) = int_cmp m n
-numbers_order f g = Equal
-
--- by what they say something of, and then by their numbers
-abbrev pub fact_order : Fact → Fact → Ordering
-fact_order f g = ordering_then (subject_order f g) (numbers_order f g)
-
--- ---- lists of facts
-
--- a list has a fact
-abbrev pub has_fact : Fact → List Fact → Bool
-has_fact fact facts = list_any (λ other. is_eq (fact_order fact other)) facts
-
--- a fact comes before, or is, or comes behind the first of a list
-abbrev pub put : Ordering → Fact → Fact → (rest longer : List Fact) → List Fact
-put Less fact first rest longer = fact ∷ first ∷ rest
-put Equal fact first rest longer = first ∷ rest
-put Greater fact first rest longer = first ∷ longer
-
--- a list in order with a fact more, in its place, unless the list has it
-abbrev pub with_fact : Fact → List Fact → List Fact
-with_fact fact [] = fact ∷ []
-with_fact fact (first ∷ rest) = put (fact_order fact first) fact first rest (with_fact fact rest)
-
--- ---- facts of entire variables, as programs keep them
+-- ---- as programs keep them
 
 -- what a bound says
 abbrev pub said_bound : KeptBound → Bound
 said_bound (kept.Number number) = Number number
 said_bound (kept.Plus root number) = Plus root number
-
--- what a fact says
-abbrev pub said : KeptFact → Fact
-said (kept_fact.Range root range) = Range (entire root) range
-said (kept_fact.Defined root) = Defined (entire root)
-said (kept_fact.Order root other number) = Order root other number

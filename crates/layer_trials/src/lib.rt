@@ -29,7 +29,6 @@ mod running;
 #[cfg(test)]
 mod sources;
 #[cfg(test)]
-mod sparse_lists;
 #[cfg(test)]
 mod stretches;
 #[cfg(test)]

@@ -23,8 +23,8 @@ use Rattle.code_scheme.specs.Large.{is_too_large}
 use Rattle.report_text.specs.declared.fault.Fault.{Fault}
 use Rattle.report_text.specs.Faults.{lexer_fault, parser_fault, typing_fault, certificate_fault, checker_fault, generator_fault}
 use Rattle.certificate.specs.declared.Certificate.{Certificate as CertificateRead}
-use Rattle.expression_checker.specs.declared.fault.CheckFault.{CheckFault}
-use Rattle.expression_checker.specs.declared.fault.CheckFault.TheVariants as check
+use Rattle.checker_expressions.specs.declared.fault.CheckFault.{CheckFault}
+use Rattle.checker_expressions.specs.declared.fault.CheckFault.TheVariants as check
 use Rattle.cert_checker.specs.Promise.{IsRefusedFor}
 use Rattle.cert_checker.specs.Walk.{program_walk}
 use Rattle.report.specs.Headline.{IsWrittenAs, IsTypedTreeOf}

@@ -14,7 +14,7 @@ use Rattle.typing.specs.Typing.{typing}
 use Rattle.certificate.specs.declared.Certificate.{Certificate as CertificateRead}
 use Rattle.certificate.specs.Contents.{Spells}
 use Rattle.certificate.specs.Text.{first_fault}
-use Rattle.expression_checker.specs.declared.fault.CheckFault.TheVariants as check
+use Rattle.checker_expressions.specs.declared.fault.CheckFault.TheVariants as check
 use Rattle.cert_checker.specs.Promise.{IsRefusedFor}
 use Rattle.cert_checker.specs.Walk.{program_walk}
 use Rattle.code_generator.specs.declared.fault.GenFault.TheVariants as generate

@@ -8,8 +8,8 @@ use Rattle.typed_tree.specs.declared.fault.TypeFault.{TypeFault}
 use Rattle.typed_tree.specs.declared.fault.TypeFault.TheVariants as typing
 use Rattle.certificate.specs.declared.fault.ReadFault.{ReadFault}
 use Rattle.certificate.specs.declared.fault.ReadFault.TheVariants as read
-use Rattle.expression_checker.specs.declared.fault.CheckFault.{CheckFault}
-use Rattle.expression_checker.specs.declared.fault.CheckFault.TheVariants as check
+use Rattle.checker_expressions.specs.declared.fault.CheckFault.{CheckFault}
+use Rattle.checker_expressions.specs.declared.fault.CheckFault.TheVariants as check
 use Rattle.code_generator.specs.declared.fault.GenFault.{GenFault}
 use Rattle.code_generator.specs.declared.fault.GenFault.TheVariants as generate
 use Rattle.report_text.specs.declared.fault.Fault.{Fault}

@@ -12,9 +12,9 @@ use Rattle.typed_tree.specs.Sites.{name_of, kind_of}
 use Rattle.certificate.specs.declared.fault.ReadFault.{ReadFault}
 use Rattle.certificate.specs.Faults.{line_of}
 use Rattle.certificate.specs.Faults as read
-use Rattle.expression_checker.specs.declared.fault.CheckFault.{CheckFault}
-use Rattle.expression_checker.specs.declared.fault.CheckFault.TheVariants as check
-use Rattle.expression_checker.specs.Rules as rule
+use Rattle.checker_expressions.specs.declared.fault.CheckFault.{CheckFault}
+use Rattle.checker_expressions.specs.declared.fault.CheckFault.TheVariants as check
+use Rattle.checker_expressions.specs.Rules as rule
 use Rattle.code_generator.specs.declared.fault.GenFault.{GenFault}
 use Rattle.code_generator.specs.declared.fault.GenFault.TheVariants as generate
 use Rattle.stack_machine.specs.declared.stop.Stop.{Stop}

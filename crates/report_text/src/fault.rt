@@ -5,7 +5,7 @@ ghost use Rattle.report_text.specs.declared.fault.Fault.TheVariants.{Memory};
 
 use certificate::fault::ReadFault;
 use code_generator::fault::GenFault;
-use expression_checker::fault::CheckFault;
+use checker_expressions::fault::CheckFault;
 use lexer::fault::LexFault;
 use std::alloc::AllocError;
 use thiserror::Error;

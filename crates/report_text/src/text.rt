@@ -10,7 +10,7 @@ ghost use Rattle.report_text.specs.Text.{checker_refusal, generator_refusal};
 use crate::fault::Fault;
 use certificate::fault::ReadFault;
 use code_generator::fault::GenFault;
-use expression_checker::fault::CheckFault;
+use checker_expressions::fault::CheckFault;
 use itoa::Buffer;
 use place::Place;
 use smallvec::SmallVec;

@@ -1,561 +1,214 @@
-use Rattle.std.proofs.Common.{refl, List, length, map, subst, ap, sym, ◌∙◌, ◌+◌, true, false, Some, None, Ok, Err}
+use Rattle.std.proofs.Common.{true, false, ◌≡◌, ◌∙◌, sym, ap, subst, refl, ℕ, List, [], ◌∷◌, ◌++◌, Option, None, Some, length, map, arith, ◌<◌, ◌≤◌, ◌+◌, get_or}
 use Rattle.typed_tree.specs.declared.tree.Stmt.{Stmt}
-use Rattle.abstract_state.specs.declared.known.Known.{Known}
-use Rattle.abstract_state.specs.declared.known.Known.TheVariants.{Ordinal}
-use Rattle.component_states.specs.States.{State}
-use Rattle.structured_states.specs.View.{said_way}
-use Rattle.structured_states.specs.Ways.{way_of}
-use Rattle.expression_checker.specs.declared.fault.CheckFault.TheVariants.{Memory}
-use Rattle.expression_checker.specs.Walk.{◌>>=◌, value_walk}
-use Rattle.cert_checker.specs.Walk.{all_of, arm_walk, arms_walk, bounds_walk, branches, case_walk, for_round, for_turns, for_walk, from_entry}
-use Rattle.cert_checker.specs.Walk.{index_walk, repeat_round, repeat_walk, rounds_of, statement_walk, where_so, while_round, while_walk}
-use Rattle.cert_checker.specs.View.{Goes, else_walk, viewed_in}
-use Rattle.cert_checker.proofs.Steps.{all-end, all-step, all-stopped, branches-done, branches-half, branches-stopped, given-up, goes-as, goes-from_entry}
-use Rattle.cert_checker.proofs.Steps.{goes-nowhere, goes-stopped, goes-then, if-stopped, if-valued, loop-done, loop-not_entered, loop-stopped}
-use Rattle.cert_checker.proofs.Steps.{repeat_round-done, repeat_round-stopped, repeat_round-unparted, repeat_round-untested, state-given_up, viewed-same}
-use Rattle.cert_checker.proofs.Steps.{while_round-done, while_round-stopped, while_round-unparted, while_round-untested}
-use Rattle.cert_checker.proofs.StepsFor.{for-done, for-stopped, for_round-ends, for_round-stopped, rounds-go, turns-done, turns-not_begun, turns-not_tested}
-use Rattle.cert_checker.proofs.StepsCase.{arm-done, arm-stopped, arms_from, arms-end, arms-step, arms-stopped, case-not_tested, case-tested, statement-Case}
+use Rattle.typed_tree.specs.Entries.{entries_of_expression, entries_of_statement}
+use Rattle.checker_state.specs.State.{State}
+use Rattle.checker_state.specs.declared.value.Known.{Known}
+use Rattle.checker_loops.specs.View.{said_way}
+use Rattle.checker_loops.specs.Ways.{Way, turn_begun, turn_ended, way_of, way_out, where_counts}
+use Rattle.checker_state.specs.Loops.{with_undefined}
+use Rattle.checker_expressions.specs.Visits.{all_counted}
+use Rattle.checker_expressions.specs.Walk.{◌>>=◌, changed_by, give, value_walk, with_state}
+use Rattle.cert_checker.specs.Walk.{all_of, begin_way, bounds_walk, branches, case_walk, choice_walk, for_turns, for_walk, index_walk, parted, repeat_round}
+use Rattle.cert_checker.specs.Walk.{here, loop_walk, repeat_walk, rounds_of, statement_walk, tested_way, where_so, while_walk}
+use Rattle.cert_checker.specs.View.{Goes, else_entries, else_walk, statements_entries}
+use Rattle.cert_checker.proofs.Steps.{all-end, all-step, counted-end, counted-step, counted-then, goes-from_entry, goes-give, goes-here, goes-then, moved}
+use Rattle.cert_checker.proofs.StepsWays.{loop-alike, loop-done, parted-done, round_of_parts, rounds-go, then-assoc}
+use Rattle.cert_checker.proofs.StepsCase.{arms-begin, arms-end, arms-step, case-tested}
 use Rattle.cert_checker.proofs.walk.Walk.+statement.Goals as goal
 
+-- ---- statements, one after another
+
+pub statements-loop-statement-init : goal.statements-loop-statement-init
+statements-loop-statement-init t c = (λ new goes. goes, refl)
+
 pub statements-loop-statement-preserved : goal.statements-loop-statement-preserved
-statements-loop-statement-preserved t c = λ result new after goes.
+statements-loop-statement-preserved t c =
     let here = c.loop-statement in
-    here.invariant result new after
-    (all-step statement_walk c.args.statements.now here.statement-index c.statement-item.result here.self c.statement.new.self new here.visits
-    c.statement.new.visits after tt result
-    c.loop-statement-test.true c.statement-item.is c.in_ok-statement.ensures goes)
+    (λ new goes. here.invariant.0 new
+    (all-step statement_walk c.args.statements.now here.statement-index c.statement-item.result c.loop-statement-test.true c.statement-item.is
+    c.statement.ensures.goes goes),
+    counted-step statements_entries entries_of_statement (λ x xs. refl) c.args.statements.now here.statement-index c.statement-item.result _
+    c.loop-statement-test.true c.statement-item.is c.statement.ensures.counts here.invariant.1)
 
-pub statements-returns : goal.statements-returns
-statements-returns t c =
+pub statements-returns-clause-goes : goal.statements-returns-clause-goes
+statements-returns-clause-goes t c =
     let here = c.loop-statement in
-    here.invariant (Ok tt) here.self here.visits (all-end statement_walk c.args.statements.now here.statement-index here.self here.visits
-    c.loop-statement-test.false)
+    here.invariant.0 here.self (all-end statement_walk c.args.statements.now here.statement-index here.self c.loop-statement-test.false)
 
-pub statement-returns-in_err-known-in-If : goal.statement-returns-in_err-known-in-If
-statement-returns-in_err-known-in-If t c =
-    let it = c.in-If in
-    let new = c.expression.new.self in
-    let after = c.expression.new.visits in
-    let fault = c.in_err-known-in-If.field-0.0 in
-    let left = c.from_residual in
-    given-up (statement_walk c.args.statement.now) c.args.self.now new c.args.visits.now after fault left.result left.ensures
-    (if-stopped c.args.statement.now it.consequence.value it.number it.condition it.consequence it.alternative it.is refl c.args.self.now
-    c.args.visits.now c.tick-in-If.new.self c.tick-in-If.ensures new after fault c.in_err-known-in-If.ensures)
+pub statements-returns-clause-counts : goal.statements-returns-clause-counts
+statements-returns-clause-counts t c =
+    let here = c.loop-statement in
+    counted-end statements_entries entries_of_statement (λ x xs. refl) c.args.statements.now here.statement-index _ c.loop-statement-test.false refl
+    here.invariant.1
 
-pub statement-returns-in_err-otherwise-in-If : goal.statement-returns-in_err-otherwise-in-If
-statement-returns-in_err-otherwise-in-If t c =
-    let it = c.in-If in
-    let valued = c.expression.new.self in
-    let new = c.part.new.self in
-    let after = c.expression.new.visits in
-    let known = c.in_ok-known-in-If.known in
-    let fault = c.in_err-otherwise-in-If.field-0.0 in
-    let left = c.from_residual-in_err-otherwise-in-If in
-    given-up (statement_walk c.args.statement.now) c.args.self.now new c.args.visits.now after fault left.result left.ensures
-    (if-valued c.args.statement.now it.consequence.value it.number it.condition it.consequence it.alternative it.is refl c.args.self.now
-    c.args.visits.now c.tick-in-If.new.self c.tick-in-If.ensures known valued new after after (Err fault) c.in_ok-known-in-If.ensures
-    (goes-nowhere (branches it.condition (statement_walk it.consequence.value) (else_walk it.alternative) known) valued new after fault
-    c.in_err-otherwise-in-If.ensures))
+-- ---- an if
 
-pub statement-returns-in_err-statement-in-If : goal.statement-returns-in_err-statement-in-If
-statement-returns-in_err-statement-in-If t c =
-    let it = c.in-If in
-    let inner = c.deref-in-If.result.now in
-    let valued = c.expression.new.self in
-    let between = c.expression.new.visits in
-    let new = c.statement.new.self in
-    let after = c.statement.new.visits in
-    let known = c.in_ok-known-in-If.known in
-    let fault = c.in_err-statement-in-If.field-0.0 in
-    let left = c.from_residual-in_err-statement-in-If in
-    given-up (statement_walk c.args.statement.now) c.args.self.now new c.args.visits.now after fault left.result left.ensures
-    (if-valued c.args.statement.now inner it.number it.condition it.consequence it.alternative it.is c.deref-in-If.ensures c.args.self.now
-    c.args.visits.now c.tick-in-If.new.self c.tick-in-If.ensures known valued new between after (Err fault) c.in_ok-known-in-If.ensures
-    (branches-stopped (where_so true it.condition known) (where_so false it.condition known) (statement_walk inner) (else_walk it.alternative) valued
-    c.part.new.self new between after c.in_ok-otherwise-in-If.otherwise fault c.in_ok-otherwise-in-If.ensures c.in_err-statement-in-If.ensures))
+pub choice-returns-clause-goes : goal.choice-returns-clause-goes
+choice-returns-clause-goes t c =
+    let condition = c.args.condition.now in
+    let one = statement_walk c.args.consequence.now in
+    let other = else_walk c.args.alternative.now in
+    let known = c.expression-known.result in
+    goes-from_entry c.args.number (choice_walk condition one other)
+    (goes-then (value_walk condition) (branches condition one other) c.expression-known.ensures.goes
+    (parted-done (where_so true condition known) (where_so false condition known) one other c.mark-mark.result.length c.mark-mark.ensures
+    c.go_where.ensures c.statement.ensures.goes c.leave-first.ensures.long c.leave-first.ensures.back c.go_where-2.ensures c.alternative.ensures.goes
+    c.join_behind.ensures.long c.join_behind.ensures.meets))
 
-pub statement-returns-in_err-alternative-in-If : goal.statement-returns-in_err-alternative-in-If
-statement-returns-in_err-alternative-in-If t c =
-    let it = c.in-If in
-    let inner = c.deref-in-If.result.now in
-    let valued = c.expression.new.self in
-    let between = c.expression.new.visits in
-    let new = c.alternative.new.self in
-    let after = c.alternative.new.visits in
-    let known = c.in_ok-known-in-If.known in
-    let fault = c.in_err-alternative-in-If.field-0.0 in
-    let left = c.from_residual-in_err-alternative-in-If in
-    given-up (statement_walk c.args.statement.now) c.args.self.now new c.args.visits.now after fault left.result left.ensures
-    (if-valued c.args.statement.now inner it.number it.condition it.consequence it.alternative it.is c.deref-in-If.ensures c.args.self.now
-    c.args.visits.now c.tick-in-If.new.self c.tick-in-If.ensures known valued new between after (Err fault) c.in_ok-known-in-If.ensures
-    (branches-half (where_so true it.condition known) (where_so false it.condition known) (statement_walk inner) (else_walk it.alternative) valued
-    c.part.new.self c.statement.new.self _ new between c.statement.new.visits after c.in_ok-otherwise-in-If.otherwise fault
-    c.in_ok-otherwise-in-If.ensures c.in_ok-statement-in-If.ensures c.replace-behind.ensures.after refl c.in_err-alternative-in-If.ensures))
+pub choice-returns-clause-counts : goal.choice-returns-clause-counts
+choice-returns-clause-counts t c =
+    let first = entries_of_expression c.args.condition.now in
+    let one = entries_of_statement c.args.consequence.now in
+    let other = else_entries c.args.alternative.now in
+    counted-then (c.args.number ∷ []) (first ++ (one ++ other)) _ c.tick.ensures
+    (counted-then first (one ++ other) _ c.expression-known.ensures.counts
+    (counted-then one other _ c.statement.ensures.counts c.alternative.ensures.counts))
 
-pub statement-returns-in_ok-alternative-in-If : goal.statement-returns-in_ok-alternative-in-If
-statement-returns-in_ok-alternative-in-If t c =
-    let it = c.in-If in
-    let inner = c.deref-in-If.result.now in
-    let valued = c.expression.new.self in
-    let between = c.expression.new.visits in
-    let new = c.meet.new.self in
-    let after = c.alternative.new.visits in
-    let known = c.in_ok-known-in-If.known in
-    if-valued c.args.statement.now inner it.number it.condition it.consequence it.alternative it.is c.deref-in-If.ensures c.args.self.now
-    c.args.visits.now c.tick-in-If.new.self c.tick-in-If.ensures known valued new between after c.meet.result c.in_ok-known-in-If.ensures
-    (branches-done (where_so true it.condition known) (where_so false it.condition known) (statement_walk inner) (else_walk it.alternative) valued
-    c.part.new.self c.statement.new.self _ c.alternative.new.self new between c.statement.new.visits after c.replace-behind.result
-    c.in_ok-otherwise-in-If.otherwise c.meet.result c.in_ok-otherwise-in-If.ensures c.in_ok-statement-in-If.ensures c.replace-behind.ensures.value
-    c.replace-behind.ensures.after refl c.in_ok-alternative-in-If.ensures c.meet.ensures)
+-- ---- loops
 
-pub while_loop-returns-in_err-enter_loop : goal.while_loop-returns-in_err-enter_loop
-while_loop-returns-in_err-enter_loop t c =
+pub while_loop-returns-clause-goes : goal.while_loop-returns-clause-goes
+while_loop-returns-clause-goes t c =
     let head = c.args.head.now in
+    let condition = head.condition in
     let body = statement_walk c.args.body.now in
-    let new = c.enter_loop.new.self in
-    let after = c.tick.new.self in
-    let fault = c.in_err-enter_loop.field-0.0 in
-    let left = c.from_residual in
-    given-up (from_entry head.number (while_walk head body)) c.args.self.now new c.args.visits.now after fault left.result left.ensures
-    (goes-from_entry head.number (while_walk head body) c.args.self.now new c.args.visits.now after after (Err fault) c.tick.ensures
-    (loop-not_entered head.loop_number head.place None (while_round head.condition body) c.args.self.now new after fault c.in_err-enter_loop.ensures))
+    goes-from_entry head.number (while_walk head body)
+    (loop-done head.loop_number head.place None (value_walk condition)
+    (λ known tested. with_state (where_so true condition known tested) >>= λ _. body) (λ known tested. where_so false condition known tested)
+    c.mark-mark.result.length c.enter_loop.ensures c.expression-known.ensures.goes c.mark-mark.ensures
+    (goes-then (changed_by (where_so true condition c.expression-known.result)) (λ _. body) c.go_where.ensures c.statement.ensures.goes)
+    c.leave_loop.ensures c.leave-turn.ensures.long c.leave-turn.ensures.back c.go_where-2.ensures)
 
-pub while_loop-returns-in_err-behind : goal.while_loop-returns-in_err-behind
-while_loop-returns-in_err-behind t c =
-    let head = c.args.head.now in
-    let body = statement_walk c.args.body.now in
-    let between = c.tick.new.self in
-    let new = c.while_round.new.self in
-    let after = c.while_round.new.visits in
-    let fault = c.in_err-behind.field-0.0 in
-    let left = c.from_residual-in_err-behind in
-    given-up (from_entry head.number (while_walk head body)) c.args.self.now new c.args.visits.now after fault left.result left.ensures
-    (goes-from_entry head.number (while_walk head body) c.args.self.now new c.args.visits.now between after (Err fault) c.tick.ensures
-    (loop-stopped head.loop_number head.place None
-    (while_round head.condition body) c.args.self.now c.enter_loop.new.self c.in_ok-enter_loop.ensures new between after fault
-    c.in_err-behind.ensures))
+pub while_loop-returns-clause-counts : goal.while_loop-returns-clause-counts
+while_loop-returns-clause-counts t c =
+    let first = entries_of_expression c.args.head.now.condition in
+    let rest = entries_of_statement c.args.body.now in
+    counted-then (c.args.head.now.number ∷ []) (first ++ rest) _ c.tick.ensures
+    (counted-then first rest _ c.expression-known.ensures.counts c.statement.ensures.counts)
 
-pub while_loop-returns : goal.while_loop-returns
-while_loop-returns t c =
+pub repeat_loop-returns-clause-goes : goal.repeat_loop-returns-clause-goes
+repeat_loop-returns-clause-goes t c =
     let head = c.args.head.now in
-    let body = statement_walk c.args.body.now in
-    let between = c.tick.new.self in
-    let new = c.leave_loop.new.self in
-    let after = c.while_round.new.visits in
-    goes-from_entry head.number (while_walk head body) c.args.self.now new c.args.visits.now between after c.leave_loop.result c.tick.ensures
-    (loop-done head.loop_number head.place None
-    (while_round head.condition body) c.args.self.now c.enter_loop.new.self c.in_ok-enter_loop.ensures c.while_round.new.self between after
-    c.in_ok-behind.behind c.in_ok-behind.ensures c.leave_loop.result new c.leave_loop.ensures)
-
-pub repeat_loop-returns-in_err-enter_loop : goal.repeat_loop-returns-in_err-enter_loop
-repeat_loop-returns-in_err-enter_loop t c =
-    let head = c.args.head.now in
+    let condition = head.condition in
     let body = all_of (map statement_walk c.args.statements.now) in
-    let new = c.enter_loop.new.self in
-    let after = c.tick.new.self in
-    let fault = c.in_err-enter_loop.field-0.0 in
-    let left = c.from_residual in
-    given-up (from_entry head.number (repeat_walk head body)) c.args.self.now new c.args.visits.now after fault left.result left.ensures
-    (goes-from_entry head.number (repeat_walk head body) c.args.self.now new c.args.visits.now after after (Err fault) c.tick.ensures
-    (loop-not_entered head.loop_number head.place None (repeat_round body head.condition) c.args.self.now new after fault c.in_err-enter_loop.ensures))
+    let again = λ (known : Known) (tested : State). with_state (where_so false condition known tested) in
+    let out = λ (known : Known) (tested : State). where_so true condition known tested in
+    let parts = round_of_parts (body >>= λ _. value_walk condition) again out in
+    goes-from_entry head.number (repeat_walk head body)
+    (goes-here (loop_walk head.loop_number head.place None parts) (repeat_walk head body)
+    (loop-alike head.loop_number head.place None parts (repeat_round body condition)
+    (λ context state. then-assoc body (λ _. value_walk condition) (λ known. here >>= λ tested. (again known tested >>= λ _. give (out known tested)))
+    context state) _ _)
+    (loop-done head.loop_number head.place None (body >>= λ _. value_walk condition) again out c.mark-mark.result.length c.enter_loop.ensures
+    (goes-then body (λ _. value_walk condition) c.statements.ensures.goes c.expression-known.ensures.goes) c.mark-mark.ensures c.go_where.ensures
+    c.leave_loop.ensures c.leave-turn.ensures.long c.leave-turn.ensures.back c.go_where-2.ensures))
 
-pub repeat_loop-returns-in_err-behind : goal.repeat_loop-returns-in_err-behind
-repeat_loop-returns-in_err-behind t c =
-    let head = c.args.head.now in
-    let body = all_of (map statement_walk c.args.statements.now) in
-    let between = c.tick.new.self in
-    let new = c.repeat_round.new.self in
-    let after = c.repeat_round.new.visits in
-    let fault = c.in_err-behind.field-0.0 in
-    let left = c.from_residual-in_err-behind in
-    given-up (from_entry head.number (repeat_walk head body)) c.args.self.now new c.args.visits.now after fault left.result left.ensures
-    (goes-from_entry head.number (repeat_walk head body) c.args.self.now new c.args.visits.now between after (Err fault) c.tick.ensures
-    (loop-stopped head.loop_number head.place None
-    (repeat_round body head.condition) c.args.self.now c.enter_loop.new.self c.in_ok-enter_loop.ensures new between after fault
-    c.in_err-behind.ensures))
+pub repeat_loop-returns-clause-counts : goal.repeat_loop-returns-clause-counts
+repeat_loop-returns-clause-counts t c =
+    let first = statements_entries c.args.statements.now in
+    let rest = entries_of_expression c.args.head.now.condition in
+    counted-then (c.args.head.now.number ∷ []) (first ++ rest) _ c.tick.ensures
+    (counted-then first rest _ c.statements.ensures.counts c.expression-known.ensures.counts)
 
-pub repeat_loop-returns : goal.repeat_loop-returns
-repeat_loop-returns t c =
-    let head = c.args.head.now in
-    let body = all_of (map statement_walk c.args.statements.now) in
-    let between = c.tick.new.self in
-    let new = c.leave_loop.new.self in
-    let after = c.repeat_round.new.visits in
-    goes-from_entry head.number (repeat_walk head body) c.args.self.now new c.args.visits.now between after c.leave_loop.result c.tick.ensures
-    (loop-done head.loop_number head.place None
-    (repeat_round body head.condition) c.args.self.now c.enter_loop.new.self c.in_ok-enter_loop.ensures c.repeat_round.new.self between after
-    c.in_ok-behind.behind c.in_ok-behind.ensures c.leave_loop.result new c.leave_loop.ensures)
+-- ---- a for
 
-pub for_loop-returns-in_err-from : goal.for_loop-returns-in_err-from
-for_loop-returns-in_err-from t c =
+pub for_loop-returns-clause-goes : goal.for_loop-returns-clause-goes
+for_loop-returns-clause-goes t c =
     let head = c.args.head.now in
     let body = statement_walk c.args.body.now in
-    let rest = λ (from : Known). value_walk head.last.value >>= λ to. for_walk head body (way_of head from to) in
-    let new = c.expression.new.self in
-    let after = c.expression.new.visits in
-    let fault = c.in_err-from.field-0.0 in
-    let left = c.from_residual in
-    given-up (from_entry head.number (bounds_walk head body)) c.args.self.now new c.args.visits.now after fault left.result left.ensures
-    (goes-from_entry head.number (bounds_walk head body) c.args.self.now new c.args.visits.now c.tick.new.self after (Err fault) c.tick.ensures
-    (goes-stopped (value_walk head.first.value) rest c.args.self.now new c.tick.new.self after fault c.in_err-from.ensures))
+    let from = c.expression-from.result in
+    let to = c.expression-to.result in
+    goes-from_entry head.number (bounds_walk head body)
+    (goes-then (value_walk head.first.value) (λ from. value_walk head.last.value >>= λ to. for_walk head body (way_of head from to))
+    c.expression-from.ensures.goes
+    (goes-then (value_walk head.last.value) (λ to. for_walk head body (way_of head from to)) c.expression-to.ensures.goes
+    (subst (λ (way : Way). Goes (for_walk head body way) c.expression-to.new.self c.for_statement.new.self tt) c.of.ensures c.for_statement.ensures.goes)))
 
-pub for_loop-returns-in_err-to : goal.for_loop-returns-in_err-to
-for_loop-returns-in_err-to t c =
+pub for_loop-returns-clause-counts : goal.for_loop-returns-clause-counts
+for_loop-returns-clause-counts t c =
+    let from = entries_of_expression c.args.head.now.first.value in
+    let to = entries_of_expression c.args.head.now.last.value in
+    let rest = entries_of_statement c.args.body.now in
+    counted-then (c.args.head.now.number ∷ []) (from ++ (to ++ rest)) _ c.tick.ensures
+    (counted-then from (to ++ rest) _ c.expression-from.ensures.counts
+    (counted-then to rest _ c.expression-to.ensures.counts c.for_statement.ensures.counts))
+
+pub for_statement-returns-clause-goes : goal.for_statement-returns-clause-goes
+for_statement-returns-clause-goes t c =
     let head = c.args.head.now in
     let body = statement_walk c.args.body.now in
-    let from = c.in_ok-from.from in
-    let walked = λ (from to : Known). for_walk head body (way_of head from to) in
-    let rest = λ (from : Known). value_walk head.last.value >>= walked from in
-    let valued = c.expression.new.self in
-    let between = c.expression.new.visits in
-    let new = c.expression-2.new.self in
-    let after = c.expression-2.new.visits in
-    let fault = c.in_err-to.field-0.0 in
-    let left = c.from_residual-in_err-to in
-    given-up (from_entry head.number (bounds_walk head body)) c.args.self.now new c.args.visits.now after fault left.result left.ensures
-    (goes-from_entry head.number (bounds_walk head body) c.args.self.now new c.args.visits.now c.tick.new.self after (Err fault) c.tick.ensures
-    (goes-then (value_walk head.first.value) rest c.args.self.now valued new c.tick.new.self between after from (Err fault) c.in_ok-from.ensures
-    (goes-stopped (value_walk head.last.value) (walked from) valued new between after fault c.in_err-to.ensures)))
+    let way = said_way c.args.way.now in
+    let turns = for_turns head body way in
+    goes-then (parted (where_counts true way) (where_counts false way) turns (give tt)) (λ _. changed_by (with_undefined way.control))
+    (parted-done (where_counts true way) (where_counts false way) turns (give tt) c.mark-mark.result.length c.mark-mark.ensures
+    (moved c.relate.ensures) c.for_turns.ensures.goes c.leave-turns.ensures.long c.leave-turns.ensures.back (moved c.relate-2.ensures)
+    (goes-give tt _) c.join_behind.ensures.long c.join_behind.ensures.meets)
+    (moved c.undefine.ensures)
 
-pub for_loop-returns : goal.for_loop-returns
-for_loop-returns t c =
+pub for_turns-returns-clause-goes : goal.for_turns-returns-clause-goes
+for_turns-returns-clause-goes t c =
     let head = c.args.head.now in
     let body = statement_walk c.args.body.now in
-    let from = c.in_ok-from.from in
-    let to = c.in_ok-to.to in
-    let walked = λ (from to : Known). for_walk head body (way_of head from to) in
-    let rest = λ (from : Known). value_walk head.last.value >>= walked from in
-    let valued = c.expression.new.self in
-    let between = c.expression.new.visits in
-    let both = c.expression-2.new.self in
-    let behind = c.expression-2.new.visits in
-    let new = c.for_statement.new.self in
-    let after = c.for_statement.new.visits in
-    let result = c.for_statement.result in
-    goes-from_entry head.number (bounds_walk head body) c.args.self.now new c.args.visits.now c.tick.new.self after result c.tick.ensures
-    (goes-then (value_walk head.first.value) rest c.args.self.now valued new c.tick.new.self between after from result c.in_ok-from.ensures
-    (goes-then (value_walk head.last.value) (walked from) valued both new between behind after to result c.in_ok-to.ensures
-    (goes-as (walked from to) (for_walk head body (said_way c.of.result)) both new behind after result (ap (for_walk head body) (sym c.of.ensures))
-    c.for_statement.ensures)))
+    let way = said_way c.args.way.now in
+    let tested = said_way c.tested_way-tested.result in
+    goes-then (tested_way way) (λ tested. begin_way tested >>= λ _. rounds_of head body tested) c.tested_way-tested.ensures
+    (goes-then (begin_way tested) (λ _. rounds_of head body tested) c.begin_way.ensures c.turns.ensures.goes)
 
-pub statement-returns-in-Case : goal.statement-returns-in-Case
-statement-returns-in-Case t c =
-    let it = c.in-Case in
-    let walked = λ (arms : List Stmt). from_entry it.head.number (index_walk it.head (map statement_walk arms)) in
-    goes-as (statement_walk c.args.statement.now) (walked c.deref-in-Case.result.now) c.args.self.now c.case.new.self c.args.visits.now c.case.new.visits
-    c.case.result (ap statement_walk it.is ∙ statement-Case it.head it.arms ∙ ap walked (sym c.deref-in-Case.ensures.value)) c.case.ensures
-
-pub case-returns-in_err-known : goal.case-returns-in_err-known
-case-returns-in_err-known t c =
+pub turns-returns-clause-goes : goal.turns-returns-clause-goes
+turns-returns-clause-goes t c =
     let head = c.args.head.now in
-    let arms = map statement_walk c.args.arms.now in
-    let new = c.expression.new.self in
-    let after = c.expression.new.visits in
-    let fault = c.in_err-known.field-0.0 in
-    let left = c.from_residual in
-    given-up (from_entry head.number (index_walk head arms)) c.args.self.now new c.args.visits.now after fault left.result left.ensures
-    (goes-from_entry head.number (index_walk head arms) c.args.self.now new c.args.visits.now c.tick.new.self after (Err fault) c.tick.ensures
-    (goes-stopped (value_walk head.index) (case_walk head arms) c.args.self.now new c.tick.new.self after fault c.in_err-known.ensures))
-
-pub case-returns : goal.case-returns
-case-returns t c =
-    let head = c.args.head.now in
-    let arms = map statement_walk c.args.arms.now in
-    let known = c.in_ok-known.known in
-    let valued = c.expression.new.self in
-    let between = c.expression.new.visits in
-    let new = c.case_statement.new.self in
-    let after = c.case_statement.new.visits in
-    let result = c.case_statement.result in
-    goes-from_entry head.number (index_walk head arms) c.args.self.now new c.args.visits.now c.tick.new.self after result c.tick.ensures
-    (goes-then (value_walk head.index) (case_walk head arms) c.args.self.now valued new c.tick.new.self between after known result c.in_ok-known.ensures
-    (goes-as (case_walk head arms known) (case_walk head arms (Ordinal c.range.result)) valued new between after result
-    (ap (case_walk head arms) c.range.ensures) c.case_statement.ensures))
-
-pub while_round-returns : goal.while_round-returns
-while_round-returns t c =
-    while_round-done c.args.condition.now (statement_walk c.args.body.now) c.in_ok-known.known c.args.self.now c.expression.new.self c.part.new.self
-    c.statement.new.self c.args.visits.now c.expression.new.visits c.statement.new.visits c.in_ok-behind.behind c.in_ok-known.ensures c.in_ok-behind.ensures
-    c.in_ok-statement.ensures
-
-pub repeat_round-returns : goal.repeat_round-returns
-repeat_round-returns t c =
-    repeat_round-done (all_of (map statement_walk c.args.statements.now)) c.args.condition.now c.in_ok-known.known c.args.self.now c.statements.new.self
-    c.expression.new.self c.part.new.self _ c.args.visits.now c.statements.new.visits c.expression.new.visits c.in_ok-again.again c.replace.result
-    c.in_ok-statements.ensures c.in_ok-known.ensures c.in_ok-again.ensures c.replace.ensures.value c.replace.ensures.after refl
-
-pub for_statement-returns-in_err-for_turns : goal.for_statement-returns-in_err-for_turns
-for_statement-returns-in_err-for_turns t c =
-    let way = said_way c.args.way in
     let body = statement_walk c.args.body.now in
-    let fault = c.in_err-for_turns.field-0.0 in
-    let left = c.from_residual-in_err-for_turns in
-    let new = c.for_turns.new.self in
-    let after = c.for_turns.new.visits in
-    given-up (for_walk c.args.head.now body way) c.args.self.now new c.args.visits.now after fault left.result left.ensures
-    (for-stopped c.args.head.now body way c.in_ok-never.never c.args.self.now c.part_way.new.self new c.args.visits.now after fault
-    c.in_ok-never.ensures c.in_err-for_turns.ensures)
-
-pub for_statement-returns : goal.for_statement-returns
-for_statement-returns t c =
-    for-done c.args.head.now (statement_walk c.args.body.now) (said_way c.args.way) c.in_ok-never.never c.args.self.now c.part_way.new.self
-    c.for_turns.new.self c.leave_way.new.self c.args.visits.now c.for_turns.new.visits c.leave_way.result c.in_ok-never.ensures c.in_ok-for_turns.ensures
-    c.leave_way.ensures
-
-pub for_turns-returns-in_err-tested : goal.for_turns-returns-in_err-tested
-for_turns-returns-in_err-tested t c =
-    let way = said_way c.args.way in
-    let body = statement_walk c.args.body.now in
-    let fault = c.in_err-tested.field-0.0 in
-    let left = c.from_residual in
-    given-up (for_turns c.args.head.now body way) c.args.self.now c.tested_way.new.self c.args.visits.now c.args.visits.now fault left.result
-    left.ensures
-    (turns-not_tested c.args.head.now body way c.args.self.now c.tested_way.new.self c.args.visits.now c.args.visits.now fault
-    (c.in_err-tested.ensures c.args.visits.now))
-
-pub for_turns-returns-in_err-begin_way : goal.for_turns-returns-in_err-begin_way
-for_turns-returns-in_err-begin_way t c =
-    let way = said_way c.args.way in
-    let body = statement_walk c.args.body.now in
-    let visits = c.args.visits.now in
-    let fault = c.in_err-begin_way.field-0.0 in
-    let left = c.from_residual-in_err-begin_way in
-    given-up (for_turns c.args.head.now body way) c.args.self.now c.begin_way.new.self visits visits fault left.result left.ensures
-    (turns-not_begun c.args.head.now body way c.args.self.now c.tested_way.new.self visits (said_way c.in_ok-tested.tested)
-    (c.in_ok-tested.ensures visits) c.begin_way.new.self visits fault (c.in_err-begin_way.ensures visits))
-
-pub for_turns-returns : goal.for_turns-returns
-for_turns-returns t c =
-    let visits = c.args.visits.now in
-    turns-done c.args.head.now (statement_walk c.args.body.now) (said_way c.args.way) c.args.self.now c.tested_way.new.self visits
-    (said_way c.in_ok-tested.tested) (c.in_ok-tested.ensures visits) c.begin_way.new.self c.rounds_of.new.self c.rounds_of.new.visits c.rounds_of.result
-    (c.in_ok-begin_way.ensures visits) c.rounds_of.ensures
-
-pub rounds_of-returns-in_err-behind : goal.rounds_of-returns-in_err-behind
-rounds_of-returns-in_err-behind t c =
-    let way = said_way c.args.way in
+    let way = said_way c.args.way.now in
     let steady = said_way c.steady_in-steady.result in
-    let body = statement_walk c.args.body.now in
-    let fault = c.in_err-behind.field-0.0 in
-    let left = c.from_residual-in_err-behind in
-    let new = c.for_round.new.self in
-    let after = c.for_round.new.visits in
-    given-up (rounds_of c.args.head.now body way) c.args.self.now new c.args.visits.now after fault left.result left.ensures
-    (rounds-go c.args.head.now body way steady c.args.self.now new c.args.visits.now after (Err fault) c.steady_in-steady.ensures
-    (loop-stopped c.args.head.now.loop_number c.args.head.now.place (Some c.args.way.control) (for_round steady body) c.args.self.now c.enter_loop.new.self
-    c.in_ok-enter_loop.ensures new c.args.visits.now after fault c.in_err-behind.ensures))
+    rounds-go head body way steady c.steady_in-steady.ensures
+    (loop-done head.loop_number head.place (Some way.control) (changed_by (turn_begun steady) >>= λ _. body)
+    (λ _ tested. with_state (turn_ended steady tested)) (λ _ tested. way_out steady tested) c.mark-mark.result.length c.enter_loop.ensures
+    (goes-then (changed_by (turn_begun steady)) (λ _. body) (moved c.begin_turn.ensures) c.statement.ensures.goes) c.mark-mark.ensures
+    (moved c.end_turn.ensures) c.leave_loop.ensures c.leave-turn.ensures.long c.leave-turn.ensures.back (moved c.leave.ensures))
 
-pub rounds_of-returns : goal.rounds_of-returns
-rounds_of-returns t c =
-    let way = said_way c.args.way in
-    let steady = said_way c.steady_in-steady.result in
-    let body = statement_walk c.args.body.now in
-    rounds-go c.args.head.now body way steady c.args.self.now c.leave_loop.new.self c.args.visits.now c.for_round.new.visits c.leave_loop.result
-    c.steady_in-steady.ensures
-    (loop-done c.args.head.now.loop_number c.args.head.now.place (Some c.args.way.control) (for_round steady body) c.args.self.now c.enter_loop.new.self
-    c.in_ok-enter_loop.ensures c.for_round.new.self c.args.visits.now c.for_round.new.visits c.in_ok-behind.behind c.in_ok-behind.ensures
-    c.leave_loop.result c.leave_loop.new.self c.leave_loop.ensures)
+-- ---- a case
 
-pub arms-loop-i-preserved : goal.arms-loop-i-preserved
-arms-loop-i-preserved t c = λ result new after goes.
-    let here = c.loop-i in
-    let base = c.args.base.now in
+pub case-returns-clause-goes : goal.case-returns-clause-goes
+case-returns-clause-goes t c =
+    let head = c.args.head.now in
     let arms = c.args.arms.now in
-    let left = λ (state : State). arms_from state c.args.index c.args.constants.now arms (here.i + 1) in
-    here.invariant result new after (λ ready.
-    arms-step (viewed_in here.self base) c.args.index c.args.constants.now arms here.i c.index-arms-i.result c.loop-i-test.true c.index-arms-i.is
-    (viewed_in here.self c.in_ok-start.start) c.in_ok-start.ensures here.self c.arm.new.self new here.visits c.arm.new.visits after tt result
-    c.in_ok-arm.ensures
-    (subst (λ (state : State). Goes (left state) c.arm.new.self c.arm.new.visits result new after)
-    (viewed-same here.self c.arm.new.self base (c.in_ok-arm.ensures ready).context_is) goes) ready)
+    goes-from_entry head.number (index_walk head (map statement_walk arms))
+    (goes-then (value_walk head.index) (case_walk head (map statement_walk arms)) c.expression-known.ensures.goes
+    (case-tested head arms (length arms) c.entire.result c.deref.result.now c.range.result c.expression-known.result refl c.entire.ensures
+    c.deref.ensures.value c.range.ensures c.test_index.ensures c.arms.ensures.goes))
 
-pub arms-returns : goal.arms-returns
-arms-returns t c =
-    let here = c.loop-i in
-    here.invariant (Ok tt) here.self here.visits
-    (arms-end (viewed_in here.self c.args.base.now) c.args.index c.args.constants.now c.args.arms.now here.i here.self here.visits c.loop-i-test.false)
+pub case-returns-clause-counts : goal.case-returns-clause-counts
+case-returns-clause-counts t c =
+    let first = entries_of_expression c.args.head.now.index in
+    let rest = statements_entries c.args.arms.now in
+    counted-then (c.args.head.now.number ∷ []) (first ++ rest) _ c.tick.ensures
+    (counted-then first rest _ c.expression-known.ensures.counts c.arms.ensures.counts)
 
-pub case_statement-returns-in_err-base : goal.case_statement-returns-in_err-base
-case_statement-returns-in_err-base t c =
-    let head = c.args.head.now in
-    let visits = c.args.visits.now in
-    let new = c.index_test.new.self in
-    let fault = c.in_err-base.field-0.0 in
-    let left = c.from_residual in
-    given-up (case_walk head (map statement_walk c.args.arms.now) (Ordinal c.args.range)) c.args.self.now new visits visits fault left.result left.ensures
-    (case-not_tested head c.args.arms.now c.args.range (length c.args.arms.now) refl c.args.self.now visits new visits fault (c.in_err-base.ensures visits))
+pub arms-loop-number-init : goal.arms-loop-number-init
+arms-loop-number-init t c =
+    (λ new goes. arms-begin c.args.index c.args.constants.now c.args.arms.now c.mark-mark.result.length c.args.self.now c.mark-mark.ensures c.die.ensures
+    c.leave-behind.ensures.long c.leave-behind.ensures.back goes,
+    refl)
 
-pub case_statement-returns : goal.case_statement-returns
-case_statement-returns t c =
-    let visits = c.args.visits.now in
-    case-tested c.args.head.now c.args.arms.now c.args.range (length c.args.arms.now) refl c.args.self.now visits c.entire.result c.deref.result.now
-    c.in_ok-base.base c.index_test.new.self c.arms.new.self c.arms.new.visits c.arms.result c.entire.ensures c.deref.ensures.value
-    (c.in_ok-base.ensures visits) c.arms.ensures
-
-pub arms-returns-in_err-arm : goal.arms-returns-in_err-arm
-arms-returns-in_err-arm t c =
-    let here = c.loop-i in
-    let new = c.arm.new.self in
-    let after = c.arm.new.visits in
-    let fault = c.in_err-arm.field-0.0 in
-    let left = c.from_residual-in_err-arm in
-    let base = viewed_in here.self c.args.base.now in
-    given-up (arms_walk (viewed_in c.args.self.now c.args.base.now) c.args.index c.args.constants.now (map statement_walk c.args.arms.now)) c.args.self.now new
-    c.args.visits.now after fault left.result left.ensures
-    (here.invariant (Err fault) new after
-    (arms-stopped base c.args.index c.args.constants.now c.args.arms.now here.i c.index-arms-i.result c.loop-i-test.true c.index-arms-i.is
-    (viewed_in here.self c.in_ok-start.start) c.in_ok-start.ensures here.self new here.visits after fault c.in_err-arm.ensures))
-
-pub while_round-returns-in_err-known : goal.while_round-returns-in_err-known
-while_round-returns-in_err-known t c =
-    let body = statement_walk c.args.body.now in
-    let new = c.expression.new.self in
-    let after = c.expression.new.visits in
-    let fault = c.in_err-known.field-0.0 in
-    let left = c.from_residual in
-    state-given_up (while_round c.args.condition.now body) c.args.self.now new c.args.visits.now after fault left.result left.ensures
-    (while_round-untested c.args.condition.now body c.args.self.now new c.args.visits.now after fault c.in_err-known.ensures)
-
-pub while_round-returns-in_err-behind : goal.while_round-returns-in_err-behind
-while_round-returns-in_err-behind t c =
-    let body = statement_walk c.args.body.now in
-    let new = c.part.new.self in
-    let after = c.expression.new.visits in
-    let fault = c.in_err-behind.field-0.0 in
-    let left = c.from_residual-in_err-behind in
-    state-given_up (while_round c.args.condition.now body) c.args.self.now new c.args.visits.now after fault left.result left.ensures
-    (while_round-unparted c.args.condition.now body c.in_ok-known.known c.args.self.now c.expression.new.self new c.args.visits.now after fault
-    c.in_ok-known.ensures c.in_err-behind.ensures)
-
-pub while_round-returns-in_err-statement : goal.while_round-returns-in_err-statement
-while_round-returns-in_err-statement t c =
-    let body = statement_walk c.args.body.now in
-    let new = c.statement.new.self in
-    let after = c.statement.new.visits in
-    let fault = c.in_err-statement.field-0.0 in
-    let left = c.from_residual-in_err-statement in
-    state-given_up (while_round c.args.condition.now body) c.args.self.now new c.args.visits.now after fault left.result left.ensures
-    (while_round-stopped c.args.condition.now body c.in_ok-known.known c.args.self.now c.expression.new.self c.part.new.self new c.args.visits.now
-    c.expression.new.visits after c.in_ok-behind.behind fault c.in_ok-known.ensures c.in_ok-behind.ensures c.in_err-statement.ensures)
-
-pub repeat_round-returns-in_err-statements : goal.repeat_round-returns-in_err-statements
-repeat_round-returns-in_err-statements t c =
-    let body = all_of (map statement_walk c.args.statements.now) in
-    let new = c.statements.new.self in
-    let after = c.statements.new.visits in
-    let fault = c.in_err-statements.field-0.0 in
-    let left = c.from_residual in
-    state-given_up (repeat_round body c.args.condition.now) c.args.self.now new c.args.visits.now after fault left.result left.ensures
-    (repeat_round-stopped body c.args.condition.now c.args.self.now new c.args.visits.now after fault c.in_err-statements.ensures)
-
-pub repeat_round-returns-in_err-known : goal.repeat_round-returns-in_err-known
-repeat_round-returns-in_err-known t c =
-    let body = all_of (map statement_walk c.args.statements.now) in
-    let new = c.expression.new.self in
-    let after = c.expression.new.visits in
-    let fault = c.in_err-known.field-0.0 in
-    let left = c.from_residual-in_err-known in
-    state-given_up (repeat_round body c.args.condition.now) c.args.self.now new c.args.visits.now after fault left.result left.ensures
-    (repeat_round-untested body c.args.condition.now c.args.self.now c.statements.new.self new c.args.visits.now c.statements.new.visits after fault
-    c.in_ok-statements.ensures c.in_err-known.ensures)
-
-pub repeat_round-returns-in_err-again : goal.repeat_round-returns-in_err-again
-repeat_round-returns-in_err-again t c =
-    let body = all_of (map statement_walk c.args.statements.now) in
-    let new = c.part.new.self in
-    let after = c.expression.new.visits in
-    let fault = c.in_err-again.field-0.0 in
-    let left = c.from_residual-in_err-again in
-    state-given_up (repeat_round body c.args.condition.now) c.args.self.now new c.args.visits.now after fault left.result left.ensures
-    (repeat_round-unparted body c.args.condition.now c.in_ok-known.known c.args.self.now c.statements.new.self c.expression.new.self new c.args.visits.now
-    c.statements.new.visits after fault c.in_ok-statements.ensures c.in_ok-known.ensures c.in_err-again.ensures)
-
-pub statements-returns-in_err-statement : goal.statements-returns-in_err-statement
-statements-returns-in_err-statement t c =
-    let here = c.loop-statement in
-    let new = c.statement.new.self in
-    let after = c.statement.new.visits in
-    let fault = c.in_err-statement.field-0.0 in
-    let left = c.from_residual in
-    given-up (all_of (map statement_walk c.args.statements.now)) c.args.self.now new c.args.visits.now after fault left.result left.ensures
-    (here.invariant (Err fault) new after
-    (all-stopped statement_walk c.args.statements.now here.statement-index c.statement-item.result here.self new here.visits after fault
-    c.loop-statement-test.true c.statement-item.is c.in_err-statement.ensures))
-
-pub for_statement-returns-in_err-never : goal.for_statement-returns-in_err-never
-for_statement-returns-in_err-never t c =
-    let walk = for_walk c.args.head.now (statement_walk c.args.body.now) (said_way c.args.way) in
-    let visits = c.args.visits.now in
-    let fault = c.in_err-never.field-0.0 in
-    let left = c.from_residual in
-    given-up walk c.args.self.now c.part_way.new.self visits visits fault left.result left.ensures
-    (goes-nowhere walk c.args.self.now c.part_way.new.self visits fault c.in_err-never.ensures)
-
-pub rounds_of-returns-in_err-enter_loop : goal.rounds_of-returns-in_err-enter_loop
-rounds_of-returns-in_err-enter_loop t c =
-    let way = said_way c.args.way in
-    let steady = said_way c.steady_in-steady.result in
-    let body = statement_walk c.args.body.now in
-    let fault = c.in_err-enter_loop.field-0.0 in
-    let left = c.from_residual in
-    let new = c.enter_loop.new.self in
-    let visits = c.args.visits.now in
-    given-up (rounds_of c.args.head.now body way) c.args.self.now new visits visits fault left.result left.ensures
-    (rounds-go c.args.head.now body way steady c.args.self.now new visits visits (Err fault) c.steady_in-steady.ensures
-    (loop-not_entered c.args.head.now.loop_number c.args.head.now.place (Some c.args.way.control) (for_round steady body) c.args.self.now new visits fault
-    c.in_err-enter_loop.ensures))
-
-pub for_round-returns-in_err-begin_turn : goal.for_round-returns-in_err-begin_turn
-for_round-returns-in_err-begin_turn t c =
-    let walk = for_round (said_way c.args.way) (statement_walk c.args.body.now) in
-    let visits = c.args.visits.now in
-    let fault = c.in_err-begin_turn.field-0.0 in
-    let left = c.from_residual in
-    state-given_up walk c.args.self.now c.begin_turn.new.self visits visits fault left.result left.ensures
-    (goes-nowhere walk c.args.self.now c.begin_turn.new.self visits fault c.in_err-begin_turn.ensures)
-
-pub for_round-returns-in_err-statement : goal.for_round-returns-in_err-statement
-for_round-returns-in_err-statement t c =
-    let way = said_way c.args.way in
-    let body = statement_walk c.args.body.now in
-    let new = c.statement.new.self in
-    let after = c.statement.new.visits in
-    let fault = c.in_err-statement.field-0.0 in
-    let left = c.from_residual-in_err-statement in
-    state-given_up (for_round way body) c.args.self.now new c.args.visits.now after fault left.result left.ensures
-    (for_round-stopped way body c.args.self.now c.begin_turn.new.self c.in_ok-begin_turn.ensures new c.args.visits.now after fault
-    c.in_err-statement.ensures)
-
-pub for_round-returns : goal.for_round-returns
-for_round-returns t c =
-    for_round-ends (said_way c.args.way) (statement_walk c.args.body.now) c.args.self.now c.begin_turn.new.self c.in_ok-begin_turn.ensures
-    c.statement.new.self c.end_turn.new.self c.args.visits.now c.statement.new.visits c.end_turn.result c.in_ok-statement.ensures c.end_turn.ensures
-
-pub arms-returns-in_err-start : goal.arms-returns-in_err-start
-arms-returns-in_err-start t c =
-    let here = c.loop-i in
-    let base = c.args.base.now in
-    let left = c.from_residual in
+pub arms-loop-number-preserved : goal.arms-loop-number-preserved
+arms-loop-number-preserved t c =
+    let here = c.loop-number in
     let arms = c.args.arms.now in
-    given-up (arms_walk (viewed_in c.args.self.now base) c.args.index c.args.constants.now (map statement_walk arms)) c.args.self.now here.self
-    c.args.visits.now here.visits Memory left.result left.ensures
-    (here.invariant (Err Memory) here.self here.visits
-    (goes-nowhere (arms_from (viewed_in here.self base) c.args.index c.args.constants.now arms here.i) here.self here.self here.visits Memory refl))
+    let arm = c.index-arms-number.result in
+    (λ new goes. here.invariant.0 new
+    (arms-step c.args.index c.args.constants.now arms c.mark-mark.result.length here.number arm here.self c.loop-number-test.true c.index-arms-number.is
+    c.begin_arm.ensures c.statement.ensures.goes c.join_behind.ensures.long c.join_behind.ensures.meets c.leave-behind-in-loop-number.ensures.long
+    c.leave-behind-in-loop-number.ensures.back goes),
+    counted-step statements_entries entries_of_statement (λ x xs. refl) arms here.number arm _ c.loop-number-test.true c.index-arms-number.is
+    c.statement.ensures.counts here.invariant.1)
 
-pub arm-returns-in_err-statement : goal.arm-returns-in_err-statement
-arm-returns-in_err-statement t c =
-    let arm = statement_walk c.args.arm.now in
-    let old = c.args.self.now in
-    let new = c.statement.new.self in
-    let after = c.statement.new.visits in
-    let fault = c.in_err-statement.field-0.0 in
-    let left = c.from_residual in
-    given-up (arm_walk (viewed_in old c.args.start) arm) old new c.args.visits.now after fault left.result left.ensures
-    (arm-stopped c.args.start arm old _ c.replace-behind.ensures.after refl new c.args.visits.now after fault c.in_err-statement.ensures)
+pub arms-returns-clause-goes : goal.arms-returns-clause-goes
+arms-returns-clause-goes t c =
+    let here = c.loop-number in
+    here.invariant.0 _
+    (arms-end c.args.index c.args.constants.now c.args.arms.now c.mark-mark.result.length here.number here.self c.loop-number-test.false c.go.ensures.long
+    c.go.ensures.comes)
 
-pub arm-returns : goal.arm-returns
-arm-returns t c =
-    arm-done c.args.start (statement_walk c.args.arm.now) c.args.self.now _ c.replace-behind.ensures.after refl c.replace-behind.result
-    c.statement.new.self c.meet.new.self c.args.visits.now c.statement.new.visits c.meet.result c.replace-behind.ensures.value c.in_ok-statement.ensures
-    c.meet.ensures
+pub arms-returns-clause-counts : goal.arms-returns-clause-counts
+arms-returns-clause-counts t c =
+    let here = c.loop-number in
+    counted-end statements_entries entries_of_statement (λ x xs. refl) c.args.arms.now here.number _ c.loop-number-test.false refl here.invariant.1

@@ -1,14 +1,21 @@
-use Rattle.std.proofs.Common.{ap, map, sym}
-use Rattle.expression_checker.specs.Walk.{call_walk, passed_piece_of}
-use Rattle.cert_checker.proofs.Steps.{goes-as, lifted}
+use Rattle.std.proofs.Common.{◌≡◌, ◌∙◌, ap, subst, List, map}
+use Rattle.typed_tree.specs.Entries.{call_entries, entries_of_passed}
+use Rattle.typed_tree.specs.declared.tree.Passed.{Passed}
+use Rattle.checker_expressions.specs.Visits.{all_counted}
+use Rattle.checker_expressions.specs.Walk.{call_walk, passed_piece_of}
+use Rattle.cert_checker.specs.View.{Goes}
+use Rattle.cert_checker.proofs.Steps.{lifted}
 use Rattle.cert_checker.proofs.walk.Walk.call.Goals as goal
 
-pub returns : goal.returns
-returns c =
-    let calling = c.args.calling.now in
-    let passed = c.deref.result.now in
-    goes-as (call_walk calling.call (map passed_piece_of calling.actuals.items)) (call_walk calling.call (map passed_piece_of passed)) c.args.self.now
-    (record (c.args.self.now) { flow = c.call.new.self }) c.args.visits.now c.call.new.visits c.call.result
-    (ap (λ actuals. call_walk calling.call (map passed_piece_of actuals)) (sym c.deref.ensures.value))
-    (lifted (call_walk calling.call (map passed_piece_of passed)) c.args.self.now c.call.new.self c.args.visits.now c.call.new.visits c.call.result
-    c.call.ensures)
+pub returns-clause-goes : goal.returns-clause-goes
+returns-clause-goes c =
+    let old = c.args.self.now in
+    subst (λ (actuals : List Passed).
+    Goes (call_walk c.args.calling.now.call (map passed_piece_of actuals)) old (record old { flow = c.call.new.self }) tt) c.deref.ensures.value
+    (lifted c.call.ensures.goes)
+
+pub returns-clause-counts : goal.returns-clause-counts
+returns-clause-counts c =
+    c.call.ensures.counts
+    ∙ ap (λ (actuals : List Passed). all_counted (call_entries c.args.calling.now.call (map entries_of_passed actuals)) c.args.visits.now)
+    c.deref.ensures.value

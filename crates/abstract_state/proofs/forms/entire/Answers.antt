@@ -1,5 +1,0 @@
-use Rattle.abstract_state.proofs.Chained.{chain-entire}
-use Rattle.abstract_state.proofs.forms.entire.Goals as goal
-
-pub returns-in-Chain : goal.returns-in-Chain
-returns-in-Chain c = chain-entire c.args.expression.now c.in-Chain.first c.in-Chain.rest c.in-Chain.is

@@ -1,8 +1,0 @@
-use Rattle.abstract_state.proofs.Chained.{chain-literal, variable-literal}
-use Rattle.abstract_state.proofs.forms.literal.Goals as goal
-
-pub returns-in-Chain : goal.returns-in-Chain
-returns-in-Chain c = chain-literal c.args.expression.now c.in-Chain.first c.in-Chain.rest c.in-Chain.is
-
-pub returns-in-Variable : goal.returns-in-Variable
-returns-in-Variable c = variable-literal c.args.expression.now c.in-Variable.access c.in-Variable.indexes c.in-Variable.defined c.in-Variable.is

@@ -1,0 +1,148 @@
+ghost use Rattle.std.specs.Prelude.{◌≡◌, ◌++◌, ◌∷◌, IfOk};
+ghost use Rattle.typed_tree.specs.Entries.{access_entries, entries_of_expression, index_entries, whole_entries};
+ghost use Rattle.checker_state.specs.Conditions.{bound_form};
+ghost use Rattle.checker_state.specs.View.{said_form, said_reach};
+ghost use Rattle.checker_state.specs.declared.value.Known.TheVariants.{Ordinal};
+ghost use Rattle.checker_expressions.specs.Visits.{all_counted};
+ghost use Rattle.cert_checker.specs.StoresView.{said_stores};
+ghost use Rattle.cert_checker.specs.View.{Goes, context_of};
+ghost use Rattle.cert_checker.specs.Walk.{aliases_here, assign, assign_component, assign_to, assignment_walk, change};
+ghost use Rattle.cert_checker.specs.Walk.{copy_to, copying_walk, from_entry, store_to, stores_made};
+
+use crate::reached::reach_stored;
+use crate::stores::{Stores, assign};
+use crate::walk::Walk;
+use checker_expressions::fault::Rule;
+use checker_expressions::visits::Visits;
+use checker_state::{Bound, Known, Reach, bound_form};
+use domain::interval::Interval;
+use place::Place;
+use std::alloc::AllocError;
+use typed_tree::calls::{holds_call, whole_holds_call};
+use typed_tree::tree::{Assignment, Copying};
+
+// What statements store to variables and to components.
+impl<'a> Walk<'a> {
+    /// The value has to lie in the range of the target's type.
+    pub(crate) fn assignment(&mut self, assignment: &Assignment, visits: &mut Visits)
+        ensures goes { Goes (from_entry assignment.now.number (assignment_walk assignment.now)) self.old self.new tt }
+        ensures counts { visits.new ≡ all_counted (assignment.now.number
+            ∷ (access_entries assignment.now.target (index_entries assignment.now.indexes.items)
+            ++ entries_of_expression assignment.now.value)) visits.old }
+    {
+        visits.tick(assignment.number);
+        let target = &assignment.target;
+        let reach = self.access(target, &assignment.indexes, visits);
+        let known = self.expression(&assignment.value, visits);
+        let passed = self.flow.fitting(assignment.fits, known);
+        let reach = reach_stored(&target.selectors, holds_call(&assignment.value), reach);
+        self.assign_to(assignment, reach, passed);
+    }
+
+    /// An assignment of a whole value.
+    pub(crate) fn copying(&mut self, copying: &Copying, visits: &mut Visits)
+        ensures goes { Goes (from_entry copying.now.number (copying_walk copying.now)) self.old self.new tt }
+        ensures counts { visits.new ≡ all_counted (copying.now.number
+            ∷ (access_entries copying.now.target (index_entries copying.now.indexes.items)
+            ++ whole_entries copying.now.value (index_entries copying.now.value_indexes.items))) visits.old }
+    {
+        visits.tick(copying.number);
+        let reach = self.access(&copying.target, &copying.indexes, visits);
+        let ranges = self.whole_value(&copying.value, &copying.value_indexes, visits);
+        let holds_call = whole_holds_call(&copying.value, &copying.value_indexes);
+        let reach = reach_stored(&copying.target.selectors, holds_call, reach);
+        self.copy_to(copying, reach, &ranges);
+    }
+
+    /// What is accessed gets the value of an expression.
+    fn assign_to(&mut self, assignment: &Assignment, reach: Reach, passed: Known)
+        ensures { Goes (assign_to assignment.now.becomes assignment.now.target.root
+            assignment.now.target.selectors.items (said_reach reach) (bound_form assignment.now.value) passed)
+            self.old self.new tt }
+    {
+        let target = &assignment.target;
+        if target.selectors.is_empty() {
+            self.change(assignment.becomes, target.root);
+            self.assigned(target.root, passed.range(), bound_form(&assignment.value));
+        } else {
+            self.assign_component(assignment, reach, passed);
+        }
+    }
+
+    /// A component gets a value.
+    fn assign_component(&mut self, assignment: &Assignment, reach: Reach, passed: Known)
+        ensures { Goes (assign_component assignment.now.becomes assignment.now.target.root
+            assignment.now.target.selectors.items (said_reach reach) passed) self.old self.new tt }
+    {
+        let target = &assignment.target;
+        let rows = self
+            .flow
+            .state
+            .table()
+            .accessed(target.root, &target.selectors);
+        let range = passed.range();
+        let stores = Stores::Alike { rows, range };
+        self.store_to(assignment.becomes, target.root, reach, &stores);
+    }
+
+    /// Components of these ranges are copied to what is accessed.
+    fn copy_to(&mut self, copying: &Copying, reach: Reach, ranges: &[Interval])
+        ensures { Goes (copy_to copying.now.becomes copying.now.target.root
+            copying.now.target.selectors.items (said_reach reach) ranges.now) self.old self.new tt }
+    {
+        let target = &copying.target;
+        let rows = self
+            .flow
+            .state
+            .table()
+            .accessed(target.root, &target.selectors);
+        let stores = Stores::Paired { rows, ranges };
+        self.store_to(copying.becomes, target.root, reach, &stores);
+    }
+
+    /// Values are stored to what is reached of a variable.
+    fn store_to(&mut self, place: Place, root: u32, reach: Reach, stores: &Stores)
+        ensures { Goes (store_to place root (said_reach reach) (said_stores stores.now)) self.old self.new tt }
+    {
+        self.change(place, root);
+        self.store(root, reach, stores);
+    }
+
+    /// A variable is changed: each loop round the walk has to list it, and the block, if need be.
+    fn change(&mut self, place: Place, root: u32)
+        ensures { Goes (change place root) self.old self.new tt }
+    {
+        let may = self.flow.may_change(root);
+        self.flow.ask(may, Rule::Changes, place);
+    }
+
+    /// Values are stored to rows, and aliases may have them. What is known of the variables where it is done counts for
+    /// each row.
+    fn store(&mut self, root: u32, reach: Reach, stores: &Stores)
+        ensures { Goes (stores_made root (said_reach reach) (said_stores stores.now)) self.old self.new tt }
+    {
+        match self.aliases(root) {
+            Ok(aliases) => stores.make(&mut self.flow.state, &aliases, reach),
+            Err(_) => self.flow.state.run_short(),
+        }
+    }
+
+    /// A variable gets a value of a range, perhaps of a bound form; its aliases may have it.
+    pub(crate) fn assigned(&mut self, root: u32, range: Interval, form: Option<Bound>)
+        ensures { Goes (assign root (said_form form) (Ordinal range)) self.old self.new tt }
+    {
+        match self.aliases(root) {
+            Ok(aliases) => assign(&mut self.flow.state, &aliases, root, range, form),
+            Err(_) => self.flow.state.run_short(),
+        }
+    }
+
+    /// The aliases of a variable that are visible in the block.
+    fn aliases(&self, root: u32) -> Result<Vec<u32>, AllocError>
+        ensures { IfOk result (λ aliases. aliases.items ≡ aliases_here (context_of self.now) root) }
+    {
+        let grounds = &self.flow.grounds;
+        let alloc = self.flow.state.alloc();
+        grounds.pairs.aliases_in(alloc, grounds.block, root)
+    }
+}

@@ -1,0 +1,112 @@
+ghost use Rattle.std.specs.Prelude.{◌≡◌, [], IfOk, MatchResult, length};
+ghost use Rattle.typed_tree.specs.Entries.{entries_of};
+ghost use Rattle.checker_expressions.specs.Walk.{IsBreachOf};
+ghost use Rattle.cert_checker.specs.View.{AreGrounds, IsBegun, IsFaultOf, IsUnbroken};
+ghost use Rattle.cert_checker.specs.Walk.{program_walk};
+
+use crate::blocks::block_count;
+use crate::walk::Walk;
+use certificate::Certificate;
+use checker_calls::sections::{all_block_claims, all_pairs};
+use checker_calls::starts::all_declared;
+use checker_expressions::fault::{Breach, CheckFault};
+use checker_expressions::flow::Flow;
+use checker_expressions::grounds::Grounds;
+use checker_expressions::visits::Visits;
+use checker_loops::loops::{Claims, all_claims, all_loop_aliases};
+use checker_loops::pairs::Pairs;
+use checker_rows::Rows;
+use checker_trail::State;
+use std::alloc::{AllocError, Global};
+use typed_tree::tree::Tree;
+
+/// What a walk over a program found out.
+#[derive(Drop)]
+pub(crate) struct Found {
+    /// The ids of the sites that it left open.
+    pub(crate) open_ids: Vec<u32>,
+    /// How many entries were counted.
+    pub(crate) visits: u64,
+}
+
+/// Walks over a program, block by block.
+pub(crate) fn program(
+    alloc: Global,
+    rows: &Rows,
+    certificate: &Certificate,
+) -> Result<Found, CheckFault>
+    ensures sites { IfOk result (λ found. found.open_ids.items ≡ (program_walk rows.now certificate.now).open_ids) }
+    ensures visits { IfOk result (λ found. found.visits ≡ length (entries_of rows.now)) }
+    ensures rules { MatchResult result (λ _. (program_walk rows.now certificate.now).broken ≡ [])
+        (IsBreachOf (program_walk rows.now certificate.now)) }
+{
+    let tree = rows.tree();
+    let count = block_count(tree)?;
+    let declared = all_declared(alloc, tree)?;
+    let grounds = grounds(alloc, tree, certificate)?;
+    let claims = all_claims(alloc, tree, certificate)?;
+    let aliases = all_loop_aliases(alloc, tree, &grounds.pairs, &claims)?;
+    let mut walk = Walk::new(State::of_types(alloc, rows), grounds, &claims, &aliases);
+    let mut visits = Visits::new();
+    walk.blocks(tree, count, &declared, &mut visits);
+    let visits = visits.finish(tree)?;
+    let open_ids = walk.end()?;
+    Ok(Found { open_ids, visits })
+}
+
+/// What a walk goes by before the first block.
+fn grounds<'a>(
+    alloc: Global,
+    tree: &'a Tree,
+    certificate: &'a Certificate,
+) -> Result<Grounds<'a>, AllocError>
+    ensures { IfOk result (AreGrounds tree.now certificate.now) }
+{
+    let pairs = all_pairs(alloc, certificate)?;
+    Ok(Grounds {
+        sections: all_block_claims(alloc, tree, certificate)?,
+        pairs: Pairs::of(alloc, tree, pairs)?,
+        block: 0,
+        rounds: Vec::new(alloc),
+    })
+}
+
+impl<'a> Walk<'a> {
+    /// Before the first block.
+    fn new(
+        state: State<'a>,
+        grounds: Grounds<'a>,
+        claims: &'a [Claims<'a>],
+        aliases: &'a [Vec<u32>],
+    ) -> Walk<'a>
+        ensures { IsBegun state.entry grounds.entry claims.now aliases.now result }
+    {
+        let open_ids = Vec::new(state.alloc());
+        Walk {
+            claims,
+            aliases,
+            flow: Flow {
+                grounds,
+                state,
+                open_ids,
+                broken: None,
+            },
+        }
+    }
+
+    /// The ids of the sites that it left open, if memory sufficed and no rule is broken.
+    fn end(self) -> Result<Vec<u32>, CheckFault>
+        ensures { MatchResult result (λ ids. IsUnbroken self.entry ids.items) (IsFaultOf self.entry) }
+    {
+        if self.flow.state.is_short() {
+            return Err(CheckFault::Memory);
+        }
+        match self.flow.broken {
+            Some(Breach { rule, place }) => Err(CheckFault::Broken { rule, place }),
+            None => {
+                let flow = self.flow;
+                Ok(flow.open_ids)
+            }
+        }
+    }
+}

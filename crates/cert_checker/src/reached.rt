@@ -1,0 +1,59 @@
+//! What is reached of a variable where a value is stored to what was accessed (ISO 7185:1990, 6.8.2.2).
+ghost use Rattle.std.specs.Prelude.{◌≡◌};
+ghost use Rattle.checker_state.specs.View.{said_indexes, said_reach};
+ghost use Rattle.cert_checker.specs.Walk.{ends_at_index, is_some_index, reach_before, reach_of_store, reach_stored};
+
+use checker_calls::actuals::unknown_reach;
+use checker_state::{Indexes, Reach};
+use typed_tree::tree::Selector;
+
+/// What is reached where these selectors are stored to, by a value that may hold a call.
+pub(crate) fn reach_stored(selectors: &[Selector], holds_call: bool, reach: Reach) -> Reach
+    ensures { said_reach result ≡ reach_stored selectors.now holds_call (said_reach reach) }
+{
+    reach_of_store(selectors, reach_before(holds_call, reach))
+}
+
+/// A component of an element isn't all that there is of an index.
+fn reach_of_store(selectors: &[Selector], reach: Reach) -> Reach
+    ensures { said_reach result ≡ reach_of_store selectors.now (said_reach reach) }
+{
+    if is_some_index(reach.indexes) && !ends_at_index(selectors) {
+        Reach {
+            indexes: reach.indexes,
+            is_all: false,
+        }
+    } else {
+        reach
+    }
+}
+
+fn is_some_index(indexes: Indexes) -> bool
+    ensures { result ≡ is_some_index (said_indexes indexes) }
+{
+    match indexes {
+        Indexes::Entire => false,
+        Indexes::One(_) | Indexes::Two(_, _) => true,
+    }
+}
+
+/// Whether an index comes last.
+fn ends_at_index(selectors: &[Selector]) -> bool
+    ensures { result ≡ ends_at_index selectors.now }
+{
+    match selectors.last() {
+        Some(Selector::Element { .. }) => true,
+        _ => false,
+    }
+}
+
+/// What was reached before a value was evaluated: an index counts no more, where that holds a call.
+fn reach_before(holds_call: bool, reach: Reach) -> Reach
+    ensures { said_reach result ≡ reach_before holds_call (said_reach reach) }
+{
+    if holds_call {
+        unknown_reach(reach)
+    } else {
+        reach
+    }
+}

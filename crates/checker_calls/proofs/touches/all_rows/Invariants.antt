@@ -1,0 +1,7 @@
+use Rattle.std.proofs.Common.{map, take}
+use Rattle.checker_calls.specs.ExitView.{AreRows, said_change}
+use Rattle.checker_calls.proofs.touches.all_rows.Given as goal
+
+-- so far
+abbrev pub invariant-loop-change : goal.invariant-loop-change
+invariant-loop-change l = AreRows (map said_change (take l.change-index l.changes)) l.rows

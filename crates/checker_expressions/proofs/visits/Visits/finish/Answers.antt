@@ -1,0 +1,12 @@
+use Rattle.std.proofs.Common.{ap, arith}
+use Rattle.typed_tree.specs.Entries.{entries_of}
+use Rattle.checker_expressions.specs.Visits.{Visits}
+use Rattle.checker_expressions.proofs.Counted.{all-most}
+use Rattle.checker_expressions.proofs.visits.Visits.finish.Goals as goal
+
+pub returns-then-entries-clause-few : goal.returns-then-entries-clause-few
+returns-then-entries-clause-few c = λ few.
+    let most = all-most (entries_of c.args.tree.now) c.args.self c.requires in
+    let all = c.if-entries.true in
+    let same = ap (λ (visits : Visits). visits.entries) c.self.view_is in
+    absurd (omega (arith, few, most, all, same))

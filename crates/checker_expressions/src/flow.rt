@@ -1,0 +1,82 @@
+ghost use Rattle.std.specs.Prelude.{◌≡◌};
+ghost use Rattle.checker_expressions.specs.View.{Goes, first_of, opened};
+ghost use Rattle.checker_expressions.specs.Walk.{asked, first_breach, fitting, breach_unless, tested, within};
+
+use crate::fault::{Breach, Rule};
+use crate::grounds::Grounds;
+use checker_rows::{Rows, limits};
+use checker_state::Known;
+use checker_trail::State;
+use domain::Domain;
+use domain::interval::Interval;
+use place::Place;
+use typed_tree::tree::RangeTest;
+
+/// The flow of a walk through a program: what it comes with to each expression, and goes on with behind it. Where
+/// memory ran out, its state is short, and the flow says nothing more.
+#[derive(Drop)]
+pub struct Flow<'a> {
+    /// What it goes by.
+    pub grounds: Grounds<'a>,
+    /// What is known where the walk is.
+    pub state: State<'a>,
+    /// The ids of the sites that the walk leaves open, in its order.
+    pub open_ids: Vec<u32>,
+    /// The first rule of certificates that is broken, and where.
+    pub broken: Option<Breach>,
+}
+
+impl<'a> Flow<'a> {
+    /// What a rule asks for at a place. The first breach is kept.
+    pub fn ask(&mut self, kept: bool, rule: Rule, place: Place)
+        ensures { Goes (asked kept rule place) self.old self.new tt }
+    {
+        if !kept {
+            self.broken = first_of(self.broken, Breach { rule, place });
+        }
+    }
+
+    /// Leaves a site open, unless it is closed.
+    pub fn open_unless(&mut self, closed: bool, site: u32)
+        ensures { Goes (opened closed site) self.old self.new tt }
+    {
+        if !closed && self.open_ids.push(site).is_err() {
+            self.state.run_short();
+        }
+    }
+
+    /// A value that has to lie in the range of a type.
+    pub fn fitting(&mut self, fits: RangeTest, known: Known) -> Known
+        ensures { Goes (fitting fits known) self.old self.new result }
+    {
+        let range = known.range();
+        Known::Ordinal(self.within(limits(fits.range), fits.site, range))
+    }
+
+    /// A value that has to lie in limits.
+    pub fn within(&mut self, limits: Interval, site: u32, range: Interval) -> Interval
+        ensures { Goes (within limits site range) self.old self.new result }
+    {
+        self.test(range.leq(&limits), site, range.meet(&limits))
+    }
+
+    /// The test of a value at a site: what passes lies in a range, and it is closed where the value surely passes.
+    pub fn test(&mut self, closed: bool, site: u32, passed: Interval) -> Interval
+        ensures { Goes (tested closed site passed) self.old self.new result }
+    {
+        let is_closed = self.state.is_dead() || closed;
+        self.open_unless(is_closed, site);
+        self.state.unless_empty(passed);
+        passed
+    }
+}
+
+// A breach behind others: the first one stays.
+fn first_of(broken: Option<Breach>, breach: Breach) -> Option<Breach>
+    ensures { result ≡ first_of broken (Some breach) }
+{
+    match broken {
+        None => Some(breach),
+        Some(first) => Some(first),
+    }
+}

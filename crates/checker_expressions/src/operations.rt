@@ -1,0 +1,102 @@
+//! Operations and tests, which enter nothing.
+ghost use Rattle.std.specs.Prelude.{◌≡◌};
+ghost use Rattle.checker_expressions.specs.View.{Goes};
+ghost use Rattle.checker_expressions.specs.Walk.{combined, divides, divisor, index_test, operated, positive};
+ghost use Rattle.checker_expressions.specs.Walk.{unless_overflow, width_test};
+
+use crate::flow::Flow;
+use crate::results::{calculated, of_both, overflow_of, overflow_of_both, shifted};
+use checker_rows::limits;
+use checker_state::Known;
+use domain::interval::Interval;
+use typed_tree::tree::{Dyadic, Monadic, RangeTest};
+
+impl<'a> Flow<'a> {
+    /// The test of an index, if selectors take it: where it lies then.
+    pub(crate) fn index(&mut self, fits: Option<RangeTest>, known: Known) -> Interval
+        ensures { Goes (index_test fits known) self.old self.new result }
+    {
+        match fits {
+            None => known.range(),
+            Some(fits) => self.fitting(fits, known).range(),
+        }
+    }
+
+    /// What an operation gives for a value.
+    pub(crate) fn operated(&mut self, operation: Monadic, known: Known) -> Known
+        ensures { Goes (operated operation known) self.old self.new result }
+    {
+        let range = known.range();
+        match operation {
+            Monadic::Plain(does) => self.unless_overflow(
+                overflow_of(does),
+                calculated(does, range),
+            ),
+            Monadic::Tested { fits, does } => {
+                let passed = self.within(limits(fits.range), fits.site, range);
+                Known::Ordinal(shifted(does, passed))
+            }
+        }
+    }
+
+    /// What an operation gives for two values.
+    pub(crate) fn combined(&mut self, operation: Dyadic, left: Known, right: Known) -> Known
+        ensures { Goes (combined operation left right) self.old self.new result }
+    {
+        let left = left.range();
+        let right = right.range();
+        let passed = self.divides(operation, right);
+        self.unless_overflow(
+            overflow_of_both(operation),
+            of_both(operation, left, passed),
+        )
+    }
+
+    /// The test of a right operand, where it is a divisor.
+    fn divides(&mut self, operation: Dyadic, range: Interval) -> Interval
+        ensures { Goes (divides operation range) self.old self.new result }
+    {
+        match operation {
+            Dyadic::Plus { .. } => range,
+            Dyadic::Minus { .. } => range,
+            Dyadic::Times { .. } => range,
+            Dyadic::Div { by_zero } => self.divisor(by_zero, range),
+            Dyadic::Mod { by_zero_or_less } => self.positive(by_zero_or_less, range),
+            Dyadic::And => range,
+            Dyadic::Or => range,
+            Dyadic::Relation(_) => range,
+        }
+    }
+
+    /// A result that has to be an integer, where its overflow has a site.
+    fn unless_overflow(&mut self, overflow: Option<u32>, range: Interval) -> Known
+        ensures { Goes (unless_overflow overflow range) self.old self.new result }
+    {
+        match overflow {
+            None => Known::Ordinal(range),
+            Some(site) => Known::Ordinal(self.within(Interval::INTEGER, site, range)),
+        }
+    }
+
+    /// A width has to be at least 1.
+    pub(crate) fn width_test(&mut self, site: u32, known: Known)
+        ensures { Goes (width_test site known) self.old self.new tt }
+    {
+        let range = known.range();
+        self.positive(site, range);
+    }
+
+    /// A number that has to be at least 1.
+    fn positive(&mut self, site: u32, range: Interval) -> Interval
+        ensures { Goes (positive site range) self.old self.new result }
+    {
+        self.test(1 <= range.first(), site, range.at_least(1))
+    }
+
+    /// A divisor, which may not be 0.
+    fn divisor(&mut self, site: u32, range: Interval) -> Interval
+        ensures { Goes (divisor site range) self.old self.new result }
+    {
+        self.test(!range.has(0), site, range.without_zero_end())
+    }
+}

@@ -1,0 +1,359 @@
+//! The walk over an expression, form by form.
+ghost use Rattle.std.specs.Prelude.{◌≡◌, ◌++◌, ◌∷◌, [], map};
+ghost use Rattle.typed_tree.specs.Entries.{access_entries, call_entries, entries_of_expression, entries_of_parameter};
+ghost use Rattle.typed_tree.specs.Entries.{entries_of_passed, entries_of_width, entries_of_written, index_entries};
+ghost use Rattle.typed_tree.specs.Entries.{joined, whole_entries};
+ghost use Rattle.checker_calls.specs.View.{said_actual};
+ghost use Rattle.checker_state.specs.Stores.{entire};
+ghost use Rattle.checker_state.specs.View.{said_form, said_index, said_reach};
+ghost use Rattle.checker_expressions.specs.View.{Goes, entries_of_link};
+ghost use Rattle.checker_expressions.specs.Visits.{all_counted};
+ghost use Rattle.checker_expressions.specs.Walk.{access_walk, actuals_walk, behind_next, call_walk, deeper};
+ghost use Rattle.checker_expressions.specs.Walk.{form_before, give};
+ghost use Rattle.checker_expressions.specs.Walk.{function_walk, in_turn, index_pieces, indexes_walk, link_walk};
+ghost use Rattle.checker_expressions.specs.Walk.{next_test, parameter_walk, passed_piece_of, piece_of, related_walk};
+ghost use Rattle.checker_expressions.specs.Walk.{value_walk, variable_walk, whole_walk, width_walk, written_walk};
+
+use crate::flow::Flow;
+use crate::visits::Visits;
+use checker_calls::actuals::Actual;
+use checker_state::{Bound, Index, Indexes, Known, Reach, bound_form};
+use domain::interval::Interval;
+use typed_tree::calls::{actuals_hold_call, hold_call};
+use typed_tree::tree::{
+    Access, Call, Expr, Link, Passed, RangeTest, Selector, Whole, Width, WriteParameter, Written,
+};
+
+impl<'a> Flow<'a> {
+    /// What is known of an expression's value (ISO 7185:1990, 6.7).
+    #[cycle(expression)]
+    pub fn expression(&mut self, expression: &Expr, visits: &mut Visits) -> Known
+        ensures goes { Goes (value_walk expression.now) self.old self.new result }
+        ensures counts { visits.new ≡ all_counted (entries_of_expression expression.now) visits.old }
+    {
+        match expression {
+            Expr::Constant { number, value } => {
+                visits.tick(*number);
+                Known::Ordinal(Interval::between(*value, *value))
+            }
+            Expr::Variable {
+                access,
+                indexes,
+                defined,
+            } => self.variable(access, indexes, *defined, visits),
+            Expr::Monadic {
+                number,
+                operation,
+                operand,
+            } => {
+                visits.tick(*number);
+                let known = self.expression(operand, visits);
+                self.operated(*operation, known)
+            }
+            Expr::Chain { first, rest } => {
+                let known = self.expression(first, visits);
+                self.in_turn(rest, known, visits)
+            }
+            Expr::Compare {
+                number,
+                left,
+                left_indexes,
+                right,
+                right_indexes,
+                ..
+            } => {
+                self.whole_value(left, left_indexes, visits);
+                self.related(*number, right, right_indexes, visits)
+            }
+            Expr::Call { call, actuals } => self.function(*call, actuals, visits),
+        }
+    }
+
+    /// Operators with their right operands, from left to right, behind what is known of the first one.
+    #[cycle(expression)]
+    fn in_turn(&mut self, links: &[Link], left: Known, visits: &mut Visits) -> Known
+        ensures goes { Goes (in_turn (map link_walk links.now) left) self.old self.new result }
+        ensures counts { visits.new ≡ all_counted (joined (map entries_of_link links.now)) visits.old }
+    {
+        let mut known = left;
+        for link in links {
+            known = self.link(link, known, visits);
+        }
+        known
+    }
+
+    /// An operator and its right operand, by what is known to its left.
+    #[cycle(expression)]
+    fn link(&mut self, link: &Link, left: Known, visits: &mut Visits) -> Known
+        ensures goes { Goes (link_walk link.now left) self.old self.new result }
+        ensures counts { visits.new ≡ all_counted (entries_of_link link.now) visits.old }
+    {
+        visits.tick(link.number);
+        let right = self.expression(&link.operand, visits);
+        self.combined(link.operation, left, right)
+    }
+
+    /// The value of a variable or of a component.
+    #[cycle(expression)]
+    fn variable(
+        &mut self,
+        access: &Access,
+        indexes: &[Expr],
+        defined: u32,
+        visits: &mut Visits,
+    ) -> Known
+        ensures goes { Goes (variable_walk access.now (index_pieces indexes.now) defined) self.old self.new result }
+        ensures counts { visits.new ≡ all_counted (access_entries access.now (index_entries indexes.now)) visits.old }
+    {
+        let reach = self.access(access, indexes, visits);
+        self.used(access, &reach, defined)
+    }
+
+    /// A relation of two whole values behind the left one: the operator is entered between them.
+    #[cycle(expression)]
+    fn related(
+        &mut self,
+        number: u32,
+        right: &Whole,
+        indexes: &[Expr],
+        visits: &mut Visits,
+    ) -> Known
+        ensures goes { Goes (related_walk number right.now (index_pieces indexes.now)) self.old self.new result }
+        ensures counts { visits.new
+            ≡ all_counted (number ∷ whole_entries right.now (index_entries indexes.now)) visits.old }
+    {
+        visits.tick(number);
+        self.whole_value(right, indexes, visits);
+        Known::Ordinal(Interval::TRUTH_VALUES)
+    }
+
+    /// A whole value, with its index expressions (6.4.3): the ranges of its components, row by row. A string is only
+    /// entered; its characters lie in one range.
+    #[cycle(expression)]
+    pub fn whole_value(
+        &mut self,
+        value: &Whole,
+        indexes: &[Expr],
+        visits: &mut Visits,
+    ) -> Vec<Interval>
+        ensures goes { Goes (whole_walk value.now (index_pieces indexes.now)) self.old self.new result.items }
+        ensures counts { visits.new ≡ all_counted (whole_entries value.now (index_entries indexes.now)) visits.old }
+    {
+        match value {
+            Whole::Text { number, characters } => {
+                visits.tick(*number);
+                self.text(characters)
+            }
+            Whole::Variable {
+                access,
+                type_id,
+                defined,
+                ..
+            } => {
+                let reach = self.access(access, indexes, visits);
+                self.used_whole(*type_id, access, &reach, *defined)
+            }
+        }
+    }
+
+    /// A variable access with its index expressions (6.5.1): what it reaches of the rows under it.
+    #[cycle(expression)]
+    pub fn access(&mut self, access: &Access, indexes: &[Expr], visits: &mut Visits) -> Reach
+        ensures goes { Goes (access_walk access.now (index_pieces indexes.now)) self.old self.new (said_reach result) }
+        ensures counts { visits.new ≡ all_counted (access_entries access.now (index_entries indexes.now)) visits.old }
+    {
+        visits.tick(access.number);
+        self.indexes(&access.selectors, indexes, visits)
+    }
+
+    /// Index expressions, each of which is tested at once: what is reached by them.
+    #[cycle(expression)]
+    fn indexes(&mut self, selectors: &[Selector], indexes: &[Expr], visits: &mut Visits) -> Reach
+        ensures goes { Goes (indexes_walk selectors.now (index_pieces indexes.now) entire)
+            self.old self.new (said_reach result) }
+        ensures counts { visits.new ≡ all_counted (joined (index_entries indexes.now)) visits.old }
+    {
+        let mut left = selectors;
+        let mut reach = Reach {
+            indexes: Indexes::Entire,
+            is_all: true,
+        };
+        for i in 0..indexes.len() {
+            let index = &indexes[i];
+            let known = self.expression(index, visits);
+            let range = self.index(next_test(left), known);
+            let form = form_before(index, &indexes[i + 1..]);
+            reach = deeper(Index { form, range }, reach);
+            left = behind_next(left);
+        }
+        reach
+    }
+
+    /// The value of a function that is called (6.7.3).
+    #[cycle(expression)]
+    fn function(&mut self, call: Call, actuals: &[Passed], visits: &mut Visits) -> Known
+        ensures goes { Goes (function_walk call (map passed_piece_of actuals.now)) self.old self.new result }
+        ensures counts { visits.new ≡ all_counted (call_entries call (map entries_of_passed actuals.now)) visits.old }
+    {
+        self.call(call, actuals, visits);
+        self.result(call)
+    }
+
+    /// A call of a routine, with its actual parameters (6.7.3, 6.8.2.3).
+    #[cycle(expression)]
+    pub fn call(&mut self, call: Call, actuals: &[Passed], visits: &mut Visits)
+        ensures goes { Goes (call_walk call (map passed_piece_of actuals.now)) self.old self.new tt }
+        ensures counts { visits.new ≡ all_counted (call_entries call (map entries_of_passed actuals.now)) visits.old }
+    {
+        visits.tick(call.number);
+        let passed = self.actuals(actuals, visits);
+        self.called(call, actuals_hold_call(actuals), passed);
+    }
+
+    /// Actual parameters, from left to right.
+    #[cycle(expression)]
+    fn actuals<'b>(&mut self, actuals: &'b [Passed], visits: &mut Visits) -> Vec<Actual<'b>>
+        ensures goes { Goes (actuals_walk (map passed_piece_of actuals.now))
+            self.old self.new (map said_actual result.items) }
+        ensures counts { visits.new ≡ all_counted (joined (map entries_of_passed actuals.now)) visits.old }
+    {
+        let mut passed = Vec::new(*self.open_ids.allocator());
+        for actual in actuals {
+            let one = self.actual(actual, visits);
+            self.pass(one, &mut passed);
+        }
+        passed
+    }
+
+    /// Puts an actual parameter behind others.
+    fn pass<'b>(&mut self, actual: Actual<'b>, passed: &mut Vec<Actual<'b>>)
+        ensures { Goes (give (map said_actual passed.old.items ++ said_actual actual.entry ∷ [])) self.old self.new
+            (map said_actual passed.new.items) }
+    {
+        if passed.push(actual).is_err() {
+            self.state.run_short();
+        }
+    }
+
+    /// An actual parameter (6.6.3): a value is tested at once.
+    #[cycle(expression)]
+    fn actual<'b>(&mut self, actual: &'b Passed, visits: &mut Visits) -> Actual<'b>
+        ensures goes { Goes (passed_piece_of actual.now).walk self.old self.new (said_actual result) }
+        ensures counts { visits.new ≡ all_counted (entries_of_passed actual.now) visits.old }
+    {
+        match actual {
+            Passed::Value { value, fits } => {
+                let known = self.expression(value, visits);
+                Actual::Value {
+                    range: self.fitting(*fits, known).range(),
+                    form: bound_form(value),
+                }
+            }
+            Passed::Whole { value, indexes, .. } => {
+                Actual::Rows(self.whole_value(value, indexes, visits))
+            }
+            Passed::Reference {
+                access,
+                indexes,
+                ..
+            } => Actual::Variable {
+                root: access.root,
+                selectors: &access.selectors,
+                reach: self.access(access, indexes, visits),
+            },
+        }
+    }
+
+    /// A value that is written, and then its width.
+    pub fn parameter(&mut self, parameter: &WriteParameter, visits: &mut Visits)
+        ensures goes { Goes (parameter_walk parameter.now) self.old self.new tt }
+        ensures counts { visits.new ≡ all_counted (entries_of_parameter parameter.now) visits.old }
+    {
+        self.written(&parameter.value, visits);
+        self.width(&parameter.width, visits);
+    }
+
+    /// A value that is written.
+    fn written(&mut self, value: &Written, visits: &mut Visits)
+        ensures goes { Goes (written_walk value.now) self.old self.new tt }
+        ensures counts { visits.new ≡ all_counted (entries_of_written value.now) visits.old }
+    {
+        match value {
+            Written::Ordinal { value, .. } => {
+                self.expression(value, visits);
+            }
+            Written::String { value, indexes } => {
+                self.whole_value(value, indexes, visits);
+            }
+        }
+    }
+
+    /// The width of a value that is written.
+    fn width(&mut self, width: &Option<Width>, visits: &mut Visits)
+        ensures goes { Goes (width_walk width.now) self.old self.new tt }
+        ensures counts { visits.new ≡ all_counted (entries_of_width width.now) visits.old }
+    {
+        if let Some(width) = width {
+            let known = self.expression(&width.value, visits);
+            self.width_test(width.site, known);
+        }
+    }
+}
+
+/// The bound form of an index expression behind which others are evaluated: none, where one of these holds a call.
+fn form_before(index: &Expr, later: &[Expr]) -> Option<Bound>
+    ensures { said_form result ≡ form_before (piece_of index.now).form (index_pieces later.now) }
+{
+    if hold_call(later) {
+        None
+    } else {
+        bound_form(index)
+    }
+}
+
+/// What is reached with one index more, of which two are kept.
+fn deeper(index: Index, reach: Reach) -> Reach
+    ensures { said_reach result ≡ deeper (said_index index) (said_reach reach) }
+{
+    let Reach { indexes, is_all } = reach;
+    match indexes {
+        Indexes::Entire => Reach {
+            indexes: Indexes::One(index),
+            is_all,
+        },
+        Indexes::One(first) => Reach {
+            indexes: Indexes::Two(first, index),
+            is_all,
+        },
+        Indexes::Two(first, second) => Reach {
+            indexes: Indexes::Two(first, second),
+            is_all: false,
+        },
+    }
+}
+
+/// The test of the next index that selectors take.
+fn next_test(selectors: &[Selector]) -> Option<RangeTest>
+    ensures { result ≡ next_test selectors.now }
+{
+    for i in 0..selectors.len() {
+        match selectors[i] {
+            Selector::Element { fits, .. } => return Some(fits),
+            Selector::Field { .. } => {}
+        }
+    }
+    None
+}
+
+/// The selectors behind the element of the next index.
+fn behind_next(selectors: &[Selector]) -> &[Selector]
+    ensures { result.now ≡ behind_next selectors.now }
+{
+    for i in 0..selectors.len() {
+        match selectors[i] {
+            Selector::Element { .. } => return &selectors[i + 1..],
+            Selector::Field { .. } => {}
+        }
+    }
+    &[]
+}

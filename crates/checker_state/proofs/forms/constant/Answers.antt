@@ -1,0 +1,8 @@
+use Rattle.checker_state.proofs.FormsOf.{chain-constant, variable-constant}
+use Rattle.checker_state.proofs.forms.constant.Goals as goal
+
+pub returns-in-Chain : goal.returns-in-Chain
+returns-in-Chain c = chain-constant c.args.expression.now c.in-Chain.first c.in-Chain.rest c.in-Chain.is
+
+pub returns-in-Variable : goal.returns-in-Variable
+returns-in-Variable c = variable-constant c.args.expression.now c.in-Variable.access c.in-Variable.indexes c.in-Variable.defined c.in-Variable.is

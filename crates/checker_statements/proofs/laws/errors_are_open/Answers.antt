@@ -1,6 +1,0 @@
-use Rattle.checker_statements.proofs.SoundProgram.{closed-never_err}
-use Rattle.checker_statements.proofs.laws.errors_are_open.Goals as goal
-
-pub returns : goal.returns
-returns c tree certificate open_sites valid well in_order =
-    closed-never_err tree certificate open_sites valid.unbroken valid.known valid.open_are well in_order

@@ -1,4 +1,0 @@
-pub mod Walk
-pub mod Names
-pub mod Promise
-pub mod Laws

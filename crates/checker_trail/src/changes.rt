@@ -1,0 +1,166 @@
+ghost use Rattle.std.specs.Prelude.{◌≡◌, Some, map, slice_set};
+ghost use Rattle.std.specs.List.{filter_map, remove};
+ghost use Rattle.checker_state.specs.Changes.{all_changed, assigned, with_change, with_equal, with_equal_to, with_some};
+ghost use Rattle.checker_state.specs.State.{with_more};
+ghost use Rattle.checker_trail.specs.Longer.{without};
+ghost use Rattle.checker_trail.specs.Trail.{Moves, changed_at, kept_by, over_held};
+ghost use Rattle.checker_state.specs.View.{held_by, said_form, said_held, said_ordered};
+
+use crate::state::State;
+use crate::trail::Change;
+use checker_state::{Bound, Held, Order, Rebinding};
+use domain::interval::Interval;
+
+impl<'a> State<'a> {
+    /// A variable has a value of a range from here on, perhaps of a bound form.
+    pub fn assign(&mut self, root: u32, range: Interval, form: Option<Bound>)
+        ensures { Moves (assigned root range (said_form form)) self.old self.new }
+    {
+        self.change(root, form);
+        self.set_range(root as usize, range);
+        self.define(root as usize);
+        self.equate(root, form);
+    }
+
+    /// A variable got a value, perhaps of a bound form.
+    pub fn change(&mut self, root: u32, form: Option<Bound>)
+        ensures { Moves (with_change root (said_form form)) self.old self.new }
+    {
+        self.rebind(Rebinding::Changed { root, form });
+    }
+
+    /// Several variables may have other values.
+    pub fn change_all(&mut self, roots: &[u32])
+        ensures { Moves (all_changed roots.now) self.old self.new }
+    {
+        for root in roots {
+            self.change(*root, None);
+        }
+    }
+
+    // A variable is another plus a number, if it got a value of such a form.
+    fn equate(&mut self, root: u32, form: Option<Bound>)
+        ensures { Moves (with_equal root (said_form form)) self.old self.new }
+    {
+        if let Some(form) = form {
+            self.equate_to(root, form);
+        }
+    }
+
+    fn equate_to(&mut self, root: u32, form: Bound)
+        ensures { Moves (with_equal_to root form.root form.number) self.old self.new }
+    {
+        let Some(other) = form.root else {
+            return;
+        };
+        if root == other {
+            return;
+        }
+        let number = i64::from(form.number);
+        self.order(Order::new(root, other, number));
+        self.order(Order::new(other, root, -number));
+    }
+
+    /// Two variables are in an order, if there is one.
+    pub fn order(&mut self, order: Option<Order>)
+        ensures { Moves (with_some (said_ordered order)) self.old self.new }
+    {
+        if let Some(order) = order {
+            self.hold(Held::Ordered(order));
+        }
+    }
+
+    /// Something more is held, unless it is already.
+    pub fn hold(&mut self, held: Held)
+        ensures { Moves (with_some (Some (said_held held))) self.old self.new }
+    {
+        if self.known.is_dead {
+            return;
+        }
+        if let Some(place) = self.known.place(&held) {
+            self.make(&Change::Inserted { place, held });
+        }
+    }
+
+    /// More is held, one after another.
+    pub fn hold_all(&mut self, more: &[Held])
+        ensures { Moves (over_held (with_more (map said_held more.now))) self.old self.new }
+    {
+        for held in more {
+            self.hold(*held);
+        }
+    }
+
+    /// What becomes of what is held.
+    pub(crate) fn rebind(&mut self, how: Rebinding)
+        ensures { Moves (over_held (filter_map (held_by how))) self.old self.new }
+    {
+        for place in (0..self.known.held.len()).rev() {
+            self.rebind_at(place, how);
+        }
+    }
+
+    // What becomes of what stands at a place.
+    fn rebind_at(&mut self, place: usize, how: Rebinding)
+        ensures { Moves (over_held (changed_at (held_by how) place)) self.old self.new }
+    {
+        if place >= self.known.held.len() {
+            return;
+        }
+        match self.known.held[place].by(how) {
+            None => self.remove(place),
+            Some(now) => self.replace(place, now),
+        }
+    }
+
+    // Something else is held at a place, unless it is the same.
+    fn replace(&mut self, place: usize, now: Held)
+        ensures { Moves (over_held (λ held. slice_set held place (said_held now))) self.old self.new }
+    {
+        if self.known.is_dead {
+            return;
+        }
+        if place >= self.known.held.len() {
+            return;
+        }
+        let was = self.known.held[place];
+        if now.is_same(&was) {
+            return;
+        }
+        self.make(&Change::Replaced { place, was, now });
+    }
+
+    /// Those of what is held that stand where this says so, and those behind.
+    pub fn retain(&mut self, kept: &[bool])
+        ensures { Moves (over_held (kept_by kept.now)) self.old self.new }
+    {
+        for place in (0..kept.len()).rev() {
+            if !kept[place] {
+                self.remove(place);
+            }
+        }
+    }
+
+    /// What stands at places is held no longer.
+    pub(crate) fn remove_all(&mut self, places: &[usize])
+        ensures { Moves (over_held (without places.now)) self.old self.new }
+    {
+        for i in (0..places.len()).rev() {
+            self.remove(places[i]);
+        }
+    }
+
+    // What stands at a place is held no longer.
+    pub(crate) fn remove(&mut self, place: usize)
+        ensures { Moves (over_held (λ held. remove held place)) self.old self.new }
+    {
+        if self.known.is_dead {
+            return;
+        }
+        if place >= self.known.held.len() {
+            return;
+        }
+        let held = self.known.held[place];
+        self.make(&Change::Removed { place, held });
+    }
+}

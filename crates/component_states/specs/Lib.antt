@@ -1,5 +1,0 @@
-pub mod Components
-pub mod States
-pub mod Holds
-pub mod Laws
-pub mod View

@@ -1,2 +1,0 @@
-pub mod Exit
-pub mod View

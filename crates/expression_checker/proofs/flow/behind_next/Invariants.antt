@@ -1,6 +1,0 @@
-use Rattle.std.proofs.Common.{◌≡◌, drop}
-use Rattle.expression_checker.specs.Walk.{behind_next}
-use Rattle.expression_checker.proofs.flow.behind_next.Given as goal
-
-abbrev pub invariant-loop-i : goal.invariant-loop-i
-invariant-loop-i l = behind_next l.selectors ≡ behind_next (drop l.i l.selectors)

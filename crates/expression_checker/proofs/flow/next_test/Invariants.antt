@@ -1,6 +1,0 @@
-use Rattle.std.proofs.Common.{◌≡◌, drop}
-use Rattle.expression_checker.specs.Walk.{next_test}
-use Rattle.expression_checker.proofs.flow.next_test.Given as goal
-
-abbrev pub invariant-loop-i : goal.invariant-loop-i
-invariant-loop-i l = next_test l.selectors ≡ next_test (drop l.i l.selectors)

@@ -1,5 +1,0 @@
-use Rattle.std.proofs.Common.{rules}
-use Rattle.expression_checker.proofs.visits.Visits.tick.Goals as goal
-
-pub returns : goal.returns
-returns c = search rules

@@ -1,4 +1,0 @@
-pub mod Rules
-pub mod View
-pub mod Visits
-pub mod Walk

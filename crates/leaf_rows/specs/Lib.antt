@@ -1,4 +1,0 @@
-pub mod Leaves
-pub mod Rows
-pub mod Limits
-pub mod View
