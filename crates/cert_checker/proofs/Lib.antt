@@ -31,5 +31,6 @@ pub mod Assigned
 pub mod LoopsEntered
 pub mod WaysTested
 pub mod StepsCase
+pub mod StepsLayers
 pub mod StepsBlocks
 pub mod StepsProgram

@@ -60,7 +60,15 @@ impl<'a> Walk<'a> {
                 consequence,
                 alternative,
             } => {
-                self.choice(*number, condition, consequence, alternative, visits);
+                visits.tick(*number);
+                let known = self.expression(condition, visits);
+                let mark = self.flow.state.mark();
+                self.go_where(condition, &known, true);
+                self.statement(consequence, visits);
+                let first = self.flow.state.leave(mark);
+                self.go_where(condition, &known, false);
+                self.alternative(alternative, visits);
+                self.flow.state.join_behind(mark, &first);
             }
             Stmt::While { head, body } => self.while_loop(head, body, visits),
             Stmt::Repeat { head, statements } => self.repeat_loop(head, statements, visits),
@@ -78,33 +86,6 @@ impl<'a> Walk<'a> {
         for statement in statements {
             self.statement(statement, visits);
         }
-    }
-
-    /// What is executed where a condition is true, and what is where it is false.
-    #[cycle(statement)]
-    fn choice(
-        &mut self,
-        number: u32,
-        condition: &Expr,
-        consequence: &Stmt,
-        alternative: &Option<Box<Stmt>>,
-        visits: &mut Visits,
-    )
-        ensures goes { Goes (from_entry number
-            (choice_walk condition.now (statement_walk consequence.now) (else_walk alternative.now)))
-            self.old self.new tt }
-        ensures counts { visits.new ≡ all_counted (number ∷ (entries_of_expression condition.now
-            ++ (entries_of_statement consequence.now ++ else_entries alternative.now))) visits.old }
-    {
-        visits.tick(number);
-        let known = self.expression(condition, visits);
-        let mark = self.flow.state.mark();
-        self.go_where(condition, &known, true);
-        self.statement(consequence, visits);
-        let first = self.flow.state.leave(mark);
-        self.go_where(condition, &known, false);
-        self.alternative(alternative, visits);
-        self.flow.state.join_behind(mark, &first);
     }
 
     /// The statement behind `else`, if there is one.

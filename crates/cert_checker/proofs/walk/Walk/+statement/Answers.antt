@@ -7,11 +7,12 @@ use Rattle.checker_loops.specs.View.{said_way}
 use Rattle.checker_loops.specs.Ways.{Way, turn_begun, turn_ended, way_of, way_out, where_counts}
 use Rattle.checker_state.specs.Loops.{with_undefined}
 use Rattle.checker_expressions.specs.Visits.{all_counted}
-use Rattle.checker_expressions.specs.Walk.{◌>>=◌, changed_by, give, value_walk, with_state}
-use Rattle.cert_checker.specs.Walk.{all_of, begin_way, bounds_walk, branches, case_walk, choice_walk, for_turns, for_walk, index_walk, parted, repeat_round}
+use Rattle.checker_expressions.specs.Walk.{Walking, ◌>>=◌, changed_by, give, value_walk, with_state}
+use Rattle.cert_checker.specs.Walk.{all_of, begin_way, bounds_walk, branches, case_walk, choice_walk, for_turns, for_walk, from_entry, index_walk, parted, repeat_round}
 use Rattle.cert_checker.specs.Walk.{here, loop_walk, repeat_walk, rounds_of, statement_walk, tested_way, where_so, while_walk}
 use Rattle.cert_checker.specs.View.{Goes, else_entries, else_walk, statements_entries}
 use Rattle.cert_checker.proofs.Steps.{all-end, all-step, counted-end, counted-step, counted-then, goes-from_entry, goes-give, goes-here, goes-then, moved}
+use Rattle.cert_checker.proofs.StepsLayers.{entries-If, goes-as, statement-Case, statement-For, statement-If, statement-Repeat, statement-While}
 use Rattle.cert_checker.proofs.StepsWays.{loop-alike, loop-done, parted-done, round_of_parts, rounds-go, then-assoc}
 use Rattle.cert_checker.proofs.StepsCase.{arms-begin, arms-end, arms-step, case-tested}
 use Rattle.cert_checker.proofs.walk.Walk.+statement.Goals as goal
@@ -41,28 +42,65 @@ statements-returns-clause-counts t c =
     counted-end statements_entries entries_of_statement (λ x xs. refl) c.args.statements.now here.statement-index _ c.loop-statement-test.false refl
     here.invariant.1
 
--- ---- an if
+-- ---- one layer of a statement
 
-pub choice-returns-clause-goes : goal.choice-returns-clause-goes
-choice-returns-clause-goes t c =
-    let condition = c.args.condition.now in
-    let one = statement_walk c.args.consequence.now in
-    let other = else_walk c.args.alternative.now in
+pub statement-returns-in-If-clause-goes : goal.statement-returns-in-If-clause-goes
+statement-returns-in-If-clause-goes t c =
+    let it = c.in-If in
+    let condition = it.condition in
+    let one = statement_walk c.deref-in-If.result.now in
+    let other = else_walk it.alternative in
     let known = c.expression-known.result in
-    goes-from_entry c.args.number (choice_walk condition one other)
+    let form = λ (first : Walking (Unit {0})). from_entry it.number (choice_walk condition first other) in
+    goes-as (statement_walk c.args.statement.now) (form one)
+    (ap statement_walk it.is ∙ statement-If it.number condition it.consequence it.alternative
+    ∙ ap (λ (s : Stmt). form (statement_walk s)) (sym c.deref-in-If.ensures))
+    (goes-from_entry it.number (choice_walk condition one other)
     (goes-then (value_walk condition) (branches condition one other) c.expression-known.ensures.goes
     (parted-done (where_so true condition known) (where_so false condition known) one other c.mark-mark.result.length c.mark-mark.ensures
     c.go_where.ensures c.statement.ensures.goes c.leave-first.ensures.long c.leave-first.ensures.back c.go_where-2.ensures c.alternative.ensures.goes
-    c.join_behind.ensures.long c.join_behind.ensures.meets))
+    c.join_behind.ensures.long c.join_behind.ensures.meets)))
 
-pub choice-returns-clause-counts : goal.choice-returns-clause-counts
-choice-returns-clause-counts t c =
-    let first = entries_of_expression c.args.condition.now in
-    let one = entries_of_statement c.args.consequence.now in
-    let other = else_entries c.args.alternative.now in
-    counted-then (c.args.number ∷ []) (first ++ (one ++ other)) _ c.tick.ensures
+pub statement-returns-in-If-clause-counts : goal.statement-returns-in-If-clause-counts
+statement-returns-in-If-clause-counts t c =
+    let it = c.in-If in
+    let first = entries_of_expression it.condition in
+    let one = entries_of_statement c.deref-in-If.result.now in
+    let other = else_entries it.alternative in
+    let form = λ (s : Stmt). it.number ∷ (first ++ (entries_of_statement s ++ other)) in
+    counted-then (it.number ∷ []) (first ++ (one ++ other)) _ c.tick-in-If.ensures
     (counted-then first (one ++ other) _ c.expression-known.ensures.counts
     (counted-then one other _ c.statement.ensures.counts c.alternative.ensures.counts))
+    ∙ ap (λ numbers. all_counted numbers c.args.visits.now)
+    (sym (ap entries_of_statement it.is ∙ entries-If it.number it.condition it.consequence it.alternative ∙ ap form (sym c.deref-in-If.ensures)))
+
+pub statement-returns-in-While-clause-goes : goal.statement-returns-in-While-clause-goes
+statement-returns-in-While-clause-goes t c =
+    let it = c.in-While in
+    let form = λ (s : Stmt). from_entry it.head.number (while_walk it.head (statement_walk s)) in
+    goes-as (statement_walk c.args.statement.now) (form c.deref-in-While.result.now)
+    (ap statement_walk it.is ∙ statement-While it.head it.body ∙ ap form (sym c.deref-in-While.ensures)) c.while_loop.ensures.goes
+
+pub statement-returns-in-Repeat-clause-goes : goal.statement-returns-in-Repeat-clause-goes
+statement-returns-in-Repeat-clause-goes t c =
+    let it = c.in-Repeat in
+    let form = λ (inner : List Stmt). from_entry it.head.number (repeat_walk it.head (all_of (map statement_walk inner))) in
+    goes-as (statement_walk c.args.statement.now) (form c.deref-in-Repeat.result.now)
+    (ap statement_walk it.is ∙ statement-Repeat it.head it.statements ∙ ap form (sym c.deref-in-Repeat.ensures.value)) c.repeat_loop.ensures.goes
+
+pub statement-returns-in-For-clause-goes : goal.statement-returns-in-For-clause-goes
+statement-returns-in-For-clause-goes t c =
+    let it = c.in-For in
+    let form = λ (s : Stmt). from_entry it.head.number (bounds_walk it.head (statement_walk s)) in
+    goes-as (statement_walk c.args.statement.now) (form c.deref-in-For.result.now)
+    (ap statement_walk it.is ∙ statement-For it.head it.body ∙ ap form (sym c.deref-in-For.ensures)) c.for_loop.ensures.goes
+
+pub statement-returns-in-Case-clause-goes : goal.statement-returns-in-Case-clause-goes
+statement-returns-in-Case-clause-goes t c =
+    let it = c.in-Case in
+    let form = λ (arms : List Stmt). from_entry it.head.number (index_walk it.head (map statement_walk arms)) in
+    goes-as (statement_walk c.args.statement.now) (form c.deref-in-Case.result.now)
+    (ap statement_walk it.is ∙ statement-Case it.head it.arms ∙ ap form (sym c.deref-in-Case.ensures.value)) c.case.ensures.goes
 
 -- ---- loops
 
