@@ -58,7 +58,7 @@ statement-returns-in-If-clause-goes t c =
     (goes-from_entry it.number (choice_walk condition one other)
     (goes-then (value_walk condition) (branches condition one other) c.expression-known.ensures.goes
     (parted-done (where_so true condition known) (where_so false condition known) one other c.mark-mark.result.length c.mark-mark.ensures
-    c.go_where.ensures c.statement.ensures.goes c.leave-first.ensures.long c.leave-first.ensures.back c.go_where-2.ensures c.alternative.ensures.goes
+    c.go_where.ensures c.statement.ensures.goes c.leave-first.ensures.long c.leave-first.ensures.back c.go_where-in-If.ensures c.alternative.ensures.goes
     c.join_behind.ensures.long c.join_behind.ensures.meets)))
 
 pub statement-returns-in-If-clause-counts : goal.statement-returns-in-If-clause-counts
