@@ -20,7 +20,7 @@ use Rattle.checker_state.specs.State.{State}
 use Rattle.checker_state.specs.Stores.{Reach, all_stored}
 use Rattle.checker_trail.specs.declared.state.State.{State as Kept}
 use Rattle.checker_trail.specs.Trail.{Moves}
-use Rattle.checker_calls.specs.Aliases.{reach_unless_alias, unless_alias, with_aliases_stored}
+use Rattle.checker_loops.specs.Aliases.{reach_unless_alias, unless_alias, with_aliases_stored}
 use Rattle.checker_expressions.specs.View.{state_of}
 use Rattle.checker_expressions.specs.Visits.{Visits, all_counted, counted}
 use Rattle.checker_expressions.specs.Walk.{Walking, ◌>>=◌, access_walk, changed_by, fitting, index_pieces, value_walk, whole_walk}

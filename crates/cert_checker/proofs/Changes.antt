@@ -32,10 +32,10 @@ use Rattle.checker_loops.specs.Pairs.{aliases_in}
 use Rattle.checker_loops.specs.Ways.{Way, turn_ended}
 use Rattle.checker_loops.proofs.OnWay.{Between, MayBe, ended-known}
 use Rattle.checker_loops.proofs.Tabled.{are-rows}
-use Rattle.checker_calls.specs.Aliases.{Stored, unless_alias, with_aliases_stored}
+use Rattle.checker_loops.specs.Aliases.{Stored, unless_alias, with_aliases_stored}
+use Rattle.checker_loops.proofs.AliasesHold.{IsReady, aliases-ready}
+use Rattle.checker_loops.proofs.AliasedStores.{AreWritten, IsApart, Pairs, at-head, head-or_tail, one-written, whole-changes}
 use Rattle.checker_calls.specs.Environments.{LiesIn, Proper, place_type}
-use Rattle.checker_calls.proofs.Aliased.{IsReady, aliases-ready}
-use Rattle.checker_calls.proofs.AliasedStores.{AreWritten, IsApart, Pairs, at-head, head-or_tail, one-written, whole-changes}
 use Rattle.checker_calls.proofs.SeenAliases.{listed_pairs}
 use Rattle.checker_calls.proofs.AliasedTypes.{AreStoredAs, AreTyped, are-aliased, declared, own-row_type, seen, whole-type}
 

@@ -21,9 +21,9 @@ use Rattle.checker_state.specs.Loops.{is_among}
 use Rattle.certificate.specs.declared.AliasPair.{AliasPair}
 use Rattle.certificate.specs.Contents.{Section}
 use Rattle.cert_checker.proofs.HiddenControls.{IsKnownPair}
-use Rattle.checker_calls.specs.Sections.{BlockClaims, all_block_claims, all_pairs, block_claims_at, block_claims_in, no_block_claims, pair_of}
-use Rattle.checker_calls.proofs.AliasedStores.{all-pass}
-use Rattle.checker_calls.proofs.Lists.{of-flat, of-map}
+use Rattle.checker_loops.specs.Sections.{BlockClaims, all_block_claims, all_pairs, block_claims_at, block_claims_in, no_block_claims, pair_of}
+use Rattle.checker_loops.proofs.AliasedStores.{all-pass}
+use Rattle.checker_loops.proofs.Lists.{of-flat, of-map}
 use Rattle.checker_calls.proofs.BehindExits.{IsOwnResult, IsResultOf, MayEnd}
 use Rattle.checker_calls.proofs.Given.{AreOutward}
 use Rattle.checker_calls.proofs.Given as given

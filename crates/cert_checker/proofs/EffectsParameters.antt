@@ -24,8 +24,8 @@ use Rattle.meaning.specs.Effect as effect
 use Rattle.meaning.specs.Meaning.{Activation, Argument, OfPlace, OfRow, OfValue, assign, assign_all, home_of, own_place, place_for}
 use Rattle.meaning.specs.Meaning.{environment_of, place_passed, seen_from}
 use Rattle.checker_state.specs.Loops.{is_among}
-use Rattle.checker_calls.specs.Sections.{BlockClaims, block_claims_at}
-use Rattle.checker_calls.specs.Starts.{is_own}
+use Rattle.checker_loops.specs.Sections.{BlockClaims, block_claims_at}
+use Rattle.checker_loops.specs.Starts.{is_own}
 use Rattle.checker_calls.proofs.Callee.{in-roots}
 use Rattle.checker_expressions.proofs.EffectsKept.{IsOwn, Keeps, MayWriteTo, Standing, keeps-give, keeps-store, keeps-store_all, keeps-then, lies-itself}
 use Rattle.checker_expressions.proofs.EffectsKept.{listing, own-write}

@@ -21,8 +21,8 @@ use Rattle.meaning.specs.Effect as effect
 use Rattle.meaning.specs.Meaning.{Argument, Calls, activated, calls_of, environment_of, executed, result_of}
 use Rattle.meaning.specs.Laws.{state_after}
 use Rattle.checker_state.specs.State.{Dead}
+use Rattle.checker_loops.specs.Sections.{BlockClaims, all_block_claims, block_claims_at, block_claims_in, no_block_claims}
 use Rattle.checker_calls.specs.Environments.{Leaves}
-use Rattle.checker_calls.specs.Sections.{BlockClaims, all_block_claims, block_claims_at, block_claims_in, no_block_claims}
 use Rattle.checker_expressions.specs.Walk.{Context, Walking}
 use Rattle.checker_expressions.specs.Walk as flow
 use Rattle.cert_checker.specs.Promise.{CallsChangeWhatTheyList}

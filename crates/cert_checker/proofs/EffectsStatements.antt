@@ -47,8 +47,8 @@ use Rattle.checker_state.specs.State.{State}
 use Rattle.checker_loops.specs.Cases.{arm_start, constants_before}
 use Rattle.checker_loops.specs.Loops.{claims_at, round_of, with_own}
 use Rattle.checker_loops.specs.Ways.{Way, turn_begun, turn_ended, way_of, way_out, where_counts}
-use Rattle.checker_calls.specs.Sections.{BlockClaims}
-use Rattle.checker_calls.specs.Starts.{is_own}
+use Rattle.checker_loops.specs.Sections.{BlockClaims}
+use Rattle.checker_loops.specs.Starts.{is_own}
 use Rattle.checker_expressions.specs.declared.fault.Rule.TheVariants.{Changes, LoopEntry, LoopTurn}
 use Rattle.checker_expressions.specs.Walk.{Context, Walking, may_change, value_walk}
 use Rattle.checker_expressions.specs.Walk as flow

@@ -24,8 +24,8 @@ use Rattle.cert_checker.specs.Promise.{LinksEntries}
 use Rattle.checker_state.specs.Stores.{Reach}
 use Rattle.checker_state.specs.State.{Dead, State}
 use Rattle.checker_state.specs.Joins.{joined_states}
-use Rattle.checker_calls.specs.Sections.{block_claims_at}
-use Rattle.checker_calls.specs.Starts.{block_start}
+use Rattle.checker_loops.specs.Sections.{block_claims_at}
+use Rattle.checker_loops.specs.Starts.{block_start}
 use Rattle.checker_loops.specs.Loops.{claims_at, head_of, round_of, with_own}
 use Rattle.checker_state.specs.State.{table_of}
 use Rattle.checker_loops.specs.Ways.{Way, turn_begun, way_of, where_counts}

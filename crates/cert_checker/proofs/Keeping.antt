@@ -15,8 +15,8 @@ use Rattle.checker_state.proofs.Apart.{entire-stored, entry-kept, part, parts-sa
 use Rattle.checker_loops.proofs.Touched.{all_control}
 use Rattle.checker_loops.specs.Loops.{Round, touched}
 use Rattle.checker_expressions.proofs.Keeping.{Keeps}
+use Rattle.checker_loops.proofs.AliasedStores.{IsApart, all-pass}
 use Rattle.checker_calls.specs.Environments.{Begun, Typed}
-use Rattle.checker_calls.proofs.AliasedStores.{IsApart, all-pass}
 
 -- ---- a variable becomes undefined
 

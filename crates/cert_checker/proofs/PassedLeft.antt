@@ -19,10 +19,10 @@ use Rattle.meaning.specs.Laws.{state_after}
 use Rattle.meaning.specs.Meaning.{Argument, Calls, effect_of, environment_of}
 use Rattle.meaning.specs.Store.{Environment, Place}
 use Rattle.checker_state.specs.Loops.{is_among}
+use Rattle.checker_loops.specs.Sections.{BlockClaims, all_block_claims, block_claims_at}
+use Rattle.checker_loops.specs.Starts.{is_own, is_passed_value}
+use Rattle.checker_loops.proofs.Lists.{contains-among}
 use Rattle.checker_calls.specs.Environments.{IsListed, LeavesPassed}
-use Rattle.checker_calls.specs.Sections.{BlockClaims, all_block_claims, block_claims_at}
-use Rattle.checker_calls.specs.Starts.{is_own, is_passed_value}
-use Rattle.checker_calls.proofs.Lists.{contains-among}
 use Rattle.checker_calls.proofs.Callee.{IsCalled, Outer, Own, PassedTo, Seen, activation_of, place-for_fits, seen-as}
 use Rattle.checker_calls.proofs.Entered.{roots-are}
 use Rattle.cert_checker.specs.Walk.{program_walk}

@@ -12,7 +12,7 @@ use Rattle.checker_state.specs.Loops.{is_among}
 use Rattle.checker_loops.specs.Loops.{Round, aliases_there, round_of}
 use Rattle.checker_loops.specs.Pairs.{Listed, aliases_in, aliases_of, all_aliases_in, blocks_seen, declared_aliases, declares}
 use Rattle.checker_loops.proofs.Touched.{touched_parts}
-use Rattle.checker_calls.proofs.Lists.{among-contains, contains-among, filtered, of-flat}
+use Rattle.checker_loops.proofs.Lists.{among-contains, contains-among, filtered, of-flat}
 use Rattle.checker_calls.proofs.SeenAliases.{all-alias-seen}
 use Rattle.checker_expressions.specs.Walk.{Context}
 use Rattle.checker_expressions.proofs.Sound.{Goes, IsClosed, World, is_seen, listed_in}

@@ -47,8 +47,8 @@ use Rattle.checker_rows.proofs.Numbered.{own-values}
 use Rattle.checker_rows.proofs.Components.{Has, only}
 use Rattle.checker_state.specs.Stores.{Reach}
 use Rattle.checker_loops.specs.Loops.{all_list}
+use Rattle.checker_loops.proofs.VariableRows.{empty-way, variable-accessed}
 use Rattle.checker_calls.specs.Environments.{LiesIn, type_led}
-use Rattle.checker_calls.proofs.FormalRows.{empty-way, variable-accessed}
 use Rattle.checker_calls.proofs.Passed.{indexes-integer, reached-later, AreComponentsOf, IsReachedBy, Leads}
 use Rattle.checker_expressions.specs.declared.fault.Rule.TheVariants.{Changes}
 use Rattle.checker_expressions.proofs.Fitting.{passed-lies}

@@ -38,16 +38,16 @@ use Rattle.checker_rows.specs.Rows.{all_parts, rows_of}
 use Rattle.checker_loops.specs.Loops.{all_said, gives_claims, rows_named, said}
 use Rattle.checker_state.specs.State.{table_of}
 use Rattle.checker_loops.proofs.Tabled.{are-rows}
+use Rattle.checker_loops.specs.Sections.{BlockClaims, all_block_claims, all_pairs, block_claims_at}
+use Rattle.checker_loops.specs.Starts.{block_start}
+use Rattle.checker_loops.proofs.Lists.{among-contains, contains-more, in-flat, in-map}
 use Rattle.checker_calls.specs.Environments.{Fine, Leaves, LeavesPassed, Proper}
 use Rattle.checker_calls.specs.Exit.{claimed_of_row, exit_range, result_range}
-use Rattle.checker_calls.specs.Sections.{BlockClaims, all_block_claims, all_pairs, block_claims_at}
-use Rattle.checker_calls.specs.Starts.{block_start}
 use Rattle.checker_calls.proofs.AliasedTypes.{in-types}
 use Rattle.checker_calls.proofs.Assigned.{all_assigned, assigns-all}
 use Rattle.checker_calls.proofs.Callee.{IsCalled, callee-proper}
 use Rattle.checker_calls.proofs.Claimed.{AllHold}
 use Rattle.checker_calls.proofs.Given.{given-claims}
-use Rattle.checker_calls.proofs.Lists.{among-contains, contains-more, in-flat, in-map}
 use Rattle.checker_calls.proofs.Entered.{begun-behind, roots-are, typed-behind}
 use Rattle.checker_calls.proofs.Headings.{heading-at, same-numbers, well-heading}
 use Rattle.checker_calls.proofs.Started.{called-start}

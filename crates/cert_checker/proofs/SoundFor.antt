@@ -41,8 +41,8 @@ use Rattle.checker_loops.specs.Pairs.{aliases_of, aliases_in}
 use Rattle.checker_loops.specs.Ways.{End, Way, entered, met, turn_begun, turn_ended, way_of, way_out, where_counts, with_values}
 use Rattle.checker_loops.proofs.OnWay.{Between, MayBe, begun-known, counts-known, counts-ordered, entered-known, kept-may, met-in, next-between, ordered-itself}
 use Rattle.checker_loops.proofs.OnWay.{untouched-form}
+use Rattle.checker_loops.proofs.AliasedStores.{AreWritten, IsApart, all-pass, hidden-apart, one-kept}
 use Rattle.checker_calls.specs.Environments.{Fine, LiesUnder, Proper}
-use Rattle.checker_calls.proofs.AliasedStores.{AreWritten, IsApart, all-pass, hidden-apart, one-kept}
 use Rattle.checker_calls.proofs.AliasedTypes.{declared, written-begun, written-typed}
 use Rattle.checker_calls.proofs.SeenAliases.{apart-seen, listed_pairs}
 use Rattle.checker_expressions.specs.Walk as flow

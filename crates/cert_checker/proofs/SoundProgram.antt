@@ -26,9 +26,9 @@ use Rattle.meaning.specs.Effect as effect
 use Rattle.meaning.specs.Effect.{Reply, Visit}
 use Rattle.meaning.specs.Meaning.{calls_of, ended, environment_of, first_state, program_activation, run, run_of}
 use Rattle.checker_rows.proofs.Numbered.{contains-has, has-contains, in-filter}
+use Rattle.checker_loops.specs.Sections.{BlockClaims, all_pairs, block_claims_at, block_claims_in}
+use Rattle.checker_loops.proofs.AliasedStores.{head-or_tail}
 use Rattle.checker_calls.specs.Environments.{Fine}
-use Rattle.checker_calls.specs.Sections.{BlockClaims, all_pairs, block_claims_at, block_claims_in}
-use Rattle.checker_calls.proofs.AliasedStores.{head-or_tail}
 use Rattle.checker_calls.proofs.Claimed.{AllHold}
 use Rattle.checker_calls.proofs.Started.{no-claims, program-proper, program-start}
 use Rattle.checker_expressions.specs.Walk.{Linked, numbers_of}

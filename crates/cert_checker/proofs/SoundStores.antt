@@ -24,11 +24,11 @@ use Rattle.checker_state.proofs.Stored.{formless-hold, stores-hold}
 use Rattle.checker_state.specs.State.{table_of}
 use Rattle.checker_loops.specs.Pairs.{aliases_in}
 use Rattle.checker_loops.proofs.Tabled.{are-rows}
-use Rattle.checker_calls.specs.Aliases.{Stored, index_unless_alias, reach_unless_alias, with_aliases_stored}
+use Rattle.checker_loops.specs.Aliases.{Stored, index_unless_alias, reach_unless_alias, with_aliases_stored}
+use Rattle.checker_loops.proofs.AliasesHold.{aliases-ready}
+use Rattle.checker_loops.proofs.AliasedStores.{AreWritten, Pairs, own-came, value-defined}
+use Rattle.checker_loops.proofs.Lists.{in-map, of-map}
 use Rattle.checker_calls.specs.Environments.{Proper, place_type}
-use Rattle.checker_calls.proofs.Aliased.{aliases-ready}
-use Rattle.checker_calls.proofs.AliasedStores.{AreWritten, Pairs, own-came, value-defined}
-use Rattle.checker_calls.proofs.Lists.{in-map, of-map}
 use Rattle.checker_calls.proofs.AliasedTypes.{AreStoredAs, AreTyped, are-aliased, row-type}
 use Rattle.checker_calls.proofs.Passed.{AreIndexesOn, IsReachedBy}
 use Rattle.checker_calls.proofs.SeenAliases.{listed_pairs}

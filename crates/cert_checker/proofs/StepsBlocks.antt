@@ -15,9 +15,9 @@ use Rattle.checker_trail.specs.Trail.{seen_core}
 use Rattle.checker_trail.specs.View.{type_rows}
 use Rattle.checker_trail.proofs.Ways as ways
 use Rattle.checker_loops.specs.Loops.{gives_claims}
-use Rattle.checker_calls.specs.Sections.{block_claims_at}
-use Rattle.checker_calls.specs.View.{said_section}
-use Rattle.checker_calls.specs.Starts.{all_declared}
+use Rattle.checker_loops.specs.Sections.{block_claims_at}
+use Rattle.checker_loops.specs.BlockView.{said_section}
+use Rattle.checker_loops.specs.Starts.{all_declared}
 use Rattle.checker_expressions.specs.declared.flow.Flow.{Flow}
 use Rattle.checker_expressions.specs.declared.fault.Rule.TheVariants.{Exit}
 use Rattle.checker_expressions.specs.View as expressions

@@ -14,9 +14,9 @@ use Rattle.checker_loops.specs.declared.loops.Claims.{Claims as KeptClaims}
 use Rattle.checker_loops.specs.Loops.{Claims, Round, all_claims}
 use Rattle.checker_loops.specs.Pairs.{Listed}
 use Rattle.checker_loops.specs.View.{all_loop_aliases, loop_of_round, said_claims}
-use Rattle.checker_calls.specs.Sections.{BlockClaims, all_block_claims, all_pairs}
-use Rattle.checker_calls.specs.Starts.{all_declared}
-use Rattle.checker_calls.specs.View.{said_section}
+use Rattle.checker_loops.specs.Sections.{BlockClaims, all_block_claims, all_pairs}
+use Rattle.checker_loops.specs.Starts.{all_declared}
+use Rattle.checker_loops.specs.BlockView.{said_section}
 use Rattle.checker_expressions.specs.declared.fault.Breach.{Breach}
 use Rattle.checker_expressions.specs.declared.fault.CheckFault.{CheckFault}
 use Rattle.checker_expressions.specs.declared.fault.CheckFault.TheVariants.{Memory, Foreign, Broken}

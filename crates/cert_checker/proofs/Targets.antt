@@ -27,16 +27,16 @@ use Rattle.checker_rows.specs.Rows.{all_parts, is_structured_variable, leaf_step
 use Rattle.checker_rows.proofs.Numbered.{below-or, has-contains}
 use Rattle.checker_state.specs.Stores.{Index, Reach}
 use Rattle.checker_state.specs.Knows.{AreIndexes, BeginWith, IsReach, IsReached}
+use Rattle.checker_loops.proofs.VariableRows.{under-plain, variable-accessed, variable-row}
+use Rattle.checker_loops.proofs.AliasedStores.{Pairs, at-head, head-or_tail, in-tail}
 use Rattle.checker_calls.specs.Environments.{Proper, place_type}
 use Rattle.checker_calls.proofs.Passed.{AreComponentsOf, AreIndexesOn, IsReachedBy, LieIn}
 use Rattle.checker_rows.proofs.Selected.{Matches}
 use Rattle.checker_rows.proofs.Accessed.{RowsAre}
 use Rattle.checker_calls.proofs.Reached.{bound-one}
-use Rattle.checker_calls.proofs.FormalRows.{under-plain, variable-accessed, variable-row}
 use Rattle.checker_expressions.proofs.SoundRows.{indexes-many, indexes-then}
 use Rattle.cert_checker.specs.Walk.{Stores, alike, paired}
 use Rattle.cert_checker.proofs.SoundStores.{AreFormed, AreReached, AreTargets}
-use Rattle.checker_calls.proofs.AliasedStores.{Pairs, at-head, head-or_tail, in-tail}
 use Rattle.checker_calls.proofs.AliasedTypes.{AreTyped}
 use Rattle.checker_calls.proofs.Fitting.{part-accessed}
 

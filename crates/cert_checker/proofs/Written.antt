@@ -29,10 +29,10 @@ use Rattle.checker_state.specs.Stores.{Reach, all_stored}
 use Rattle.checker_state.specs.State.{State}
 use Rattle.checker_loops.specs.Loops.{Round, all_list}
 use Rattle.checker_loops.specs.Pairs.{aliases_of, Listed, aliases_in}
-use Rattle.checker_calls.specs.Aliases.{reach_unless_alias, unless_alias, with_aliases_stored}
-use Rattle.checker_calls.specs.Starts.{is_own}
+use Rattle.checker_loops.specs.Aliases.{reach_unless_alias, unless_alias, with_aliases_stored}
+use Rattle.checker_loops.specs.Starts.{is_own}
+use Rattle.checker_loops.proofs.AliasedStores.{AreWritten, Pairs, at-head, head-or_tail, in-tail, none-written, one-kept, one-written, written-then}
 use Rattle.checker_calls.specs.Environments.{Fine, Proper}
-use Rattle.checker_calls.proofs.AliasedStores.{AreWritten, Pairs, at-head, head-or_tail, in-tail, none-written, one-kept, one-written, written-then}
 use Rattle.checker_calls.proofs.AliasedTypes.{AreTyped, IsClosedIn, listed-keeps, written-begun, written-typed}
 use Rattle.checker_calls.proofs.SeenAliases.{apart-seen}
 use Rattle.checker_expressions.specs.declared.fault.Rule.TheVariants.{Changes}

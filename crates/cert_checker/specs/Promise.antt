@@ -24,8 +24,8 @@ use Rattle.cert_checker.specs.Walk.{block_walk, program_walk}
 use Rattle.checker_state.specs.Holds.{Separate, StateHolds}
 use Rattle.checker_rows.specs.Rows.{Parts, all_parts}
 use Rattle.certificate.specs.Contents.{contents}
+use Rattle.checker_loops.specs.Sections.{all_pairs, block_claims_in}
 use Rattle.checker_calls.specs.Environments.{IsListed}
-use Rattle.checker_calls.specs.Sections.{all_pairs, block_claims_in}
 
 -- the sites of the table that the walk leaves open, in the order of the table
 abbrev pub open_in : List ℕ → List Site → List Site

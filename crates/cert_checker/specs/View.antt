@@ -22,10 +22,10 @@ use Rattle.checker_loops.specs.declared.loops.Claims.{Claims as KeptClaims}
 use Rattle.checker_loops.specs.declared.rounds.Round.{Round as KeptRound}
 use Rattle.checker_loops.specs.Loops.{Claims, Round, claims_at, head_of, round_of, with_own}
 use Rattle.checker_loops.specs.View.{all_loop_aliases, claims_of_round, loop_of_round, said_claims}
-use Rattle.checker_calls.specs.Aliases.{Stored}
-use Rattle.checker_calls.specs.Sections.{all_block_claims, all_pairs, block_claims_at}
-use Rattle.checker_calls.specs.Starts.{all_declared, block_start}
-use Rattle.checker_calls.specs.View.{said_section}
+use Rattle.checker_loops.specs.Aliases.{Stored}
+use Rattle.checker_loops.specs.Sections.{all_block_claims, all_pairs, block_claims_at}
+use Rattle.checker_loops.specs.Starts.{all_declared, block_start}
+use Rattle.checker_loops.specs.BlockView.{said_section}
 use Rattle.checker_expressions.specs.declared.fault.CheckFault.{CheckFault}
 use Rattle.checker_expressions.specs.declared.fault.CheckFault.TheVariants.{Memory, Foreign, Broken}
 use Rattle.checker_expressions.specs.declared.flow.Flow.{Flow}

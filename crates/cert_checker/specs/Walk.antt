@@ -47,9 +47,9 @@ use Rattle.checker_state.specs.State.{table_of}
 use Rattle.checker_loops.specs.Ways.{End, Way, entered, met, steady, turn_begun, turn_ended, way_of, way_out}
 use Rattle.checker_loops.specs.Ways.{where_counts, with_values}
 use Rattle.checker_loops.specs.Pairs.{aliases_in}
-use Rattle.checker_calls.specs.Sections.{BlockClaims, all_block_claims, all_pairs, block_claims_at}
-use Rattle.checker_calls.specs.Starts.{block_start}
-use Rattle.checker_calls.specs.Aliases.{Stored, reach_unless_alias, unless_alias, with_aliases_stored}
+use Rattle.checker_loops.specs.Sections.{BlockClaims, all_block_claims, all_pairs, block_claims_at}
+use Rattle.checker_loops.specs.Starts.{block_start}
+use Rattle.checker_loops.specs.Aliases.{Stored, reach_unless_alias, unless_alias, with_aliases_stored}
 use Rattle.checker_calls.specs.Actuals.{unknown_reach}
 use Rattle.checker_expressions.specs.declared.fault.Rule.{Rule}
 use Rattle.checker_expressions.specs.declared.fault.Rule.TheVariants.{LoopEntry, LoopTurn, Exit, Changes}

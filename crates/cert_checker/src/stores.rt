@@ -3,13 +3,13 @@ ghost use Rattle.checker_state.specs.Changes.{assigned};
 ghost use Rattle.checker_state.specs.Stores.{all_stored};
 ghost use Rattle.checker_state.specs.View.{said_form, said_reach};
 ghost use Rattle.checker_trail.specs.Trail.{Moves};
-ghost use Rattle.checker_calls.specs.Aliases.{reach_unless_alias, unless_alias, with_aliases_stored};
-ghost use Rattle.checker_calls.specs.View.{said_stored};
+ghost use Rattle.checker_loops.specs.Aliases.{reach_unless_alias, unless_alias, with_aliases_stored};
+ghost use Rattle.checker_loops.specs.BlockView.{said_stored};
 ghost use Rattle.cert_checker.specs.View.{row_stored};
 ghost use Rattle.cert_checker.specs.StoresView.{said_stores};
 
-use checker_calls::aliases;
-use checker_calls::aliases::{Stored, form_unless_alias, reach_unless_alias};
+use checker_loops::aliases;
+use checker_loops::aliases::{Stored, form_unless_alias, reach_unless_alias};
 use checker_rows::{Rows, Span};
 use checker_state::{Bound, Reach};
 use checker_trail::State;

@@ -31,13 +31,13 @@ use Rattle.checker_state.specs.Loops.{is_among}
 use Rattle.checker_loops.specs.Loops.{Round, all_list, touched}
 use Rattle.checker_loops.specs.Pairs.{aliases_of}
 use Rattle.checker_loops.proofs.Touched.{all_control}
-use Rattle.checker_calls.specs.Aliases.{Stored, same_types}
+use Rattle.checker_loops.specs.Aliases.{Stored, same_types}
+use Rattle.checker_loops.proofs.AliasesHold.{AreAliased}
+use Rattle.checker_loops.proofs.AliasedStores.{AreWritten, Pairs, all-pass, or-true, value-came}
 use Rattle.checker_calls.specs.Environments.{Begun, LiesIn, Proper, Typed, place_type, type_led}
-use Rattle.checker_calls.proofs.Aliased.{AreAliased}
-use Rattle.checker_calls.proofs.AliasedStores.{AreWritten, Pairs, all-pass, or-true, value-came}
-pub use Rattle.checker_calls.proofs.AliasedStores.{stored-of}
+pub use Rattle.checker_loops.proofs.AliasedStores.{stored-of}
 use Rattle.checker_state.proofs.Apart.{part}
-use Rattle.checker_calls.proofs.FormalRows.{not-both, own-row_steps, under-whole}
+use Rattle.checker_loops.proofs.VariableRows.{not-both, own-row_steps, under-whole}
 use Rattle.checker_calls.proofs.PlaceTypes.{IsTypeOf, leaf-typed, part-typed}
 
 -- ---- what is visible

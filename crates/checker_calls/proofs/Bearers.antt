@@ -13,9 +13,9 @@ use Rattle.checker_rows.proofs.Accessed.{IsOf}
 use Rattle.checker_rows.proofs.Numbered.{under-root}
 use Rattle.checker_state.specs.Loops.{is_among}
 use Rattle.checker_loops.specs.Loops.{rows_in, rows_named}
+use Rattle.checker_loops.proofs.VariableRows.{under-plain, under-whole}
+use Rattle.checker_loops.proofs.Lists.{contains-more}
 use Rattle.checker_calls.specs.Actuals.{Bearer, bearers_at}
-use Rattle.checker_calls.proofs.FormalRows.{under-plain, under-whole}
-use Rattle.checker_calls.proofs.Lists.{contains-more}
 
 -- ---- the bearers of rows
 

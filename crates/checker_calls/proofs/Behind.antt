@@ -27,17 +27,17 @@ use Rattle.checker_state.proofs.Lists.{head-or_tail, in-none}
 use Rattle.checker_state.proofs.Looped.{StateWhere, changed-where}
 use Rattle.checker_state.proofs.Ranged.{common-in, in-left, in-right}
 use Rattle.checker_state.proofs.Rows.{range-where, where-all}
+use Rattle.checker_loops.specs.Aliases.{same_types}
+use Rattle.checker_loops.specs.Sections.{BlockClaims}
+use Rattle.checker_loops.proofs.AliasedStores.{stored-of}
+use Rattle.checker_loops.proofs.VariableRows.{own-row_steps, under-whole}
+use Rattle.checker_loops.proofs.Lists.{among-contains, contains-more, filtered, in-flat}
 use Rattle.checker_calls.specs.Actuals.{Actual, Bearer, Passed, Reached}
-use Rattle.checker_calls.specs.Aliases.{same_types}
 use Rattle.checker_calls.specs.Environments.{place_type}
 use Rattle.checker_calls.specs.Exit.{Change, all_common, all_joined, is_row, range_behind, row_behind, rows_behind, touched_behind}
-use Rattle.checker_calls.specs.Sections.{BlockClaims}
-use Rattle.checker_calls.proofs.AliasedStores.{stored-of}
 use Rattle.checker_calls.proofs.AliasedTypes.{InTypes, both-same, in-types, row-type}
 use Rattle.checker_calls.proofs.CallChanges.{HasReturned, defined-kept, same-or_changed, touched, untouched-kept}
 use Rattle.checker_calls.proofs.CallLeaves.{IsExact, changed-told, changes, changes-exact}
-use Rattle.checker_calls.proofs.FormalRows.{own-row_steps, under-whole}
-use Rattle.checker_calls.proofs.Lists.{among-contains, contains-more, filtered, in-flat}
 
 -- ---- ranges behind a call
 

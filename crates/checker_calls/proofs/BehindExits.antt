@@ -42,14 +42,16 @@ use Rattle.checker_state.proofs.Changed.{bound-stays}
 use Rattle.checker_state.proofs.Given.{first-of}
 use Rattle.checker_state.proofs.Looped.{claim-holds}
 use Rattle.checker_loops.specs.Loops.{rows_named, said, said_bound, stretch_of}
+use Rattle.checker_loops.specs.Sections.{BlockClaims}
+use Rattle.checker_loops.specs.Starts.{is_passed_value}
+use Rattle.checker_loops.proofs.VariableRows.{no-way, variable-row}
+use Rattle.checker_loops.proofs.Lists.{among-contains, contains-more, in-map, in-one, of-map}
 use Rattle.checker_calls.specs.Actuals.{Actual, Bearer, Binding, OfRows, OfValue, OfVariable, Passed, Reached, actual_of, all_of_rows, bearers_for}
 use Rattle.checker_calls.specs.Actuals.{bearers_named, bearers_of, bound_to}
 use Rattle.checker_calls.specs.Environments.{LeavesPassed}
 use Rattle.checker_calls.specs.Exit.{Touches, bearer_defined, bearers_defined, behind_call, bounds_ordered, exit_bound, exit_bound_of, exit_plus, has_actual}
 use Rattle.checker_calls.specs.Exit.{is_own_path, is_steady, row_between, steady_bound, stretch_defined, stretches_defined, touched_behind, touches_of}
 use Rattle.checker_calls.specs.Exit.{untouched_form, variables_ordered, with_exit, with_exits}
-use Rattle.checker_calls.specs.Sections.{BlockClaims}
-use Rattle.checker_calls.specs.Starts.{is_passed_value}
 use Rattle.checker_calls.proofs.Assigned.{Received}
 use Rattle.checker_calls.proofs.Bearers.{bearer-from, named-root}
 use Rattle.checker_calls.proofs.Behind.{call-kept, touched-behind_known}
@@ -59,10 +61,9 @@ use Rattle.checker_calls.proofs.CallLeaves.{changes, exit-holds}
 use Rattle.checker_calls.proofs.Callee.{activation_of}
 use Rattle.checker_calls.proofs.Entered.{behind_assignments, parameter-own}
 use Rattle.checker_calls.proofs.ExitBearers.{Bears, IsSame, Lies, outer-bears, outer-same, parameter-bears, passed-lies}
-use Rattle.checker_calls.proofs.FormalRows.{no-way, same-value, variable-row}
+use Rattle.checker_calls.proofs.FormalRows.{same-value}
 use Rattle.checker_calls.proofs.Given.{AreOutward, bound_roots, fact_roots}
 use Rattle.checker_calls.proofs.Headings.{one-there}
-use Rattle.checker_calls.proofs.Lists.{among-contains, contains-more, in-map, in-one, of-map}
 use Rattle.checker_calls.proofs.Parameters.{IsOuter, IsOutward, IsParameter, actual-of_parameter, outward-cases, parameter-block}
 use Rattle.checker_calls.proofs.Passed.{Fits, IsArgument}
 use Rattle.checker_calls.proofs.SeenAliases.{listed_pairs}

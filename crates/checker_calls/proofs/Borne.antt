@@ -27,6 +27,8 @@ use Rattle.checker_state.specs.Holds.{IsIn, Moment, component_at, moment, part_o
 use Rattle.checker_state.specs.Loops.{is_among}
 use Rattle.checker_state.specs.Stores.{Reach, entire}
 use Rattle.checker_loops.specs.Loops.{rows_named}
+use Rattle.checker_loops.proofs.VariableRows.{not-both, own-type, row-component}
+use Rattle.checker_loops.proofs.Lists.{contains-among, in-map, some-there}
 use Rattle.checker_calls.specs.Actuals.{Actual, Bearer, Binding, OfRows, OfValue, OfVariable, Passed, all_of_rows, bearers_at, bearers_for, bearers_named}
 use Rattle.checker_calls.specs.Actuals.{Reached, bearers_of, bound_to}
 use Rattle.checker_calls.specs.Environments.{Begun}
@@ -34,8 +36,7 @@ use Rattle.checker_calls.proofs.Assigned.{Received}
 use Rattle.checker_calls.proofs.Bearers.{bearer-at, named-root, named-under}
 use Rattle.checker_calls.proofs.Callee.{IsCalled, activation_of}
 use Rattle.checker_calls.proofs.Entered.{behind_assignments, outer-kept, own-home, passed-where}
-use Rattle.checker_calls.proofs.FormalRows.{LiesAt, actual-of_row, formal-row, not-both, own-type, row-component, same-value}
-use Rattle.checker_calls.proofs.Lists.{contains-among, in-map, some-there}
+use Rattle.checker_calls.proofs.FormalRows.{LiesAt, actual-of_row, formal-row, same-value}
 use Rattle.checker_calls.proofs.Parameters.{IsOuter, IsOutward, IsParameter, outward-cases, parameter-block}
 use Rattle.checker_calls.proofs.Passed.{AreArguments, Fits, IsArgument, IsReachedBy}
 use Rattle.checker_calls.proofs.Started.{callee-received, value-home}

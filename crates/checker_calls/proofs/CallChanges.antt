@@ -18,16 +18,16 @@ use Rattle.meaning.specs.Store.{Environment, Place, Store, is_beginning, overlap
 use Rattle.checker_state.specs.Holds.{HasValue, moment, part_of, value_at}
 use Rattle.checker_state.specs.Loops.{is_among}
 use Rattle.checker_loops.specs.Pairs.{all_aliases_in}
+use Rattle.checker_loops.specs.Sections.{BlockClaims}
+use Rattle.checker_loops.proofs.Lists.{among-flat}
 use Rattle.checker_calls.specs.Actuals.{Actual, Binding, OfRows, OfValue, OfVariable, actual_of, bound_to}
 use Rattle.checker_calls.specs.Environments.{Begun, Leaves, Proper, Typed}
 use Rattle.checker_calls.specs.Exit.{root_changed, roots_changed}
-use Rattle.checker_calls.specs.Sections.{BlockClaims}
 use Rattle.checker_calls.proofs.AliasedTypes.{seen}
 use Rattle.checker_calls.proofs.Assigned.{same-step}
 use Rattle.checker_calls.proofs.Callee.{IsCalled, activation_of}
 use Rattle.checker_calls.proofs.Claimed.{AllHold}
 use Rattle.checker_calls.proofs.Entered.{own-home, own-where, passed-where, value-not_variable}
-use Rattle.checker_calls.proofs.Lists.{among-flat}
 use Rattle.checker_calls.proofs.Parameters.{IsOuter, IsOutward, IsParameter, outward-cases, parameter-block}
 use Rattle.checker_calls.proofs.Passed.{AreArguments, Fits, IsArgument}
 use Rattle.checker_calls.proofs.Places.{IsPair, begin-share, overlaps-so, pair-listed, part-there, step-itself}

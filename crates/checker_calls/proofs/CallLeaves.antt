@@ -32,17 +32,18 @@ use Rattle.checker_state.specs.State.{Claim, Range}
 use Rattle.checker_state.specs.Stores.{Reach, entire, is_entire}
 use Rattle.checker_state.proofs.Ranged.{common-in}
 use Rattle.checker_loops.specs.Loops.{all_said, rows_named, said}
+use Rattle.checker_loops.specs.Sections.{BlockClaims}
+use Rattle.checker_loops.proofs.VariableRows.{own-type}
+use Rattle.checker_loops.proofs.Lists.{among-contains, contains-more, in-flat, in-map, of-flat, some-there}
 use Rattle.checker_calls.specs.Actuals.{Actual, Bearer, Binding, OfRows, OfValue, OfVariable, Passed, Reached, actual_of, bearers_of, bound_to}
 use Rattle.checker_calls.specs.Environments.{LiesIn, place_type, type_led}
 use Rattle.checker_calls.specs.Exit.{Change, all_changes, bearers_changed, changes_of, claimed_of_row, exit_range, range_at_end, row_change, rows_changed}
-use Rattle.checker_calls.specs.Sections.{BlockClaims}
 use Rattle.checker_calls.proofs.AliasedTypes.{InTypes, in-types, part-type, row-type}
 use Rattle.checker_calls.proofs.CallChanges.{HasReturned, IsChanged, own-older}
 use Rattle.checker_calls.proofs.Callee.{activation_of}
 use Rattle.checker_calls.proofs.ExitBearers.{Bears, Lies, parameter-bears, passed-lies, rows-bear}
-use Rattle.checker_calls.proofs.FormalRows.{own-type, rows-alike}
+use Rattle.checker_calls.proofs.FormalRows.{rows-alike}
 use Rattle.checker_calls.proofs.LedComponents.{led-component}
-use Rattle.checker_calls.proofs.Lists.{among-contains, contains-more, in-flat, in-map, of-flat, some-there}
 use Rattle.checker_calls.proofs.Parameters.{IsOuter, IsOutward, IsParameter, outward-cases, parameter-block}
 use Rattle.checker_calls.proofs.Passed.{Fits, IsArgument}
 

@@ -20,12 +20,13 @@ use Rattle.checker_rows.proofs.Components.{mapped-at}
 use Rattle.checker_rows.proofs.Numbered.{has-contains}
 use Rattle.checker_state.specs.Holds.{Moment, component_at, moment, part_of, value_at}
 use Rattle.checker_state.specs.Stores.{Index, Reach, entire, is_entire, is_entire_by}
+use Rattle.checker_loops.specs.Sections.{BlockClaims}
+use Rattle.checker_loops.proofs.VariableRows.{first-behind_fields, one-way}
 use Rattle.checker_calls.specs.Actuals.{Actual, Bearer, OfRows, OfValue, OfVariable, Passed, Reached, all_of_rows, bearers_of}
-use Rattle.checker_calls.specs.Sections.{BlockClaims}
 use Rattle.checker_calls.proofs.Borne.{lies-at}
 use Rattle.checker_calls.proofs.Callee.{activation_of}
 use Rattle.checker_calls.proofs.CallChanges.{HasLeft}
-use Rattle.checker_calls.proofs.FormalRows.{LiesAt, actual-row, first-behind_fields, one-way, same-value}
+use Rattle.checker_calls.proofs.FormalRows.{LiesAt, actual-row, same-value}
 use Rattle.checker_calls.proofs.Parameters.{IsOuter, IsParameter, parameter-block}
 use Rattle.checker_calls.proofs.Passed.{Fits, IsArgument, IsReachedBy}
 

@@ -11,11 +11,11 @@ use Rattle.meaning.specs.Store.{Environment, Place, Store}
 use Rattle.checker_rows.proofs.Selected.{Matches}
 use Rattle.checker_state.specs.Holds.{moment, value_at}
 use Rattle.checker_state.specs.Stores.{Reach}
+use Rattle.checker_loops.proofs.AliasedStores.{stored-of}
+use Rattle.checker_loops.proofs.VariableRows.{variable-accessed}
 use Rattle.checker_calls.specs.Environments.{LiesIn, Proper, Typed, place_type, type_led}
-use Rattle.checker_calls.proofs.AliasedStores.{stored-of}
 use Rattle.checker_calls.proofs.AliasedTypes.{part-type}
 use Rattle.checker_state.proofs.Apart.{part}
-use Rattle.checker_calls.proofs.FormalRows.{variable-accessed}
 use Rattle.checker_calls.proofs.Passed.{Leads}
 use Rattle.checker_calls.proofs.PlaceTypes.{led-then, way-typed}
 use Rattle.checker_calls.proofs.Places.{part-there}

@@ -26,14 +26,15 @@ use Rattle.meaning.specs.declared.store.Value.TheVariants.{Number}
 use Rattle.meaning.specs.Meaning as meaning
 use Rattle.meaning.specs.Meaning.{Argument, environment_of, place_passed}
 use Rattle.meaning.specs.Store.{Environment, Place, Store}
+use Rattle.checker_loops.proofs.Lists.{contains-more}
+use Rattle.checker_loops.proofs.VariableRows.{first-behind_fields, no-way, variable-row}
 use Rattle.checker_calls.proofs.Headings.{one-there}
 use Rattle.checker_calls.proofs.Claimed.{AllHold}
-use Rattle.checker_calls.proofs.Lists.{contains-more}
 use Rattle.checker_calls.proofs.Bearers.{named-root}
 use Rattle.checker_calls.proofs.Started.{value-home}
 use Rattle.checker_calls.proofs.Assigned.{Received}
 use Rattle.checker_rows.proofs.Selected.{Matches}
-use Rattle.checker_calls.proofs.FormalRows.{first-behind_fields, no-way, same-value, variable-row}
+use Rattle.checker_calls.proofs.FormalRows.{same-value}
 use Rattle.checker_state.proofs.Lists.{any-in}
 use Rattle.checker_calls.proofs.Reached.{alive, reached-has}
 use Rattle.checker_state.proofs.Looped.{given-all, range-lies}

@@ -20,10 +20,10 @@ use Rattle.checker_state.specs.Stores.{Reach, is_entire}
 use Rattle.checker_state.specs.View.{said_reach}
 use Rattle.checker_loops.proofs.Claimed.{mapped-more}
 use Rattle.checker_loops.proofs.Stepped.{rows-more, rows_to}
+use Rattle.checker_loops.specs.Aliases.{same_types}
 use Rattle.checker_calls.specs.declared.changes.Change.{Change as KeptChange}
 use Rattle.checker_calls.specs.declared.ranges.Ranges.{Ranges}
 use Rattle.checker_calls.specs.Actuals.{Reached}
-use Rattle.checker_calls.specs.Aliases.{same_types}
 use Rattle.checker_calls.specs.Exit.{Change, all_joined, claimed_of_row, exit_range, is_row}
 use Rattle.checker_calls.specs.ExitView.{AreRoots, AreRows, AreTypes, HasRange, added, common_of, joined_with, just, known_at, known_of, met}
 use Rattle.checker_calls.specs.ExitView.{range_at, said_change}

@@ -1,5 +1,4 @@
 pub mod Limited
-pub mod Lists
 pub mod Headings
 pub mod Passed
 pub mod Callee
@@ -9,10 +8,8 @@ pub mod PlaceTypes
 pub mod ComponentTypes
 pub mod LedComponents
 pub mod Places
-pub mod AliasedStores
 pub mod Parameters
 pub mod FormalRows
-pub mod Aliased
 pub mod AliasedTypes
 pub mod SeenAliases
 pub mod Separated
@@ -21,13 +18,9 @@ pub mod CallChanges
 pub mod Reached
 pub mod Fitting
 pub mod Bearers
-pub mod Beginning
 pub mod Bound
 pub mod Mapped
-pub mod Sectioned
 pub mod Spans
-pub mod Stored
-pub mod Told
 pub mod Within
 pub mod Started
 pub mod Borne

@@ -13,8 +13,8 @@ use Rattle.typed_tree.specs.declared.tree.VariableKind.{VariableKind}
 use Rattle.typed_tree.specs.declared.tree.VariableKind.TheVariants as kind
 use Rattle.meaning.specs.Meaning.{Argument, environment_of, home_of, place_for, place_passed, seen_from}
 use Rattle.meaning.specs.Store.{Environment, Store}
+use Rattle.checker_loops.specs.Starts.{is_own}
 use Rattle.checker_calls.specs.Actuals.{Actual, Binding, actual_of, bound_to}
-use Rattle.checker_calls.specs.Starts.{is_own}
 use Rattle.checker_calls.proofs.Callee.{IsCalled, activation_of, parameter-listed}
 use Rattle.checker_calls.proofs.Entered.{parameter-own}
 use Rattle.checker_calls.proofs.Headings.{heading-at}

@@ -10,11 +10,11 @@ use Rattle.typed_tree.specs.declared.tree.Variable.{Variable}
 use Rattle.meaning.specs.Store.{Environment, Place}
 use Rattle.checker_state.specs.Loops.{is_among}
 use Rattle.checker_loops.specs.Pairs.{Listed, aliases_in, aliases_of, all_aliases_in, blocks_round, blocks_seen, declared_aliases, declares}
+use Rattle.checker_loops.proofs.AliasedStores.{IsApart, aliases-apart}
+use Rattle.checker_loops.proofs.Lists.{among-contains, among-flat}
 use Rattle.checker_calls.specs.Environments.{Proper}
-use Rattle.checker_calls.proofs.AliasedStores.{IsApart, aliases-apart}
 use Rattle.checker_calls.proofs.AliasedTypes.{seen}
 use Rattle.checker_calls.proofs.Headings.{round-cases}
-use Rattle.checker_calls.proofs.Lists.{among-contains, among-flat}
 
 abbrev pub listed_pairs : Tree → List (ℕ × ℕ) → Listed
 listed_pairs tree pairs = record { tree = tree; pairs = pairs }

@@ -30,9 +30,10 @@ use Rattle.checker_rows.proofs.Numbered.{contains-has, parts-many, root-of_row, 
 use Rattle.checker_state.specs.Holds.{FactsHold, HasValue, Holds, IsIn, moment, part_of, value_at}
 use Rattle.checker_state.specs.Knows.{Knows}
 use Rattle.checker_state.specs.State.{Facts, Live, RowState, no_row, row_at}
+use Rattle.checker_loops.specs.Starts.{block_start, is_own, is_passed_value, row_start, rows_start}
+use Rattle.checker_loops.proofs.AliasedStores.{stored-of}
+use Rattle.checker_loops.proofs.VariableRows.{own-type, row-component, under-whole}
 use Rattle.checker_calls.specs.Environments.{Begun, Proper, Typed, place_type}
-use Rattle.checker_calls.specs.Starts.{block_start, is_own, is_passed_value, row_start, rows_start}
-use Rattle.checker_calls.proofs.AliasedStores.{stored-of}
 use Rattle.checker_calls.proofs.AliasedTypes.{InTypes, in-types, seen, shows}
 use Rattle.checker_calls.proofs.Assigned.{Received, received}
 use Rattle.checker_calls.proofs.Callee.{IsCalled, Outer, Own, PassedTo, Seen, activation_of, parameter-listed, seen-as}
@@ -45,7 +46,6 @@ use Rattle.checker_calls.proofs.Places.{overlaps-from}
 use Rattle.checker_loops.specs.Loops.{all_said}
 use Rattle.checker_state.proofs.Looped.{claims-hold}
 use Rattle.checker_state.proofs.Rows.{of_row-within}
-use Rattle.checker_calls.proofs.FormalRows.{own-type, row-component, under-whole}
 use Rattle.std.proofs.lemmas.Option.{same_Some}
 use Rattle.std.proofs.Common.{not, Bool}
 use Rattle.std.specs.Option.{option_and_then}

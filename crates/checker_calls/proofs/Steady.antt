@@ -14,9 +14,9 @@ use Rattle.typed_tree.specs.declared.tree.Variable.{Variable}
 use Rattle.checker_rows.specs.Rows.{is_under, is_variable_row, leaf_rows, numbers_where, own_row, rows_accessed}
 use Rattle.checker_state.specs.Bounds.{plus}
 use Rattle.checker_state.specs.Stores.{Reach}
+use Rattle.checker_loops.proofs.VariableRows.{variable-row}
 use Rattle.checker_calls.specs.Actuals.{OfVariable, Reached, bearers_of}
 use Rattle.checker_calls.specs.Exit.{Touches, is_steady, steady_bound}
-use Rattle.checker_calls.proofs.FormalRows.{variable-row}
 use Rattle.checker_calls.proofs.Headings.{one-there}
 
 -- a variable that isn't structured

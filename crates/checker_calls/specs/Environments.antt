@@ -22,7 +22,7 @@ use Rattle.meaning.specs.Store.{Environment, Place, Store, is_beginning, stored}
 use Rattle.checker_state.specs.Holds.{IsIn, Separate}
 use Rattle.checker_state.specs.Loops.{is_among}
 use Rattle.checker_rows.specs.Limits.{limits_of}
-use Rattle.checker_calls.specs.Starts.{is_passed_value}
+use Rattle.checker_loops.specs.Starts.{is_passed_value}
 
 -- ---- the types of places
 

@@ -19,8 +19,8 @@ use Rattle.checker_state.specs.Loops.{is_among, with_claim}
 use Rattle.checker_state.specs.Stores.{all_of_row, is_entire}
 use Rattle.checker_loops.specs.Loops.{rows_named}
 use Rattle.checker_loops.specs.Pairs.{Listed, all_aliases_in}
-use Rattle.checker_calls.specs.Sections.{BlockClaims}
-use Rattle.checker_calls.specs.Aliases.{same_types}
+use Rattle.checker_loops.specs.Sections.{BlockClaims}
+use Rattle.checker_loops.specs.Aliases.{same_types}
 use Rattle.checker_calls.specs.Actuals.{Actual, OfValue, OfRows, OfVariable, Bearer, Passed, Reached, Binding}
 use Rattle.checker_calls.specs.Actuals.{actual_of, all_of_rows, bearers_named, bearers_of}
 

@@ -1,9 +1,6 @@
-pub mod Sections
 pub mod Environments
 pub mod Actuals
-pub mod Aliases
 pub mod Entry
-pub mod Starts
 pub mod View
 pub mod Overlaps
 pub mod Exit

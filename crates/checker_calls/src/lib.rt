@@ -1,8 +1,7 @@
-//! What is known where a block begins, where it is called, and behind a call.
+//! What is known where a block is called, and behind the call.
 #![tactic(auto)]
 
 pub mod actuals;
-pub mod aliases;
 pub mod changes;
 pub mod entry;
 pub mod exit;
@@ -10,6 +9,4 @@ mod exit_claims;
 mod limits;
 pub mod overlaps;
 mod ranges;
-pub mod sections;
-pub mod starts;
 mod touches;

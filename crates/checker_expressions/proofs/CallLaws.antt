@@ -19,10 +19,10 @@ use Rattle.checker_state.specs.Loops.{is_among}
 use Rattle.checker_state.specs.Knows.{Knows}
 use Rattle.checker_state.specs.State.{State}
 use Rattle.checker_loops.specs.Pairs.{aliases_of}
+use Rattle.checker_loops.specs.Sections.{block_claims_at}
 use Rattle.checker_calls.specs.Actuals.{Actual, OfRows, OfValue, OfVariable, bound_to}
 use Rattle.checker_calls.specs.Environments.{Fine, Proper, Typed}
 use Rattle.checker_calls.specs.Exit.{behind_call}
-use Rattle.checker_calls.specs.Sections.{block_claims_at}
 use Rattle.checker_calls.proofs.AliasedTypes.{seen}
 use Rattle.checker_calls.proofs.Assigned.{all_assigned, assigns-all}
 use Rattle.checker_calls.proofs.BehindExits.{MayEnd, behind-known}

@@ -37,7 +37,7 @@ use Rattle.checker_state.specs.Forms.{bound_of}
 use Rattle.checker_state.specs.declared.value.Known.{Known}
 use Rattle.domain.specs.Interval.{Interval, truth_values}
 use Rattle.checker_state.specs.Stores.{Reach, entire}
-use Rattle.checker_calls.specs.Sections.{BlockClaims}
+use Rattle.checker_loops.specs.Sections.{BlockClaims}
 use Rattle.checker_calls.specs.Actuals.{Actual, OfRows, OfValue, OfVariable}
 use Rattle.checker_expressions.specs.Walk.{Context, Joint, PassedPiece, Piece, Walking}
 use Rattle.checker_expressions.specs.Walk as walk

@@ -24,8 +24,9 @@ use Rattle.checker_state.specs.Loops.{is_among}
 use Rattle.checker_state.specs.Stores.{Reach}
 use Rattle.checker_state.specs.State.{State}
 use Rattle.checker_loops.specs.Loops.{all_list}
-use Rattle.checker_calls.specs.Sections.{BlockClaims, block_claims_at}
-use Rattle.checker_calls.specs.Starts.{is_own}
+use Rattle.checker_loops.specs.Sections.{BlockClaims, block_claims_at}
+use Rattle.checker_loops.specs.Starts.{is_own}
+use Rattle.checker_loops.proofs.Lists.{among-contains}
 use Rattle.checker_calls.specs.Actuals.{Actual, Binding, OfRows, OfValue, OfVariable, actual_of, after_call, bound_to, settled}
 use Rattle.checker_calls.specs.Environments.{LiesUnder}
 use Rattle.checker_calls.specs.Exit.{root_changed, roots_changed}
@@ -34,7 +35,6 @@ use Rattle.checker_expressions.specs.declared.fault.Rule.TheVariants.{Changes}
 use Rattle.checker_expressions.specs.Walk.{Context, Walking, ◌>>=◌, asked, block_lists, called, call_aliases, call_behind}
 use Rattle.checker_expressions.specs.Walk.{call_change, call_entry, call_with, called_block, may_change, parameters_of}
 use Rattle.checker_state.proofs.Lists.{head-or_tail}
-use Rattle.checker_calls.proofs.Lists.{among-contains}
 use Rattle.checker_expressions.proofs.Sound.{kept-rule, unbroken-left, unbroken-right}
 use Rattle.checker_expressions.proofs.EffectsKept.{Keeps, Leaving, MayChange, MayWrite, Standing, leaves-itself, lies-itself, listing, under-write}
 

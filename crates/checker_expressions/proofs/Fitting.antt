@@ -36,8 +36,8 @@ use Rattle.checker_rows.specs.Leaves.{Leaf, leaves_of}
 use Rattle.checker_rows.proofs.Alike.{NamesAlike, one-length, string-leaf, strings-alike}
 use Rattle.checker_rows.proofs.Components.{Has, each-named, mapped-at, only}
 use Rattle.checker_rows.proofs.Numbered.{has-contains, some-at}
+use Rattle.checker_loops.proofs.AliasedStores.{all-pass}
 use Rattle.checker_calls.specs.Environments.{LiesIn, type_led}
-use Rattle.checker_calls.proofs.AliasedStores.{all-pass}
 use Rattle.checker_calls.proofs.ComponentTypes.{component-typed}
 use Rattle.checker_calls.proofs.Passed.{AreComponentsOf}
 use Rattle.checker_expressions.specs.Walk.{text_range}

@@ -8,7 +8,7 @@ use Rattle.checker_trail.specs.Trail.{Moves}
 use Rattle.checker_trail.proofs.Ways as ways
 use Rattle.checker_loops.specs.Loops.{Claims}
 use Rattle.checker_loops.specs.View.{loop_of_round}
-use Rattle.checker_calls.specs.View.{said_section}
+use Rattle.checker_loops.specs.BlockView.{said_section}
 use Rattle.checker_expressions.specs.declared.fault.Breach.{Breach}
 use Rattle.checker_expressions.specs.declared.flow.Flow.{Flow}
 use Rattle.checker_expressions.specs.declared.grounds.Grounds.{Grounds}

@@ -29,9 +29,9 @@ use Rattle.checker_state.specs.Loops.{is_among}
 use Rattle.checker_state.proofs.Ranged.{in-present}
 use Rattle.checker_loops.specs.Loops.{Round, touched}
 use Rattle.checker_loops.specs.Pairs.{Listed, aliases_of}
+use Rattle.checker_loops.specs.Sections.{BlockClaims, block_claims_at}
 use Rattle.checker_calls.specs.Environments.{Fine, Leaves as LeavesAll, LeavesPassed, Proper}
 use Rattle.checker_calls.specs.Exit.{result_range}
-use Rattle.checker_calls.specs.Sections.{BlockClaims, block_claims_at}
 use Rattle.checker_calls.proofs.Claimed.{AllHold}
 use Rattle.checker_calls.proofs.Passed.{AllFit}
 use Rattle.checker_calls.proofs.Reached.{alive}

@@ -54,9 +54,9 @@ use Rattle.checker_state.specs.State.{table_of}
 use Rattle.checker_rows.proofs.Components.{mapped-at}
 use Rattle.checker_rows.proofs.Numbered.{has-contains, some-at}
 use Rattle.checker_expressions.specs.Walk as walk
+use Rattle.checker_loops.proofs.Lists.{in-one}
 use Rattle.checker_calls.specs.Environments.{Fine, Proper, Typed}
 use Rattle.checker_calls.proofs.Fitting.{part-lies}
-use Rattle.checker_calls.proofs.Lists.{in-one}
 use Rattle.checker_calls.proofs.Reached.{alive}
 use Rattle.checker_expressions.specs.Walk.{Context, Piece, Walking, access_walk, all_joined, deeper, deeper_by, form_before, hold_call, index_test}
 use Rattle.checker_expressions.specs.Walk.{indexes_walk}

@@ -24,14 +24,14 @@ use Rattle.checker_state.specs.State.{State}
 use Rattle.checker_state.specs.Knows.{Knows}
 use Rattle.checker_loops.specs.Loops.{Round, all_list, touched}
 use Rattle.checker_loops.specs.Pairs.{aliases_of}
+use Rattle.checker_loops.specs.Sections.{BlockClaims, block_claims_at}
+use Rattle.checker_loops.proofs.AliasedStores.{all-pass}
+use Rattle.checker_loops.proofs.Lists.{among-contains}
 use Rattle.checker_calls.specs.Actuals.{Actual, Binding, after_call, bound_to, settled}
 use Rattle.checker_calls.specs.Entry.{are_given}
 use Rattle.checker_calls.specs.Environments.{Fine, LiesIn, Proper}
 use Rattle.checker_calls.specs.Exit.{behind_call, result_range, roots_changed}
 use Rattle.checker_calls.specs.Overlaps.{are_separate}
-use Rattle.checker_calls.specs.Sections.{BlockClaims, block_claims_at}
-use Rattle.checker_calls.proofs.AliasedStores.{all-pass}
-use Rattle.checker_calls.proofs.Lists.{among-contains}
 use Rattle.checker_calls.proofs.Passed.{AreComponentsOf, IsArgument, after-call_argument}
 use Rattle.checker_expressions.specs.declared.fault.Rule.TheVariants.{Aliases, CallEntry, Changes}
 use Rattle.checker_expressions.specs.Walk as walk

@@ -25,8 +25,8 @@ use Rattle.checker_rows.specs.Leaves.{leaves_of}
 use Rattle.checker_rows.specs.Rows.{Parts, all_parts, rows_accessed}
 pub use Rattle.checker_rows.proofs.Accessed.{RowsAre, rows-are}
 pub use Rattle.checker_rows.proofs.Selected.{Matches}
-use Rattle.checker_calls.proofs.AliasedStores.{all-pass}
-pub use Rattle.checker_calls.proofs.FormalRows.{one-way}
+use Rattle.checker_loops.proofs.AliasedStores.{all-pass}
+pub use Rattle.checker_loops.proofs.VariableRows.{one-way}
 pub use Rattle.checker_calls.proofs.Passed.{AreComponentsOf, AreIndexesOn, IsIndexOn, IsReachedBy, Leads, LieIn}
 pub use Rattle.checker_calls.proofs.Reached.{reached-has}
 use Rattle.checker_state.specs.State.{State, range_of, with_defined}

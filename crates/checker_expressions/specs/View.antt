@@ -13,9 +13,9 @@ use Rattle.checker_state.specs.State.{State}
 use Rattle.checker_trail.specs.Trail.{Goes as WayGoes, seen}
 use Rattle.checker_loops.specs.Loops.{Claims}
 use Rattle.checker_loops.specs.View.{loop_of_round}
+use Rattle.checker_loops.specs.Sections.{BlockClaims, block_claims_at}
+use Rattle.checker_loops.specs.BlockView.{said_section}
 use Rattle.checker_calls.specs.Exit.{result_range}
-use Rattle.checker_calls.specs.Sections.{BlockClaims, block_claims_at}
-use Rattle.checker_calls.specs.View.{said_section}
 use Rattle.checker_expressions.specs.declared.fault.Breach.{Breach}
 use Rattle.checker_expressions.specs.declared.flow.Flow.{Flow}
 use Rattle.checker_expressions.specs.Walk.{Context, Walking, called_block, first_breach, left_open, result_of}

@@ -60,8 +60,8 @@ use Rattle.checker_loops.specs.Loops.{Claims, Round, all_list}
 use Rattle.checker_state.specs.State.{table_of}
 use Rattle.checker_loops.specs.Pairs.{Listed}
 use Rattle.checker_loops.specs.Ways.{single}
-use Rattle.checker_calls.specs.Sections.{BlockClaims, block_claims_at}
-use Rattle.checker_calls.specs.Starts.{is_own}
+use Rattle.checker_loops.specs.Sections.{BlockClaims, block_claims_at}
+use Rattle.checker_loops.specs.Starts.{is_own}
 use Rattle.checker_calls.specs.Actuals.{Actual, OfValue, OfRows, OfVariable, Binding, bound_to, settled}
 use Rattle.checker_calls.specs.Entry.{are_given}
 use Rattle.checker_calls.specs.Overlaps.{are_separate}

@@ -17,7 +17,7 @@ use checker_calls::changes::root_changed;
 use checker_calls::entry::are_given;
 use checker_calls::exit::{self, result_range};
 use checker_calls::overlaps::are_separate;
-use checker_calls::sections::block_claims_at;
+use checker_loops::sections::block_claims_at;
 use checker_rows::Rows;
 use checker_state::Known;
 use domain::interval::Interval;

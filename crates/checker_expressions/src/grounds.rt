@@ -1,14 +1,14 @@
 ghost use Rattle.std.specs.Prelude.{◌≡◌, [], slice_get};
 ghost use Rattle.typed_tree.specs.WellFormed.{of_one};
-ghost use Rattle.checker_calls.specs.Starts.{is_own};
+ghost use Rattle.checker_loops.specs.Starts.{is_own};
 ghost use Rattle.checker_expressions.specs.View.{context_of};
 ghost use Rattle.checker_expressions.specs.Walk.{block_lists, may_change};
 
 use crate::flow::Flow;
-use checker_calls::sections::{BlockSection, block_claims_at};
-use checker_calls::starts::is_own;
 use checker_loops::pairs::Pairs;
 use checker_loops::rounds::{Round, all_list};
+use checker_loops::sections::{BlockSection, block_claims_at};
+use checker_loops::starts::is_own;
 
 /// What a walk goes by. What is claimed of loops stands beside it: nothing here depends on that.
 #[derive(Drop)]

@@ -9,3 +9,11 @@ pub mod Partners
 pub mod Stepped
 pub mod Tabled
 pub mod Touched
+pub mod Lists
+pub mod Told
+pub mod Sectioned
+pub mod Stored
+pub mod Beginning
+pub mod AliasesHold
+pub mod AliasedStores
+pub mod VariableRows

@@ -4,3 +4,7 @@ pub mod Ways
 pub mod Cases
 pub mod Listed
 pub mod View
+pub mod Sections
+pub mod Starts
+pub mod Aliases
+pub mod BlockView

@@ -1,9 +1,9 @@
 use Rattle.std.proofs.Common.{ap, map, ◌∙◌, List}
 use Rattle.checker_trail.specs.Trail.{seen}
 use Rattle.checker_loops.specs.Loops.{gives_claims}
-use Rattle.checker_calls.specs.Sections.{BlockClaims, block_claims_at}
-use Rattle.checker_calls.specs.View.{said_section}
-use Rattle.checker_calls.specs.declared.sections.BlockSection.{BlockSection}
+use Rattle.checker_loops.specs.Sections.{BlockClaims, block_claims_at}
+use Rattle.checker_loops.specs.BlockView.{said_section}
+use Rattle.checker_loops.specs.declared.sections.BlockSection.{BlockSection}
 use Rattle.cert_checker.proofs.StepsBlocks.{exit-asked}
 use Rattle.cert_checker.proofs.blocks.ask_exit.Goals as goal
 

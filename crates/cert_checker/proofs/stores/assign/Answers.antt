@@ -5,7 +5,7 @@ use Rattle.checker_rows.specs.Rows.{rows_of, type_at}
 use Rattle.checker_state.specs.Bounds.{Bound}
 use Rattle.checker_state.specs.Changes.{assigned}
 use Rattle.checker_state.specs.View.{said_form}
-use Rattle.checker_calls.specs.Aliases.{Stored, unless_alias, with_aliases_stored}
+use Rattle.checker_loops.specs.Aliases.{Stored, unless_alias, with_aliases_stored}
 use Rattle.checker_trail.proofs.Ways.{moves-as, moves-then}
 use Rattle.checker_trail.specs.Trail.{seen}
 use Rattle.cert_checker.specs.View.{row_stored}

@@ -3,8 +3,9 @@ use Rattle.typed_tree.specs.declared.tree.Tree.{Tree}
 use Rattle.certificate.specs.Contents.{said_fact}
 use Rattle.checker_trail.specs.Trail.{seen}
 use Rattle.checker_trail.proofs.Ways.{moves-as}
+use Rattle.checker_loops.specs.BlockView.{said_claims}
 use Rattle.checker_calls.specs.Exit.{Touches, behind_call}
-use Rattle.checker_calls.specs.View.{said_bindings, said_claims}
+use Rattle.checker_calls.specs.View.{said_bindings}
 use Rattle.checker_calls.specs.ExitView.{left_behind, touches_by}
 use Rattle.checker_calls.proofs.exit.call.Goals as goal
 

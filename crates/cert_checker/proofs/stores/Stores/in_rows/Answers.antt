@@ -1,6 +1,6 @@
 use Rattle.std.proofs.Common.{arith, ◌<◌, ap, length, Option}
 use Rattle.types.specs.declared.form.TypeId.{TypeId}
-use Rattle.checker_calls.specs.Aliases.{Stored}
+use Rattle.checker_loops.specs.Aliases.{Stored}
 use Rattle.cert_checker.specs.StoresView.{said_stores}
 use Rattle.cert_checker.proofs.StoresMade.{stored-more}
 use Rattle.cert_checker.proofs.stores.Stores.in_rows.Goals as goal

@@ -1,7 +1,7 @@
 use Rattle.std.proofs.Common.{ap, map}
 use Rattle.checker_state.specs.Stores.{Reach, all_stored}
 use Rattle.checker_state.specs.View.{said_reach}
-use Rattle.checker_calls.specs.Aliases.{reach_unless_alias, with_aliases_stored}
+use Rattle.checker_loops.specs.Aliases.{reach_unless_alias, with_aliases_stored}
 use Rattle.checker_trail.proofs.Ways.{moves-as, moves-then}
 use Rattle.checker_trail.specs.Trail.{seen}
 use Rattle.cert_checker.specs.StoresView.{said_stores}

@@ -1,10 +1,11 @@
 use Rattle.std.proofs.Common.{◌≡◌, ◌∙◌, ap, map, Bool, List, []}
 use Rattle.std.specs.List.{list_all}
-use Rattle.checker_calls.specs.declared.sections.BlockSection.{BlockSection}
+use Rattle.checker_loops.specs.declared.sections.BlockSection.{BlockSection}
+use Rattle.checker_loops.specs.Sections.{BlockClaims, block_claims_at}
+use Rattle.checker_loops.specs.BlockView.{said_section}
 use Rattle.checker_calls.specs.Actuals.{actual_of}
 use Rattle.checker_calls.specs.Exit.{root_changed, roots_changed}
-use Rattle.checker_calls.specs.Sections.{BlockClaims, block_claims_at}
-use Rattle.checker_calls.specs.View.{said_bindings, said_section}
+use Rattle.checker_calls.specs.View.{said_bindings}
 use Rattle.checker_expressions.specs.declared.fault.Rule.TheVariants.{Changes}
 use Rattle.checker_expressions.specs.View.{claims_called, context_of, state_of}
 use Rattle.checker_expressions.specs.Walk.{asked, call_change, may_change}

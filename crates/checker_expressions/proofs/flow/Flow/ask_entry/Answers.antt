@@ -1,8 +1,9 @@
 use Rattle.std.proofs.Common.{◌≡◌, ◌∙◌, ap, map, Bool}
-use Rattle.checker_calls.specs.declared.sections.BlockSection.{BlockSection}
+use Rattle.checker_loops.specs.declared.sections.BlockSection.{BlockSection}
+use Rattle.checker_loops.specs.Sections.{BlockClaims, block_claims_at}
+use Rattle.checker_loops.specs.BlockView.{said_section}
 use Rattle.checker_calls.specs.Entry.{are_given}
-use Rattle.checker_calls.specs.Sections.{BlockClaims, block_claims_at}
-use Rattle.checker_calls.specs.View.{said_bindings, said_section}
+use Rattle.checker_calls.specs.View.{said_bindings}
 use Rattle.std.proofs.Common.{List}
 use Rattle.checker_expressions.specs.declared.fault.Rule.TheVariants.{CallEntry}
 use Rattle.checker_expressions.specs.View.{claims_called, context_of, state_of}

@@ -1,10 +1,11 @@
 use Rattle.std.proofs.Common.{◌≡◌, ◌∙◌, ap, map, List}
 use Rattle.checker_state.specs.State.{State}
-use Rattle.checker_calls.specs.declared.sections.BlockSection.{BlockSection}
+use Rattle.checker_loops.specs.declared.sections.BlockSection.{BlockSection}
+use Rattle.checker_loops.specs.Sections.{BlockClaims, block_claims_at}
+use Rattle.checker_loops.specs.BlockView.{said_claims, said_section}
 use Rattle.checker_calls.specs.Actuals.{bound_to}
 use Rattle.checker_calls.specs.Exit.{behind_call}
-use Rattle.checker_calls.specs.Sections.{BlockClaims, block_claims_at}
-use Rattle.checker_calls.specs.View.{said_actual, said_claims, said_section}
+use Rattle.checker_calls.specs.View.{said_actual}
 use Rattle.checker_expressions.specs.View.{claims_called, context_of, state_of}
 use Rattle.checker_expressions.specs.Walk.{Walking, ◌>>=◌, call_aliases, call_behind, call_change, call_entry, changed_by}
 use Rattle.checker_expressions.proofs.Flows.{goes-alike, goes-moved, goes-then}

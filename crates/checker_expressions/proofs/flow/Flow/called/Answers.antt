@@ -1,8 +1,9 @@
 use Rattle.std.proofs.Common.{◌≡◌, ◌∙◌, ap, ap₂, map, ℕ, List}
 use Rattle.typed_tree.specs.declared.tree.Tree.{Tree}
+use Rattle.checker_loops.specs.Sections.{block_claims_at}
+use Rattle.checker_loops.specs.BlockView.{said_section}
 use Rattle.checker_calls.specs.Actuals.{Actual, bound_to, settled}
-use Rattle.checker_calls.specs.Sections.{block_claims_at}
-use Rattle.checker_calls.specs.View.{said_actual, said_section}
+use Rattle.checker_calls.specs.View.{said_actual}
 use Rattle.checker_expressions.specs.View.{block_called, claims_called, context_of, state_of}
 use Rattle.checker_expressions.specs.Walk.{call_with, called, parameters_of}
 use Rattle.checker_expressions.proofs.Flows.{goes-alike}

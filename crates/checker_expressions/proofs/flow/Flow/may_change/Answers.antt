@@ -7,7 +7,7 @@ use Rattle.checker_state.specs.Loops.{is_among}
 use Rattle.checker_loops.specs.declared.rounds.Round.{Round as KeptRound}
 use Rattle.checker_loops.specs.Loops.{Round, all_list}
 use Rattle.checker_loops.specs.View.{loop_of_round}
-use Rattle.checker_calls.specs.Starts.{is_own}
+use Rattle.checker_loops.specs.Starts.{is_own}
 use Rattle.checker_expressions.specs.View.{context_of}
 use Rattle.checker_expressions.specs.Walk.{block_lists}
 use Rattle.checker_expressions.proofs.flow.Flow.may_change.Goals as goal

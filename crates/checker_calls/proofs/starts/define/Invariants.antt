@@ -1,8 +1,0 @@
-use Rattle.checker_trail.specs.Trail.{Moves}
-use Rattle.checker_loops.proofs.Stepped.{rows_to}
-use Rattle.checker_calls.specs.View.{rows_defined}
-use Rattle.checker_calls.proofs.starts.define.Given as goal
-
--- the rows so far
-abbrev pub invariant-loop-row : goal.invariant-loop-row
-invariant-loop-row l = Moves (rows_defined (rows_to l.initial.row l.row)) l.fn.state l.state
