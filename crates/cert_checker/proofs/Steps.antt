@@ -7,10 +7,11 @@ use Rattle.typed_tree.specs.declared.tree.Tree.{Tree}
 use Rattle.checker_state.specs.State.{State}
 use Rattle.checker_state.specs.Joins.{joined_states}
 use Rattle.checker_trail.specs.declared.state.State.{State as Kept}
-use Rattle.checker_trail.specs.declared.trail.Branch.{Branch}
+use Rattle.checker_known.specs.declared.change.Branch.{Branch}
 use Rattle.checker_trail.specs.Meets.{JoinsBehind}
 use Rattle.checker_trail.specs.Trail as trail
-use Rattle.checker_trail.specs.Trail.{Core, EndsAt, Leaves, Left, core, seen}
+use Rattle.checker_known.specs.Known.{Core, core}
+use Rattle.checker_trail.specs.Trail.{EndsAt, Leaves, Left, seen}
 use Rattle.checker_trail.proofs.Ways as ways
 use Rattle.checker_loops.specs.Loops.{Claims}
 use Rattle.checker_expressions.specs.declared.fault.Breach.{Breach}

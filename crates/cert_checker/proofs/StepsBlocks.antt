@@ -9,10 +9,10 @@ use Rattle.typed_tree.specs.declared.tree.FunctionResult.{FunctionResult}
 use Rattle.typed_tree.specs.declared.tree.Tree.{Tree}
 use Rattle.checker_state.specs.State.{State, has_number, of_types, range_of, table_of, unless_empty}
 use Rattle.checker_trail.specs.declared.state.State.{State as Kept}
-use Rattle.checker_trail.specs.declared.trail.Branch.{Branch}
+use Rattle.checker_known.specs.declared.change.Branch.{Branch}
 use Rattle.checker_trail.specs.Trail as trail
-use Rattle.checker_trail.specs.Trail.{seen_core}
-use Rattle.checker_trail.specs.View.{type_rows}
+use Rattle.checker_known.specs.Known.{seen_core}
+use Rattle.checker_known.specs.View.{type_rows}
 use Rattle.checker_trail.proofs.Ways as ways
 use Rattle.checker_loops.specs.Loops.{gives_claims}
 use Rattle.checker_loops.specs.Sections.{block_claims_at}

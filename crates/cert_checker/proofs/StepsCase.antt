@@ -16,9 +16,10 @@ use Rattle.checker_state.specs.Forms.{root_of}
 use Rattle.checker_state.specs.Joins.{joined_states}
 use Rattle.checker_state.specs.State.{Dead, State, table_of}
 use Rattle.checker_trail.specs.declared.state.State.{State as Kept}
-use Rattle.checker_trail.specs.declared.trail.Branch.{Branch}
+use Rattle.checker_known.specs.declared.change.Branch.{Branch}
 use Rattle.checker_trail.specs.Trail as trail
-use Rattle.checker_trail.specs.Trail.{Comes, Core, EndsAt, core, seen, seen_core}
+use Rattle.checker_trail.specs.Trail.{Comes, EndsAt, seen}
+use Rattle.checker_known.specs.Known.{Core, core, seen_core}
 use Rattle.checker_trail.proofs.Ways as ways
 use Rattle.checker_loops.specs.Cases.{arm_start, constants_before}
 use Rattle.checker_expressions.specs.View.{state_of}

@@ -9,7 +9,7 @@ use Rattle.typed_tree.specs.declared.tree.Tree.{Tree}
 use Rattle.checker_state.specs.State.{Dead, of_types}
 use Rattle.checker_trail.specs.declared.state.State.{State as Kept}
 use Rattle.checker_trail.specs.Trail.{Starts, seen}
-use Rattle.checker_trail.specs.View.{type_rows}
+use Rattle.checker_known.specs.View.{type_rows}
 use Rattle.checker_loops.specs.declared.loops.Claims.{Claims as KeptClaims}
 use Rattle.checker_loops.specs.Loops.{Claims, Round, all_claims}
 use Rattle.checker_loops.specs.Pairs.{Listed}

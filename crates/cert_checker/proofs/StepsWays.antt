@@ -7,10 +7,11 @@ use Rattle.typed_tree.specs.declared.tree.ForHead.{ForHead}
 use Rattle.checker_state.specs.State.{State, table_of}
 use Rattle.checker_state.specs.Joins.{joined_states}
 use Rattle.checker_trail.specs.declared.state.State.{State as Kept}
-use Rattle.checker_trail.specs.declared.trail.Branch.{Branch}
+use Rattle.checker_known.specs.declared.change.Branch.{Branch}
 use Rattle.checker_trail.specs.Meets.{JoinsBehind}
 use Rattle.checker_trail.specs.Trail as trail
-use Rattle.checker_trail.specs.Trail.{Core, EndsAt, Leaves, Left, core, seen}
+use Rattle.checker_known.specs.Known.{Core, core}
+use Rattle.checker_trail.specs.Trail.{EndsAt, Leaves, Left, seen}
 use Rattle.checker_trail.proofs.Ways as ways
 use Rattle.domain.specs.Facts.{Fact}
 use Rattle.checker_loops.specs.Loops.{Claims, Round, claims_at, gives_claims, head_of, round_of, with_own}

@@ -16,8 +16,9 @@ use Rattle.checker_rows.specs.Rows.{rows_of, type_at}
 use Rattle.checker_state.specs.State.{State, of_types}
 use Rattle.checker_trail.specs.declared.state.State.{State as Kept}
 use Rattle.checker_trail.specs.Trail as trail
-use Rattle.checker_trail.specs.Trail.{core, seen}
-use Rattle.checker_trail.specs.View.{type_rows}
+use Rattle.checker_known.specs.Known.{core}
+use Rattle.checker_trail.specs.Trail.{seen}
+use Rattle.checker_known.specs.View.{type_rows}
 use Rattle.checker_loops.specs.declared.loops.Claims.{Claims as KeptClaims}
 use Rattle.checker_loops.specs.declared.rounds.Round.{Round as KeptRound}
 use Rattle.checker_loops.specs.Loops.{Claims, Round, claims_at, head_of, round_of, with_own}

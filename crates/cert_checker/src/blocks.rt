@@ -3,7 +3,7 @@ ghost use Rattle.typed_tree.specs.Entries.{entries_of, entries_of_block};
 ghost use Rattle.typed_tree.specs.WellFormed.{IsWellFormed};
 ghost use Rattle.checker_state.specs.State.{of_types};
 ghost use Rattle.checker_trail.specs.Trail.{Moves};
-ghost use Rattle.checker_trail.specs.View.{type_rows};
+ghost use Rattle.checker_known.specs.View.{type_rows};
 ghost use Rattle.checker_loops.specs.Starts.{all_declared};
 ghost use Rattle.checker_expressions.specs.View.{Goes as FlowGoes, state_of};
 ghost use Rattle.checker_expressions.specs.Visits.{all_counted};

@@ -11,7 +11,8 @@ use Rattle.checker_state.specs.Knows.{rests_on_any}
 use Rattle.checker_state.specs.State.{Dead, Facts, Held, Live, Ordered, Span, State, Stretched}
 use Rattle.checker_state.specs.View.{said_held}
 use Rattle.checker_trail.specs.declared.state.State.{State as Kept}
-use Rattle.checker_trail.specs.Trail.{core, kept_by, over_held, seen, viewed}
+use Rattle.checker_known.specs.Known.{core, kept_by, viewed}
+use Rattle.checker_trail.specs.Trail.{over_held, seen}
 
 -- ---- one variable
 

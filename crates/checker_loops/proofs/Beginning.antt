@@ -25,7 +25,7 @@ use Rattle.checker_state.specs.Loops.{is_among}
 use Rattle.checker_state.specs.State.{RowState, State, no_row, of_types, with_defined, with_range}
 use Rattle.checker_trail.specs.declared.state.State.{State as Kept}
 use Rattle.checker_trail.specs.Trail.{Moves, seen}
-use Rattle.checker_trail.specs.View.{type_rows, type_state}
+use Rattle.checker_known.specs.View.{type_rows, type_state}
 use Rattle.checker_trail.proofs.Ways.{moves-as}
 use Rattle.checker_loops.specs.Starts.{all_declared, declared_by, is_own, is_passed_value, row_start, rows_start}
 use Rattle.checker_loops.specs.BlockView.{all_begun, begun, own_roots, rows_defined, rows_vacant, with_root, with_roots}

@@ -5,7 +5,7 @@ ghost use Rattle.certificate.specs.Contents.{said_fact};
 ghost use Rattle.checker_rows.specs.View.{numbers};
 ghost use Rattle.checker_state.specs.State.{of_types};
 ghost use Rattle.checker_trail.specs.Trail.{Moves, seen};
-ghost use Rattle.checker_trail.specs.View.{type_rows};
+ghost use Rattle.checker_known.specs.View.{type_rows};
 ghost use Rattle.checker_loops.specs.Starts.{all_declared, block_start, is_own, is_passed_value};
 ghost use Rattle.checker_loops.specs.BlockView.{all_begun, begun, begun_undefined, own_roots, rows_defined};
 ghost use Rattle.checker_loops.specs.BlockView.{rows_vacant, with_root};

@@ -1,16 +1,6 @@
 pub mod Ways
 pub mod Steps
-pub mod HeldLists
-pub mod Pairs
-pub mod Searches
-pub mod InOrder
-pub mod Tangles
-pub mod Near
-pub mod Kept
-pub mod Tests
 pub mod ConditionsOf
 pub mod Turns
 pub mod Elements
-pub mod Arrivals
 pub mod Meeting
-pub mod HeldGiven

@@ -12,19 +12,22 @@ use Rattle.typed_tree.specs.declared.tree.Tree.{Tree}
 use Rattle.domain.specs.Interval.{Interval, is_vacant, joined}
 use Rattle.std.specs.Int.{int_min, int_max}
 use Rattle.checker_state.specs.declared.held.Held.{Held as KeptHeld}
-use Rattle.checker_trail.specs.declared.told.Told.{Told}
-use Rattle.checker_trail.specs.declared.known.Row.{Row}
+use Rattle.checker_known.specs.declared.told.Told.{Told}
+use Rattle.checker_known.specs.declared.known.Row.{Row}
 use Rattle.checker_trail.specs.declared.state.State.{State as Kept}
-use Rattle.checker_trail.specs.declared.trail.Branch.{Branch}
-use Rattle.checker_trail.specs.declared.trail.Change.{Change}
-use Rattle.checker_trail.specs.declared.trail.Change.TheVariants as change
+use Rattle.checker_known.specs.declared.change.Branch.{Branch}
+use Rattle.checker_known.specs.declared.change.Change.{Change}
+use Rattle.checker_known.specs.declared.change.Change.TheVariants as change
 use Rattle.checker_state.specs.Joins.{joined_facts, joined_row, joined_states}
-use Rattle.checker_trail.specs.Meets.{AreAlike, AreTold, Joined, Joins, JoinsBehind, arrival_at, joined_at, none, rows_changed, said_at, with_rows}
+use Rattle.checker_trail.specs.Meets.{AreAlike, Joined, Joins, JoinsBehind, with_rows}
+use Rattle.checker_known.specs.Told.{AreTold, arrival_at, joined_at, none, rows_changed, said_at}
 use Rattle.checker_state.specs.State.{Dead, Facts, Held, Live, RowState, State, Table, gives, is_whole, no_row, row_at, with_more}
-use Rattle.checker_trail.specs.Trail.{Comes, Core, EndsAt, Goes, Leaves, Moves, core, kept_by, made, over_held, redone, seen, seen_core, viewed}
-use Rattle.checker_trail.specs.View.{said_row}
+use Rattle.checker_trail.specs.Trail.{Comes, EndsAt, Goes, Leaves, Moves, over_held, seen}
+use Rattle.checker_known.specs.Known.{Core, core, kept_by, made, redone, seen_core, viewed}
+use Rattle.checker_trail.specs.Trail.{with_state}
+use Rattle.checker_known.specs.View.{said_row}
 use Rattle.checker_state.specs.State.{table_of}
-use Rattle.checker_trail.proofs.HeldLists.{kept-filter, said_all}
+use Rattle.checker_known.proofs.HeldLists.{kept-filter, said_all}
 use Rattle.checker_trail.proofs.Ways.{ends-from, goes-back, goes-then, moves-as, moves-then, seen-dead, seen-live}
 
 -- ---- rows, one after another
@@ -80,6 +83,11 @@ with-settled state (number ∷ numbers) (one ∷ rows) facts same =
     let rest : map said_at rows ≡ map (λ (row : ℕ). let one : ℕ × RowState = (row, state row) in one) numbers = cc in
     ap (λ (p : ℕ × RowState). with_rows rows (Live (record facts { rows = set facts.rows p.0 p.1 }))) first
     ∙ with-settled state numbers rows (record facts { rows = set facts.rows number (state number) }) rest
+
+pub rows-append : (rows : List (ℕ × Row)) (one : ℕ × Row) (state : State)
+    → with_state one.0 (said_row one.1) (with_rows rows state) ≡ with_rows (rows ++ one ∷ []) state
+rows-append [] one state = refl
+rows-append (first ∷ rows) one state = rows-append rows one (with_state first.0 (said_row first.1) state)
 
 -- ---- a row that is the same on both ways
 

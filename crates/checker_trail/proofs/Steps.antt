@@ -9,17 +9,18 @@ use Rattle.std.proofs.lemmas.List.{take-append-drop, take_all}
 use Rattle.std.proofs.lemmas.List.{take_at, take_more}
 use Rattle.domain.specs.Interval.{vacant}
 use Rattle.checker_state.specs.declared.held.Held.{Held as KeptHeld}
-use Rattle.checker_trail.specs.declared.known.Row.{Row}
+use Rattle.checker_known.specs.declared.known.Row.{Row}
 use Rattle.checker_trail.specs.declared.state.State.{State as Kept}
-use Rattle.checker_trail.specs.declared.trail.Change.TheVariants as change
+use Rattle.checker_known.specs.declared.change.Change.TheVariants as change
 use Rattle.checker_state.specs.Changes.{all_changed, ordered, with_change, with_equal_to, with_some}
 use Rattle.checker_state.specs.State.{Dead, Facts, Held, Live, RowState, State, no_row, row_at, with_more, with_one, with_row}
-use Rattle.checker_trail.specs.Longer.{without}
-use Rattle.checker_trail.specs.Trail.{Core, IsPlace, Makes, Moves, changed_at, core, over_held, seen, seen_core, viewed, with_state}
+use Rattle.checker_known.specs.Longer.{without}
+use Rattle.checker_known.specs.Known.{Core, IsPlace, changed_at, core, seen_core, viewed}
+use Rattle.checker_trail.specs.Trail.{Makes, Moves, over_held, seen, with_state}
 use Rattle.checker_state.specs.View.{said_held}
-use Rattle.checker_trail.specs.View.{said_row}
-use Rattle.checker_trail.proofs.HeldLists.{changed-end, changed-step, changed_from, dropped-step, insert-said, kept-end, kept-step, kept_from, more-append}
-use Rattle.checker_trail.proofs.HeldLists.{no_held, none-there, one-became, one-gone, remove-said, said-inside, said-there, said_all, taken-step}
+use Rattle.checker_known.specs.View.{said_row}
+use Rattle.checker_known.proofs.HeldLists.{changed-end, changed-step, changed_from, dropped-step, insert-said, kept-end, kept-step, kept_from, more-append}
+use Rattle.checker_known.proofs.HeldLists.{no_held, none-there, one-became, one-gone, remove-said, said-inside, said-there, said_all, taken-step}
 use Rattle.checker_trail.proofs.Ways.{Returns, moves-as, moves-dead, moves-live, moves-made, moves-stay, moves-then, seen-live}
 
 -- ---- rows

@@ -15,7 +15,7 @@ use Rattle.checker_state.specs.State.{Dead, Live, State, with_more, with_range}
 use Rattle.checker_state.specs.Loops.{all_forgotten, replaced, with_claim, with_claims, with_forgotten, with_limits}
 use Rattle.checker_trail.specs.Trail.{Moves, over_held, seen}
 use Rattle.checker_state.specs.View.{held_by, said_bound, said_claim, said_form}
-use Rattle.checker_trail.proofs.HeldLists.{said_all}
+use Rattle.checker_known.proofs.HeldLists.{said_all}
 use Rattle.checker_trail.proofs.Steps.{held-as, held-then}
 use Rattle.checker_trail.proofs.Ways.{moves-as, moves-told}
 

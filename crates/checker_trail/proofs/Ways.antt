@@ -4,14 +4,16 @@ use Rattle.std.proofs.Common.{ℕ, ◌+◌, ◌<◌, get_or, subst}
 use Rattle.std.proofs.lemmas.List.{drop_at, take_at, take_more}
 use Rattle.typed_tree.specs.declared.tree.Tree.{Tree}
 use Rattle.checker_trail.specs.declared.state.State.{State as Kept}
-use Rattle.checker_trail.specs.declared.trail.Change.{Change}
-use Rattle.checker_trail.specs.declared.trail.Branch.{Branch}
+use Rattle.checker_known.specs.declared.change.Change.{Change}
+use Rattle.checker_known.specs.declared.change.Branch.{Branch}
 use Rattle.checker_state.specs.State.{Dead, Live, State}
 use Rattle.checker_state.specs.Joins.{joined_states}
 use Rattle.checker_state.specs.State.{table_of}
 use Rattle.checker_trail.specs.Meets.{JoinsBehind}
-use Rattle.checker_trail.specs.Trail.{Core, Come, Comes, EndsAt, Goes, IsCut, Leaves, Left, Made, Makes, Moves, TakesBack, core, inverse}
-use Rattle.checker_trail.specs.Trail.{made, redone, seen, seen_core, undone, viewed}
+use Rattle.checker_known.specs.Known.{Core, core, inverse}
+use Rattle.checker_trail.specs.Trail.{Come, Comes, EndsAt, Goes, IsCut, Leaves, Left, Made, Makes, Moves, TakesBack}
+use Rattle.checker_known.specs.Known.{made, redone, seen_core, undone, viewed}
+use Rattle.checker_trail.specs.Trail.{seen}
 
 -- ---- changes, some behind others
 

@@ -1,8 +1,2 @@
-pub mod View
-pub mod Pairs
-pub mod Order
-pub mod Halves
-pub mod Knots
-pub mod Longer
 pub mod Trail
 pub mod Meets

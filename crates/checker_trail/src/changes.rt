@@ -2,12 +2,13 @@ ghost use Rattle.std.specs.Prelude.{◌≡◌, Some, map, slice_set};
 ghost use Rattle.std.specs.List.{filter_map, remove};
 ghost use Rattle.checker_state.specs.Changes.{all_changed, assigned, with_change, with_equal, with_equal_to, with_some};
 ghost use Rattle.checker_state.specs.State.{with_more};
-ghost use Rattle.checker_trail.specs.Longer.{without};
-ghost use Rattle.checker_trail.specs.Trail.{Moves, changed_at, kept_by, over_held};
+ghost use Rattle.checker_known.specs.Longer.{without};
+ghost use Rattle.checker_trail.specs.Trail.{Moves, over_held};
+ghost use Rattle.checker_known.specs.Known.{changed_at, kept_by};
 ghost use Rattle.checker_state.specs.View.{held_by, said_form, said_held, said_ordered};
 
 use crate::state::State;
-use crate::trail::Change;
+use checker_known::Change;
 use checker_state::{Bound, Held, Order, Rebinding};
 use domain::interval::Interval;
 

@@ -2,13 +2,13 @@ ghost use Rattle.std.specs.Prelude.{◌≡◌, ℕ, List, false, length};
 ghost use Rattle.checker_trail.specs.declared.state.State.{State as Kept};
 ghost use Rattle.checker_state.specs.Joins.{joined_states};
 ghost use Rattle.checker_state.specs.State.{table_of};
-ghost use Rattle.checker_trail.specs.Meets.{AreAlike, AreTold, Joins, JoinsBehind, with_rows};
-ghost use Rattle.checker_trail.specs.Trail.{Core, EndsAt, Goes, Moves, core, seen_core};
+ghost use Rattle.checker_trail.specs.Meets.{AreAlike, Joins, JoinsBehind, with_rows};
+ghost use Rattle.checker_known.specs.Told.{AreTold};
+ghost use Rattle.checker_known.specs.Known.{Core, core, seen_core};
+ghost use Rattle.checker_trail.specs.Trail.{EndsAt, Goes, Moves};
 
-use crate::known::Row;
-use crate::state::State;
-use crate::told::Told;
-use crate::trail::{Branch, Mark};
+use crate::state::{Mark, State};
+use checker_known::{Branch, Row, Told};
 
 impl<'a> State<'a> {
     /// What is known where the way since a mark meets a branch that began there.

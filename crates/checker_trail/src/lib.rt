@@ -3,19 +3,11 @@
 
 mod changes;
 mod conditions;
-mod gives;
-mod halves;
 mod joins;
-mod knots;
-mod known;
 mod loops;
-mod order;
 mod start;
 mod state;
 mod stores;
-mod told;
-mod trail;
 
-pub use state::State;
+pub use state::{Mark, State};
 pub use stores::all_of_row;
-pub use trail::{Branch, Mark};

@@ -2,15 +2,15 @@ ghost use Rattle.std.specs.Prelude.{◌≡◌, false, length, true};
 ghost use Rattle.checker_trail.specs.declared.state.State.{State as Kept};
 ghost use Rattle.checker_state.specs.State.{Dead, State as Seen, at_most, has_value, is_dead, is_defined, range_of};
 ghost use Rattle.checker_state.specs.State.{unless_empty, with_defined, with_range};
-ghost use Rattle.checker_trail.specs.Trail.{Comes, Core, EndsAt, Goes, IsCut, Leaves, Makes, Moves, TakesBack, core};
+ghost use Rattle.checker_trail.specs.Trail.{Comes, EndsAt, Goes, IsCut, Leaves, Makes, Moves, TakesBack};
+ghost use Rattle.checker_known.specs.Known.{Core, core};
 ghost use Rattle.checker_trail.specs.Trail.{seen};
 ghost use Rattle.checker_trail.specs.Trail.{with_state};
 ghost use Rattle.checker_state.specs.View.{said_bound, said_term};
-ghost use Rattle.checker_trail.specs.View.{said_row};
+ghost use Rattle.checker_known.specs.View.{said_row};
 ghost use Rattle.checker_state.specs.State.{table_of};
 
-use crate::known::{Known, Row};
-use crate::trail::{Branch, Change, Mark};
+use checker_known::{Branch, Change, Known, Row};
 use checker_rows::Rows;
 use checker_state::{Bound, Held, Term};
 use domain::Domain;
@@ -27,6 +27,12 @@ pub struct State<'a> {
     /// What was changed, the last change last.
     pub(crate) trail: Vec<Change>,
     pub(crate) is_short: bool,
+}
+
+/// How far a state had come.
+#[derive(Clone, Copy)]
+pub struct Mark {
+    pub(crate) length: usize,
 }
 
 impl<'a> State<'a> {

@@ -1,8 +1,8 @@
 use Rattle.std.proofs.Common.{◌∙◌, [], sym}
 use Rattle.checker_state.specs.State.{with_more}
 use Rattle.checker_state.specs.View.{said_held}
-use Rattle.checker_trail.proofs.HeldLists.{no_held, said_all}
-use Rattle.checker_trail.proofs.Kept.{same-anew}
+use Rattle.checker_known.proofs.HeldLists.{no_held, said_all}
+use Rattle.checker_known.proofs.Kept.{same-anew}
 use Rattle.checker_trail.proofs.Steps.{held-stays}
 use Rattle.checker_trail.proofs.Turns.{anew-moves}
 use Rattle.checker_trail.proofs.state.State.order_anew.Goals as goal

@@ -1,6 +1,6 @@
 use Rattle.checker_trail.specs.Trail.{Moves, over_held}
 use Rattle.checker_state.specs.View.{held_by}
-use Rattle.checker_trail.proofs.HeldLists.{changed_from}
+use Rattle.checker_known.proofs.HeldLists.{changed_from}
 use Rattle.checker_trail.proofs.state.State.rebind.Given as goal
 
 abbrev pub invariant-loop-place : goal.invariant-loop-place

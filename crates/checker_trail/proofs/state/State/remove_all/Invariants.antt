@@ -1,5 +1,5 @@
 use Rattle.std.proofs.Common.{drop}
-use Rattle.checker_trail.specs.Longer.{without}
+use Rattle.checker_known.specs.Longer.{without}
 use Rattle.checker_trail.specs.Trail.{Moves, over_held}
 use Rattle.checker_trail.proofs.state.State.remove_all.Given as goal
 

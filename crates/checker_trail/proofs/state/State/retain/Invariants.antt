@@ -1,5 +1,5 @@
 use Rattle.checker_trail.specs.Trail.{Moves, over_held}
-use Rattle.checker_trail.proofs.HeldLists.{kept_from}
+use Rattle.checker_known.proofs.HeldLists.{kept_from}
 use Rattle.checker_trail.proofs.state.State.retain.Given as goal
 
 abbrev pub invariant-loop-place : goal.invariant-loop-place

@@ -1,8 +1,8 @@
 use Rattle.std.proofs.Common.{take}
 use Rattle.checker_trail.specs.Meets.{with_rows}
 use Rattle.checker_trail.specs.Trail.{with_state}
-use Rattle.checker_trail.specs.View.{said_row}
-use Rattle.checker_trail.proofs.Arrivals.{rows-append}
+use Rattle.checker_known.specs.View.{said_row}
+use Rattle.checker_trail.proofs.Meeting.{rows-append}
 use Rattle.checker_trail.proofs.Ways.{moves-more}
 use Rattle.checker_trail.proofs.state.State.set_rows.Goals as goal
 

@@ -1,12 +1,12 @@
 use Rattle.checker_trail.proofs.Meeting.{settle-moves}
 use Rattle.std.proofs.Common.{◌≡◌, ◌∙◌, ap, List, filter, map}
 use Rattle.checker_state.specs.declared.held.Held.{Held as KeptHeld}
-use Rattle.checker_trail.specs.declared.told.Arrival.{Arrival}
-use Rattle.checker_trail.specs.Meets.{joined_at, said_at}
+use Rattle.checker_known.specs.declared.told.Arrival.{Arrival}
+use Rattle.checker_known.specs.Told.{joined_at, said_at}
 use Rattle.checker_state.specs.State.{gives}
-use Rattle.checker_trail.specs.Trail.{core, viewed}
+use Rattle.checker_known.specs.Known.{core, viewed}
 use Rattle.checker_state.specs.State.{table_of}
-use Rattle.checker_trail.proofs.HeldLists.{said_all}
+use Rattle.checker_known.proofs.HeldLists.{said_all}
 use Rattle.checker_trail.proofs.state.State.settle.Goals as goal
 
 pub returns-clause-meets : goal.returns-clause-meets

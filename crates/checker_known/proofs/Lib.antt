@@ -1,0 +1,12 @@
+pub mod HeldLists
+pub mod Pairs
+pub mod Searches
+pub mod InOrder
+pub mod Tangles
+pub mod Near
+pub mod Kept
+pub mod Tests
+pub mod Longer
+pub mod Types
+pub mod Arrivals
+pub mod HeldGiven

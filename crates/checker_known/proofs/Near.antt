@@ -1,0 +1,292 @@
+-- What a number makes longer of a row without knots begins or ends near it.
+use Rattle.std.proofs.Common.{arith, ◌≡◌, ◌∙◌, sym, ap, ap₂, refl, subst, ⊎_elim, ℕ, ℤ, pos, zero, suc, ◌+ℤ◌, ◌-ℤ◌, ◌-◌, ◌<◌, ◌≤◌}
+use Rattle.std.proofs.Common.{Bool, true, false, cond, ◌&&◌, ◌||◌, not, int_le, int_lt, nat_eq, List, [], ◌∷◌, get_or, length, Option, Some, None}
+use Rattle.std.specs.Cmp.{nat_cmp_is}
+use Rattle.std.specs.Cmp.Lexicographic.{slice_cmp}
+use Rattle.std.specs.FinMap.{nat_cmp-IsAntisymmetric}
+use Rattle.std.specs.List.{list_any}
+use Rattle.std.specs.Option.{is_none, is_some}
+use Rattle.std.specs.Ordering.{int_cmp, ordering_then}
+use Rattle.std.specs.declared.cmp.Ordering.{Ordering}
+use Rattle.std.specs.declared.cmp.Ordering.TheVariants.{Less, Equal, Greater}
+use Rattle.std.proofs.lemmas.Bool.{and_parts, cases_Bool, cases_eq, cases_lt, eq-eqb, eqb-true, false≢true, false_from_ne_true, or_cases}
+use Rattle.std.proofs.lemmas.Int.{ints}
+use Rattle.std.proofs.lemmas.Map.Keys.{Less-from_sorted}
+use Rattle.checker_state.specs.Bounds.{Bound, constant}
+use Rattle.checker_state.specs.State.{Facts, Held, Ordered, Span, Stretched, bound_range, held_order, is_below, is_next, le, lies_below, says_at_most}
+use Rattle.checker_state.specs.State.{Live, span_order}
+use Rattle.checker_state.specs.Stores.{longer, longer_by, longer_of}
+use Rattle.checker_known.specs.declared.order.Group.TheVariants as group
+use Rattle.checker_known.specs.declared.halves.Test.TheVariants as test
+use Rattle.checker_known.specs.Halves.{Falls, IsEdge, first_of, last_of, passes, spans_of}
+use Rattle.checker_known.specs.Knots.{counts, goes_on, is_plain, knot, knots_of}
+use Rattle.checker_known.specs.Longer.{AreNear}
+use Rattle.checker_known.specs.Order.{AreBetween, AreOf, disorder_of, stands}
+use Rattle.checker_known.proofs.InOrder.{in-order}
+use Rattle.checker_known.proofs.Pairs.{told-nothing}
+
+-- ---- spans of numbers
+
+-- the numbers between two
+abbrev between : ℤ → ℤ → Span
+between first last = record { first = constant first; last = constant last }
+
+-- the first of some spans has numbers
+record Numbers (spans : List Span) : Type 0 where
+  first : ℤ
+  last : ℤ
+  rest : List Span
+  spans_are : spans ≡ between first last ∷ rest
+  in_order : int_le first last ≡ true
+
+none-is : (root : Option ℕ) → is_none root ≡ true → root ≡ None
+none-is None is = refl
+none-is (Some root) is = absurd (cc)
+
+plain-numbers : (span : Span) (rest : List Span) → is_plain span ≡ true → Numbers (span ∷ rest)
+plain-numbers span rest is =
+    let parts = and_parts (is_none span.first.root) (is_none span.last.root && int_le span.first.number span.last.number) is in
+    let more = and_parts (is_none span.last.root) (int_le span.first.number span.last.number) parts.1 in
+    record {
+      first = span.first.number;
+      last = span.last.number;
+      rest = rest;
+      spans_are =
+          ap₂ (λ (one other : Option ℕ).
+          let first : Bound = record { root = one; number = span.first.number } in
+          let last : Bound = record { root = other; number = span.last.number } in
+          let same : Span = record { first = first; last = last } in
+          same ∷ rest)
+          (none-is span.first.root parts.0) (none-is span.last.root more.0);
+      in_order = more.1;
+    }
+
+numbers-first : (one other : List Span) → goes_on one other ≡ true → Numbers one
+numbers-first [] other is = absurd (cc)
+numbers-first (span ∷ one) [] is = absurd (cc)
+numbers-first (span ∷ one) (next ∷ other) is =
+    plain-numbers span one (and_parts (is_plain span) (is_plain next && int_le span.last.number next.last.number) is).0
+
+numbers-next : (one other : List Span) → goes_on one other ≡ true → Numbers other
+numbers-next [] other is = absurd (cc)
+numbers-next (span ∷ one) [] is = absurd (cc)
+numbers-next (span ∷ one) (next ∷ other) is =
+    let parts = and_parts (is_plain span) (is_plain next && int_le span.last.number next.last.number) is in
+    plain-numbers next other (and_parts (is_plain next) (int_le span.last.number next.last.number) parts.1).0
+
+ends-later : (one other : List Span) → goes_on one other ≡ true → int_le (last_of one) (last_of other) ≡ true
+ends-later [] other is = absurd (cc)
+ends-later (span ∷ one) [] is = absurd (cc)
+ends-later (span ∷ one) (next ∷ other) is =
+    let parts = and_parts (is_plain span) (is_plain next && int_le span.last.number next.last.number) is in
+    (and_parts (is_plain next) (int_le span.last.number next.last.number) parts.1).1
+
+-- ---- numbers beside one another
+
+module _ (known : Facts) where
+  no-order : (x y : ℤ) (held : List Held) → list_any (says_at_most (constant x) (constant y)) held ≡ false
+  no-order x y [] = refl
+  no-order x y (Stretched stretch ∷ held) = no-order x y held
+  no-order x y (Ordered root other number ∷ held) = no-order x y held
+
+  le-numbers : (x y : ℤ) → le known (constant x) (constant y) ≡ true → int_le x y ≡ true
+  le-numbers x y is =
+      ⊎_elim (λ (itself : int_le x y ≡ true). itself)
+      (λ (told : (is_below (bound_range (Live known) (constant x)) (bound_range (Live known) (constant y))
+      || list_any (says_at_most (constant x) (constant y)) known.held) ≡ true).
+      ⊎_elim (λ (below : is_below (bound_range (Live known) (constant x)) (bound_range (Live known) (constant y)) ≡ true).
+      (and_parts _ (int_le x y) below).1)
+      (λ (held : list_any (says_at_most (constant x) (constant y)) known.held ≡ true). absurd (false≢true (sym (no-order x y known.held) ∙ held)))
+      (or_cases _ _ told))
+      (or_cases (int_le x y) _ is)
+
+  not-next : (x y : ℤ) → (y ≡ x +ℤ pos 1 → ⊥) → is_next known (constant x) (constant y) ≡ false
+  not-next x y differ =
+      false_from_ne_true (is_next known (constant x) (constant y)) (λ is.
+      let parts = and_parts (lies_below known (constant x) (constant y)) (le known (constant y) (constant (x +ℤ pos 1))) is in
+      let up = le-numbers (x +ℤ pos 1) y parts.0 in
+      let down = le-numbers y (x +ℤ pos 1) parts.1 in
+      differ (grind (arith, ints)))
+
+  -- a stretch of numbers that a number isn't beside stays as it is
+  numbers-stay : (row : ℕ) (c f l : ℤ) (rest : List Span) → (c ≡ l +ℤ pos 1 → ⊥) → (f ≡ c +ℤ pos 1 → ⊥)
+      → longer_by known row (constant c) (between f l ∷ rest) ≡ None
+  numbers-stay row c f l [] behind before =
+      ap₂ (λ (first rest : Bool).
+      longer_of row (cond first (Some (record (between f l) { last = constant c })) (cond rest (Some (record (between f l) { first = constant c })) None)))
+      (not-next l c behind) (not-next c f before)
+  numbers-stay row c f l (span ∷ rest) behind before = refl
+
+  far-stays : (row : ℕ) (c : ℤ) (one : Held) → Numbers (spans_of one) → (c ≡ last_of (spans_of one) +ℤ pos 1 → ⊥)
+      → (first_of (spans_of one) ≡ c +ℤ pos 1 → ⊥) → longer known row (constant c) one ≡ None
+  far-stays row c (Ordered root other number) numbers behind before = refl
+  far-stays row c (Stretched s) numbers behind before =
+      let n = numbers in
+      let first : first_of s.spans ≡ n.first = ap first_of n.spans_are in
+      let last : last_of s.spans ≡ n.last = ap last_of n.spans_are in
+      ap (λ (some : Option Held). cond (nat_eq s.row row) some None)
+      (ap (longer_by known row (constant c)) n.spans_are
+      ∙ numbers-stay row c n.first n.last n.rest (λ is. behind (is ∙ ap (λ (l : ℤ). l +ℤ pos 1) (sym last))) (λ is. before (first ∙ is)))
+      ∙ both-none (nat_eq s.row row) None
+    where
+      both-none : (b : Bool) (nothing : Option Held) → cond b nothing nothing ≡ nothing
+      both-none true nothing = refl
+      both-none false nothing = refl
+
+  -- what isn't of a row stays too
+  outside-stays : (row : ℕ) (index : Bound) (one : Held) → (stands (group.Row row) one ≡ Equal → ⊥) → longer known row index one ≡ None
+  outside-stays row index (Ordered root other number) outside = refl
+  outside-stays row index (Stretched s) outside =
+      ⊎_elim (λ (same : nat_eq s.row row ≡ true). absurd (outside (sym (nat_cmp_is s.row row Equal (eqb-true s.row row same)))))
+      (λ (differ : nat_eq s.row row ≡ false). ap (λ (b : Bool). cond b (longer_by known row index s.spans) None) differ)
+      (cases_Bool (nat_eq s.row row))
+
+  -- ---- what stands in a row
+
+  module _ (row : ℕ) (held : List Held) (first end : ℕ) (row_is : AreBetween (group.Row row) held first end) where
+    before-row : (index : Bound) (i : ℕ) (none : Held) → i < first → longer known row index (get_or held i none) ≡ None
+    before-row index i none below =
+        outside-stays row index (get_or held i none) (λ same.
+        let less = row_is.before i none below (omega (arith, below, row_is.begins)) in cc)
+
+    behind-row : (index : Bound) (i : ℕ) (none : Held) → end ≤ i → i < length held → longer known row index (get_or held i none) ≡ None
+    behind-row index i none past within =
+        outside-stays row index (get_or held i none) (λ same.
+        let more = row_is.behind i none past within in cc)
+
+    pub near-row : (index : Bound) → AreNear known row index held first end
+    near-row index = record { begins = row_is.begins; ends = row_is.ends; before = before-row index; behind = behind-row index }
+
+-- two of a row go on, if they are no knot of it
+loose : (row : ℕ) (a b : Held) → stands (group.Row row) a ≡ Equal → stands (group.Row row) b ≡ Equal → counts row (knot a b) ≡ 0
+    → goes_on (spans_of a) (spans_of b) ≡ true
+loose row (Ordered root other number) b first rest is = absurd (cc)
+loose row (Stretched s) (Ordered root other number) first rest is = absurd (cc)
+loose row (Stretched s) (Stretched t) first rest is =
+    let s_is : s.row ≡ row = nat_cmp-IsAntisymmetric s.row row first in
+    let t_is : t.row ≡ row = nat_cmp-IsAntisymmetric t.row row rest in
+    ⊎_elim (λ (goes : goes_on s.spans t.spans ≡ true). goes)
+    (λ (not_so : goes_on s.spans t.spans ≡ false).
+    let found : knot (Stretched s) (Stretched t) ≡ Some s.row =
+    ap₂ (λ (x y : Bool). cond (x && not y) (Some s.row) None) (eq-eqb s.row t.row (s_is ∙ sym t_is)) not_so in
+    let one : counts row (knot (Stretched s) (Stretched t)) ≡ 1 = ap (counts row) found ∙ ap (λ (b : Bool). cond b 1 0) (eq-eqb s.row row s_is) in
+    absurd (omega (arith, is, one)))
+    (cases_Bool (goes_on s.spans t.spans))
+
+numbers-more : (f g : ℤ) → int_lt g f ≡ true → int_cmp f g ≡ Greater
+numbers-more f g is =
+    let no : int_lt f g ≡ false = grind (arith, ints) in
+    ap₂ (λ (a b : Bool). cond a Less (cond b Greater Equal)) no is
+
+greater-less : Greater ≡ Less → ⊥
+greater-less is = cc
+
+-- the earlier of two of a row begins no later
+begins-sooner : (row : ℕ) (a b : Held) → stands (group.Row row) a ≡ Equal → stands (group.Row row) b ≡ Equal → Numbers (spans_of a)
+    → Numbers (spans_of b) → held_order a b ≡ Less → int_le (first_of (spans_of a)) (first_of (spans_of b)) ≡ true
+begins-sooner row (Ordered root other number) b first rest x y is = absurd (cc)
+begins-sooner row (Stretched s) (Ordered root other number) first rest x y is = absurd (cc)
+begins-sooner row (Stretched s) (Stretched t) first rest x y is =
+    let same : s.row ≡ t.row = nat_cmp-IsAntisymmetric s.row row first ∙ sym (nat_cmp-IsAntisymmetric t.row row rest) in
+    let f : first_of s.spans ≡ x.first = ap first_of x.spans_are in
+    let g : first_of t.spans ≡ y.first = ap first_of y.spans_are in
+    let no : int_lt y.first x.first ≡ false =
+    false_from_ne_true (int_lt y.first x.first) (λ more.
+    greater-less
+    (sym (ap₂ (λ (o p : Ordering). ordering_then o p) (sym (nat_cmp_is s.row t.row Equal same)) (ap₂ (slice_cmp span_order) x.spans_are y.spans_are)
+    ∙ ap (λ (o : Ordering). ordering_then (ordering_then o (int_cmp x.last y.last)) (slice_cmp span_order x.rest y.rest)) (numbers-more x.first y.first more))
+    ∙ is)) in
+    let at_most : int_le x.first y.first ≡ true = grind (arith, ints) in
+    ap₂ (λ (p q : ℤ). int_le p q) f g ∙ at_most
+
+-- ---- a row without knots
+
+module _ (row : ℕ) (held : List Held) (first end : ℕ) (within : end ≤ length held) (own : AreOf (group.Row row) held first end) (ordered : disorder_of held ≡ 0)
+    (no_knot : knots_of row held ≡ 0) (several : suc first < end) where
+  goes-at : (i : ℕ) (none : Held) → first ≤ i → suc i < end → goes_on (spans_of (get_or held i none)) (spans_of (get_or held (suc i) none)) ≡ true
+  goes-at i none from below =
+      loose row (get_or held i none) (get_or held (suc i) none) (own.of i none from (omega (arith, below))) (own.of (suc i) none (omega (arith, from)) below)
+      (told-nothing (λ (one next : Held). counts row (knot one next)) held i none no_knot (omega (arith, below, within)))
+
+  numbers-at : (i : ℕ) (none : Held) → first ≤ i → i < end → Numbers (spans_of (get_or held i none))
+  numbers-at i none from below =
+      ⊎_elim
+      (λ (inside : suc i < end).
+      numbers-first (spans_of (get_or held i none)) (spans_of (get_or held (suc i) none)) (goes-at i none from inside))
+      (λ (last : end ≤ suc i).
+      subst (λ (k : ℕ). Numbers (spans_of (get_or held k none))) (let same : suc (i - 1) ≡ i = omega (arith, last, several, below) in same)
+      (numbers-next (spans_of (get_or held (i - 1) none)) (spans_of (get_or held (suc (i - 1)) none))
+      (goes-at (i - 1) none (omega (arith, last, several, below)) (omega (arith, last, several, below)))))
+      (cases_lt (suc i) end)
+
+  lasts : (i j : ℕ) (none : Held) → first ≤ i → i < j → j < end
+      → int_le (last_of (spans_of (get_or held i none))) (last_of (spans_of (get_or held j none))) ≡ true
+  lasts i zero none from less inside = absurd (omega (arith, less))
+  lasts i (suc j) none from less inside =
+      ⊎_elim (λ (same : i ≡ j).
+      subst (λ (k : ℕ). int_le (last_of (spans_of (get_or held k none))) (last_of (spans_of (get_or held (suc j) none))) ≡ true) (sym same)
+      (ends-later (spans_of (get_or held j none)) (spans_of (get_or held (suc j) none)) (goes-at j none (omega (arith, from, same)) inside)))
+      (λ (differ : i ≡ j → ⊥).
+      let one = lasts i j none from (omega (arith, less, differ)) (omega (arith, inside)) in
+      let two = ends-later (spans_of (get_or held j none)) (spans_of (get_or held (suc j) none)) (goes-at j none (omega (arith, from, less)) inside) in
+      grind (arith, ints))
+      (cases_eq i j)
+
+  firsts : (i j : ℕ) (none : Held) → first ≤ i → i < j → j < end
+      → int_le (first_of (spans_of (get_or held i none))) (first_of (spans_of (get_or held j none))) ≡ true
+  firsts i j none from less inside =
+      begins-sooner row (get_or held i none) (get_or held j none) (own.of i none from (omega (arith, less, inside)))
+      (own.of j none (omega (arith, from, less)) inside) (numbers-at i none from (omega (arith, less, inside)))
+      (numbers-at j none (omega (arith, from, less)) inside)
+      (Less-from_sorted held_order held i j none (in-order held none ordered) less (omega (arith, inside, within)))
+
+  pub ends-fall : (n : ℤ) → Falls (passes (test.EndsBelow n)) held first end
+  ends-fall n = record {
+    falls = λ i j none from less inside below.
+        let sooner = lasts i j none from less inside in grind (arith, ints);
+  }
+
+  pub begins-fall : (n : ℤ) → Falls (passes (test.BeginsBelow n)) held first end
+  begins-fall n = record {
+    falls = λ i j none from less inside below.
+        let sooner = firsts i j none from less inside in grind (arith, ints);
+  }
+
+  numbers-order : (spans : List Span) → Numbers spans → int_le (first_of spans) (last_of spans) ≡ true
+  numbers-order spans n = ap (λ (s : List Span). int_le (first_of s) (last_of s)) n.spans_are ∙ n.in_order
+
+  pub near-number : (known : Facts) (c m n : ℤ) (from to : ℕ) → AreBetween (group.Row row) held first end → m ≡ c -ℤ pos 1 → n ≡ c +ℤ pos 2
+      → IsEdge (passes (test.EndsBelow m)) held first end from → IsEdge (passes (test.BeginsBelow n)) held first end to
+      → AreNear known row (constant c) held from to
+  near-number known c m n from to row_is m_is n_is ends begins = record {
+    begins = omega (arith, ends.ends, within);
+    ends = omega (arith, begins.ends, within);
+    before = λ i none below.
+        ⊎_elim (λ (out : i < first). before-row known row held first end row_is (constant c) i none out)
+        (λ (inside : first ≤ i).
+        let one = get_or held i none in
+        let numbers = numbers-at i none inside (omega (arith, below, ends.ends)) in
+        let order = numbers-order (spans_of one) numbers in
+        let ends_below = ends.before i none inside below in
+        far-stays known row c one numbers (λ is. grind (arith, ints)) (λ is. grind (arith, ints)))
+        (cases_lt i first);
+    behind = λ i none past there.
+        ⊎_elim (λ (inside : i < end).
+        let one = get_or held i none in
+        let numbers = numbers-at i none (omega (arith, past, begins.begins)) inside in
+        let order = numbers-order (spans_of one) numbers in
+        let begins_behind = begins.behind i none past inside in
+        far-stays known row c one numbers (λ is. grind (arith, ints)) (λ is. grind (arith, ints)))
+        (λ (out : end ≤ i). behind-row known row held first end row_is (constant c) i none out there)
+        (cases_lt i end);
+  }
+
+-- a bound without a variable
+pub number-is : (bound : Bound) → is_some bound.root ≡ false → constant bound.number ≡ bound
+number-is bound none = root-is bound.root none
+  where
+    root-is : (root : Option ℕ) → is_some root ≡ false
+        → (let one : Bound = record { root = None; number = bound.number } in one)
+        ≡ (let other : Bound = record { root = root; number = bound.number } in other)
+    root-is None none = refl
+    root-is (Some root) none = absurd (cc)

@@ -1,0 +1,35 @@
+use Rattle.std.proofs.Common.{arith, refl, set}
+use Rattle.checker_known.proofs.InOrder.{Recounted, set-counted, were-within}
+use Rattle.checker_known.proofs.Tangles.{knots-set}
+use Rattle.checker_known.proofs.known.Known.replace.Goals.{After-wrong_around}
+use Rattle.checker_known.proofs.known.Known.replace.Goals as goal
+
+pub overflow_sub-self : goal.overflow_sub-self
+overflow_sub-self c =
+    were-within c.args.self.now.held.items c.deref.result.now c.args.place c.args.self.now.disorder c.wrong_around-was.result c.args.self.now.counted
+    c.deref.ensures.value c.wrong_around-was.ensures
+
+recounted : (c : goal.After-wrong_around)
+    → Recounted c.args.self.now.disorder c.wrong_around-was.result c.wrong_around.result (set c.args.self.now.held.items c.args.place c.args.now)
+recounted c =
+    let held = c.args.self.now.held.items in
+    set-counted held (set held c.args.place c.args.now) c.deref.result.now c.deref-then-place-len-2.result.now c.args.place
+    c.args.self.now.disorder c.wrong_around-was.result c.wrong_around.result c.args.self.now.counted
+    (omega (arith, c.len.type_inv, c.len.ensures)) c.deref.ensures.value c.deref-then-place-len-2.ensures.value
+    c.args.now (omega (arith, c.if-place-len.true, c.len.ensures)) refl c.wrong_around-was.ensures c.wrong_around.ensures
+
+pub overflow_add-self : goal.overflow_add-self
+overflow_add-self c = (recounted c).fits
+
+pub invariant_of-self : goal.invariant_of-self
+invariant_of-self c =
+    let known = c.args.self.now in
+    record {
+      counted = (recounted (goal.at.invariant_of-self c).After-wrong_around).count;
+      knots_counted =
+          knots-set known.held.items (set known.held.items c.args.place c.args.now) c.deref-then-place-len.result.now c.deref-then-place-len-3.result.now
+          c.args.place known.knots.items c.recount.new.knots.items c.knots_around-gone.result c.knots_around.result known.knots_counted
+          (omega (arith, c.len.type_inv, c.len.ensures)) c.deref-then-place-len.ensures.value c.deref-then-place-len-3.ensures.value c.recount.ensures
+          c.args.now (omega (arith, c.if-place-len.true, c.len.ensures)) refl c.knots_around-gone.ensures.first c.knots_around-gone.ensures.next
+          c.knots_around.ensures.first c.knots_around.ensures.next;
+    }

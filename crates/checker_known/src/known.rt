@@ -1,0 +1,136 @@
+ghost use Rattle.std.specs.Prelude.{◌≡◌, map};
+ghost use Rattle.std.specs.Bool.{OnTrue};
+ghost use Rattle.checker_state.specs.View.{said_held};
+ghost use Rattle.checker_known.specs.Knots.{AreCounted};
+ghost use Rattle.checker_known.specs.Order.{disorder_of};
+
+use crate::change::Change;
+use crate::knots::{knot_at, knots_around, recount};
+use crate::order::{wrong_around, wrong_at};
+use checker_state::Held;
+use domain::interval::Interval;
+
+/// What is known of a row.
+#[derive(Clone, Copy)]
+pub struct Row {
+    /// Where the values of its components lie.
+    pub range: Interval,
+    /// Whether each is defined.
+    pub is_defined: bool,
+}
+
+impl Row {
+    /// That of a row that isn't there.
+    pub const NONE: Row = Row {
+        range: Interval::EMPTY,
+        is_defined: false,
+    };
+
+    /// Whether the same is known of two rows.
+    pub fn is_same(&self, other: &Row) -> bool
+        ensures { OnTrue result (self.now ≡ other.now) }
+    {
+        self.range.first() == other.range.first()
+            && self.range.last() == other.range.last()
+            && self.is_defined == other.is_defined
+    }
+}
+
+/// What is known at a point of a program.
+#[derive(Drop)]
+pub struct Known {
+    /// What is known of rows, by the number of the row.
+    pub rows: Vec<Row>,
+    /// What is held, in its order, each once, but where bounds are about to take the places of variables.
+    pub held: Vec<Held>,
+    /// How many of these don't come before the next.
+    pub disorder: usize,
+    /// By the number of a row, how many of its stretches at most don't go on from the one before.
+    pub knots: Vec<usize>,
+    /// `true`: no run comes here.
+    pub is_dead: bool,
+    pub ghost counted: { disorder ≡ disorder_of (map said_held held.items) },
+    pub ghost knots_counted: { AreCounted knots.items (map said_held held.items) },
+}
+
+impl Known {
+    ghost use Rattle.std.specs.Prelude.{slice_set};
+    ghost use Rattle.std.specs.List.{insert, remove};
+    ghost use Rattle.checker_state.specs.State.{row_at};
+    ghost use Rattle.checker_known.specs.Known.{core, made, viewed};
+    ghost use Rattle.checker_known.specs.View.{said_row};
+
+    /// What is known of a row.
+    pub fn row(&self, row: usize) -> Row
+        ensures { said_row result ≡ row_at (viewed (core self.now)) row }
+    {
+        match self.rows.get(row) {
+            None => Row::NONE,
+            Some(known) => *known,
+        }
+    }
+
+    /// Makes a change. `false`: there is no memory for it.
+    pub fn make(&mut self, change: &Change) -> bool
+        ensures { OnTrue result (core self.new ≡ made change.now (core self.old)) }
+    {
+        match change {
+            Change::Row { row, now, .. } => self.set_row(*row, *now),
+            Change::Inserted { place, held } => return self.insert(*place, *held),
+            Change::Removed { place, .. } => self.remove(*place),
+            Change::Replaced { place, now, .. } => self.replace(*place, *now),
+            Change::Died => self.is_dead = true,
+            Change::Revived => self.is_dead = false,
+        }
+        true
+    }
+
+    fn set_row(&mut self, row: usize, now: Row)
+        ensures { core self.new ≡ record (core self.old) { rows = slice_set self.old.rows.items row now } }
+    {
+        if row < self.rows.len() {
+            self.rows[row] = now;
+        }
+    }
+
+    fn insert(&mut self, place: usize, held: Held) -> bool
+        ensures { OnTrue result
+            (core self.new ≡ record (core self.old) { held = insert self.old.held.items place held }) }
+    {
+        let place = place.min(self.held.len());
+        let was = wrong_at(&self.held, place);
+        let gone = (knot_at(&self.held, place), None);
+        match self.held.insert(place, held) {
+            Ok(()) => {
+                self.disorder = self.disorder - was + wrong_around(&self.held, place);
+                recount(&mut self.knots, gone, knots_around(&self.held, place));
+                true
+            }
+            Err(_) => false,
+        }
+    }
+
+    fn remove(&mut self, place: usize)
+        ensures { core self.new ≡ record (core self.old) { held = remove self.old.held.items place } }
+    {
+        if place < self.held.len() {
+            let was = wrong_around(&self.held, place);
+            let gone = knots_around(&self.held, place);
+            self.held.remove(place);
+            self.disorder = self.disorder - was + wrong_at(&self.held, place);
+            recount(&mut self.knots, gone, (knot_at(&self.held, place), None));
+        }
+    }
+
+    fn replace(&mut self, place: usize, now: Held)
+        ensures { core self.new ≡ record (core self.old) { held = slice_set self.old.held.items place now } }
+    {
+        if place < self.held.len() {
+            let was = wrong_around(&self.held, place);
+            let gone = knots_around(&self.held, place);
+            self.held[place] = now;
+            self.disorder = self.disorder - was + wrong_around(&self.held, place);
+            recount(&mut self.knots, gone, knots_around(&self.held, place));
+        }
+    }
+}

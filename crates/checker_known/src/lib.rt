@@ -1,0 +1,18 @@
+//! What is known at a point of a program: what it gives, its changes, which can be taken back, and what it tells where
+//! two ways meet.
+#![tactic(auto)]
+
+mod beside;
+mod change;
+mod gives;
+mod halves;
+mod knots;
+mod known;
+mod order;
+mod start;
+mod told;
+
+pub use beside::Beside;
+pub use change::{Branch, Change};
+pub use known::{Known, Row};
+pub use told::{Arrival, Asked, Told};

@@ -1,0 +1,40 @@
+ghost use Rattle.std.specs.Prelude.{◌≡◌, IfOk, map};
+ghost use Rattle.checker_state.specs.State.{of_types};
+ghost use Rattle.checker_known.specs.View.{said_row, type_rows};
+
+use crate::known::{Known, Row};
+use checker_rows::Rows;
+use std::alloc::{AllocError, Global};
+
+impl Known {
+    ghost use Rattle.checker_known.specs.Known.{core, seen_core};
+
+    /// What is known by types alone.
+    pub fn of_types(alloc: Global, table: &Rows) -> Result<Known, AllocError>
+        ensures { IfOk result (λ known. seen_core (core known) ≡ of_types (type_rows table.now)) }
+    {
+        let rows = type_rows(alloc, table)?;
+        let knots = vec![in alloc; 0; rows.len()]?;
+        Ok(Known {
+            rows,
+            held: Vec::new(alloc),
+            disorder: 0,
+            knots,
+            is_dead: false,
+        })
+    }
+}
+
+// What types tell of each row.
+fn type_rows(alloc: Global, table: &Rows) -> Result<Vec<Row>, AllocError>
+    ensures { IfOk result (λ rows. map said_row rows.items ≡ type_rows table.now) }
+{
+    let mut rows = Vec::new(alloc);
+    for row in 0..table.count() {
+        rows.push(Row {
+            range: table.row_limits(row),
+            is_defined: false,
+        })?;
+    }
+    Ok(rows)
+}
