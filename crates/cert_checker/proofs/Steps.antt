@@ -1,5 +1,6 @@
 -- What the checker did over a piece of a program, from what it did over the parts of the piece.
-use Rattle.std.proofs.Common.{◌≡◌, ◌≤◌, ◌<◌, ◌∙◌, refl, sym, ap, ap₂, subst, Bool, false, Option, Some, None, ℕ, ◌+◌, List, [], ◌∷◌, ◌++◌, length, map, drop, get_or}
+use Rattle.std.proofs.Common.{◌≡◌, ◌≤◌, ◌<◌, ◌∙◌, refl, sym, ap, ap₂, subst, Bool, false, Option, Some, None, ℕ, ◌+◌, List, [], ◌∷◌, ◌++◌, length, map, drop}
+use Rattle.std.proofs.Common.{get_or}
 use Rattle.std.proofs.Common.{append_assoc, append-nil, drop-cons, add-one, suc}
 use Rattle.std.proofs.lemmas.List.{drop_all}
 use Rattle.domain.specs.Interval.{Interval}
@@ -259,7 +260,8 @@ module _ {X : Type 0} (walk : X → Walking (Unit {0})) (items : List X) where
 -- their entries
 module _ {X : Type 0} (total : List X → List ℕ) (entries : X → List ℕ) (of_more : (x : X) (xs : List X) → total (x ∷ xs) ≡ entries x ++ total xs)
     (items : List X) where
-  pub counted-step : (i : ℕ) (x : X) (before : Visits) {between all : Visits} → i < length items → x ≡ get_or items i x → between ≡ all_counted (entries x) before
+  pub counted-step : (i : ℕ) (x : X) (before : Visits) {between all : Visits} → i < length items → x ≡ get_or items i x
+      → between ≡ all_counted (entries x) before
       → all_counted (total (drop i items)) before ≡ all → all_counted (total (drop (i + 1) items)) between ≡ all
   counted-step i x before {between = between} inside is one whole =
       ap (all_counted (total (drop (i + 1) items))) one

@@ -1,5 +1,6 @@
 -- What the checker did over the arms of a case, from what it did over each.
-use Rattle.std.proofs.Common.{◌≡◌, ◌≤◌, ◌<◌, ◌∙◌, refl, sym, ap, ap₂, subst, false, Option, ℕ, zero, suc, ◌+◌, ℤ, List, [], ◌∷◌, ◌++◌, length, map, drop, get_or}
+use Rattle.std.proofs.Common.{◌≡◌, ◌≤◌, ◌<◌, ◌∙◌, refl, sym, ap, ap₂, subst, false, Option, ℕ, zero, suc, ◌+◌, ℤ, List, [], ◌∷◌, ◌++◌, length, map, drop}
+use Rattle.std.proofs.Common.{get_or}
 use Rattle.std.proofs.Common.{append-nil, add-one, slice_get}
 use Rattle.std.specs.declared.alloc.Global.{Global}
 use Rattle.std.specs.declared.vec.Vec.{Vec}
@@ -107,51 +108,51 @@ module _ (index : Option ℕ) (rows : List (Vec ℤ Global)) (arms : List Stmt) 
       → GoesLeft mark (i + 1) (at_state back walked) next new → GoesLeft mark i at behind new
   arms-step mark i arm at {begun = begun} {met = met} {back = back} {walked = walked} {behind = behind} {next = next} {new = new} inside is begins
       walk_goes met_long meets back_long is_back left_goes = record {
-    unless_short = λ long.
-        let rest = left_goes.unless_short long in
-        let one = walk_goes.unless_short (met_long (back_long rest.was_long)) in
-        let start = begins.unless_short one.was_long in
-        record {
-          was_long = start.was_long;
-          has_done = λ ready end marks ends.
-              let context = context_of at in
-              let base = state_of at.flow in
-              let at_start : context_of (at_state begun at) ≡ context =
-              ap (λ (tree : Tree). record context { tree = tree }) start.goes.same_table in
-              let came = one.has_done (loops-same at (at_state begun at) at_start refl ready) in
-              let armed = statement_walk arm context (arm_start index (slice_get rows i) base) in
-              let armed_is : statement_walk arm (context_of (at_state begun at)) (seen begun) ≡ armed =
-              ap₂ (λ (c : Context) (s : State). statement_walk arm c s) at_start start.seen_is in
-              let did = subst (λ w. Came w (at_state begun at) walked tt) armed_is came in
-              let meeting = (meets at.flow.state end marks (ways.goes-then start.goes did.goes) ends).unless_short (back_long rest.was_long) in
-              let left = ways.took-back mark marks meeting.goes is_back rest.was_long in
-              let same : context_of (at_state back walked) ≡ context =
-              context-back at walked back (did.noted.context_is ∙ at_start) left.same_table in
-              let joined = joined_states (table_of context.tree) (seen_core end) armed.after in
-              let met_is : seen met ≡ joined =
-              meeting.seen_is
-              ∙ ap₂ (λ (c : Context) (s : State). joined_states (table_of c.tree) (seen_core end) s) (did.noted.context_is ∙ at_start) did.state_is in
-              let more = rest.has_done (loops-same at (at_state back walked) same did.noted.aliases_are ready) (core met.known)
-              (marks ∙ sym (ap length left.trail_is)) (ways.ends-from (core back.known) (core at.flow.state.known) left.core_is left.ends) in
-              let left_is : arms_left (i + 1) (seen back) (context_of (at_state back walked)) (seen met) ≡ arms_left (i + 1) base context joined =
-              ap₂ (λ (s : State) (c : Context). arms_left (i + 1) s c (seen met)) (ways.left-seen left) same
-              ∙ ap (arms_left (i + 1) base context) met_is in
-              let told = subst (λ w. Came w (at_state back walked) new tt) left_is more in
-              let at_back : Noted (next_arm i arm base context (seen_core end)) at (at_state back walked) = record {
-                context_is = same;
-                aliases_are = did.noted.aliases_are;
-                open_is = did.noted.open_is;
-                broken_is = did.noted.broken_is;
-              } in
-              let both : Came ((next_arm i arm base >>= λ _. arms_left (i + 1) base) context (seen_core end)) at new tt = record {
-                goes = ways.goes-then (ways.goes-back left) told.goes;
-                noted = noted-then at_back told.noted;
-                value_is = refl;
-                state_is = told.state_is;
-              } in
-              subst (λ walking. Came (walking context (seen_core end)) at new tt) (left-cut i arm inside is base) both;
-        };
-  }
+        unless_short = λ long.
+            let rest = left_goes.unless_short long in
+            let one = walk_goes.unless_short (met_long (back_long rest.was_long)) in
+            let start = begins.unless_short one.was_long in
+            record {
+              was_long = start.was_long;
+              has_done = λ ready end marks ends.
+                  let context = context_of at in
+                  let base = state_of at.flow in
+                  let at_start : context_of (at_state begun at) ≡ context =
+                  ap (λ (tree : Tree). record context { tree = tree }) start.goes.same_table in
+                  let came = one.has_done (loops-same at (at_state begun at) at_start refl ready) in
+                  let armed = statement_walk arm context (arm_start index (slice_get rows i) base) in
+                  let armed_is : statement_walk arm (context_of (at_state begun at)) (seen begun) ≡ armed =
+                  ap₂ (λ (c : Context) (s : State). statement_walk arm c s) at_start start.seen_is in
+                  let did = subst (λ w. Came w (at_state begun at) walked tt) armed_is came in
+                  let meeting = (meets at.flow.state end marks (ways.goes-then start.goes did.goes) ends).unless_short (back_long rest.was_long) in
+                  let left = ways.took-back mark marks meeting.goes is_back rest.was_long in
+                  let same : context_of (at_state back walked) ≡ context =
+                  context-back at walked back (did.noted.context_is ∙ at_start) left.same_table in
+                  let joined = joined_states (table_of context.tree) (seen_core end) armed.after in
+                  let met_is : seen met ≡ joined =
+                  meeting.seen_is
+                  ∙ ap₂ (λ (c : Context) (s : State). joined_states (table_of c.tree) (seen_core end) s) (did.noted.context_is ∙ at_start) did.state_is in
+                  let more = rest.has_done (loops-same at (at_state back walked) same did.noted.aliases_are ready) (core met.known)
+                  (marks ∙ sym (ap length left.trail_is)) (ways.ends-from (core back.known) (core at.flow.state.known) left.core_is left.ends) in
+                  let left_is : arms_left (i + 1) (seen back) (context_of (at_state back walked)) (seen met) ≡ arms_left (i + 1) base context joined =
+                  ap₂ (λ (s : State) (c : Context). arms_left (i + 1) s c (seen met)) (ways.left-seen left) same
+                  ∙ ap (arms_left (i + 1) base context) met_is in
+                  let told = subst (λ w. Came w (at_state back walked) new tt) left_is more in
+                  let at_back : Noted (next_arm i arm base context (seen_core end)) at (at_state back walked) = record {
+                    context_is = same;
+                    aliases_are = did.noted.aliases_are;
+                    open_is = did.noted.open_is;
+                    broken_is = did.noted.broken_is;
+                  } in
+                  let both : Came ((next_arm i arm base >>= λ _. arms_left (i + 1) base) context (seen_core end)) at new tt = record {
+                    goes = ways.goes-then (ways.goes-back left) told.goes;
+                    noted = noted-then at_back told.noted;
+                    value_is = refl;
+                    state_is = told.state_is;
+                  } in
+                  subst (λ walking. Came (walking context (seen_core end)) at new tt) (left-cut i arm inside is base) both;
+            };
+      }
 
   -- none is left
   pub arms-end : (mark i : ℕ) (at : Walk) {last : Kept} {behind : Branch} → length arms ≤ i → StaysLong at.flow.state last

@@ -24,7 +24,8 @@ use Rattle.cert_checker.specs.declared.walk.Walk.{Walk}
 use Rattle.cert_checker.specs.Walk.{either_of, facts_given, for_round, here, loop_walk, parted, rounds_of, steady_in}
 use Rattle.cert_checker.specs.View.{AreLoops, AtHead, Came, Did, Does, EntersLoop, Goes, IsOutside, LeavesLoop, Noted, at_state, claims_in, context_of}
 use Rattle.cert_checker.specs.View.{loop_in}
-use Rattle.cert_checker.proofs.Steps.{came-give, came-then, first-both, goes-give, goes-here, goes-then, loops-noted, loops-same, moved, noted-as, noted-nothing, noted-then}
+use Rattle.cert_checker.proofs.Steps.{came-give, came-then, first-both, goes-give, goes-here, goes-then, loops-noted, loops-same, moved, noted-as}
+use Rattle.cert_checker.proofs.Steps.{noted-nothing, noted-then}
 
 -- ---- back at a mark
 
@@ -216,28 +217,28 @@ pub loop-done : {X : Type 0} (number : ℕ) (place : Place) (control : Option �
     → Goes (loop_walk number place control (round_of_parts first again out)) old new tt
 loop-done number place control first again out mark {old = old} {head = head} {tested = tested} {turned = turned} {outside = outside} {new = new} {x = x}
     {back = back} {branch = branch} enters first_goes is turn_goes leaves back_long is_back out_goes = record {
-  unless_short = λ long.
-      let last = out_goes.unless_short long in
-      let left = leaves.unless_short (back_long last.was_long) in
-      let ended = turn_goes.unless_short left.was_long in
-      let told = first_goes.unless_short ended.was_long in
-      let entered = enters.unless_short told.was_long in
-      record {
-        was_long = entered.was_long;
-        has_done = λ ready.
-            let at_head = entered.has_done ready in
-            let ready_inside = head-ready number place control first again out old head at_head ready in
-            let one = told.has_done ready_inside in
-            let ready_there = loops-noted one.noted ready_inside in
-            let two = ended.has_done ready_there in
-            let rounds_are = ap (λ (c : Context). c.rounds) (two.noted.context_is ∙ one.noted.context_is ∙ at_head.context_is) in
-            let is_out = left.has_done (loops-noted two.noted ready_there) (context_of old).rounds (loop_in number old) rounds_are in
-            let noted = back-noted number place control first again out old head at_head tested turned x one two outside is_out mark back branch is
-            last.was_long is_back in
-            loop-came number place control first again out old head at_head tested turned x one two outside is_out mark back branch is
-            last.was_long is_back new (last.has_done (loops-noted noted ready));
-      };
-}
+      unless_short = λ long.
+          let last = out_goes.unless_short long in
+          let left = leaves.unless_short (back_long last.was_long) in
+          let ended = turn_goes.unless_short left.was_long in
+          let told = first_goes.unless_short ended.was_long in
+          let entered = enters.unless_short told.was_long in
+          record {
+            was_long = entered.was_long;
+            has_done = λ ready.
+                let at_head = entered.has_done ready in
+                let ready_inside = head-ready number place control first again out old head at_head ready in
+                let one = told.has_done ready_inside in
+                let ready_there = loops-noted one.noted ready_inside in
+                let two = ended.has_done ready_there in
+                let rounds_are = ap (λ (c : Context). c.rounds) (two.noted.context_is ∙ one.noted.context_is ∙ at_head.context_is) in
+                let is_out = left.has_done (loops-noted two.noted ready_there) (context_of old).rounds (loop_in number old) rounds_are in
+                let noted = back-noted number place control first again out old head at_head tested turned x one two outside is_out mark back branch is
+                last.was_long is_back in
+                loop-came number place control first again out old head at_head tested turned x one two outside is_out mark back branch is
+                last.was_long is_back new (last.has_done (loops-noted noted ready));
+          };
+    }
 
 -- ---- pieces that are told otherwise
 

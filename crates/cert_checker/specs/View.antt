@@ -70,7 +70,8 @@ pub record Noted {A : Type 0} (walked : Walked A) (old new : Walk) : Type 0 wher
   pub open_is : new.flow.open_ids.items ≡ old.flow.open_ids.items ++ walked.open_ids
   pub broken_is : new.flow.broken ≡ first_of old.flow.broken (first_breach walked.broken)
 
--- the checker came from an old to a new point as was walked, and has the value; what it did to its state can be taken back
+-- the checker came from an old to a new point as was walked, and has the value; what it did to its state can be taken
+-- back
 pub record Came {A : Type 0} (walked : Walked A) (old new : Walk) (value : A) : Type 0 where
   pub goes : trail.Goes old.flow.state new.flow.state
   pub noted : Noted walked old new
@@ -173,7 +174,8 @@ KnowsTypes walk = state_of walk.flow ≡ of_types (type_rows (context_of walk).t
 -- what is known where a block of a number begins, by what is claimed of it
 abbrev pub start_of : ℕ → Flow → State
 start_of number flow =
-    block_start flow.state.table.now number (block_claims_at (map said_section flow.grounds.sections.items) number).entry
+    block_start flow.state.table.now number
+    (block_claims_at (map said_section flow.grounds.sections.items) number).entry
 
 -- a block of a number from its start to its end, by what is claimed of it
 abbrev pub begin_here : ℕ → Walking (Unit {0})

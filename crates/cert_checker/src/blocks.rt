@@ -44,13 +44,7 @@ impl<'a> Walk<'a> {
     }
 
     /// A block of a number. The walk is in no block before it and behind it.
-    fn block(
-        &mut self,
-        number: u32,
-        block: &Block,
-        declared: &[Vec<u32>],
-        visits: &mut Visits,
-    )
+    fn block(&mut self, number: u32, block: &Block, declared: &[Vec<u32>], visits: &mut Visits)
         ensures goes { Passes (block_walk number block.now) declared.now self.old self.new }
         ensures counts { visits.new ≡ all_counted (entries_of_block block.now) visits.old }
     {

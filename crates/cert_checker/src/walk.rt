@@ -10,7 +10,8 @@ ghost use Rattle.checker_expressions.specs.Visits.{all_counted};
 ghost use Rattle.checker_expressions.specs.Walk.{access_walk, call_walk, changed_by, index_pieces, parameter_walk};
 ghost use Rattle.checker_expressions.specs.Walk.{passed_piece_of, tested, value_walk, whole_walk};
 ghost use Rattle.cert_checker.specs.View.{Goes, arms_from_here, else_entries, else_walk, statements_entries};
-ghost use Rattle.cert_checker.specs.Walk.{all_of, bounds_walk, choice_walk, for_turns, for_walk, from_entry, index_walk};
+ghost use Rattle.cert_checker.specs.Walk.{all_of, bounds_walk, choice_walk, for_turns, for_walk, from_entry};
+ghost use Rattle.cert_checker.specs.Walk.{index_walk};
 ghost use Rattle.cert_checker.specs.Walk.{repeat_walk, rounds_of, statement_walk, where_so, while_walk};
 
 use checker_expressions::flow::Flow;
@@ -265,12 +266,7 @@ impl<'a> Walk<'a> {
     }
 
     /// A variable access.
-    pub(crate) fn access(
-        &mut self,
-        access: &Access,
-        indexes: &[Expr],
-        visits: &mut Visits,
-    ) -> Reach
+    pub(crate) fn access(&mut self, access: &Access, indexes: &[Expr], visits: &mut Visits) -> Reach
         ensures goes { Goes (access_walk access.now (index_pieces indexes.now)) self.old self.new
             (said_reach result) }
         ensures counts { visits.new ≡ all_counted (access_entries access.now (index_entries indexes.now)) visits.old }
@@ -309,8 +305,7 @@ impl<'a> Walk<'a> {
     {
         match Tested::of(self.flow.state.alloc(), head, arms, range) {
             Ok(tested) => {
-                self.flow
-                    .test(tested.is_closed, head.site, tested.passed);
+                self.flow.test(tested.is_closed, head.site, tested.passed);
             }
             Err(_) => self.flow.state.run_short(),
         }

@@ -1,4 +1,5 @@
-//! What the checker knows at a point of a program: bounds, what is held, forms of expressions; and what holds of states.
+//! What the checker knows at a point of a program: bounds, what is held, forms of expressions; and what holds of
+//! states.
 #![tactic(auto)]
 
 mod bound;

@@ -1,4 +1,5 @@
-use Rattle.std.proofs.Common.{true, false, ◌≡◌, ◌∙◌, sym, ap, subst, refl, ℕ, List, [], ◌∷◌, ◌++◌, Option, None, Some, length, map, arith, ◌<◌, ◌≤◌, ◌+◌, get_or}
+use Rattle.std.proofs.Common.{true, false, ◌≡◌, ◌∙◌, sym, ap, subst, refl, ℕ, List, [], ◌∷◌, ◌++◌, Option, None, Some, length, map, arith, ◌<◌, ◌≤◌, ◌+◌}
+use Rattle.std.proofs.Common.{get_or}
 use Rattle.typed_tree.specs.declared.tree.Stmt.{Stmt}
 use Rattle.typed_tree.specs.Entries.{entries_of_expression, entries_of_statement}
 use Rattle.checker_state.specs.State.{State}
@@ -8,7 +9,8 @@ use Rattle.checker_loops.specs.Ways.{Way, turn_begun, turn_ended, way_of, way_ou
 use Rattle.checker_state.specs.Loops.{with_undefined}
 use Rattle.checker_expressions.specs.Visits.{all_counted}
 use Rattle.checker_expressions.specs.Walk.{Walking, ◌>>=◌, changed_by, give, value_walk, with_state}
-use Rattle.cert_checker.specs.Walk.{all_of, begin_way, bounds_walk, branches, case_walk, choice_walk, for_turns, for_walk, from_entry, index_walk, parted, repeat_round}
+use Rattle.cert_checker.specs.Walk.{all_of, begin_way, bounds_walk, branches, case_walk, choice_walk, for_turns, for_walk, from_entry, index_walk, parted}
+use Rattle.cert_checker.specs.Walk.{repeat_round}
 use Rattle.cert_checker.specs.Walk.{here, loop_walk, repeat_walk, rounds_of, statement_walk, tested_way, where_so, while_walk}
 use Rattle.cert_checker.specs.View.{Goes, else_entries, else_walk, statements_entries}
 use Rattle.cert_checker.proofs.Steps.{all-end, all-step, counted-end, counted-step, counted-then, goes-from_entry, goes-give, goes-here, goes-then, moved}
@@ -24,12 +26,13 @@ statements-loop-statement-init t c = (λ new goes. goes, refl)
 
 pub statements-loop-statement-preserved : goal.statements-loop-statement-preserved
 statements-loop-statement-preserved t c =
-    let here = c.loop-statement in
-    (λ new goes. here.invariant.0 new
-    (all-step statement_walk c.args.statements.now here.statement-index c.statement-item.result c.loop-statement-test.true c.statement-item.is
-    c.statement.ensures.goes goes),
-    counted-step statements_entries entries_of_statement (λ x xs. refl) c.args.statements.now here.statement-index c.statement-item.result _
-    c.loop-statement-test.true c.statement-item.is c.statement.ensures.counts here.invariant.1)
+    let here = c.loop-statement in (
+      λ new goes. here.invariant.0 new
+          (all-step statement_walk c.args.statements.now here.statement-index c.statement-item.result c.loop-statement-test.true c.statement-item.is
+          c.statement.ensures.goes goes),
+      counted-step statements_entries entries_of_statement (λ x xs. refl) c.args.statements.now here.statement-index c.statement-item.result _
+          c.loop-statement-test.true c.statement-item.is c.statement.ensures.counts here.invariant.1,
+    )
 
 pub statements-returns-clause-goes : goal.statements-returns-clause-goes
 statements-returns-clause-goes t c =
@@ -222,22 +225,24 @@ case-returns-clause-counts t c =
     (counted-then first rest _ c.expression-known.ensures.counts c.arms.ensures.counts)
 
 pub arms-loop-number-init : goal.arms-loop-number-init
-arms-loop-number-init t c =
-    (λ new goes. arms-begin c.args.index c.args.constants.now c.args.arms.now c.mark-mark.result.length c.args.self.now c.mark-mark.ensures c.die.ensures
-    c.leave-behind.ensures.long c.leave-behind.ensures.back goes,
-    refl)
+arms-loop-number-init t c = (
+  λ new goes. arms-begin c.args.index c.args.constants.now c.args.arms.now c.mark-mark.result.length c.args.self.now c.mark-mark.ensures c.die.ensures
+      c.leave-behind.ensures.long c.leave-behind.ensures.back goes,
+  refl,
+)
 
 pub arms-loop-number-preserved : goal.arms-loop-number-preserved
 arms-loop-number-preserved t c =
     let here = c.loop-number in
     let arms = c.args.arms.now in
-    let arm = c.index-arms-number.result in
-    (λ new goes. here.invariant.0 new
-    (arms-step c.args.index c.args.constants.now arms c.mark-mark.result.length here.number arm here.self c.loop-number-test.true c.index-arms-number.is
-    c.begin_arm.ensures c.statement.ensures.goes c.join_behind.ensures.long c.join_behind.ensures.meets c.leave-behind-in-loop-number.ensures.long
-    c.leave-behind-in-loop-number.ensures.back goes),
-    counted-step statements_entries entries_of_statement (λ x xs. refl) arms here.number arm _ c.loop-number-test.true c.index-arms-number.is
-    c.statement.ensures.counts here.invariant.1)
+    let arm = c.index-arms-number.result in (
+      λ new goes. here.invariant.0 new
+          (arms-step c.args.index c.args.constants.now arms c.mark-mark.result.length here.number arm here.self c.loop-number-test.true c.index-arms-number.is
+          c.begin_arm.ensures c.statement.ensures.goes c.join_behind.ensures.long c.join_behind.ensures.meets c.leave-behind-in-loop-number.ensures.long
+          c.leave-behind-in-loop-number.ensures.back goes),
+      counted-step statements_entries entries_of_statement (λ x xs. refl) arms here.number arm _ c.loop-number-test.true c.index-arms-number.is
+          c.statement.ensures.counts here.invariant.1,
+    )
 
 pub arms-returns-clause-goes : goal.arms-returns-clause-goes
 arms-returns-clause-goes t c =

@@ -13,11 +13,12 @@ loop-number-preserved c =
     let here = c.loop-number in
     let blocks = c.args.tree.now.blocks.items in
     let block = c.index-block.result.now in
-    let inside : here.number < length blocks = omega (arith, c.loop-number-test.true, c.requires) in
-    (λ new passes. here.invariant.0 new
-    (blocks-step blocks here.number block c.args.declared.now inside c.index-block.ensures c.block.ensures.goes passes),
-    counted-step (flat_map entries_of_block) entries_of_block (λ x xs. refl) blocks here.number block _ inside c.index-block.ensures
-    c.block.ensures.counts here.invariant.1)
+    let inside : here.number < length blocks = omega (arith, c.loop-number-test.true, c.requires) in (
+      λ new passes. here.invariant.0 new
+          (blocks-step blocks here.number block c.args.declared.now inside c.index-block.ensures c.block.ensures.goes passes),
+      counted-step (flat_map entries_of_block) entries_of_block (λ x xs. refl) blocks here.number block _ inside c.index-block.ensures
+          c.block.ensures.counts here.invariant.1,
+    )
 
 pub returns-clause-goes : goal.returns-clause-goes
 returns-clause-goes c =

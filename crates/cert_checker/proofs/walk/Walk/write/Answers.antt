@@ -10,19 +10,21 @@ use Rattle.cert_checker.proofs.Steps.{all-end, all-step, counted-end, counted-st
 use Rattle.cert_checker.proofs.walk.Walk.write.Goals as goal
 
 pub loop-parameter-init : goal.loop-parameter-init
-loop-parameter-init c =
-    (λ new goes. goes,
-    ap (λ (visits : Visits). all_counted (flat_map entries_of_parameter c.deref-parameter-items.result.now) visits) c.tick.ensures)
+loop-parameter-init c = (
+  λ new goes. goes,
+  ap (λ (visits : Visits). all_counted (flat_map entries_of_parameter c.deref-parameter-items.result.now) visits) c.tick.ensures,
+)
 
 pub loop-parameter-preserved : goal.loop-parameter-preserved
 loop-parameter-preserved c =
     let here = c.loop-parameter in
-    let parameters = c.deref-parameter-items.result.now in
-    (λ new goes. here.invariant.0 new
-    (all-step parameter_walk parameters here.parameter-index c.parameter-item.result c.loop-parameter-test.true c.parameter-item.is
-    (lifted c.parameter.ensures.goes) goes),
-    counted-step (flat_map entries_of_parameter) entries_of_parameter (λ x xs. refl) parameters here.parameter-index c.parameter-item.result _
-    c.loop-parameter-test.true c.parameter-item.is c.parameter.ensures.counts here.invariant.1)
+    let parameters = c.deref-parameter-items.result.now in (
+      λ new goes. here.invariant.0 new
+          (all-step parameter_walk parameters here.parameter-index c.parameter-item.result c.loop-parameter-test.true c.parameter-item.is
+          (lifted c.parameter.ensures.goes) goes),
+      counted-step (flat_map entries_of_parameter) entries_of_parameter (λ x xs. refl) parameters here.parameter-index c.parameter-item.result _
+          c.loop-parameter-test.true c.parameter-item.is c.parameter.ensures.counts here.invariant.1,
+    )
 
 pub returns-clause-goes : goal.returns-clause-goes
 returns-clause-goes c =
