@@ -62,8 +62,8 @@ pub record Did (old : Walk) (done : Type 0) : Type 0 where
 pub record Does (old new : Walk) (done : Type 0) : Type 0 where
   pub unless_short : new.flow.state.is_short ≡ false → Did old done
 
--- what the checker noted from an old to a new point is what was walked: the sites that are left open, and the first rule
--- that is broken; it goes by what it went by before
+-- what the checker noted from an old to a new point is what was walked: the sites that are left open, and the first
+-- rule that is broken; it goes by what it went by before
 pub record Noted {A : Type 0} (walked : Walked A) (old new : Walk) : Type 0 where
   pub context_is : context_of new ≡ context_of old
   pub aliases_are : new.aliases.now ≡ old.aliases.now
