@@ -4,8 +4,8 @@ ghost use Rattle.report_text.specs.Faults.{generator_fault};
 ghost use Rattle.report_text.specs.declared.fault.Fault.TheVariants.{Memory};
 
 use certificate::fault::ReadFault;
-use code_generator::fault::GenFault;
 use checker_expressions::fault::CheckFault;
+use code_generator::fault::GenFault;
 use lexer::fault::LexFault;
 use std::alloc::AllocError;
 use thiserror::Error;

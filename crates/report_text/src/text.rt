@@ -9,8 +9,8 @@ ghost use Rattle.report_text.specs.Text.{checker_refusal, generator_refusal};
 
 use crate::fault::Fault;
 use certificate::fault::ReadFault;
-use code_generator::fault::GenFault;
 use checker_expressions::fault::CheckFault;
+use code_generator::fault::GenFault;
 use itoa::Buffer;
 use place::Place;
 use smallvec::SmallVec;
