@@ -8,3 +8,5 @@ pub mod Threats
 pub mod Accesses
 pub mod WellFormed
 pub mod Calls
+pub mod Kinds
+pub mod Records
