@@ -8,5 +8,3 @@ pub mod Threats
 pub mod Accesses
 pub mod WellFormed
 pub mod Calls
-pub mod Kinds
-pub mod Records
