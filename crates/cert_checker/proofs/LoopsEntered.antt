@@ -1,5 +1,5 @@
 -- What the checker did where it came to the head of a loop, and where it left the loop.
-use Rattle.std.proofs.Common.{arith, ◌≡◌, ◌∙◌, refl, sym, ap, ap₂, ℕ, ◌+◌, ◌-◌, Bool, Option, None, List, [], ◌∷◌, ◌++◌, append-nil, length, map, take}
+use Rattle.std.proofs.Common.{arith, ◌≡◌, ◌∙◌, refl, sym, ap, ap₂, ℕ, ◌-◌, Bool, Option, None, List, [], ◌∷◌, ◌++◌, append-nil, length, map, take}
 use Rattle.std.specs.Global.{Vec}
 use Rattle.std.proofs.lemmas.List.{length-append, length-map, map-append, take-map, take_at}
 use Rattle.place.specs.declared.Place.{Place as SourcePlace}

@@ -1,20 +1,15 @@
 -- What the checker did over a piece of a program, from what it did over the parts of the piece.
-use Rattle.std.proofs.Common.{◌≡◌, ◌≤◌, ◌<◌, ◌∙◌, refl, sym, ap, ap₂, subst, Bool, false, Option, Some, None, ℕ, ◌+◌, List, [], ◌∷◌, ◌++◌, length, map, drop}
+use Rattle.std.proofs.Common.{◌≡◌, ◌≤◌, ◌<◌, ◌∙◌, refl, sym, ap, ap₂, subst, Bool, Option, Some, None, ℕ, ◌+◌, List, [], ◌∷◌, ◌++◌, length, map, drop}
 use Rattle.std.proofs.Common.{get_or}
 use Rattle.std.proofs.Common.{append_assoc, append-nil, drop-cons, add-one, suc}
 use Rattle.std.proofs.lemmas.List.{drop_all}
 use Rattle.domain.specs.Interval.{Interval}
 use Rattle.typed_tree.specs.declared.tree.Tree.{Tree}
 use Rattle.checker_state.specs.State.{State}
-use Rattle.checker_state.specs.Joins.{joined_states}
 use Rattle.checker_trail.specs.declared.state.State.{State as Kept}
-use Rattle.checker_known.specs.declared.change.Branch.{Branch}
-use Rattle.checker_trail.specs.Meets.{JoinsBehind}
 use Rattle.checker_trail.specs.Trail as trail
-use Rattle.checker_known.specs.Known.{Core, core}
 use Rattle.checker_trail.specs.Trail.{EndsAt, Leaves, Left, seen}
 use Rattle.checker_trail.proofs.Ways as ways
-use Rattle.checker_loops.specs.Loops.{Claims}
 use Rattle.checker_expressions.specs.declared.fault.Breach.{Breach}
 use Rattle.checker_expressions.specs.declared.flow.Flow.{Flow}
 use Rattle.checker_expressions.specs.declared.grounds.Grounds.{Grounds}
@@ -24,8 +19,8 @@ use Rattle.checker_expressions.specs.Visits.{Visits, all_counted}
 use Rattle.checker_expressions.proofs.Counted.{counted-both}
 use Rattle.checker_expressions.specs.Walk.{Context, Walked, Walking, ◌>>=◌, changed_by, enter, first_breach, followed, give, tested}
 use Rattle.cert_checker.specs.declared.walk.Walk.{Walk}
-use Rattle.cert_checker.specs.Walk.{all_of, either_of, from_entry, parted}
-use Rattle.cert_checker.specs.View.{AreLoops, Came, Did, Does, Goes, Noted, at_state, context_of}
+use Rattle.cert_checker.specs.Walk.{all_of, from_entry}
+use Rattle.cert_checker.specs.View.{AreLoops, Came, Goes, Noted, at_state, context_of}
 
 -- ---- what was noted
 

@@ -1,5 +1,5 @@
 -- What the checker did over blocks, from what it did over their parts.
-use Rattle.std.proofs.Common.{arith, ◌≡◌, ◌∙◌, refl, sym, ap, ap₂, ℕ, suc, ◌+◌, ◌<◌, ◌≤◌, List, [], ◌∷◌, ◌++◌, drop, get_or, length, map, subst}
+use Rattle.std.proofs.Common.{arith, ◌≡◌, ◌∙◌, refl, sym, ap, ap₂, ℕ, suc, ◌+◌, ◌<◌, ◌≤◌, List, [], ◌∷◌, drop, get_or, length, map, subst}
 use Rattle.std.proofs.Common.{Bool, Some, append-nil}
 use Rattle.std.specs.Global.{Vec}
 use Rattle.place.specs.declared.Place.{Place}
@@ -26,7 +26,7 @@ use Rattle.checker_expressions.proofs.Flows as flows
 use Rattle.checker_expressions.specs.Walk.{Context, Walking, ◌>>=◌, asked, changed_by, left_open}
 use Rattle.cert_checker.specs.declared.walk.Walk.{Walk}
 use Rattle.cert_checker.specs.Walk.{block_walk, blocks_walk, result_use, statement_walk}
-use Rattle.cert_checker.specs.View.{AreDeclared, Begins, Came, Does, Goes, KnowsTypes, Noted, Passed, Passes, at_state, begin_here, block_walk_here, context_of}
+use Rattle.cert_checker.specs.View.{AreDeclared, Begins, Came, Goes, KnowsTypes, Noted, Passes, at_state, begin_here, block_walk_here, context_of}
 use Rattle.cert_checker.specs.View.{exit_here, start_of}
 use Rattle.cert_checker.proofs.Steps.{came-then, drop-past, goes-here, goes-then, item-cut, lifted, loops-noted, moved, noted-as, noted-nothing, noted-then}
 use Rattle.cert_checker.proofs.StepsWays.{IsBack, StaysLong}

@@ -1,5 +1,5 @@
 -- What the checker did over the arms of a case, from what it did over each.
-use Rattle.std.proofs.Common.{◌≡◌, ◌≤◌, ◌<◌, ◌∙◌, refl, sym, ap, ap₂, subst, false, Option, ℕ, zero, suc, ◌+◌, ℤ, List, [], ◌∷◌, ◌++◌, length, map, drop}
+use Rattle.std.proofs.Common.{◌≡◌, ◌≤◌, ◌<◌, ◌∙◌, refl, sym, ap, ap₂, subst, Option, ℕ, zero, suc, ◌+◌, ℤ, List, [], ◌∷◌, ◌++◌, length, map, drop}
 use Rattle.std.proofs.Common.{get_or}
 use Rattle.std.proofs.Common.{append-nil, add-one, slice_get}
 use Rattle.std.specs.declared.alloc.Global.{Global}
@@ -25,10 +25,10 @@ use Rattle.checker_trail.proofs.Ways as ways
 use Rattle.checker_loops.specs.Cases.{arm_start, constants_before}
 use Rattle.checker_expressions.specs.View.{state_of}
 use Rattle.checker_expressions.specs.declared.fault.Breach.{Breach}
-use Rattle.checker_expressions.specs.Walk.{Context, Linked, Walked, Walking, ◌>>=◌, followed, tested}
+use Rattle.checker_expressions.specs.Walk.{Context, Linked, Walking, ◌>>=◌, followed, tested}
 use Rattle.cert_checker.specs.declared.walk.Walk.{Walk}
 use Rattle.cert_checker.specs.Walk.{arm_walk, arms_walk, case_walk, statement_walk}
-use Rattle.cert_checker.specs.View.{AreLoops, Came, Does, Goes, Noted, arms_from_here, at_state, context_of}
+use Rattle.cert_checker.specs.View.{Came, Does, Goes, Noted, arms_from_here, at_state, context_of}
 use Rattle.cert_checker.proofs.Steps.{drop-past, goes-here, goes-then, item-cut, loops-same, noted-nothing, noted-then}
 use Rattle.cert_checker.proofs.StepsWays.{IsBack, MeetsFirst, StaysLong, context-back}
 

@@ -1,5 +1,5 @@
 -- One layer of a statement, as the walk and the entries of statements have it.
-use Rattle.std.proofs.Common.{◌≡◌, rules, sym, subst, Option, None, Some, ℕ, List, ◌∷◌, ◌++◌, map}
+use Rattle.std.proofs.Common.{◌≡◌, rules, sym, subst, Option, None, Some, ℕ, ◌∷◌, ◌++◌, map}
 use Rattle.std.specs.declared.alloc.Global.{Global}
 use Rattle.std.specs.declared.boxed.Box.{Box}
 use Rattle.std.specs.declared.vec.Vec.{Vec}

@@ -14,7 +14,7 @@ use Rattle.checker_known.specs.Known.{Core, core}
 use Rattle.checker_trail.specs.Trail.{EndsAt, Leaves, Left, seen}
 use Rattle.checker_trail.proofs.Ways as ways
 use Rattle.domain.specs.Facts.{Fact}
-use Rattle.checker_loops.specs.Loops.{Claims, Round, claims_at, gives_claims, head_of, round_of, with_own}
+use Rattle.checker_loops.specs.Loops.{claims_at, gives_claims, head_of, round_of, with_own}
 use Rattle.checker_loops.specs.Ways.{Way}
 use Rattle.checker_expressions.specs.declared.fault.Breach.{Breach}
 use Rattle.checker_expressions.specs.declared.fault.Rule.TheVariants.{LoopEntry, LoopTurn}
@@ -22,10 +22,10 @@ use Rattle.checker_expressions.specs.View.{first_of, state_of}
 use Rattle.checker_expressions.specs.Walk.{Context, Walked, Walking, ◌>>=◌, breach_unless, changed_by, first_breach, followed, give, with_state}
 use Rattle.cert_checker.specs.declared.walk.Walk.{Walk}
 use Rattle.cert_checker.specs.Walk.{either_of, facts_given, for_round, here, loop_walk, parted, rounds_of, steady_in}
-use Rattle.cert_checker.specs.View.{AreLoops, AtHead, Came, Did, Does, EntersLoop, Goes, IsOutside, LeavesLoop, Noted, at_state, claims_in, context_of}
+use Rattle.cert_checker.specs.View.{AreLoops, AtHead, Came, EntersLoop, Goes, IsOutside, LeavesLoop, Noted, at_state, claims_in, context_of}
 use Rattle.cert_checker.specs.View.{loop_in}
-use Rattle.cert_checker.proofs.Steps.{came-give, came-then, first-both, goes-give, goes-here, goes-then, loops-noted, loops-same, moved, noted-as}
-use Rattle.cert_checker.proofs.Steps.{noted-nothing, noted-then}
+use Rattle.cert_checker.proofs.Steps.{came-give, came-then, first-both, goes-here, goes-then, loops-noted, loops-same, noted-as}
+use Rattle.cert_checker.proofs.Steps.{noted-then}
 
 -- ---- back at a mark
 

@@ -1,5 +1,4 @@
-use Rattle.std.proofs.Common.{true, false, ◌≡◌, ◌∙◌, sym, ap, subst, refl, ℕ, List, [], ◌∷◌, ◌++◌, Option, None, Some, length, map, arith, ◌<◌, ◌≤◌, ◌+◌}
-use Rattle.std.proofs.Common.{get_or}
+use Rattle.std.proofs.Common.{true, false, ◌∙◌, sym, ap, subst, refl, List, [], ◌∷◌, ◌++◌, None, Some, length, map}
 use Rattle.typed_tree.specs.declared.tree.Stmt.{Stmt}
 use Rattle.typed_tree.specs.Entries.{entries_of_expression, entries_of_statement}
 use Rattle.checker_state.specs.State.{State}

@@ -1,4 +1,4 @@
-use Rattle.std.proofs.Common.{◌≡◌, ◌∙◌, ap, subst, List, map}
+use Rattle.std.proofs.Common.{◌∙◌, ap, subst, List, map}
 use Rattle.typed_tree.specs.Entries.{call_entries, entries_of_passed}
 use Rattle.typed_tree.specs.declared.tree.Passed.{Passed}
 use Rattle.checker_expressions.specs.Visits.{all_counted}

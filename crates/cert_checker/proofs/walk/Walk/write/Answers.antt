@@ -1,8 +1,8 @@
-use Rattle.std.proofs.Common.{◌≡◌, ◌∙◌, List, [], ◌∷◌, ap, map, refl, subst}
+use Rattle.std.proofs.Common.{◌∙◌, List, ◌∷◌, ap, map, refl, subst}
 use Rattle.std.specs.Prelude.{flat_map}
 use Rattle.typed_tree.specs.declared.tree.WriteParameter.{WriteParameter}
 use Rattle.typed_tree.specs.Entries.{entries_of_parameter}
-use Rattle.checker_expressions.specs.Visits.{Visits, all_counted, counted}
+use Rattle.checker_expressions.specs.Visits.{Visits, all_counted}
 use Rattle.checker_expressions.specs.Walk.{parameter_walk}
 use Rattle.cert_checker.specs.View.{Goes}
 use Rattle.cert_checker.specs.Walk.{all_of, from_entry}
