@@ -1,5 +1,4 @@
 pub mod EffectsParameters
-pub mod OpenedBehind
 pub mod EffectsStatements
 pub mod EffectsRoutines
 pub mod PassedLeft
@@ -20,7 +19,6 @@ pub mod SoundAssignments
 pub mod SoundCopies
 pub mod SoundLoops
 pub mod SoundFor
-pub mod SoundWith
 pub mod SoundForms
 pub mod SoundBlocks
 pub mod ClaimsKnown

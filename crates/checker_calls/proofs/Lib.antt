@@ -1,5 +1,3 @@
-pub mod Origins
-pub mod Numbers
 pub mod Limited
 pub mod Headings
 pub mod Passed

@@ -10,4 +10,3 @@ mod limits;
 pub mod overlaps;
 mod ranges;
 mod touches;
-mod ways;

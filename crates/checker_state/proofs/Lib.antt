@@ -16,4 +16,3 @@ pub mod Knows
 pub mod OfTree
 pub mod FormsOf
 pub mod HeldOrders
-pub mod Valued

@@ -1,7 +1,6 @@
 ghost use Rattle.std.specs.Prelude.{◌≡◌};
-ghost use Rattle.checker_state.specs.Values.{known_range};
+ghost use Rattle.checker_state.specs.declared.value.Known.TheVariants.{Ordinal};
 
-use domain::hull::Hull;
 use domain::interval::Interval;
 
 /// What the walk knows of a value.
@@ -9,18 +8,14 @@ use domain::interval::Interval;
 pub enum Known {
     /// An ordinal: the range of its number.
     Ordinal(Interval),
-    /// A set: the range of its members.
-    Set(Hull),
 }
 
 impl Known {
-    /// The range of an ordinal, or that of the members of a set.
+    /// The range of an ordinal.
     pub fn range(self) -> Interval
-        ensures { result ≡ known_range self }
+        ensures { self ≡ Ordinal result }
     {
-        match self {
-            Known::Ordinal(range) => range,
-            Known::Set(hull) => hull.range(),
-        }
+        let Known::Ordinal(range) = self;
+        range
     }
 }

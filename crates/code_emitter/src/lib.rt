@@ -10,5 +10,4 @@ pub mod emitter;
 mod expression;
 mod instrs;
 pub mod program;
-mod with;
 mod write;

@@ -1,6 +1,4 @@
 pub mod Facts
-pub mod Hull
-pub mod Hulls
 pub mod Interval
 pub mod Numbers
 pub mod Order

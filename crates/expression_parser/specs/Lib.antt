@@ -1,4 +1,3 @@
 pub mod Built
 pub mod Levels
-pub mod Members
 pub mod Selecting

@@ -2,12 +2,9 @@ mod Actuals
 mod Calls
 mod Chains
 pub mod Fitting
-pub mod HeldForms
-pub mod KeptKinds
-mod MemberRows
 mod Named
 mod Only
-pub mod Operands
+mod Operands
 mod PassedForms
 mod Results
 pub mod Selecting

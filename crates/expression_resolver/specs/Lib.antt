@@ -1,3 +1,2 @@
 pub mod Accesses
 pub mod Made
-pub mod Values

@@ -5,6 +5,8 @@
 #![tactic(auto)]
 
 #[cfg(test)]
+mod assembling;
+#[cfg(test)]
 mod calling;
 #[cfg(test)]
 mod checking;
@@ -23,11 +25,10 @@ mod removal;
 #[cfg(test)]
 mod rows_of_cells;
 #[cfg(test)]
-mod rows_of_sets;
-#[cfg(test)]
 mod running;
 #[cfg(test)]
 mod sources;
+#[cfg(test)]
 #[cfg(test)]
 mod stretches;
 #[cfg(test)]

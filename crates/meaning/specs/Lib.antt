@@ -3,5 +3,4 @@ pub mod Store
 pub mod Counting
 pub mod Effect
 pub mod Meaning
-pub mod Kinds
 pub mod Laws

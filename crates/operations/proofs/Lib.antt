@@ -1,3 +1,2 @@
 mod FoundArms
-pub mod Members
 mod RowOrder

@@ -1,12 +1,8 @@
-ghost use Rattle.std.specs.Prelude.{◌≡◌, ℕ, true, IfOk};
-ghost use Rattle.types.specs.Types.{kind_of};
-ghost use Rattle.typed_tree.specs.declared.tree.Scalar.TheVariants.{Ordinal};
-ghost use Rattle.typed_tree.specs.Kinds.{is_held_stmt, is_ordinal_expr};
+ghost use Rattle.std.specs.Prelude.{ℕ};
 ghost use Rattle.typed_tree.specs.Look.{Empty};
 ghost use Rattle.typing.specs.Expressions.{expression};
 ghost use Rattle.typing.specs.Statements as spec;
 ghost use Rattle.typing.specs.Steps.{enter_as};
-ghost use Rattle.expression_resolver.specs.Values.{AreTestedAlike, tested_as};
 ghost use Rattle.resolver.specs.Made.{MakesBound, MakesStmt, MakesCaseHead, MakesCondition, MakesIfHead, MakesForHead};
 
 use expression_resolver::{expression, first_place, fitted};
@@ -17,13 +13,12 @@ use typed_tree::site::SiteKind;
 use typed_tree::tree::{CaseHead, Expr, Fitted, ForHead, Stmt};
 use types::{TypeId, TypeTable};
 use typing::Typer;
-use typing::rules::{as_control, ordinal_of, way};
+use typing::rules::{as_variable, way};
 
 /// An empty statement (6.8.2.1).
-#[tactic(auto, using(typed_tree::proofs::Looks::look_empty, crate::proofs::HeldStatements::held_empty))]
+#[tactic(auto, using(typed_tree::proofs::Looks::look_empty))]
 pub(crate) fn empty(typer: &mut Typer) -> Result<Stmt, TypeFault>
-    ensures made { MakesStmt (enter_as Empty typer.old) result typer.new }
-    ensures held { IfOk result (λ made. is_held_stmt made ≡ true) }
+    ensures { MakesStmt (enter_as Empty typer.old) result typer.new }
 {
     let number = typer.enter()?;
     Ok(Stmt::Empty { number })
@@ -36,8 +31,7 @@ pub(crate) fn if_head(
     place: Place,
     tested: &syntax::Expr,
 ) -> Result<(u32, Expr), TypeFault>
-    ensures made { MakesIfHead (spec.tested place (expression tested.now) typer.old) result typer.new }
-    ensures held { IfOk result (λ made. is_ordinal_expr made.1 ≡ true) }
+    ensures { MakesIfHead (spec.tested place (expression tested.now) typer.old) result typer.new }
 {
     typer.pass(place);
     let number = typer.enter()?;
@@ -48,8 +42,7 @@ pub(crate) fn if_head(
 /// A condition, which is Boolean.
 #[tactic(auto, unfolding(typing::specs::Statements::condition))]
 pub(crate) fn condition(typer: &mut Typer, written: &syntax::Expr) -> Result<Expr, TypeFault>
-    ensures made { MakesCondition (spec.condition (expression written.now) typer.old) result typer.new }
-    ensures held { IfOk result (λ made. is_ordinal_expr made ≡ true) }
+    ensures { MakesCondition (spec.condition (expression written.now) typer.old) result typer.new }
 {
     expression(typer, written, None)?.of(TypeTable::BOOLEAN, first_place(written))
 }
@@ -64,14 +57,12 @@ pub(crate) fn for_head(
     direction: syntax::Direction,
     last: &syntax::Expr,
 ) -> Result<ForHead, TypeFault>
-    ensures made { MakesForHead (spec.for_head place variable.now (expression first.now) direction
-        (expression last.now) typer.old) result typer.new }
-    ensures first { IfOk result (λ head. is_ordinal_expr head.first.value ≡ true) }
-    ensures last { IfOk result (λ head. is_ordinal_expr head.last.value ≡ true) }
+    ensures { MakesForHead (spec.for_head place variable.now (expression first.now) direction (expression last.now)
+        typer.old) result typer.new }
 {
     typer.pass(place);
     let denotation = typer.find(variable)?;
-    let (control, type_id) = as_control(variable.place, denotation)?;
+    let (control, type_id) = as_variable(variable.place, denotation)?;
     if !typer.types().is_ordinal(type_id) {
         return Err(TypeFault::Mismatch(variable.place));
     }
@@ -93,11 +84,8 @@ pub(crate) fn for_head(
 
 // A bound of a for: the site of its test stands before those of its first token.
 fn bound(typer: &mut Typer, type_id: TypeId, written: &syntax::Expr) -> Result<Fitted, TypeFault>
-    requires ordinal { tested_as (kind_of typer.old.types type_id) ≡ Ordinal }
-    ensures made { (control : ℕ) → MakesBound control (spec.bound control type_id (expression written.now) typer.old)
-        result typer.new }
-    ensures held { IfOk result (λ made. is_ordinal_expr made.value ≡ true) }
-    ensures kept { IfOk result (λ made. AreTestedAlike typer.old.types typer.new.types) }
+    ensures { (control : ℕ) → MakesBound control (spec.bound control type_id (expression written.now) typer.old) result
+        typer.new }
 {
     fitted(typer, type_id, first_place(written), written)
 }
@@ -110,18 +98,19 @@ pub(crate) fn case_head(
     place: Place,
     index: &syntax::Expr,
 ) -> Result<(CaseHead, TypeId), TypeFault>
-    ensures made { MakesCaseHead (spec.case_head place (expression index.now) typer.old) result typer.new }
-    ensures held { IfOk result (λ made. is_ordinal_expr (made.0).index ≡ true) }
+    ensures { MakesCaseHead (spec.case_head place (expression index.now) typer.old) result typer.new }
 {
     let site = typer.site(SiteKind::Case, place)?;
     let number = typer.enter()?;
     let made = expression(typer, index, None)?;
-    let type_id = ordinal_of(typer.types(), first_place(index), made.typed())?;
+    if !made.typed().is_ordinal(typer.types()) {
+        return Err(TypeFault::Mismatch(first_place(index)));
+    }
     let head = CaseHead {
         number,
         site,
-        index: made.into_scalar(),
+        index: made.value.into_ordinal(),
         constants: Vec::new(typer.alloc),
     };
-    Ok((head, type_id))
+    Ok((head, made.type_id))
 }

@@ -8,7 +8,6 @@ mod calls;
 mod cases;
 mod heads;
 mod program;
-mod records;
 mod statements;
 mod table;
 mod typed;

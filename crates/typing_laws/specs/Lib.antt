@@ -1,4 +1,3 @@
 pub mod Controls
-pub mod Opened
 pub mod Results
 pub mod Lawful

@@ -102,7 +102,8 @@ impl Store {
     {
         let first = self.used - results;
         for offset in 0..results {
-            self.cells.copy(first + offset, self.frame + offset);
+            let cell = self.cells.get(first + offset);
+            self.cells.put(self.frame + offset, cell);
         }
     }
 }
@@ -120,7 +121,7 @@ fn not_outside(link: Cell, bound: usize) -> Result<(), MachineFault>
 {
     match link {
         Cell::Number(number) => address_of(number, bound).map(|_| ()),
-        Cell::Undefined | Cell::Set(_) => Ok(()),
+        Cell::Undefined => Ok(()),
     }
 }
 
@@ -131,6 +132,6 @@ fn link_below(link: Cell, bound: usize) -> Result<usize, MachineFault>
 {
     match link {
         Cell::Number(number) => address_of(number, bound),
-        Cell::Undefined | Cell::Set(_) => Err(MachineFault::WrongKind),
+        Cell::Undefined => Err(MachineFault::WrongKind),
     }
 }
