@@ -1,21 +1,22 @@
 -- What the checker did where values are stored, from what it did over the parts of it.
-use Rattle.std.proofs.Common.{arith, ◌≡◌, ◌∙◌, refl, sym, ap, ap₂, subst, ℕ, Bool, true, false, List, [], ◌∷◌, ◌++◌, Option, length, map}
-use Rattle.std.specs.Bool.{◌==◌}
-use Rattle.std.proofs.lemmas.Bool.{eqb-true}
+use Rattle.std.proofs.Common.{◌≡◌, ◌∙◌, refl, sym, ap, ap₂, subst, cond, ℕ, Bool, true, false, List, [], ◌∷◌, ◌++◌, Option, map}
+use Rattle.std.proofs.lemmas.Bool.{false≢true}
 use Rattle.place.specs.declared.Place.{Place as SourcePlace}
+use Rattle.typed_tree.specs.declared.tree.Access.{Access}
 use Rattle.typed_tree.specs.declared.tree.Assignment.{Assignment}
 use Rattle.typed_tree.specs.declared.tree.Copying.{Copying}
 use Rattle.typed_tree.specs.declared.tree.Expr.{Expr}
 use Rattle.typed_tree.specs.declared.tree.Selector.{Selector}
 use Rattle.typed_tree.specs.declared.tree.Tree.{Tree}
+use Rattle.typed_tree.specs.Accesses.{Origin, origin_of, root_of}
 use Rattle.typed_tree.specs.Calls.{holds_call, whole_holds_call}
 use Rattle.domain.specs.Interval.{Interval}
-use Rattle.checker_rows.specs.Rows.{rows_accessed}
+use Rattle.checker_rows.specs.Rows.{is_ordinal_variable, rows_accessed}
 use Rattle.checker_state.specs.Bounds.{Bound}
 use Rattle.checker_state.specs.Changes.{assigned}
 use Rattle.checker_state.specs.Conditions.{bound_form}
 use Rattle.checker_state.specs.declared.value.Known.{Known}
-use Rattle.checker_state.specs.declared.value.Known.TheVariants.{Ordinal}
+use Rattle.checker_state.specs.Values.{known_range}
 use Rattle.checker_state.specs.State.{State}
 use Rattle.checker_state.specs.Stores.{Reach, all_stored}
 use Rattle.checker_trail.specs.declared.state.State.{State as Kept}
@@ -24,11 +25,12 @@ use Rattle.checker_loops.specs.Aliases.{reach_unless_alias, unless_alias, with_a
 use Rattle.checker_expressions.specs.View.{state_of}
 use Rattle.checker_expressions.specs.Visits.{Visits, all_counted, counted}
 use Rattle.checker_expressions.specs.Walk.{Walking, ◌>>=◌, access_walk, changed_by, fitting, index_pieces, value_walk, whole_walk}
+use Rattle.checker_calls.proofs.Origins.{root_is}
 use Rattle.checker_expressions.proofs.Counted.{counted-both}
 use Rattle.cert_checker.specs.declared.walk.Walk.{Walk}
 use Rattle.cert_checker.specs.View.{Goes, at_state, context_of, row_stored}
-use Rattle.cert_checker.specs.Walk.{Stores, aliases_here, alike, assign, assign_component, assign_to, assignment_walk, change, copy_to, copying_walk}
-use Rattle.cert_checker.specs.Walk.{from_entry, paired, reach_stored, store_to, stores_made}
+use Rattle.cert_checker.specs.Walk.{Stores, aliases_here, alike, assign, assign_component, assign_entire, assign_to, assign_value, assignment_walk, change}
+use Rattle.cert_checker.specs.Walk.{copy_to, copying_walk, from_entry, is_whole_variable, paired, reach_stored, store_to, stores_made}
 use Rattle.cert_checker.proofs.Steps.{goes-from_entry, goes-here, goes-then, moved}
 
 -- ---- what the state did
@@ -50,12 +52,12 @@ module _ {old : Walk} {state : Kept} (root : ℕ) (aliases : List ℕ) (aliases_
   pub assigned-goes : (range : Interval) (form : Option Bound)
       → Moves (λ known. assigned root range (unless_alias aliases form)
       (with_aliases_stored old.flow.state.table.now aliases (row_stored old.flow.state.table.now (root, range) ∷ []) known)) old.flow.state state
-      → Goes (assign root form (Ordinal range)) old (at_state state old) tt
+      → Goes (assign root form range) old (at_state state old) tt
   assigned-goes range form moves =
       let tree = old.flow.state.table.now in
       let step : List ℕ → State → State =
       λ some known. assigned root range (unless_alias some form) (with_aliases_stored tree some (row_stored tree (root, range) ∷ []) known) in
-      goes-here (changed_by (step aliases)) (assign root form (Ordinal range))
+      goes-here (changed_by (step aliases)) (assign root form range)
       (ap (λ (some : List ℕ). changed_by (step some) (context_of old) (state_of old.flow)) aliases_are) (moved moves)
 
 -- ---- stores at a place
@@ -65,56 +67,71 @@ module _ (place : SourcePlace) (root : ℕ) {old mid new : Walk} where
       → Goes (store_to place root reach stores) old new tt
   store-goes reach stores one two = goes-then (change place root) (λ _. stores_made root reach stores) one two
 
--- an access without selectors is to an entire variable
-assigned-entire : (place : SourcePlace) (root : ℕ) (selectors : List Selector) (reach : Reach) (form : Option Bound) (passed : Known)
-    → (length selectors == 0) ≡ true
-    → (change place root >>= λ _. assign root form passed) ≡ assign_to place root selectors reach form passed
-assigned-entire place root [] reach form passed is = refl
-assigned-entire place root (selector ∷ selectors) reach form passed is =
-    let none = eqb-true (length (selector ∷ selectors)) 0 is in absurd (omega (arith, none))
+-- one of two walks
+either-goes : (test : Bool) (one other : Walking (Unit {0})) {old new : Walk} → (test ≡ true → Goes one old new tt) → (test ≡ false → Goes other old new tt)
+    → Goes (cond test one other) old new tt
+either-goes true one other first second = first refl
+either-goes false one other first second = second refl
 
--- one with selectors is to components
-assigned-component : (place : SourcePlace) (root : ℕ) (selectors : List Selector) (reach : Reach) (form : Option Bound) (passed : Known)
-    → (length selectors == 0) ≡ false
-    → assign_component place root selectors reach passed ≡ assign_to place root selectors reach form passed
-assigned-component place root [] reach form passed is = cc
-assigned-component place root (selector ∷ selectors) reach form passed is = refl
+module _ (place : SourcePlace) (access : Access) (reach : Reach) where
+  abbrev origin : Origin
+  origin = origin_of access
 
-module _ (place : SourcePlace) (root : ℕ) (selectors : List Selector) (reach : Reach) where
-  pub entire-goes : {old mid new : Walk} (form kept : Option Bound) (passed : Known) (range : Interval) → (length selectors == 0) ≡ true
-      → kept ≡ form → passed ≡ Ordinal range → Goes (change place root) old mid tt → Goes (assign root kept (Ordinal range)) mid new tt
-      → Goes (assign_to place root selectors reach form passed) old new tt
-  entire-goes {old = old} form kept passed range is form_is passed_is one two =
-      goes-here (change place root >>= λ _. assign root kept (Ordinal range)) (assign_to place root selectors reach form passed)
-      (ap₂ (λ (f : Option Bound) (p : Known). (change place root >>= λ _. assign root f p) (context_of old) (state_of old.flow)) form_is (sym passed_is)
-      ∙ ap (λ (w : Walking (Unit {0})). w (context_of old) (state_of old.flow)) (assigned-entire place root selectors reach form passed is))
-      (goes-then (change place root) (λ _. assign root kept (Ordinal range)) one two)
+  abbrev selectors : List Selector
+  selectors = access.selectors.items
 
-  pub component-goes : {old new : Walk} (form : Option Bound) (passed : Known) → (length selectors == 0) ≡ false
-      → Goes (assign_component place root selectors reach passed) old new tt → Goes (assign_to place root selectors reach form passed) old new tt
-  component-goes {old = old} form passed is one =
-      goes-here (assign_component place root selectors reach passed) (assign_to place root selectors reach form passed)
-      (ap (λ (w : Walking (Unit {0})). w (context_of old) (state_of old.flow)) (assigned-component place root selectors reach form passed is)) one
+  -- the access has its root, wherever it begins
+  at-root : (walk : ℕ → Walking (Unit {0})) {old new : Walk} → Goes (walk access.root) old new tt → Goes (walk (root_of origin)) old new tt
+  at-root walk {old = old} {new = new} one = subst (λ (r : ℕ). Goes (walk r) old new tt) (sym (root_is access)) one
+
+  -- a variable as a whole gets the value
+  pub entire-goes : {old mid new : Walk} (form : Option Bound) (range : Interval) → is_whole_variable origin selectors ≡ true
+      → Goes (change place access.root) old mid tt → Goes (assign access.root form range) mid new tt
+      → Goes (assign_to place origin selectors reach form range) old new tt
+  entire-goes {old = old} {new = new} form range is one two =
+      either-goes (is_whole_variable origin selectors) (assign_entire place (root_of origin) form range) (assign_component place origin selectors reach range)
+      (λ so. at-root (λ (r : ℕ). assign_entire place r form range)
+      (goes-then (change place access.root) (λ _. assign access.root form range) one two))
+      (λ so. absurd (false≢true (sym so ∙ is)))
+
+  pub component-goes : {old new : Walk} (form : Option Bound) (range : Interval) → is_whole_variable origin selectors ≡ false
+      → Goes (assign_component place origin selectors reach range) old new tt → Goes (assign_to place origin selectors reach form range) old new tt
+  component-goes {old = old} {new = new} form range is one =
+      either-goes (is_whole_variable origin selectors) (assign_entire place (root_of origin) form range) (assign_component place origin selectors reach range)
+      (λ so. absurd (false≢true (sym is ∙ so))) (λ so. one)
 
   module _ (old : Walk) (tree : Tree) (rows : List ℕ) (tree_is : tree ≡ old.flow.state.table.now)
-      (rows_are : rows ≡ rows_accessed tree root selectors) where
-    rows-here : rows ≡ rows_accessed old.flow.state.table.now root selectors
-    rows-here = rows_are ∙ ap (λ (t : Tree). rows_accessed t root selectors) tree_is
+      (rows_are : rows ≡ rows_accessed tree origin selectors) where
+    rows-here : rows ≡ rows_accessed old.flow.state.table.now origin selectors
+    rows-here = rows_are ∙ ap (λ (t : Tree). rows_accessed t origin selectors) tree_is
 
     -- a value is stored to the rows that are accessed
-    pub alike-goes : {new : Walk} (passed : Known) (range : Interval) → passed ≡ Ordinal range → Goes (store_to place root reach (alike range rows)) old new tt
-        → Goes (assign_component place root selectors reach passed) old new tt
-    alike-goes passed range passed_is one =
-        goes-here (store_to place root reach (alike range rows)) (assign_component place root selectors reach passed)
-        (ap (λ (r : List ℕ). store_to place root reach (alike range r) (context_of old) (state_of old.flow)) rows-here
-        ∙ ap (λ (p : Known). assign_component place root selectors reach p (context_of old) (state_of old.flow)) (sym passed_is)) one
+    pub alike-goes : {new : Walk} (range : Interval) → Goes (store_to place access.root reach (alike range rows)) old new tt
+        → Goes (assign_component place origin selectors reach range) old new tt
+    alike-goes range one =
+        goes-here (store_to place (root_of origin) reach (alike range rows)) (assign_component place origin selectors reach range)
+        (ap (λ (r : List ℕ). store_to place (root_of origin) reach (alike range r) (context_of old) (state_of old.flow)) rows-here)
+        (at-root (λ (r : ℕ). store_to place r reach (alike range rows)) one)
 
     -- so are the components of a whole value
-    pub paired-goes : {new : Walk} (ranges : List Interval) → Goes (store_to place root reach (paired rows ranges)) old new tt
-        → Goes (copy_to place root selectors reach ranges) old new tt
+    pub paired-goes : {new : Walk} (ranges : List Interval) → Goes (store_to place access.root reach (paired rows ranges)) old new tt
+        → Goes (copy_to place origin selectors reach ranges) old new tt
     paired-goes ranges one =
-        goes-here (store_to place root reach (paired rows ranges)) (copy_to place root selectors reach ranges)
-        (ap (λ (r : List ℕ). store_to place root reach (paired r ranges) (context_of old) (state_of old.flow)) rows-here) one
+        goes-here (store_to place (root_of origin) reach (paired rows ranges)) (copy_to place origin selectors reach ranges)
+        (ap (λ (r : List ℕ). store_to place (root_of origin) reach (paired r ranges) (context_of old) (state_of old.flow)) rows-here)
+        (at-root (λ (r : ℕ). store_to place r reach (paired rows ranges)) one)
+
+-- what is accessed gets the value of an expression, by the form that this has in the program
+pub value-goes : (assignment : Assignment) (reach : Reach) (passed : Known) (tree : Tree) (form : Option Bound) (range : Interval) {old new : Walk}
+    → tree ≡ old.flow.state.table.now → form ≡ bound_form (is_ordinal_variable tree) assignment.value → range ≡ known_range passed
+    → Goes (assign_to assignment.becomes (origin_of assignment.target) assignment.target.selectors.items reach form range) old new tt
+    → Goes (assign_value assignment reach passed) old new tt
+value-goes assignment reach passed tree form range {old = old} tree_is form_is range_is one =
+    let stores = λ (f : Option Bound) (r : Interval).
+    assign_to assignment.becomes (origin_of assignment.target) assignment.target.selectors.items reach f r in
+    goes-here (stores form range) (assign_value assignment reach passed)
+    (ap₂ (λ (f : Option Bound) (r : Interval). stores f r (context_of old) (state_of old.flow))
+    (form_is ∙ ap (λ (t : Tree). bound_form (is_ordinal_variable t) assignment.value) tree_is) range_is) one
 
 -- ---- whole statements
 
@@ -124,18 +141,18 @@ pub assignment-goes : (assignment : Assignment) (indexes : List Expr) (selectors
     → indexes ≡ assignment.indexes.items → Goes (access_walk assignment.target (index_pieces indexes)) old reached reach
     → Goes (value_walk assignment.value) reached valued known → Goes (fitting assignment.fits known) valued tested passed
     → selectors ≡ assignment.target.selectors.items → held ≡ reach_stored selectors (holds_call assignment.value) reach
-    → Goes (assign_to assignment.becomes assignment.target.root assignment.target.selectors.items held (bound_form assignment.value) passed) tested new tt
+    → Goes (assign_value assignment held passed) tested new tt
     → Goes (from_entry assignment.number (assignment_walk assignment)) old new tt
-assignment-goes assignment indexes selectors reach held known passed {old = old} {tested = tested} {new = new} indexes_are accessed valued fits selectors_are
+assignment-goes assignment indexes _ reach held known passed {old = old} {tested = tested} {new = new} indexes_are accessed valued fits selectors_are
     held_is stores =
     let target = assignment.target in
     let own = target.selectors.items in
     let store : Reach → Known → Walking (Unit {0}) =
-    λ reach passed. assign_to assignment.becomes target.root own (reach_stored own (holds_call assignment.value) reach) (bound_form assignment.value) passed in
+    λ reach passed. assign_value assignment (reach_stored own (holds_call assignment.value) reach) passed in
     let same : held ≡ reach_stored own (holds_call assignment.value) reach =
     held_is ∙ ap (λ (s : List Selector). reach_stored s (holds_call assignment.value) reach) selectors_are in
     let stored : Goes (store reach passed) tested new tt =
-    subst (λ (r : Reach). Goes (assign_to assignment.becomes target.root own r (bound_form assignment.value) passed) tested new tt) same stores in
+    subst (λ (r : Reach). Goes (assign_value assignment r passed) tested new tt) same stores in
     let from_access : List Expr → Walking (Unit {0}) =
     λ some. access_walk target (index_pieces some)
     >>= λ reach. value_walk assignment.value >>= λ known. fitting assignment.fits known >>= store reach in
@@ -154,19 +171,19 @@ pub copying-goes : (copying : Copying) (indexes more : List Expr) (selectors : L
     → more ≡ copying.value_indexes.items → Goes (whole_walk copying.value (index_pieces more)) reached valued ranges
     → selectors ≡ copying.target.selectors.items → hold ≡ whole_holds_call copying.value copying.value_indexes.items
     → held ≡ reach_stored selectors hold reach
-    → Goes (copy_to copying.becomes copying.target.root copying.target.selectors.items held ranges) valued new tt
+    → Goes (copy_to copying.becomes (origin_of copying.target) copying.target.selectors.items held ranges) valued new tt
     → Goes (from_entry copying.number (copying_walk copying)) old new tt
-copying-goes copying indexes more selectors hold reach held ranges {old = old} {valued = valued} {new = new} indexes_are accessed more_are whole selectors_are
+copying-goes copying indexes more _ hold reach held ranges {old = old} {valued = valued} {new = new} indexes_are accessed more_are whole selectors_are
     hold_is held_is stores =
     let target = copying.target in
     let own = target.selectors.items in
     let store : Reach → List Interval → Walking (Unit {0}) =
-    λ reach ranges. copy_to copying.becomes target.root own
+    λ reach ranges. copy_to copying.becomes (origin_of target) own
     (reach_stored own (whole_holds_call copying.value copying.value_indexes.items) reach) ranges in
     let same : held ≡ reach_stored own (whole_holds_call copying.value copying.value_indexes.items) reach =
     held_is ∙ ap₂ (λ (s : List Selector) (h : Bool). reach_stored s h reach) selectors_are hold_is in
     let stored : Goes (store reach ranges) valued new tt =
-    subst (λ (r : Reach). Goes (copy_to copying.becomes target.root own r ranges) valued new tt) same stores in
+    subst (λ (r : Reach). Goes (copy_to copying.becomes (origin_of target) own r ranges) valued new tt) same stores in
     let from_access : List Expr → List Expr → Walking (Unit {0}) =
     λ some others. access_walk target (index_pieces some) >>= λ reach. whole_walk copying.value (index_pieces others) >>= store reach in
     goes-from_entry copying.number (copying_walk copying)

@@ -9,23 +9,22 @@ use Rattle.std.proofs.lemmas.List.Folds.{list_any-append}
 use Rattle.types.specs.Forms.{Form}
 use Rattle.types.specs.Forms.{Array, Record}
 use Rattle.types.specs.Types.{form_kind, form_range, is_ordinal, is_structured_kind}
-use Rattle.typed_tree.specs.Accesses.{is_type, led}
+use Rattle.typed_tree.specs.Accesses.{AtVariable, is_type, led}
 use Rattle.typed_tree.specs.Loops.{AreLoops, Inside, IsLoop, all_inside, inside_of, statement_inside}
 use Rattle.typed_tree.specs.WellFormed.{all_hold, are_whole, is_control, is_declared, is_local_kind, is_visible, is_well_formed_expr, is_well_formed_stmt}
-use Rattle.typed_tree.specs.WellFormed.{fits_target, leads_to_ordinal, outline_of, stmt_is_well_formed}
+use Rattle.typed_tree.specs.WellFormed.{fits_target, is_well_formed_record, leads_to_ordinal, of_one, outline_of, stmt_is_well_formed}
 use Rattle.typed_tree.specs.declared.tree.Expr.{Expr}
 use Rattle.typed_tree.specs.declared.tree.Loop.{Loop}
 use Rattle.typed_tree.specs.declared.tree.RangeTest.{RangeTest}
 use Rattle.typed_tree.specs.declared.tree.Stmt.{Stmt}
 use Rattle.typed_tree.specs.declared.tree.Stmt.TheOpen.{Stmt-F}
-use Rattle.typed_tree.specs.declared.tree.Stmt.TheOpen.Stmt-F.{Empty, Assign, Copy, Write, Call, Compound, If, While, Repeat, For, Case}
+use Rattle.typed_tree.specs.declared.tree.Stmt.TheOpen.Stmt-F.{Empty, Assign, Copy, Write, Call, Compound, If, While, Repeat, For, Case, With}
 use Rattle.typed_tree.specs.declared.tree.Stmt.TheViews.{roll-Stmt}
 use Rattle.typed_tree.specs.declared.tree.Stmt.TheFolds.{map-Stmt, fold-roll-Stmt, ind-Stmt}
 use Rattle.typed_tree.specs.declared.tree.Tree.{Tree}
 use Rattle.typed_tree.specs.declared.tree.Variable.{Variable}
 use Rattle.checker_state.specs.Loops.{is_among}
-use Rattle.checker_rows.specs.Rows.{Parts, all_parts, no_parts}
-use Rattle.cert_checker.specs.Names.{has_ordinals, is_ordinal_variable}
+use Rattle.checker_rows.specs.Rows.{Parts, all_parts, is_ordinal_variable, no_parts}
 use Rattle.checker_rows.proofs.Accessed.{IsLeafRow, row-is}
 use Rattle.checker_state.specs.Knows.{AreEntire}
 use Rattle.checker_loops.specs.Loops.{controls_inside, controls_of}
@@ -60,32 +59,35 @@ both-ordinal tree first second one other root among =
 
 -- ---- those of statements
 
-ordinal-of : (types : List Form) (found : Option Variable)
+pub ordinal-of : (types : List Form) (found : Option Variable)
     → is_type (is_ordinal types) (option_and_then (λ variable. led types [] variable.type_id) found) ≡ true
-    → has_ordinals types found ≡ true
+    → of_one (λ (variable : Variable). is_ordinal types variable.type_id) found ≡ true
 ordinal-of types None is = absurd (false≢true is)
 ordinal-of types (Some variable) is = is
 
 -- the control variable of a well formed for statement
 pub control-ordinal : (tree : Tree) (block control : ℕ) → is_control (outline_of tree) block control ≡ true → is_ordinal_variable tree control ≡ true
 control-ordinal tree block control is =
-    let leads = (and_parts (is_declared (outline_of tree) block is_local_kind control) (leads_to_ordinal (outline_of tree) block control [] 0) is).1 in
+    let leads = (and_parts (is_declared (outline_of tree) block is_local_kind control) (leads_to_ordinal (outline_of tree) block (AtVariable control) [] 0)
+    is).1 in
     ordinal-of tree.types (slice_get tree.variables.items control)
-    (leads-type (outline_of tree) block (is_ordinal tree.types) control [] 0 leads)
+    (leads-type (outline_of tree) block (is_ordinal tree.types) (AtVariable control) [] 0 leads)
 
 -- it is one of the block's own
 pub control-declared : (tree : Tree) (block control : ℕ) → is_control (outline_of tree) block control ≡ true
     → (variable : Variable) × (slice_get tree.variables.items control ≡ Some variable) × (variable.block ≡ block)
 control-declared tree block control is =
-    let local = (and_parts (is_declared (outline_of tree) block is_local_kind control) (leads_to_ordinal (outline_of tree) block control [] 0) is).0 in
+    let local = (and_parts (is_declared (outline_of tree) block is_local_kind control) (leads_to_ordinal (outline_of tree) block (AtVariable control) [] 0)
+    is).0 in
     let own = one-there (λ (v : Variable). nat_eq v.block block && is_local_kind v.kind) (slice_get tree.variables.items control) local in
     (own.0, own.1, eqb-true own.0.block block (and_parts (nat_eq own.0.block block) (is_local_kind own.0.kind) own.2).0)
 
 -- and it is visible in the block
 pub control-seen : (tree : Tree) (block control : ℕ) → is_control (outline_of tree) block control ≡ true → is_visible (outline_of tree) block control ≡ true
 control-seen tree block control is =
-    let leads = (and_parts (is_declared (outline_of tree) block is_local_kind control) (leads_to_ordinal (outline_of tree) block control [] 0) is).1 in
-    leads-seen (outline_of tree) block (is_ordinal tree.types) control [] 0 leads
+    let leads = (and_parts (is_declared (outline_of tree) block is_local_kind control) (leads_to_ordinal (outline_of tree) block (AtVariable control) [] 0)
+    is).1 in
+    leads-seen (outline_of tree) block (is_ordinal tree.types) (AtVariable control) [] 0 leads
 
 module _ (tree : Tree) (block : ℕ) where
   abbrev well_expr : Expr → Bool
@@ -138,7 +140,7 @@ module _ (tree : Tree) (block : ℕ) where
       all-proved statements.items
       (and_parts (all_hold (map well_stmt (map (λ (s : Proved). s.0) statements.items))) (well_expr head.condition) well).0
   layer (For head body) well =
-      let is_test = λ (fits : RangeTest). fits_target (outline_of tree) block fits head.control [] in
+      let is_test = λ (fits : RangeTest). fits_target (outline_of tree) block fits (AtVariable head.control) [] in
       let one = and_parts (is_control (outline_of tree) block head.control)
       (well_expr head.first.value && (is_test head.first.fits && (well_expr head.last.value && (is_test head.last.fits && well_stmt body.value.0)))) well in
       let two = and_parts (well_expr head.first.value)
@@ -153,6 +155,9 @@ module _ (tree : Tree) (block : ℕ) where
       (well_expr head.index && (list_all are_whole head.constants.items && all_hold (map well_stmt inner))) well in
       let two = and_parts (well_expr head.index) (list_all are_whole head.constants.items && all_hold (map well_stmt inner)) one.1 in
       all-proved arms.items (and_parts (list_all are_whole head.constants.items) (all_hold (map well_stmt inner)) two.1).1
+  layer (With head body) well =
+      body.value.1
+      (and_parts (all_hold (map (is_well_formed_record (outline_of tree) block) head.records.items)) (well_stmt body.value.0) well).1
 
   along : {a b : Bool} {inside other : Inside} → a ≡ b → inside ≡ other → HasOrdinals b other → HasOrdinals a inside
   along {a} {b} {inside} {other} zero one has =
@@ -192,10 +197,10 @@ ordinal-entire tree controls ordinal row steps behind of_row =
         let zero_root : 0 + leaf.root ≡ leaf.root = omega arith in
         let root : (slice_index_or (all_parts tree) row no_parts).root ≡ leaf.root =
         ap (λ (p : Parts). p.root) is.parts_are ∙ leaf.root_is ∙ zero_root in
-        let of_type : has_ordinals tree.types (slice_get tree.variables.items leaf.root) ≡ true =
+        let of_type : of_one (λ (variable : Variable). is_ordinal tree.types variable.type_id) (slice_get tree.variables.items leaf.root) ≡ true =
         subst (λ (r : ℕ). is_ordinal_variable tree r ≡ true) root (ordinal (slice_index_or (all_parts tree) row no_parts).root among) in
         ordinal-scalar (slice_get tree.types leaf.variable.type_id.index)
-        (sym (ap (has_ordinals tree.types) leaf.variable_is) ∙ of_type) leaf.structured
+        (sym (ap (of_one (λ (variable : Variable). is_ordinal tree.types variable.type_id)) leaf.variable_is) ∙ of_type) leaf.structured
 
 -- inside a loop of the table
 pub inside-ordinal : (tree : Tree) (block number : ℕ) (controls : List ℕ) → AreOrdinal tree controls → IsLoop tree.loops.items block (number, controls)

@@ -17,6 +17,8 @@ use Rattle.typed_tree.specs.declared.tree.VariableKind.{VariableKind}
 use Rattle.typed_tree.specs.declared.tree.VariableKind.TheVariants as kind
 use Rattle.typed_tree.specs.WellFormed.{IsWellFormed, are_all, are_few_cells, is_heading, is_local_kind, is_one_of, is_parameter_kind, is_placed}
 use Rattle.typed_tree.specs.WellFormed.{is_result_kind, is_result_or_none, is_well_formed_block, is_well_formed_stmt, outline_of, result_roots, roots_where}
+use Rattle.typed_tree.specs.Kinds.{is_held_stmt}
+use Rattle.typed_tree.specs.Records.{begins_in}
 use Rattle.typed_tree.proofs.Blocks.{is_well_formed_at}
 use Rattle.meaning.specs.Store.{Environment, Place}
 use Rattle.meaning.specs.Effect.{Action, give, store}
@@ -26,6 +28,8 @@ use Rattle.meaning.specs.Meaning.{environment_of, place_passed, seen_from}
 use Rattle.checker_state.specs.Loops.{is_among}
 use Rattle.checker_loops.specs.Sections.{BlockClaims, block_claims_at}
 use Rattle.checker_loops.specs.Starts.{is_own}
+use Rattle.checker_rows.proofs.Numbered.{has-contains}
+use Rattle.checker_loops.proofs.AliasedStores.{all-pass}
 use Rattle.checker_calls.proofs.Callee.{in-roots}
 use Rattle.checker_expressions.proofs.EffectsKept.{IsOwn, Keeps, MayWriteTo, Standing, keeps-give, keeps-store, keeps-store_all, keeps-then, lies-itself}
 use Rattle.checker_expressions.proofs.EffectsKept.{listing, own-write}
@@ -47,6 +51,18 @@ well-body tree well number block is =
     let body = is_well_formed_stmt outline number block.body in
     let one = and_parts (is_heading outline number block.heading) (are_few_cells outline number && body) (well-block tree well number block is) in
     (and_parts (are_few_cells outline number) body one.1).1
+
+-- its operands are as they are taken
+pub held-body : (tree : Tree) → IsWellFormed tree → (number : ℕ) (block : Block) → slice_get tree.blocks.items number ≡ Some block
+    → is_held_stmt block.body ≡ true
+held-body tree well number block is =
+    all-pass (λ (b : Block). is_held_stmt b.body) tree.blocks.items block (has-contains tree.blocks.items block (number, is)) well.held
+
+-- and each access in it begins at what is there
+pub begun-body : (tree : Tree) → IsWellFormed tree → (number : ℕ) (block : Block) → slice_get tree.blocks.items number ≡ Some block
+    → begins_in block.body [] ≡ true
+begun-body tree well number block is =
+    all-pass (λ (b : Block). begins_in b.body []) tree.blocks.items block (has-contains tree.blocks.items block (number, is)) well.there
 
 -- ---- the roots of parameters
 

@@ -30,7 +30,7 @@ use Rattle.cert_checker.specs.Walk.{begin, block_walk, blocks_walk, facts_given,
 use Rattle.checker_expressions.specs.declared.fault.Rule.TheVariants.{Exit}
 use Rattle.checker_expressions.proofs.EffectsKept.{Keeps, Leaving, Standing, keeps-fetch, keeps-give, keeps-then, leaves-itself, leaves-same, leaves-then}
 use Rattle.checker_expressions.proofs.EffectsCalls.{CallsLeave, StandsIn, Yields, activation_from, standing_from, yields-then}
-use Rattle.cert_checker.proofs.EffectsParameters.{activation-grounds, declare-theirs, keeps-passing, well-body}
+use Rattle.cert_checker.proofs.EffectsParameters.{activation-grounds, begun-body, declare-theirs, keeps-passing, well-body}
 use Rattle.cert_checker.proofs.EffectsStatements.{statement-kept}
 
 -- ---- the walk over a program
@@ -101,7 +101,7 @@ module _ (tree : Tree) (well : IsWellFormed tree) (certificate : Certificate) (u
         keeps-then at _ _ (keeps-passing tree blocks number block arguments caller s well is)
         (λ _. keeps-then at _ _
         (statement-kept tree blocks (declare-theirs tree well) number at (activation-grounds tree blocks number block arguments caller s) calls leave
-        block.body (well-body tree well number block is) body.inner body.stands body.yields)
+        block.body [] [] tt (well-body tree well number block is) (begun-body tree well number block is) body.inner body.stands body.yields)
         (λ _. keeps-result at block.heading.result at.visible))
 
     abbrev inner : ℕ → Action Value

@@ -1,25 +1,31 @@
 -- The walk over a program links a state to each of its entries, once and in their order.
-use Rattle.std.proofs.Common.{◌≡◌, ◌∙◌, sym, ap, refl, ℕ, suc, ℤ, true, false, List, [], ◌∷◌, ◌++◌, Option, Some, None, length, map}
+use Rattle.std.proofs.Common.{◌≡◌, ◌∙◌, sym, ap, refl, ℕ, suc, ℤ, Bool, true, false, if◌then◌else◌, List, [], ◌∷◌, ◌++◌, Option, Some, None, length, map}
 use Rattle.std.specs.Prelude.{flat_map, drop, slice_get}
 use Rattle.typed_tree.specs.declared.tree.Assignment.{Assignment}
 use Rattle.typed_tree.specs.declared.tree.CaseHead.{CaseHead}
 use Rattle.typed_tree.specs.declared.tree.ForHead.{ForHead}
+use Rattle.typed_tree.specs.declared.tree.WithRecord.{WithRecord}
+use Rattle.typed_tree.specs.Accesses as accesses
+use Rattle.typed_tree.specs.Accesses.{Origin, origin_of}
 use Rattle.typed_tree.specs.declared.tree.Selector.{Selector}
 use Rattle.checker_state.specs.Bounds.{Bound}
 use Rattle.typed_tree.specs.declared.tree.Expr.{Expr}
 use Rattle.typed_tree.specs.declared.tree.Stmt.{Stmt}
 use Rattle.typed_tree.specs.declared.tree.Stmt.TheOpen.{Stmt-F}
-use Rattle.typed_tree.specs.declared.tree.Stmt.TheOpen.Stmt-F.{Empty, Assign, Copy, Write, Compound, If, While, Repeat, For, Case}
+use Rattle.typed_tree.specs.declared.tree.Stmt.TheOpen.Stmt-F.{Empty, Assign, Copy, Write, Compound, If, While, Repeat, For, Case, With}
 use Rattle.typed_tree.specs.declared.tree.Stmt.TheOpen.Stmt-F.{Call as Calling}
 use Rattle.typed_tree.specs.declared.tree.FunctionResult.{FunctionResult}
 use Rattle.typed_tree.specs.Calls.{holds_call}
 use Rattle.typed_tree.specs.declared.tree.Stmt.TheFolds.{map-Stmt, fold-roll-Stmt, ind-Stmt}
 use Rattle.typed_tree.specs.declared.tree.Tree.{Tree}
 use Rattle.typed_tree.specs.declared.tree.Block.{Block}
-use Rattle.typed_tree.specs.Entries.{joined, entries_of_expression, entries_of_parameter, statement_entries, entries_of_block, entries_of_statement, entries_of}
+use Rattle.typed_tree.specs.Entries.{joined, entries_of_expression, entries_of_parameter, statement_entries, entries_of_block, entries_of_statement}
+use Rattle.typed_tree.specs.Entries.{entries_of_record, entries_of}
 use Rattle.certificate.specs.declared.Certificate.{Certificate}
 use Rattle.checker_state.specs.declared.value.Known.{Known}
-use Rattle.checker_state.specs.declared.value.Known.TheVariants.{Ordinal}
+use Rattle.checker_state.specs.Values.{known_range}
+use Rattle.domain.specs.Interval.{Interval}
+use Rattle.checker_rows.specs.Rows.{is_ordinal_variable}
 use Rattle.cert_checker.specs.Promise.{LinksEntries}
 use Rattle.checker_state.specs.Stores.{Reach}
 use Rattle.checker_state.specs.State.{Dead, State}
@@ -31,35 +37,39 @@ use Rattle.checker_state.specs.State.{table_of}
 use Rattle.checker_loops.specs.Ways.{Way, turn_begun, way_of, where_counts}
 use Rattle.std.specs.declared.alloc.Global.{Global}
 use Rattle.std.specs.declared.vec.Vec.{Vec}
-use Rattle.checker_state.specs.Conditions.{bound_form, condition_of}
-use Rattle.checker_state.specs.Forms.{root_of}
+use Rattle.checker_state.specs.Conditions.{bound_form}
 use Rattle.checker_loops.specs.Cases.{arm_start, constants_before}
 use Rattle.place.specs.declared.Place.{Place}
 use Rattle.checker_expressions.specs.Walk.{Context, Walking, ◌>>=◌, access_walk, index_pieces, numbers_of, fitting, value_walk, parameter_walk, whole_walk}
-use Rattle.cert_checker.specs.Walk.{first_context, assign_to, arms_walk, case_walk, for_round, for_turns, for_walk, index_test, loop_walk, steady_in}
+use Rattle.cert_checker.specs.Walk.{first_context, assign_component, assign_entire, assign_to, assign_value, arms_walk, case_walk, for_round, for_turns}
+use Rattle.cert_checker.specs.Walk.{for_walk, index_test, loop_walk, steady_in}
 use Rattle.cert_checker.specs.Walk.{tested_way, while_round, repeat_round, statement_step, statement_walk, where_so, all_of, block_walk, blocks_walk}
+use Rattle.cert_checker.specs.Walk.{index_root, is_whole_variable, record_walk}
 use Rattle.cert_checker.specs.Walk.{begin_way, program_walk, reach_stored, result_use}
 use Rattle.checker_expressions.proofs.Entered.{Enters, access-entered, and_no_more, and_then, call-entered, parameter-entered, value-entered, whole-entered}
 
 -- what comes behind the value of an assignment
 abbrev stores : Assignment → Reach → Known → Walking (Unit {0})
 stores assignment reach known =
-    let target = assignment.target in
-    fitting assignment.fits known
-    >>= assign_to assignment.becomes target.root target.selectors.items (reach_stored target.selectors.items (holds_call assignment.value) reach)
-    (bound_form assignment.value)
+    fitting assignment.fits known >>= assign_value assignment (reach_stored assignment.target.selectors.items (holds_call assignment.value) reach)
 
-assigned-silent : (becomes : Place) (root : ℕ) (selectors : List Selector) (reach : Reach) (form : Option Bound) (known : Known)
-    → Enters (assign_to becomes root selectors reach form known) []
-assigned-silent becomes root [] reach form (Ordinal range) context state = refl
-assigned-silent becomes root (selector ∷ selectors) reach form (Ordinal range) context state = refl
+-- what enters nothing either way
+either-silent : (test : Bool) (one other : Walking (Unit {0})) → Enters one [] → Enters other [] → Enters (if test then one else other) []
+either-silent true one other first second = first
+either-silent false one other first second = second
+
+assigned-silent : (becomes : Place) (origin : Origin) (selectors : List Selector) (reach : Reach) (form : Option Bound) (range : Interval)
+    → Enters (assign_to becomes origin selectors reach form range) []
+assigned-silent becomes origin selectors reach form range =
+    either-silent (is_whole_variable origin selectors) (assign_entire becomes (accesses.root_of origin) form range)
+    (assign_component becomes origin selectors reach range) (λ context state. refl) (λ context state. refl)
 
 stores-silent : (assignment : Assignment) (reach : Reach) (known : Known) → Enters (stores assignment reach known) []
-stores-silent assignment reach (Ordinal range) context state =
+stores-silent assignment reach known context state =
     let target = assignment.target in
-    let passed = fitting assignment.fits (Ordinal range) context state in
-    assigned-silent assignment.becomes target.root target.selectors.items (reach_stored target.selectors.items (holds_call assignment.value) reach)
-    (bound_form assignment.value) passed.value context passed.after
+    let passed = fitting assignment.fits known context state in
+    assigned-silent assignment.becomes (origin_of target) target.selectors.items (reach_stored target.selectors.items (holds_call assignment.value) reach)
+    (bound_form (is_ordinal_variable context.tree) assignment.value) (known_range passed.value) context passed.after
 
 -- walks one after another enter what each enters
 all-entered : {X : Type 0} (walk : X → Walking (Unit {0})) (numbers : X → List ℕ) → ((x : X) → Enters (walk x) (numbers x)) → (xs : List X)
@@ -80,6 +90,12 @@ statements-entered (statement ∷ statements) context state =
     let first = statement_walk statement.0 context state in
     let rest = all_of (map statement_walk (map (λ s. s.0) statements)) context first.after in
     and_then first.linked rest.linked _ _ (statement.1 context state) (statements-entered statements context first.after)
+
+-- a record of a with is accessed
+record-entered : (one : WithRecord) → Enters (record_walk one) (entries_of_record one)
+record-entered one context state =
+    and_no_more (access_walk one.access (index_pieces one.indexes.items) context state).linked [] _ (access-entered one.access one.indexes.items context state)
+    refl
 
 -- a loop enters what a round of it does
 loop-entered : (number : ℕ) (place : Place) (control : Option ℕ) (round : Walking State) (numbers : List ℕ) → Enters round numbers
@@ -124,25 +140,25 @@ arms-entered base index rows (arm ∷ arms) context state =
     let rest = arms_walk base index (drop 1 rows) (map statement_walk (map (λ s. s.0) arms)) context met in
     and_then first.linked rest.linked _ _ (arm.1 context start) (arms-entered base index (drop 1 rows) arms context met)
 
-case-entered : (head : CaseHead) (arms : List EnteredStmt) (known : Known)
-    → Enters (case_walk head (map statement_walk (map (λ s. s.0) arms)) known) (joined (map entries_of_statement (map (λ s. s.0) arms)))
-case-entered head arms (Ordinal range) context state =
+case-entered : (tree : Tree) (head : CaseHead) (arms : List EnteredStmt) (known : Known)
+    → Enters (case_walk tree head (map statement_walk (map (λ s. s.0) arms)) known) (joined (map entries_of_statement (map (λ s. s.0) arms)))
+case-entered tree head arms known context state =
     let rows = head.constants.items in
     let inner = map statement_walk (map (λ (s : EnteredStmt). s.0) arms) in
-    let base = index_test head.site (constants_before (length inner) rows) range context state in
-    arms-entered base.value (root_of (condition_of head.index).form) rows arms context base.after
+    let base = index_test head.site (constants_before (length inner) rows) (known_range known) context state in
+    arms-entered base.value (index_root tree head) rows arms context base.after
 
-while-entered : (condition : Expr) (body : Walking (Unit {0})) (numbers : List ℕ) → Enters body numbers
-    → Enters (while_round condition body) (entries_of_expression condition ++ numbers)
-while-entered condition body numbers each context state =
+while-entered : (tree : Tree) (condition : Expr) (body : Walking (Unit {0})) (numbers : List ℕ) → Enters body numbers
+    → Enters (while_round tree condition body) (entries_of_expression condition ++ numbers)
+while-entered tree condition body numbers each context state =
     let first = value_walk condition context state in
-    let start = where_so true condition first.value first.after in
+    let start = where_so tree true condition first.value first.after in
     and_then first.linked ((body context start).linked ++ []) (entries_of_expression condition) numbers (value-entered condition context state)
     (and_no_more (body context start).linked [] numbers (each context start) refl)
 
-repeat-entered : (body : Walking (Unit {0})) (condition : Expr) (numbers : List ℕ) → Enters body numbers
-    → Enters (repeat_round body condition) (numbers ++ entries_of_expression condition)
-repeat-entered body condition numbers each context state =
+repeat-entered : (tree : Tree) (body : Walking (Unit {0})) (condition : Expr) (numbers : List ℕ) → Enters body numbers
+    → Enters (repeat_round tree body condition) (numbers ++ entries_of_expression condition)
+repeat-entered tree body condition numbers each context state =
     let first = body context state in
     let tested = value_walk condition context first.after in
     and_then first.linked (tested.linked ++ []) numbers (entries_of_expression condition) (each context state)
@@ -172,32 +188,32 @@ statement-parts (Calling calling) context state = call-entered calling.call call
 statement-parts (Compound number statements) context state = ap (λ numbers. number ∷ numbers) (statements-entered statements.items context state)
 statement-parts (If number condition consequence None) context state =
     let first = value_walk condition context state in
-    let yes = statement_walk consequence.value.0 context (where_so true condition first.value first.after) in
+    let yes = statement_walk consequence.value.0 context (where_so context.tree true condition first.value first.after) in
     ap (λ numbers. number ∷ numbers)
     (and_then first.linked (yes.linked ++ []) _ _ (value-entered condition context state)
-    (and_then yes.linked [] _ _ (consequence.value.1 context (where_so true condition first.value first.after)) refl))
+    (and_then yes.linked [] _ _ (consequence.value.1 context (where_so context.tree true condition first.value first.after)) refl))
 statement-parts (If number condition consequence (Some alternative)) context state =
     let first = value_walk condition context state in
-    let yes = statement_walk consequence.value.0 context (where_so true condition first.value first.after) in
-    let no = statement_walk alternative.value.0 context (where_so false condition first.value first.after) in
+    let yes = statement_walk consequence.value.0 context (where_so context.tree true condition first.value first.after) in
+    let no = statement_walk alternative.value.0 context (where_so context.tree false condition first.value first.after) in
     ap (λ numbers. number ∷ numbers)
     (and_then first.linked (yes.linked ++ no.linked) _ _ (value-entered condition context state)
-    (and_then yes.linked no.linked _ _ (consequence.value.1 context (where_so true condition first.value first.after))
-    (alternative.value.1 context (where_so false condition first.value first.after))))
+    (and_then yes.linked no.linked _ _ (consequence.value.1 context (where_so context.tree true condition first.value first.after))
+    (alternative.value.1 context (where_so context.tree false condition first.value first.after))))
 statement-parts (While head body) context state =
-    ap (λ numbers. head.number ∷ numbers) (loop-entered head.loop_number head.place None (while_round head.condition (statement_walk body.value.0))
+    ap (λ numbers. head.number ∷ numbers) (loop-entered head.loop_number head.place None (while_round context.tree head.condition (statement_walk body.value.0))
     (entries_of_expression head.condition ++ entries_of_statement body.value.0)
-    (while-entered head.condition (statement_walk body.value.0) (entries_of_statement body.value.0) body.value.1) context state)
+    (while-entered context.tree head.condition (statement_walk body.value.0) (entries_of_statement body.value.0) body.value.1) context state)
 statement-parts (Repeat head statements) context state =
     let inner = map statement_walk (map (λ (s : EnteredStmt). s.0) statements.items) in
     let numbers = joined (map entries_of_statement (map (λ (s : EnteredStmt). s.0) statements.items)) in
     ap (λ numbers. head.number ∷ numbers)
-    (loop-entered head.loop_number head.place None (repeat_round (all_of inner) head.condition) (numbers ++ entries_of_expression head.condition)
-    (repeat-entered (all_of inner) head.condition numbers (statements-entered statements.items)) context state)
+    (loop-entered head.loop_number head.place None (repeat_round context.tree (all_of inner) head.condition) (numbers ++ entries_of_expression head.condition)
+    (repeat-entered context.tree (all_of inner) head.condition numbers (statements-entered statements.items)) context state)
 statement-parts (For head body) context state =
     let from = value_walk head.first.value context state in
     let to = value_walk head.last.value context from.after in
-    let way = way_of head from.value to.value in
+    let way = way_of (is_ordinal_variable context.tree) head from.value to.value in
     let rest = for_walk head (statement_walk body.value.0) way context to.after in
     ap (λ numbers. head.number ∷ numbers)
     (and_then from.linked (to.linked ++ rest.linked) _ _ (value-entered head.first.value context state)
@@ -206,10 +222,16 @@ statement-parts (For head body) context state =
 statement-parts (Case head arms) context state =
     let inner = map statement_walk (map (λ (s : EnteredStmt). s.0) arms.items) in
     let first = value_walk head.index context state in
-    let rest = case_walk head inner first.value context first.after in
+    let rest = case_walk context.tree head inner first.value context first.after in
     ap (λ numbers. head.number ∷ numbers)
     (and_then first.linked rest.linked _ _ (value-entered head.index context state)
-    (case-entered head arms.items first.value context first.after))
+    (case-entered context.tree head arms.items first.value context first.after))
+statement-parts (With head body) context state =
+    let first = all_of (map record_walk head.records.items) context state in
+    let rest = statement_walk body.value.0 context first.after in
+    ap (λ numbers. head.number ∷ numbers)
+    (and_then first.linked rest.linked _ _ (all-entered record_walk entries_of_record record-entered head.records.items context state)
+    (body.value.1 context first.after))
 
 -- the use of a result enters nothing
 result-silent : (result : Option FunctionResult) → Enters (result_use result) []

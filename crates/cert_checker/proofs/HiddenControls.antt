@@ -8,6 +8,7 @@ use Rattle.std.proofs.lemmas.Bool.{and_parts, eqb-true, false≢true, false_from
 use Rattle.std.proofs.lemmas.Option.{same_Some}
 use Rattle.typed_tree.specs.WellFormed.{IsWellFormed, Outline, encloses, is_control, is_declared, is_local_kind, is_one_of, is_result_kind, is_round}
 use Rattle.typed_tree.specs.WellFormed.{is_variable_kind, is_visible, leads_to_ordinal, outline_of}
+use Rattle.typed_tree.specs.Accesses.{AtVariable}
 use Rattle.typed_tree.specs.declared.tree.Tree.{Tree}
 use Rattle.typed_tree.specs.declared.tree.Variable.{Variable}
 use Rattle.typed_tree.specs.declared.tree.VariableKind.{VariableKind}
@@ -96,7 +97,7 @@ module _ (tree : Tree) (well : IsWellFormed tree) where
       → (block control alias : ℕ) → is_control outline block control ≡ true → is_among alias (aliases_of pairs control) ≡ true
       → is_visible outline block alias ≡ false
   hidden-controls pairs known block control alias controls among =
-      let local = (and_parts (is_declared outline block is_local_kind control) (leads_to_ordinal outline block control [] 0) controls).0 in
+      let local = (and_parts (is_declared outline block is_local_kind control) (leads_to_ordinal outline block (AtVariable control) [] 0) controls).0 in
       false_from_ne_true (is_visible outline block alias)
       (λ seen.
       ⊎_elim

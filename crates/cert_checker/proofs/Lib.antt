@@ -1,4 +1,5 @@
 pub mod EffectsParameters
+pub mod OpenedBehind
 pub mod EffectsStatements
 pub mod EffectsRoutines
 pub mod PassedLeft
@@ -19,6 +20,7 @@ pub mod SoundAssignments
 pub mod SoundCopies
 pub mod SoundLoops
 pub mod SoundFor
+pub mod SoundWith
 pub mod SoundForms
 pub mod SoundBlocks
 pub mod ClaimsKnown

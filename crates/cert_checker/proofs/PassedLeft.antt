@@ -26,7 +26,7 @@ use Rattle.checker_calls.specs.Environments.{IsListed, LeavesPassed}
 use Rattle.checker_calls.proofs.Callee.{IsCalled, Outer, Own, PassedTo, Seen, activation_of, place-for_fits, seen-as}
 use Rattle.checker_calls.proofs.Entered.{roots-are}
 use Rattle.cert_checker.specs.Walk.{program_walk}
-use Rattle.cert_checker.proofs.EffectsParameters.{behind, behind-grounds, declare-theirs, well-body}
+use Rattle.cert_checker.proofs.EffectsParameters.{begun-body, behind, behind-grounds, declare-theirs, well-body}
 use Rattle.cert_checker.proofs.EffectsRoutines.{body-here}
 use Rattle.cert_checker.proofs.EffectsStatements.{statement-kept}
 use Rattle.checker_expressions.proofs.EffectsCalls.{CallsLeave}
@@ -89,12 +89,13 @@ module _ (tree : Tree) (well : IsWellFormed tree) (certificate : Certificate) (u
           omega (arith, young, level)
 
   pub passed-left : (ready t : effect.State) (done : Unit {0}) → ready.activations ≡ suc s.activations
-      → effect_of block.body (record { visible = callee; calls = calls }) ready ≡ effect.Gives done t
+      → effect_of block.body (record { visible = callee; records = []; calls = calls }) ready ≡ effect.Gives done t
       → LeavesPassed tree s.activations number changes ready.store t.store
   passed-left ready t done begun is root variable steps variable_is passed free =
       let body = body-here tree well certificate unbroken number block call.block_is in
       let kept = statement-kept tree blocks (declare-theirs tree well) number (behind tree blocks number block arguments caller s)
-      (behind-grounds tree blocks number block arguments caller s) calls leave block.body (well-body tree well number block call.block_is) body.inner
+      (behind-grounds tree blocks number block arguments caller s) calls leave block.body [] [] tt (well-body tree well number block call.block_is)
+      (begun-body tree well number block call.block_is) body.inner
       body.stands body.yields in
       let left = (kept.left ready (omega (arith, begun))).leaves in
       let behind_is : LeavesSo (behind tree blocks number block arguments caller s) ready.store t.store =

@@ -1,6 +1,6 @@
 -- The walk over each block of a program is sound, and so are calls, by the depth of activations in one another.
 use Rattle.std.proofs.Common.{arith, ◌≡◌, ⊎_elim, inl, inr, ◌∙◌, sym, ap, refl, subst, ℕ, zero, suc, ◌+◌, ◌<◌, Bool, true, false, cond, ◌&&◌, nat_eq}
-use Rattle.std.proofs.Common.{zero-add, ◌||◌, pos, List, [], ◌∷◌, ◌++◌, Option, Some, None}
+use Rattle.std.proofs.Common.{zero-add, ℤ, ◌||◌, pos, List, [], ◌∷◌, ◌++◌, Option, Some, None}
 use Rattle.std.specs.Prelude.{◌≤◌, nat_lt, slice_get}
 use Rattle.std.specs.List.{Contains}
 use Rattle.types.specs.declared.form.Step.{Step}
@@ -8,6 +8,8 @@ use Rattle.std.proofs.lemmas.Bool.{and_parts, ltb-true}
 use Rattle.std.proofs.lemmas.List.Elements.{All-contains}
 use Rattle.std.proofs.lemmas.Option.{none-some}
 use Rattle.certificate.specs.declared.Certificate.{Certificate}
+use Rattle.types.specs.Types.{is_ordinal}
+use Rattle.typed_tree.specs.Accesses.{AtVariable, accessed, is_type}
 use Rattle.typed_tree.specs.Loops.{AreLoops, loops_of_block}
 use Rattle.typed_tree.specs.WellFormed.{IsWellFormed, are_all, is_parameter_kind, is_placed, is_result, is_result_kind, is_result_or_none}
 use Rattle.typed_tree.specs.WellFormed.{encloses, is_one_of, is_round, is_visible, of_one, outline_of, result_roots, roots_where}
@@ -25,7 +27,9 @@ use Rattle.meaning.specs.Effect.{Reply, Visit}
 use Rattle.meaning.specs.Laws.{state_after}
 use Rattle.meaning.specs.Meaning.{Argument, Calls, activated, assign_all, calls_of, effect_of, environment_of, executed, result_of}
 use Rattle.meaning.specs.Store.{Environment, Place, Store, held, stored}
-use Rattle.checker_state.specs.Holds.{Holds, IsIn, IsOfRow, component_at, moment, value_at}
+use Rattle.checker_state.specs.Holds.{HoldNumbers, Holds, IsIn, IsOfRow, component_at, moment, value_at}
+use Rattle.checker_state.specs.Values.{IsKnown}
+use Rattle.checker_state.specs.declared.value.Known.TheVariants.{Ordinal}
 use Rattle.checker_state.specs.Loops.{is_among}
 use Rattle.checker_state.specs.State as claim
 use Rattle.checker_state.specs.State.{Claim, Dead, Live, State, Table, has_number, is_defined, range_of, row_at}
@@ -34,7 +38,7 @@ use Rattle.checker_state.proofs.Rows.{of_own, root-own}
 use Rattle.checker_state.proofs.Ranged.{common-in}
 use Rattle.checker_state.specs.Knows.{Knows}
 use Rattle.checker_rows.specs.Limits.{row_limits}
-use Rattle.checker_rows.specs.Rows.{all_parts, rows_of}
+use Rattle.checker_rows.specs.Rows.{all_parts, is_ordinal_variable, rows_of}
 use Rattle.checker_loops.specs.Loops.{all_said, gives_claims, rows_named, said}
 use Rattle.checker_state.specs.State.{table_of}
 use Rattle.checker_loops.proofs.Tabled.{are-rows}
@@ -50,7 +54,9 @@ use Rattle.checker_calls.proofs.Claimed.{AllHold}
 use Rattle.checker_calls.proofs.Given.{given-claims}
 use Rattle.checker_calls.proofs.Entered.{begun-behind, roots-are, typed-behind}
 use Rattle.checker_calls.proofs.Headings.{heading-at, same-numbers, well-heading}
+use Rattle.checker_calls.proofs.Numbers.{hold-numbers}
 use Rattle.checker_calls.proofs.Started.{called-start}
+use Rattle.cert_checker.proofs.Controls.{ordinal-of}
 use Rattle.checker_expressions.specs.declared.fault.Rule.TheVariants.{Exit}
 use Rattle.checker_expressions.specs.Walk.{Context, Walked, followed}
 use Rattle.checker_expressions.proofs.Sound.{Called, Good, Goes, Here, IsPartOf, LiesInResult, Returned, SoundCalls, World, activation_of, errs-here, good-give}
@@ -58,7 +64,7 @@ use Rattle.checker_expressions.proofs.Sound.{good-then, good-weaker, kept-rule, 
 use Rattle.checker_expressions.proofs.Sound.{unbroken-left, unbroken-right, variables_in}
 use Rattle.checker_expressions.proofs.SoundCalls.{CallLaws}
 use Rattle.cert_checker.specs.Walk.{begin, block_walk, blocks_walk, facts_given, first_context, program_walk, result_use, statement_walk}
-use Rattle.cert_checker.proofs.EffectsParameters.{well-body}
+use Rattle.cert_checker.proofs.EffectsParameters.{begun-body, held-body, well-body}
 use Rattle.cert_checker.proofs.EffectsRoutines.{calls-leave}
 use Rattle.cert_checker.proofs.PassedLeft.{passed-left}
 use Rattle.checker_expressions.proofs.EffectsCalls.{CallsLeave}
@@ -100,7 +106,9 @@ blocks-walked world context start (first ∷ blocks) state unbroken part (suc nu
 -- what is held of a variable by its number is defined
 number-defined : (table : Table) (state : State) (root : ℕ) → has_number table state root ≡ true → is_defined state root ≡ true
 number-defined table Dead root is = refl
-number-defined table (Live known) root is = (and_parts (nat_lt root table.variables) (row_at known root).is_defined is).1
+number-defined table (Live known) root is =
+    (and_parts (table.ordinal root) (row_at known root).is_defined
+    (and_parts (nat_lt root table.variables) (table.ordinal root && (row_at known root).is_defined) is).1).1
 
 module _ (tree : Tree) (env : Environment) (store : Store) (claims : List Fact) (hold : AllHold tree claims env store) (row : ℕ) (steps : List Step)
     (v : Value) (of_row : IsOfRow (all_parts tree) row steps) (value : component_at (all_parts tree) (moment env store) row steps ≡ Some v) where
@@ -247,10 +255,12 @@ module _ (tree : Tree) (certificate : Certificate) (unbroken : (program_walk tre
     -- the statement of a block, from where an activation of it begins
     pub body-good : SpareControls tree calls → (ready : effect.State) → Fine tree ready → Proper tree world.pairs number ready.activations visible
         → Knows (parts_in world) (variables_in world) visible begun ready.store
-        → Good world (Foretold world visible (within number) body ready.store) ready (effect_of block.body (record { visible = visible; calls = calls }) ready)
+        → Good world (Foretold world visible (within number) body ready.store) ready
+        (effect_of block.body (record { visible = visible; records = []; calls = calls }) ready)
     body-good spared ready fine proper known =
-        statement-sound world number block block_is (record { visible = visible; calls = calls }) laws sound spared
+        statement-sound world number block block_is visible calls laws sound spared
         (hidden-controls tree well world.pairs pairs_known number) block.body (well-body tree well number block block_is)
+        (held-body tree well number block block_is) (begun-body tree well number block block_is)
         (record {
           roots = controls_but number 0 tree.blocks.items;
           spared = well.unthreatened number block block_is;
@@ -270,12 +280,17 @@ module _ (tree : Tree) (certificate : Certificate) (unbroken : (program_walk tre
     abbrev Ends : Value → Store → Type 0
     Ends v store = LiesInResult world number block.heading.result v × AllHold tree claims.exit visible store
 
-    exit-holds : (store : Store) → Knows (parts_in world) (variables_in world) visible used.after store → AllHold tree claims.exit visible store
-    exit-holds store known = given-claims tree visible used.after store claims.exit known exit-given
+    exit-holds : (store : Store) → HoldNumbers (is_ordinal_variable tree) (moment visible store)
+        → Knows (parts_in world) (variables_in world) visible used.after store → AllHold tree claims.exit visible store
+    exit-holds store numbers known = given-claims tree visible used.after store claims.exit numbers known exit-given
 
     module _ (t : effect.State) (here : Here world number visible (within number) body.after t) where
-      module _ (result : FunctionResult) (result_is : block.heading.result ≡ Some result) (below : result.defined < sites_in world) (home : Place)
-          (at_home : visible.variables result.root ≡ Some home) where
+      -- its ordinal variables have numbers there
+      numbers : HoldNumbers (is_ordinal_variable tree) (moment visible t.store)
+      numbers = hold-numbers tree world.pairs number t.activations visible t.store here.proper here.fine.typed
+
+      module _ (result : FunctionResult) (result_is : block.heading.result ≡ Some result) (below : result.defined < sites_in world)
+          (ordinal : is_ordinal_variable tree result.root ≡ true) (home : Place) (at_home : visible.variables result.root ≡ Some home) where
         abbrev own_use : Walked (Unit {0})
         own_use = result_use (Some result) (within number) body.after
 
@@ -283,7 +298,31 @@ module _ (tree : Tree) (certificate : Certificate) (unbroken : (program_walk tre
         use-is = ap (λ (found : Option FunctionResult). result_use found (within number) body.after) result_is
 
         abbrev Found : Value → Store → Type 0
-        Found v store = IsIn (result_range tree claims result.root) v × AllHold tree claims.exit visible store
+        Found v store = IsKnown (Ordinal (result_range tree claims result.root)) v × AllHold tree claims.exit visible store
+
+        number-good : (n : ℤ) → stored t.store home ≡ Some (Number n) → Good world Found t (effect.fetched (Some (Number n)) result.defined t)
+        number-good n is =
+            let many = variables_in world in
+            let v : Value = Number n in
+            let known = here.stands.known in
+            let range = range_of body.after result.root in
+            let inside = read-in (parts_in world) (table_of tree) (are-rows tree) visible body.after t.store known result.root home at_home v is in
+            let after : Knows (parts_in world) many visible own_use.after t.store =
+            nonempty-known (parts_in world) (table_of tree) (are-rows tree) visible body.after t.store known range n inside in
+            let exits = exit-holds t.store numbers
+            (subst (λ (w : Walked (Unit {0})). Knows (parts_in world) many visible w.after t.store) (sym use-is) after) in
+            let m = moment visible t.store in
+            let bound = visible-within many visible known.shows result.root home at_home in
+            let value : component_at (parts_in world) m result.root [] ≡ Some v =
+            ap (λ (r : ℕ). value_at m r []) (root-own (parts_in world) (table_of tree) (are-rows tree) m result.root bound)
+            ∙ entire-value visible t.store result.root home at_home ∙ is in
+            let of_row = of_own (parts_in world) (table_of tree) (are-rows tree) m result.root bound in
+            let typed = (in-types tree world.pairs number t.activations visible t.store here.proper here.fine.typed).components result.root [] v of_row value in
+            good-give world Found v t here.fine (
+              exit-in tree visible t.store claims.exit exits result.root [] v of_row value claims.exit (λ one listed. listed)
+                  (row_limits (rows_of tree) result.root) typed,
+              exits,
+            )
 
         fetched-good : (found : Option Value) → stored t.store home ≡ found → Good world Found t (effect.fetched found result.defined t)
         fetched-good None is =
@@ -299,30 +338,13 @@ module _ (tree : Tree) (certificate : Certificate) (unbroken : (program_walk tre
               gives = tt;
             }
         fetched-good (Some v) is =
-            let n = variables_in world in
-            let known = here.stands.known in
-            let range = range_of body.after result.root in
-            let inside = read-in (parts_in world) (table_of tree) (are-rows tree) visible body.after t.store known result.root home at_home v is in
-            let after : Knows (parts_in world) n visible own_use.after t.store =
-            nonempty-known (parts_in world) (table_of tree) (are-rows tree) visible body.after t.store known range v inside in
-            let exits = exit-holds t.store
-            (subst (λ (w : Walked (Unit {0})). Knows (parts_in world) n visible w.after t.store) (sym use-is) after) in
-            let m = moment visible t.store in
-            let bound = visible-within n visible known.shows result.root home at_home in
-            let value : component_at (parts_in world) m result.root [] ≡ Some v =
-            ap (λ (r : ℕ). value_at m r []) (root-own (parts_in world) (table_of tree) (are-rows tree) m result.root bound)
-            ∙ entire-value visible t.store result.root home at_home ∙ is in
-            let of_row = of_own (parts_in world) (table_of tree) (are-rows tree) m result.root bound in
-            let typed = (in-types tree world.pairs number t.activations visible t.store here.proper here.fine.typed).components result.root [] v of_row value in
-            good-give world Found v t here.fine (
-              exit-in tree visible t.store claims.exit exits result.root [] v of_row value claims.exit (λ one listed. listed)
-                  (row_limits (rows_of tree) result.root) typed,
-              exits,
-            )
+            let own = numbers result.root v ordinal (entire-value visible t.store result.root home at_home ∙ is) in
+            subst (λ (w : Value). Good world Found t (effect.fetched (Some w) result.defined t)) (sym own.1)
+            (number-good own.0 (is ∙ ap (λ (w : Value). Some w) own.1))
 
       -- the result of a function is visible in its block
       result-well : (result : FunctionResult) → block.heading.result ≡ Some result
-          → (result.defined < sites_in world) × (is_visible (outline_of tree) number result.root ≡ true)
+          → (result.defined < sites_in world) × (is_visible (outline_of tree) number result.root ≡ true) × (is_ordinal_variable tree result.root ≡ true)
       result-well result result_is =
           let outline = outline_of tree in
           let h = block.heading in
@@ -341,11 +363,13 @@ module _ (tree : Tree) (certificate : Certificate) (unbroken : (program_walk tre
           (subst (λ (list : List ℕ). Contains list result.root) roots (0, omega arith, refl)) in
           let at : found.0 ≡ result.root = let root_is = found.2 in omega (arith, root_is) in
           let there : slice_get tree.variables.items result.root ≡ Some found.1 = ap (slice_get tree.variables.items) (sym at) ∙ found.3 in
+          let ordinal = is_type (is_ordinal tree.types) (accessed tree.variables.items tree.types (AtVariable result.root) []) in
           let of_block = (and_parts (nat_eq found.1.block number) (is_result_kind found.1.kind) found.4).0 in (
-            ltb-true result.defined (sites_in world) (and_parts (nat_lt result.defined (sites_in world)) _ own).0,
+            ltb-true result.defined (sites_in world) (and_parts (nat_lt result.defined (sites_in world)) ordinal own).0,
             ap (of_one (λ (v : Variable). is_round outline number v.block)) there
                 ∙ ap (of_one (encloses found.1.block number)) (heading-at tree number block block_is)
                 ∙ ap (λ (b : Bool). b || is_one_of h.around.items found.1.block) of_block,
+            ordinal-of tree.types (slice_get tree.variables.items result.root) (and_parts (nat_lt result.defined (sites_in world)) ordinal own).1,
           )
 
       result-by : (found : Option FunctionResult) → block.heading.result ≡ found
@@ -354,12 +378,13 @@ module _ (tree : Tree) (certificate : Certificate) (unbroken : (program_walk tre
           let same : used.after ≡ body.after =
           ap (λ (found : Option FunctionResult). (result_use found (within number) body.after).after) is in
           good-give world (λ v store. LiesInResult world number None v × AllHold tree claims.exit visible store) (Number (pos 0)) t here.fine
-          (tt, exit-holds t.store (subst (λ (state : State). Knows (parts_in world) (variables_in world) visible state t.store) (sym same) here.stands.known))
+          (tt, exit-holds t.store numbers (subst (λ (state : State). Knows (parts_in world) (variables_in world) visible state t.store) (sym same)
+          here.stands.known))
       result-by (Some result) is =
           let own = result-well result is in
           let at = here.proper.visible result.root own.1 in
-          subst (λ (place : Option Place). Good world (Found result is own.0 at.0 at.1) t (effect.fetch place result.defined t)) (sym at.1)
-          (fetched-good result is own.0 at.0 at.1 (stored t.store at.0) refl)
+          subst (λ (place : Option Place). Good world (Found result is own.0 own.2 at.0 at.1) t (effect.fetch place result.defined t)) (sym at.1)
+          (fetched-good result is own.0 own.2 at.0 at.1 (stored t.store at.0) refl)
 
       pub result-good : Good world Ends t (result_of block.heading.result visible t)
       result-good = result-by block.heading.result refl
@@ -412,14 +437,14 @@ module _ (tree : Tree) (certificate : Certificate) (unbroken : (program_walk tre
 
     abbrev execution : effect.Action Value
     execution =
-        effect.◌>>=◌ (effect_of block.body (record { visible = callee; calls = calls })) (λ done. result_of block.heading.result callee)
+        effect.◌>>=◌ (effect_of block.body (record { visible = callee; records = []; calls = calls })) (λ done. result_of block.heading.result callee)
 
     execution-good : (left : ℕ) → Good world AtEnd (ready_with left) (execution (ready_with left))
     execution-good left =
         let ready = ready_with left in
         let walked_body = body calls sound number block called.block_is callee in
         good-then world (Foretold world callee (within number) walked_body ready.store) AtEnd ready
-        (effect_of block.body (record { visible = callee; calls = calls }) ready) (λ done. result_of block.heading.result callee)
+        (effect_of block.body (record { visible = callee; records = []; calls = calls }) ready) (λ done. result_of block.heading.result callee)
         (body-good calls sound number block called.block_is callee spared ready (ready-fine left) proper-here (known-here left))
         (λ done t is told.
         let passed = passed-left tree well certificate unbroken world.pairs calls leave number block arguments caller s called.from is_called ready t done

@@ -17,7 +17,7 @@ use Rattle.meaning.specs.Meaning.{Execution, Surroundings, arm_of, is_among}
 use Rattle.meaning.specs.Store.{Environment, Store}
 use Rattle.checker_state.specs.State.{State, Table, range_of}
 use Rattle.checker_state.specs.Forms.{Form, Literal, Signed, Entire, Moved, Other, bound_of, root_of}
-use Rattle.checker_state.specs.Holds.{HasNumber, Moment, moment}
+use Rattle.checker_state.specs.Holds.{HasNumber, HoldNumbers, Moment, moment}
 use Rattle.checker_state.specs.Knows.{AreRows, IsOfForm, Knows}
 use Rattle.checker_state.specs.State.{table_of}
 use Rattle.checker_state.proofs.Bounded.{narrowed-holds, root-here}
@@ -26,7 +26,7 @@ use Rattle.checker_rows.specs.Rows.{Parts}
 use Rattle.checker_state.specs.Joins.{joined_states}
 use Rattle.checker_loops.specs.Cases.{arm_start, at_constants, constants_before}
 use Rattle.checker_expressions.specs.Walk.{Context, Walking}
-use Rattle.checker_expressions.proofs.Sound.{Stands, World, stands-as}
+use Rattle.checker_expressions.proofs.Sound.{Stands, World, ordinal_in, stands-as}
 use Rattle.cert_checker.specs.Walk.{arms_walk}
 use Rattle.cert_checker.proofs.SoundLoops.{joined-one}
 
@@ -58,14 +58,15 @@ at-constants_known rows table are env store (Some root) row base n has among kno
 
 -- what is known behind an arm is known behind those after it
 pub arms-behind : (world : World) (env : Environment) (store : Store) (base : State) (index : Option ℕ) (rows : List (Vec ℤ Global))
-    (arms : List (Walking (Unit {0}))) (context : Context) (behind : State) → Stands world env context behind store
+    (arms : List (Walking (Unit {0}))) (context : Context) (behind : State) → HoldNumbers (ordinal_in world) (moment env store)
+    → Stands world env context behind store
     → Stands world env context (arms_walk base index rows arms context behind).after store
-arms-behind world env store base index rows [] context behind stands = stands
-arms-behind world env store base index rows (arm ∷ arms) context behind stands =
+arms-behind world env store base index rows [] context behind numbers stands = stands
+arms-behind world env store base index rows (arm ∷ arms) context behind numbers stands =
     let first = arm context (arm_start index (slice_get rows 0) base) in
-    arms-behind world env store base index (drop 1 rows) arms context (joined_states (table_of context.tree) behind first.after)
+    arms-behind world env store base index (drop 1 rows) arms context (joined_states (table_of context.tree) behind first.after) numbers
     (stands-as world env context behind (joined_states (table_of context.tree) behind first.after) store stands
-    (joined-one world env context behind first.after store stands))
+    (joined-one world env context behind first.after store numbers stands))
 
 -- the constants before a first arm, and before the others
 pub first-constants : (row : Vec ℤ Global) (rows : List (Vec ℤ Global)) (arms : ℕ) (n : ℤ)

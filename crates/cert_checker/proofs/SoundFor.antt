@@ -2,7 +2,7 @@
 use Rattle.std.proofs.Common.{arith, ◌≡◌, ◌≢◌, ⊎_elim, ◌∙◌, sym, ap, refl, subst, ℕ, ◌<◌, ℤ, Bool, true, false, cond, ◌||◌}
 use Rattle.std.proofs.Common.{List, [], ◌∷◌, ◌++◌, Option, Some, None, nat_eq}
 use Rattle.std.specs.Ordering.{int_eq}
-use Rattle.std.specs.Prelude.{◌≤◌, is_some}
+use Rattle.std.specs.Prelude.{◌≤◌}
 use Rattle.std.proofs.lemmas.Int.{ints}
 use Rattle.std.proofs.lemmas.Bool.{and_from, both_ways, cases_eq, eq-eqb, eqb-true, false_from_ne_true}
 use Rattle.std.proofs.lemmas.List.Folds.{list_any-append}
@@ -23,9 +23,9 @@ use Rattle.meaning.specs.Meaning as meaning
 use Rattle.meaning.specs.Meaning.{Surroundings}
 use Rattle.meaning.specs.Laws.{state_after}
 use Rattle.meaning.specs.Store.{Environment, Place as StorePlace, Store, is_beginning, overlap, stored as stored_at, undefined, written}
-use Rattle.checker_state.specs.declared.value.Known.TheVariants.{Ordinal}
+use Rattle.checker_state.specs.declared.value.Known.{Known}
 use Rattle.checker_rows.specs.Limits.{limits_of, row_limits}
-use Rattle.checker_rows.specs.Rows.{rows_of, values_at}
+use Rattle.checker_rows.specs.Rows.{rows_of}
 use Rattle.checker_state.specs.Loops.{is_among, with_undefined}
 use Rattle.checker_state.specs.Holds.{HasNumber, IsIn, moment}
 use Rattle.checker_state.specs.Knows.{IsKept, IsOfForm, Knows, AreEntire}
@@ -50,12 +50,12 @@ use Rattle.checker_expressions.specs.Walk.{Context, Walked, Walking, followed}
 use Rattle.checker_expressions.proofs.Keeping.{Keeps, keeps-itself, keeps-then}
 use Rattle.checker_expressions.proofs.Sound.{Any_value, Good, Goes, Here, IsForetold, IsPartOf, Passes, Stands, World, good-give, good-then, good-weaker}
 use Rattle.checker_expressions.proofs.Sound.{here-behind, is_seen, nothing-new, part-left, part-right, parts_in, proper-grown, sites_in, stands-as}
-use Rattle.checker_expressions.proofs.Sound.{unbroken-left, unbroken-right, variables_in}
+use Rattle.checker_expressions.proofs.Sound.{ordinal_in, unbroken-left, unbroken-right, variables_in}
 use Rattle.checker_expressions.proofs.SoundCalls.{in_world, by-world}
 use Rattle.checker_expressions.proofs.SoundOperations.{within-sound}
 use Rattle.cert_checker.specs.Walk as walk
 use Rattle.cert_checker.specs.Walk.{steady_in}
-use Rattle.cert_checker.proofs.Changes.{assigned-knows, ended-knows, whole, whole-has, whole-typed, whole-written}
+use Rattle.cert_checker.proofs.Changes.{assigned-knows, ended-knows, number-lies_in, whole, whole-has, whole-typed, whole-written}
 use Rattle.cert_checker.proofs.Keeping.{gone-begun, gone-changes, gone-keeps, gone-none, gone-typed}
 use Rattle.cert_checker.proofs.Rounds.{StandsIn, goes-inside, loop-closed}
 use Rattle.cert_checker.proofs.SparedCalls.{IsAlone}
@@ -132,14 +132,14 @@ all_in world head = head.control ∷ controls_inside world.tree head.loop_number
 pub record IsOwn (world : World) (block : ℕ) (env : Environment) (few : ℕ) (control : ℕ) : Type 0 where
   pub proper : Proper world.tree world.pairs block few env
   pub seen : is_seen world block control ≡ true
-  pub ordinal : is_some (values_at (rows_of world.tree) control) ≡ true
+  pub ordinal : ordinal_in world control ≡ true
   pub hidden : (alias : ℕ) → is_among alias (aliases_of world.pairs control) ≡ true → is_seen world block alias ≡ false
 
 -- what the text tells of the control variable of a for statement: it is visible, and its aliases aren't, in each loop round the statement it controls
 -- one, and what is executed leaves it where it alone lies
 pub record IsControl (world : World) (block : ℕ) (env : Surroundings) (execution : meaning.Execution) (context : Context) (control : ℕ) : Type 0 where
   pub seen : is_seen world block control ≡ true
-  pub ordinal : is_some (values_at (rows_of world.tree) control) ≡ true
+  pub ordinal : ordinal_in world control ≡ true
   pub hidden : (alias : ℕ) → is_among alias (aliases_of world.pairs control) ≡ true → is_seen world block alias ≡ false
   pub controls : all_control control context.rounds ≡ true
   pub left : (place : StorePlace) → IsAlone place control env.visible → KeepsAt (watching place env.visible) (execution env)
@@ -181,25 +181,26 @@ module _ (world : World) (block : ℕ) (env : Environment) (few : ℕ) (control 
   abbrev numbered : ℤ → Store → Store
   numbered n store = written store home (Number n)
 
-  one-number : (n : ℤ) (store : Store) → AreWritten env [] control (whole n) store (numbered n store)
-  one-number n store = whole-written env [] control home at_home apart store n
+  one-number : (n : ℤ) (store : Store) → AreWritten env [] control (whole (Number n)) store (numbered n store)
+  one-number n store = whole-written env [] control home at_home apart store (Number n)
 
   has-number : (n : ℤ) (store : Store) → HasNumber (moment env (numbered n store)) control n
-  has-number n store = whole-has env [] control n store (numbered n store) (one-number n store)
+  has-number n store = whole-has env [] control (Number n) store (numbered n store) (one-number n store)
 
   number-kept : (n : ℤ) (store : Store) → IsKept env (control ∷ []) [] store (numbered n store)
-  number-kept n store = one-kept env [] control (whole n) store (numbered n store) (one-number n store)
+  number-kept n store = one-kept env [] control (whole (Number n)) store (numbered n store) (one-number n store)
 
   number-fine : (n : ℤ) (t : effect.State) → few ≤ t.activations → Fine world.tree t → HasMember (typed_values world control) n
       → Fine world.tree (record t { store = numbered n t.store })
   number-fine n t grown fine inside =
-      let typed = whole-typed world.tree world.pairs block few env own.proper control home at_home n own.ordinal inside in
+      let typed = whole-typed world.tree world.pairs block few env own.proper control home at_home (Number n)
+      (number-lies_in world.tree control n own.ordinal inside) in
       let are = one-number n t.store in
       let young = own.proper.begun control home at_home in
       record {
-        typed = written-typed world.tree env [] control (whole n) t.store (numbered n t.store) are typed fine.typed;
-        begun = written-begun world.tree env [] control (whole n) t.store (numbered n t.store) are t.activations home at_home (omega (arith, young, grown))
-            fine.begun;
+        typed = written-typed world.tree env [] control (whole (Number n)) t.store (numbered n t.store) are typed fine.typed;
+        begun = written-begun world.tree env [] control (whole (Number n)) t.store (numbered n t.store) are t.activations home at_home
+            (omega (arith, young, grown)) fine.begun;
       }
 
   -- a number is stored to it
@@ -407,10 +408,10 @@ module _ (world : World) (block : ℕ) (env : Surroundings)
       (loop-closed world context.block context head.loop_number here.stands.goes.tree_is here.stands.goes.pairs_are
       (in_table.0, in_table.1, in_table.2 ∙ sym here.block_is)) here.stands.goes
 
-  -- the values of the bounds lie in these ranges
-  module _ (from to : Interval) where
+  -- this is known of the values of the bounds
+  module _ (from to : Known) where
     abbrev way : Way
-    way = way_of head (Ordinal from) (Ordinal to)
+    way = way_of (ordinal_in world) head from to
 
     module _ (context : Context) (state : State) (x y : ℤ)
         (text : IsControl world block env execution context head.control) (held : AreControlled among context)
@@ -480,8 +481,9 @@ module _ (world : World) (block : ℕ) (env : Surroundings)
             let place = home world block visible few head.control is_own in
             let at_place = at_home world block visible few head.control is_own in
             let are = whole-written visible aliases head.control place at_place
-            (apart-seen tree pairs block few visible here.proper head.control place at_place) v.store x in
-            let typed = whole-typed tree pairs block few visible here.proper head.control place at_place x text.ordinal x_typed in
+            (apart-seen tree pairs block few visible here.proper head.control place at_place) v.store (Number x) in
+            let typed = whole-typed tree pairs block few visible here.proper head.control place at_place (Number x)
+            (number-lies_in tree head.control x text.ordinal x_typed) in
             by-world world context
             (λ (other : Context).
             Knows (parts_in world) (variables_in world) visible (walk.begin_way tested other last.after).after start)
@@ -491,7 +493,7 @@ module _ (world : World) (block : ℕ) (env : Surroundings)
             Knows (parts_in world) (variables_in world) visible
             (walk.begin_way tested (record (in_world world context) { block = b }) last.after).after start)
             (sym here.block_is)
-            (assigned-knows tree pairs block few visible here.proper head.control place at_place x v.store start are typed first.value way.first.form
+            (assigned-knows tree pairs block few visible here.proper head.control place at_place (Number x) v.store start are typed first.value way.first.form
             (entered tested last.after) in_first (may-of_form v.store way.first.form x forms.0)
             (entered-known (parts_in world) (table_of world.tree) (are-rows world.tree) visible v.store tested last.after x y in_first in_last counts
             here.stands.known)))
@@ -564,10 +566,10 @@ module _ (world : World) (block : ℕ) (env : Surroundings)
             → Good world (Foretold world visible context whole_walked start) u
             (effect.◌>>=◌ (effect.require last_test head.last.fits.site) (λ done. rounds_action) u)
         last-good start u kept here known forms inside in_first x_fits =
-            good-then world (IsForetold world visible (Passes last_test (Number y)) context last u.store) (Foretold world visible context whole_walked start) u
+            good-then world (IsForetold world visible (Passes last_test y) context last u.store) (Foretold world visible context whole_walked start) u
             (effect.require last_test head.last.fits.site u) (λ done. rounds_action)
             (within-sound world block visible (limits_of head.last.fits.range) head.last.fits.site (met way.last.form state way.last.values)
-            (Number y) last_test last_tested.below
+            y last_test last_tested.below
             (is_in-limits head.last.fits.range (Number y)) (limits-is_in head.last.fits.range (Number y))
             (met-in (parts_in world) (table_of world.tree) (are-rows world.tree) visible u.store way.last.form state way.last.values y forms.1 known inside)
             context first.after u
@@ -576,7 +578,7 @@ module _ (world : World) (block : ℕ) (env : Surroundings)
             (λ done v is told.
             let same = required-same last_test head.last.fits.site u v done is in
             let forms_here : Forms v.store = subst (λ (s : effect.State). Forms s.store) same.1 forms in
-            let here_behind = here-behind world block visible (Passes last_test (Number y)) context first.after last u v done here told in
+            let here_behind = here-behind world block visible (Passes last_test y) context first.after last u v done here told in
             good-weaker world (Foretold world visible context turns v.store) (Foretold world visible context whole_walked start) v (rounds_action v)
             (λ done w is then. record {
               tie = tt;
@@ -592,18 +594,18 @@ module _ (world : World) (block : ℕ) (env : Surroundings)
             → Good world (Foretold world visible context whole_walked t.store) t
             (meaning.for_rounds head execution env x y t)
         turns-good t here forms in_first in_last =
-            good-then world (IsForetold world visible (Passes first_test (Number x)) context first t.store)
+            good-then world (IsForetold world visible (Passes first_test x) context first t.store)
             (Foretold world visible context whole_walked t.store) t (effect.require first_test head.first.fits.site t)
             (λ done. effect.◌>>=◌ (effect.require last_test head.last.fits.site) (λ done. rounds_action))
             (within-sound world block visible (limits_of head.first.fits.range) head.first.fits.site (met way.first.form state way.first.values)
-            (Number x) first_test first_tested.below
+            x first_test first_tested.below
             (is_in-limits head.first.fits.range (Number x)) (limits-is_in head.first.fits.range (Number x))
             (met-in (parts_in world) (table_of world.tree) (are-rows world.tree) visible t.store way.first.form state way.first.values x forms.0
             here.stands.known in_first) context state t
             (unbroken-left first.broken from_last.broken tests_unbroken) (part-left world first from_last from-first) here)
             (λ done u is told.
             let same = required-same first_test head.first.fits.site t u done is in
-            last-good t.store u told.so.kept (here-behind world block visible (Passes first_test (Number x)) context state first t u done here told)
+            last-good t.store u told.so.kept (here-behind world block visible (Passes first_test x) context state first t u done here told)
             (subst (λ (s : effect.State). Knows (parts_in world) (variables_in world) visible state s.store) same.1 here.stands.known)
             (subst (λ (s : effect.State). Forms s.store) same.1 forms) in_last told.so.tie.0 same.0)
 
@@ -681,7 +683,7 @@ module _ (world : World) (block : ℕ) (env : Surroundings)
           (counts-known (parts_in world) (table_of world.tree) (are-rows world.tree) visible t.store way b state x y is one other here.stands.known) in
           good-then world (Foretold world visible context both t.store) (Foretold world visible context statement t.store) t
           (cond counts turns (effect.give tt) t) (λ done. effect.undefine (visible.variables head.control))
-          (ways-good world visible turns (effect.give tt) taken never counts context t
+          (ways-good world block t.activations visible here.proper turns (effect.give tt) taken never counts context t
           (λ is unbroken part.
           turns-good context (where_so true) x y text held controls_are first_tested last_tested is unbroken part t (here_so true is)
           (one, other) in_first in_last)

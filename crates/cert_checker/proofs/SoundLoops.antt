@@ -7,21 +7,24 @@ use Rattle.std.proofs.lemmas.List.Folds.{list_all-append}
 use Rattle.std.proofs.lemmas.Bool.{and_from}
 use Rattle.checker_expressions.specs.declared.fault.Rule.TheVariants.{LoopEntry, LoopTurn}
 use Rattle.typed_tree.specs.declared.tree.Expr.{Expr}
+use Rattle.typed_tree.specs.declared.tree.Scalar.TheVariants as scalar
 use Rattle.typed_tree.specs.declared.tree.Tree.{Tree}
 use Rattle.place.specs.declared.Place.{Place as SourcePlace}
 use Rattle.domain.specs.Facts.{Fact}
 use Rattle.meaning.specs.declared.outcome.Ending.TheVariants.{More}
 use Rattle.meaning.specs.declared.store.Value.{Value}
+use Rattle.meaning.specs.declared.store.Value.TheVariants.{Members, Number}
 use Rattle.meaning.specs.Store.{Environment, Store}
 use Rattle.meaning.specs.Effect as effect
 use Rattle.meaning.specs.Effect.{Action, and_then}
 use Rattle.meaning.specs.Meaning as meaning
 use Rattle.meaning.specs.Meaning.{Surroundings, is_so, value_of}
 use Rattle.checker_state.specs.declared.value.Known.{Known}
-use Rattle.checker_state.specs.declared.value.Known.TheVariants.{Ordinal}
+use Rattle.checker_state.specs.declared.value.Known.TheVariants.{Ordinal, Set}
+use Rattle.checker_state.specs.Holds.{HoldNumbers, moment}
 use Rattle.checker_state.specs.Knows.{IsKept, Knows, AreEntire}
 use Rattle.checker_state.specs.Loops.{is_among}
-use Rattle.checker_expressions.proofs.Sound.{IsKnown, Any_value, Good, Goes, Here, IsForetold, IsPartOf, IsValue, Sound, Stands, World, good-give, good-then}
+use Rattle.checker_expressions.proofs.Sound.{Any_value, Good, Goes, Here, IsForetold, IsHeld, IsPartOf, Sound, Stands, World, good-give, good-then, ordinal_in}
 use Rattle.checker_expressions.proofs.Sound.{good-weaker, here-behind, kept-rule, nothing-new, part-left, part-right, parts_in, proper-grown, stands-as}
 use Rattle.checker_expressions.proofs.Sound.{unbroken-left, unbroken-right, variables_in}
 use Rattle.checker_state.specs.State.{State}
@@ -32,10 +35,11 @@ use Rattle.checker_loops.specs.Loops.{Round, claims_at, controls_inside, gives_c
 use Rattle.checker_state.specs.State.{table_of}
 use Rattle.checker_loops.proofs.Tabled.{are-rows}
 use Rattle.checker_loops.proofs.Touched.{all_control}
-use Rattle.checker_calls.specs.Environments.{Fine, Proper}
+use Rattle.checker_calls.specs.Environments.{Fine, Proper, Typed}
 use Rattle.checker_calls.proofs.AliasedTypes.{in-types}
 use Rattle.checker_calls.proofs.Claimed.{AllHold}
 use Rattle.checker_calls.proofs.Given.{given-claims}
+use Rattle.checker_calls.proofs.Numbers.{hold-numbers}
 use Rattle.checker_expressions.specs.Walk as flow
 use Rattle.cert_checker.specs.Walk as walk
 use Rattle.checker_expressions.specs.Walk.{Context, Walked, Walking, followed, value_walk}
@@ -57,6 +61,15 @@ SoundAmong controls world block env R action walking =
     (context : Context) (state : State) (s : effect.State) → AreControlled controls context → (walking context state).broken ≡ []
     → IsPartOf world (walking context state) → Here world block env context state s
     → Good world (IsForetold world env R context (walking context state) s.store) s (action s)
+
+-- where the walk goes by the program
+pub among-by_tree : (controls : List ℕ) (world : World) (block : ℕ) (env : Environment) (action : Action (Unit {0})) (walking : Tree → Walking (Unit {0}))
+    → SoundAmong {A = Unit {0}} {B = Unit {0}} controls world block env Any_value action (walking world.tree)
+    → SoundAmong {A = Unit {0}} {B = Unit {0}} controls world block env Any_value action (λ context. walking context.tree context)
+among-by_tree controls world block env action walking one context state s held unbroken part here =
+    subst (λ (tree : Tree). (walking tree context state).broken ≡ [] → IsPartOf world (walking tree context state)
+    → Good world (Foretold world env context (walking tree context state) s.store) s (action s))
+    (sym here.stands.goes.tree_is) (λ kept walked. one context state s held kept walked here) unbroken part
 
 pub all-controls : (root : ℕ) (rounds : List Round) (one : Round) → all_control root rounds ≡ true → is_among root one.controls ≡ true
     → all_control root (rounds ++ one ∷ []) ≡ true
@@ -86,64 +99,81 @@ here-later world block env context state s t same fine grown here = record {
   stands = subst (Stands world env context state) (sym same) here.stands;
 }
 
+-- the ordinal variables have numbers there
+pub numbers-here : (world : World) (block : ℕ) (env : Environment) (context : Context) (state : State) (s : effect.State)
+    → Here world block env context state s → HoldNumbers (ordinal_in world) (moment env s.store)
+numbers-here world block env context state s here =
+    hold-numbers world.tree world.pairs block s.activations env s.store here.proper here.fine.typed
+
 -- ---- branches
 
 -- where a condition has a truth value, what is known of it holds
 pub chosen-here : (world : World) (block : ℕ) (env : Surroundings) (condition : Expr) (known : Known) (v : Value) (s t : effect.State) (context : Context)
-    (state : State) → value_of condition env s ≡ effect.Gives v t → IsKnown known v → Here world block env.visible context state t
-    → Here world block env.visible context (where_so (is_so v) condition known state) t
-chosen-here world block env condition (Ordinal range) v s t context state is inside here =
-    here-as world block env.visible context state (where_so (is_so v) condition (Ordinal range) state) t here
-    (conditions-tell (parts_in world) (table_of world.tree) (are-rows world.tree) env condition s t v range state is inside here.stands.known)
+    (state : State) → value_of condition env s ≡ effect.Gives v t → IsHeld scalar.Ordinal known v t.store → Here world block env.visible context state t
+    → Here world block env.visible context (where_so world.tree (is_so v) condition known state) t
+chosen-here world block env condition (Ordinal range) (Number n) s t context state is inside here =
+    here-as world block env.visible context state (where_so world.tree (is_so (Number n)) condition (Ordinal range) state) t here
+    (conditions-tell (parts_in world) (table_of world.tree) (are-rows world.tree) (ordinal_in world) env condition s t n range state is inside.0
+    (numbers-here world block env.visible context state t here) here.stands.known)
+chosen-here world block env condition (Ordinal range) (Members set) s t context state is inside here = absurd inside.0
+chosen-here world block env condition (Set hull) v s t context state is inside here = absurd (let other = inside.1 in cc)
 
 -- behind one of two ways the joined state holds
 abbrev JoinedKnown : World → Environment → State → State → Store → Tree → Type 0
 JoinedKnown world env one other store tree = Knows (parts_in world) (variables_in world) env (joined_states (table_of tree) one other) store
 
-pub joined-one : (world : World) (env : Environment) (context : Context) (one other : State) (store : Store) → Stands world env context one store
+pub joined-one : (world : World) (env : Environment) (context : Context) (one other : State) (store : Store)
+    → HoldNumbers (ordinal_in world) (moment env store) → Stands world env context one store
     → Knows (parts_in world) (variables_in world) env (joined_states (table_of context.tree) one other) store
-joined-one world env context one other store stands =
+joined-one world env context one other store numbers stands =
     subst (JoinedKnown world env one other store) (sym stands.goes.tree_is)
-    (join-holds.from_one (parts_in world) (table_of world.tree) (are-rows world.tree) env one other store stands.known)
+    (join-holds.from_one (parts_in world) (table_of world.tree) (are-rows world.tree) env one other store numbers stands.known)
 
-pub joined-other : (world : World) (env : Environment) (context : Context) (one other : State) (store : Store) → Stands world env context other store
+pub joined-other : (world : World) (env : Environment) (context : Context) (one other : State) (store : Store)
+    → HoldNumbers (ordinal_in world) (moment env store) → Stands world env context other store
     → Knows (parts_in world) (variables_in world) env (joined_states (table_of context.tree) one other) store
-joined-other world env context one other store stands =
+joined-other world env context one other store numbers stands =
     subst (JoinedKnown world env one other store) (sym stands.goes.tree_is)
-    (join-holds.from_other (parts_in world) (table_of world.tree) (are-rows world.tree) env one other store stands.known)
+    (join-holds.from_other (parts_in world) (table_of world.tree) (are-rows world.tree) env one other store numbers stands.known)
 
 one-way : (world : World) (env : Environment) (context : Context) (one other : Walked (Unit {0})) (start store : Store) (done : Unit {0})
-    → Foretold world env context one start done store → Foretold world env context (walk.either_of context one other) start done store
-one-way world env context one other start store done told = record {
+    → HoldNumbers (ordinal_in world) (moment env store) → Foretold world env context one start done store
+    → Foretold world env context (walk.either_of context one other) start done store
+one-way world env context one other start store done numbers told = record {
   tie = tt;
   stands = stands-as world env context one.after (joined_states (table_of context.tree) one.after other.after) store told.stands
-      (joined-one world env context one.after other.after store told.stands);
+      (joined-one world env context one.after other.after store numbers told.stands);
   kept = told.kept;
 }
 
 other-way : (world : World) (env : Environment) (context : Context) (one other : Walked (Unit {0})) (start store : Store) (done : Unit {0})
-    → Foretold world env context other start done store → Foretold world env context (walk.either_of context one other) start done store
-other-way world env context one other start store done told = record {
+    → HoldNumbers (ordinal_in world) (moment env store) → Foretold world env context other start done store
+    → Foretold world env context (walk.either_of context one other) start done store
+other-way world env context one other start store done numbers told = record {
   tie = tt;
   stands = stands-as world env context other.after (joined_states (table_of context.tree) one.after other.after) store told.stands
-      (joined-other world env context one.after other.after store told.stands);
+      (joined-other world env context one.after other.after store numbers told.stands);
   kept = told.kept;
 }
 
 -- one of two ways, by a truth value
-pub ways-good : (world : World) (env : Environment) (one_action other_action : Action (Unit {0})) (one other : Walked (Unit {0})) (b : Bool)
-    (context : Context) (t : effect.State)
+pub ways-good : (world : World) (block few : ℕ) (env : Environment) → Proper world.tree world.pairs block few env
+    → (one_action other_action : Action (Unit {0})) (one other : Walked (Unit {0})) (b : Bool) (context : Context) (t : effect.State)
     → (b ≡ true → one.broken ≡ [] → IsPartOf world one → Good world (Foretold world env context one t.store) t (one_action t))
     → (b ≡ false → other.broken ≡ [] → IsPartOf world other → Good world (Foretold world env context other t.store) t (other_action t))
     → (walk.either_of context one other).broken ≡ [] → IsPartOf world (walk.either_of context one other)
     → Good world (Foretold world env context (walk.either_of context one other) t.store) t (cond b one_action other_action t)
-ways-good world env one_action other_action one other true context t taken skipped unbroken part =
+ways-good world block few env proper one_action other_action one other true context t taken skipped unbroken part =
     good-weaker world (Foretold world env context one t.store) (Foretold world env context (walk.either_of context one other) t.store) t (one_action t)
-    (λ done u is told. one-way world env context one other t.store u.store done told.so)
+    (λ done u is told.
+    one-way world env context one other t.store u.store done
+    (hold-numbers world.tree world.pairs block few env u.store proper told.fine.typed) told.so)
     (taken refl (unbroken-left one.broken other.broken unbroken) (part-left world one other (record { ids = part.ids; linked = part.linked })))
-ways-good world env one_action other_action one other false context t taken skipped unbroken part =
+ways-good world block few env proper one_action other_action one other false context t taken skipped unbroken part =
     good-weaker world (Foretold world env context other t.store) (Foretold world env context (walk.either_of context one other) t.store) t (other_action t)
-    (λ done u is told. other-way world env context one other t.store u.store done told.so)
+    (λ done u is told.
+    other-way world env context one other t.store u.store done
+    (hold-numbers world.tree world.pairs block few env u.store proper told.fine.typed) told.so)
     (skipped refl (unbroken-right one.broken other.broken unbroken) (part-right world one other (record { ids = part.ids; linked = part.linked })))
 
 -- the choice of a branch by a truth value
@@ -152,46 +182,54 @@ chosen-good : (controls : List ℕ) (world : World) (block : ℕ) (env : Environ
     (known : Known) (b : Bool) (context : Context) (state : State) (t : effect.State)
     → SoundAmong {A = Unit {0}} {B = Unit {0}} controls world block env Any_value one_action consequence
     → SoundAmong {A = Unit {0}} {B = Unit {0}} controls world block env Any_value other_action alternative
-    → AreControlled controls context → (walk.branches condition consequence alternative known context state).broken ≡ []
-    → IsPartOf world (walk.branches condition consequence alternative known context state)
-    → Here world block env context (where_so b condition known state) t
-    → Good world (Foretold world env context (walk.branches condition consequence alternative known context state) t.store) t
+    → AreControlled controls context → (walk.branches world.tree condition consequence alternative known context state).broken ≡ []
+    → IsPartOf world (walk.branches world.tree condition consequence alternative known context state)
+    → Here world block env context (where_so world.tree b condition known state) t
+    → Good world (Foretold world env context (walk.branches world.tree condition consequence alternative known context state) t.store) t
     (cond b one_action other_action t)
 chosen-good controls world block env one_action other_action condition consequence alternative known b context state t one other held unbroken part here =
-    let at = λ (c : Bool). where_so c condition known state in
-    ways-good world env one_action other_action (consequence context (at true)) (alternative context (at false)) b context t
+    let at = λ (c : Bool). where_so world.tree c condition known state in
+    ways-good world block t.activations env here.proper one_action other_action (consequence context (at true)) (alternative context (at false)) b context t
     (λ is unbroken part. one context (at true) t held unbroken part (subst (λ (c : Bool). Here world block env context (at c) t) is here))
     (λ is unbroken part. other context (at false) t held unbroken part (subst (λ (c : Bool). Here world block env context (at c) t) is here))
     unbroken part
 
--- a condition, and then one of two branches
-pub sound-choice : (controls : List ℕ) (world : World) (block : ℕ) (env : Surroundings) (condition : Expr) (one_action other_action : Action (Unit {0}))
+module _ (controls : List ℕ) (world : World) (block : ℕ) (env : Surroundings) (condition : Expr) (one_action other_action : Action (Unit {0}))
     (consequence alternative : Walking (Unit {0}))
-    → Sound world block env.visible IsValue (value_of condition env) (value_walk condition)
-    → SoundAmong {A = Unit {0}} {B = Unit {0}} controls world block env.visible Any_value one_action consequence
-    → SoundAmong {A = Unit {0}} {B = Unit {0}} controls world block env.visible Any_value other_action alternative
-    → SoundAmong {A = Unit {0}} {B = Unit {0}} controls world block env.visible Any_value
-    (effect.◌>>=◌ (value_of condition env) (λ v. cond (is_so v) one_action other_action))
-    (flow.◌>>=◌ (value_walk condition) (walk.branches condition consequence alternative))
-sound-choice controls world block env condition one_action other_action consequence alternative valued one other context state s held unbroken part here =
-    let visible = env.visible in
-    let first = value_walk condition context state in
-    let second = walk.branches condition consequence alternative first.value context first.after in
-    good-then world (IsForetold world visible IsValue context first s.store) (Foretold world visible context (followed first second) s.store) s
-    (value_of condition env s) (λ v. cond (is_so v) one_action other_action)
-    (valued context state s (unbroken-left first.broken second.broken unbroken) (part-left world first second part) here)
-    (λ v t is told.
-    good-weaker world (Foretold world visible context second t.store) (Foretold world visible context (followed first second) s.store) t
-    (cond (is_so v) one_action other_action t)
-    (λ done u gives then. record {
-      tie = tt;
-      stands = then.so.stands;
-      kept = keeps-then visible context.rounds s.store t.store u.store told.so.kept then.so.kept;
-    })
-    (chosen-good controls world block visible one_action other_action condition consequence alternative first.value (is_so v) context first.after t one other
-    held (unbroken-right first.broken second.broken unbroken) (part-right world first second part)
-    (chosen-here world block env condition first.value v s t context first.after is told.so.tie
-    (here-behind world block visible IsValue context state first s t v here told))))
+    (valued : Sound world block env.visible (IsHeld scalar.Ordinal) (value_of condition env) (value_walk condition))
+    (one : SoundAmong {A = Unit {0}} {B = Unit {0}} controls world block env.visible Any_value one_action consequence)
+    (other : SoundAmong {A = Unit {0}} {B = Unit {0}} controls world block env.visible Any_value other_action alternative) where
+  abbrev choice : Action (Unit {0})
+  choice = effect.◌>>=◌ (value_of condition env) (λ v. cond (is_so v) one_action other_action)
+
+  sound-chosen : SoundAmong {A = Unit {0}} {B = Unit {0}} controls world block env.visible Any_value choice
+      (flow.◌>>=◌ (value_walk condition) (walk.branches world.tree condition consequence alternative))
+  sound-chosen context state s held unbroken part here =
+      let visible = env.visible in
+      let first = value_walk condition context state in
+      let second = walk.branches world.tree condition consequence alternative first.value context first.after in
+      good-then world (IsForetold world visible (IsHeld scalar.Ordinal) context first s.store)
+      (Foretold world visible context (followed first second) s.store) s (value_of condition env s) (λ v. cond (is_so v) one_action other_action)
+      (valued context state s (unbroken-left first.broken second.broken unbroken) (part-left world first second part) here)
+      (λ v t is told.
+      good-weaker world (Foretold world visible context second t.store) (Foretold world visible context (followed first second) s.store) t
+      (cond (is_so v) one_action other_action t)
+      (λ done u gives then. record {
+        tie = tt;
+        stands = then.so.stands;
+        kept = keeps-then visible context.rounds s.store t.store u.store told.so.kept then.so.kept;
+      })
+      (chosen-good controls world block visible one_action other_action condition consequence alternative first.value (is_so v) context first.after t one
+      other held (unbroken-right first.broken second.broken unbroken) (part-right world first second part)
+      (chosen-here world block env condition first.value v s t context first.after is told.so.tie
+      (here-behind world block visible (IsHeld scalar.Ordinal) context state first s t v here told))))
+
+  -- a condition, and then one of two branches
+  pub sound-choice : SoundAmong {A = Unit {0}} {B = Unit {0}} controls world block env.visible Any_value choice
+      (flow.◌>>=◌ (value_walk condition) (λ known context. walk.branches context.tree condition consequence alternative known context))
+  sound-choice =
+      among-by_tree controls world block env.visible choice
+      (λ (tree : Tree). flow.◌>>=◌ (value_walk condition) (walk.branches tree condition consequence alternative)) sound-chosen
 
 -- ---- loops in general
 
@@ -327,10 +365,10 @@ module _ {A : Type 0} (world : World) (block : ℕ) (env : Environment) (few : �
         (in-types world.tree world.pairs block few env t.store proper fine.typed) hold stands.known);
   }
 
-  given-there : (given_state : State) (store : Store) → Knows (parts_in world) (variables_in world) env given_state store
+  given-there : (given_state : State) (store : Store) → Typed world.tree store → Knows (parts_in world) (variables_in world) env given_state store
       → gives_claims context.tree given_state facts ≡ true → AllHold world.tree facts env store
-  given-there given_state store known given =
-      given-claims world.tree env given_state store facts known
+  given-there given_state store typed known given =
+      given-claims world.tree env given_state store facts (hold-numbers world.tree world.pairs block few env store proper typed) known
       (subst (λ (tree : Tree). gives_claims tree given_state facts ≡ true) stands.goes.tree_is given)
 
   -- behind a round
@@ -341,8 +379,12 @@ module _ {A : Type 0} (world : World) (block : ℕ) (env : Environment) (few : �
     rounds-outer env context.rounds own start t.store (keeps-then env rounds start before t.store kept own_kept),
   )
   round-turns given before kept (Some b) t grown fine (stood, own_kept, fits) =
-      let all = keeps-then env rounds start before (at b t.store) kept own_kept in
-      (head-stands (record t { store = at b t.store }) (at_fine b t grown fine fits) all (given-there again (at b t.store) stood.known given), all, fits)
+      let all = keeps-then env rounds start before (at b t.store) kept own_kept in (
+        head-stands (record t { store = at b t.store }) (at_fine b t grown fine fits) all
+            (given-there again (at b t.store) (at_fine b t grown fine fits).typed stood.known given),
+        all,
+        fits,
+      )
 
 -- a loop whose rounds are sound
 pub loop-good : {A : Type 0} (world : World) → (block : ℕ) (env : Environment) (number : ℕ) (place : SourcePlace)
@@ -378,7 +420,7 @@ loop-good {A} world block env number place control round walking at Fits context
     let few = s.activations in
     let from_entry = unbroken-right entry.broken (turn.broken ++ (turned.broken ++ [])) unbroken in
     let given = given-there world block env few proper context number control state start at Fits at_fine turn.after turn.value stands goes
-    controls_are state start stands.known (kept-rule (gives_claims context.tree state facts) LoopEntry place
+    controls_are state start (at_fine a s (omega arith) fine fits).typed stands.known (kept-rule (gives_claims context.tree state facts) LoopEntry place
     (unbroken-left entry.broken (turn.broken ++ (turned.broken ++ [])) unbroken)) in
     let given_again = kept-rule (gives_claims context.tree turn.after facts) LoopTurn place
     (unbroken-left turned.broken [] (unbroken-right turn.broken (turned.broken ++ []) from_entry)) in
@@ -464,7 +506,7 @@ turn-then world Q next t fine then =
 
 -- a round of a while
 module _ (controls : List ℕ) (world : World) (block : ℕ) (env : Surroundings) (condition : Expr) (execution : meaning.Execution) (body : Walking (Unit {0}))
-    (valued : Sound world block env.visible IsValue (value_of condition env) (value_walk condition))
+    (valued : Sound world block env.visible (IsHeld scalar.Ordinal) (value_of condition env) (value_walk condition))
     (one : SoundAmong {A = Unit {0}} {B = Unit {0}} controls world block env.visible Any_value (execution env) body) (context : Context)
     (held : AreControlled controls context) (start : Store) (known : Known)
     (tested : State) where
@@ -472,16 +514,16 @@ module _ (controls : List ℕ) (world : World) (block : ℕ) (env : Surroundings
   visible = env.visible
 
   abbrev inside_state : State
-  inside_state = where_so true condition known tested
+  inside_state = where_so world.tree true condition known tested
 
   abbrev bodied : Walked (Unit {0})
   bodied = body context inside_state
 
   abbrev Ends : Option (Unit {0}) → Store → Type 0
-  Ends = EndsHold world visible context bodied.after (where_so false condition known tested) start
+  Ends = EndsHold world visible context bodied.after (where_so world.tree false condition known tested) start
 
   while-turned : (b : Bool) (t : effect.State) → Keeps visible context.rounds start t.store
-      → Here world block visible context (where_so b condition known tested) t
+      → Here world block visible context (where_so world.tree b condition known tested) t
       → bodied.broken ≡ [] → IsPartOf world bodied
       → Good world Ends t (meaning.turn_if b (execution env) t)
   while-turned false t kept here unbroken part = good-give world Ends None t here.fine (here.stands, kept)
@@ -499,30 +541,31 @@ module _ (controls : List ℕ) (world : World) (block : ℕ) (env : Surroundings
 
 pub sound-while : (controls : List ℕ) (world : World) (block : ℕ) (env : Surroundings) (condition : Expr) (execution : meaning.Execution)
     (body : Walking (Unit {0}))
-    → Sound world block env.visible IsValue (value_of condition env) (value_walk condition)
+    → Sound world block env.visible (IsHeld scalar.Ordinal) (value_of condition env) (value_walk condition)
     → SoundAmong {A = Unit {0}} {B = Unit {0}} controls world block env.visible Any_value (execution env) body
-    → SoundRound controls world block env.visible (meaning.while_round (value_of condition) execution env tt) (walk.while_round condition body)
+    → SoundRound controls world block env.visible (meaning.while_round (value_of condition) execution env tt) (walk.while_round world.tree condition body)
 sound-while controls world block env condition execution body valued one context state s held unbroken part here =
     let visible = env.visible in
     let first = value_walk condition context state in
-    let inner = body context (where_so true condition first.value first.after) in
-    let out = where_so false condition first.value first.after in
+    let inner = body context (where_so world.tree true condition first.value first.after) in
+    let out = where_so world.tree false condition first.value first.after in
     let rest = followed inner (flow.give out context inner.after) in
-    good-then world (IsForetold world visible IsValue context first s.store) (EndsHold world visible context inner.after out s.store {A = Unit {0}}) s
+    good-then world (IsForetold world visible (IsHeld scalar.Ordinal) context first s.store)
+    (EndsHold world visible context inner.after out s.store {A = Unit {0}}) s
     (value_of condition env s) (λ v. meaning.turn_if (is_so v) (execution env))
     (valued context state s (unbroken-left first.broken rest.broken unbroken) (part-left world first rest part) here)
     (λ v t is told.
     while-turned controls world block env condition execution body valued one context held s.store first.value first.after (is_so v) t told.so.kept
     (chosen-here world block env condition first.value v s t context first.after is told.so.tie
-    (here-behind world block visible IsValue context state first s t v here told))
+    (here-behind world block visible (IsHeld scalar.Ordinal) context state first s t v here told))
     (unbroken-left inner.broken [] (unbroken-right first.broken (inner.broken ++ []) unbroken))
     (part-left world inner (flow.give out context inner.after) (part-right world first rest part)))
 
 -- a round of a repeat: behind the condition
 repeat-ends : (world : World) (env : Environment) (condition : Expr) (known : Known) (context : Context) (start : Store) (tested : State) (b : Bool)
     (t : effect.State)
-    → Keeps env context.rounds start t.store → Stands world env context (where_so b condition known tested) t.store
-    → EndsHold world env context (where_so false condition known tested) (where_so true condition known tested) start {A = Unit {0}}
+    → Keeps env context.rounds start t.store → Stands world env context (where_so world.tree b condition known tested) t.store
+    → EndsHold world env context (where_so world.tree false condition known tested) (where_so world.tree true condition known tested) start {A = Unit {0}}
     (cond b None (Some tt)) t.store
 repeat-ends world env condition known context start tested true t kept stands = (stands, kept)
 repeat-ends world env condition known context start tested false t kept stands = (stands, kept)
@@ -530,14 +573,14 @@ repeat-ends world env condition known context start tested false t kept stands =
 pub sound-repeat : (controls : List ℕ) (world : World) (block : ℕ) (env : Surroundings) (condition : Expr) (execution : meaning.Execution)
     (body : Walking (Unit {0}))
     → SoundAmong {A = Unit {0}} {B = Unit {0}} controls world block env.visible Any_value (execution env) body
-    → Sound world block env.visible IsValue (value_of condition env) (value_walk condition)
-    → SoundRound controls world block env.visible (meaning.repeat_round execution (value_of condition) env tt) (walk.repeat_round body condition)
+    → Sound world block env.visible (IsHeld scalar.Ordinal) (value_of condition env) (value_walk condition)
+    → SoundRound controls world block env.visible (meaning.repeat_round execution (value_of condition) env tt) (walk.repeat_round world.tree body condition)
 sound-repeat controls world block env condition execution body one valued context state s held unbroken part here =
     let visible = env.visible in
     let first = body context state in
     let second = value_walk condition context first.after in
-    let again = where_so false condition second.value second.after in
-    let out = where_so true condition second.value second.after in
+    let again = where_so world.tree false condition second.value second.after in
+    let out = where_so world.tree true condition second.value second.after in
     let rest = followed second (flow.give out context again) in
     let P = EndsHold world visible context again out s.store {A = Unit {0}} in
     let answer = λ (v : Value). cond (is_so v) None (Some (tt {0})) in
@@ -549,7 +592,7 @@ sound-repeat controls world block env condition execution body one valued contex
     (one context state u held (unbroken-left first.broken rest.broken unbroken) (part-left world first rest part) here_again)
     (λ done w is told.
     let here_then = here-behind {B = Unit {0}} world block visible Any_value context state first u w done here_again told in
-    good-then world (IsForetold world visible IsValue context second w.store) P w (value_of condition env w) (λ v. effect.give (answer v))
+    good-then world (IsForetold world visible (IsHeld scalar.Ordinal) context second w.store) P w (value_of condition env w) (λ v. effect.give (answer v))
     (valued context first.after w (unbroken-left second.broken [] (unbroken-right first.broken (second.broken ++ []) unbroken))
     (part-left world second (flow.give out context again) (part-right world first rest part)) here_then)
     (λ v t gives then.
@@ -557,4 +600,4 @@ sound-repeat controls world block env condition execution body one valued contex
     (repeat-ends world visible condition second.value context s.store second.after (is_so v) t
     (keeps-then visible context.rounds s.store w.store t.store (subst (λ (x : Store). Keeps visible context.rounds x w.store) same told.so.kept) then.so.kept)
     (chosen-here world block env condition second.value v w t context second.after gives then.so.tie
-    (here-behind world block visible IsValue context first.after second w t v here_then then)).stands))))
+    (here-behind world block visible (IsHeld scalar.Ordinal) context first.after second w t v here_then then)).stands))))

@@ -12,7 +12,7 @@ use Rattle.typed_tree.specs.declared.tree.Tree.{Tree}
 use Rattle.typed_tree.specs.declared.tree.Variable.{Variable}
 use Rattle.typed_tree.specs.Loops.{controls_of}
 use Rattle.typed_tree.specs.Threats.{controls_but, is_none_of}
-use Rattle.typed_tree.specs.WellFormed.{IsWellFormed}
+use Rattle.typed_tree.specs.WellFormed.{IsWellFormed, outline_of}
 use Rattle.meaning.specs.declared.outcome.Ending.TheVariants as ending
 use Rattle.meaning.specs.declared.store.Value.{Value}
 use Rattle.meaning.specs.Effect.{Action, State, and_then, begin_with, end_with, give}
@@ -25,7 +25,7 @@ use Rattle.checker_calls.specs.Environments.{LiesUnder}
 use Rattle.checker_calls.proofs.Callee.{Outer, Own, PassedTo, Seen, either-cond, seen-as}
 use Rattle.checker_expressions.proofs.EffectsKept.{IsOwn, Keeps, Leaving, MayWrite, Standing, keeps-give, keeps-stop, keeps-then, leaves-same, leaves-then}
 use Rattle.checker_expressions.proofs.EffectsKept.{watching}
-use Rattle.cert_checker.proofs.EffectsParameters.{keeps-received}
+use Rattle.cert_checker.proofs.EffectsParameters.{begun-body, keeps-received, well-body}
 use Rattle.cert_checker.proofs.EffectsRoutines.{keeps-end, keeps-result, leaves-begun}
 use Rattle.cert_checker.proofs.SparedText.{AllMayPass, CallsKeep, MayChangeOthers, text-kept}
 
@@ -146,7 +146,8 @@ module _ (tree : Tree) (well : IsWellFormed tree) (block control : ℕ) (control
     keeps-executed =
         keeps-then at _ _ (keeps-received at tree well activation callee callee_is refl refl own)
         (λ _. keeps-then at _ _
-        (text-kept at calls (spared block control controls home visible alone-inside) refl callee.body (controls_but number 0 tree.blocks.items) others
+        (text-kept at calls (spared block control controls home visible alone-inside) (outline_of tree) number refl callee.body [] [] tt
+        (well-body tree well number callee callee_is) (begun-body tree well number callee callee_is) (controls_but number 0 tree.blocks.items) others
         (well.unthreatened number callee callee_is))
         (λ _. keeps-result at callee.heading.result visible))
 

@@ -11,9 +11,7 @@ use Rattle.typed_tree.specs.declared.tree.CaseHead.{CaseHead}
 use Rattle.typed_tree.specs.declared.tree.Stmt.{Stmt}
 use Rattle.typed_tree.specs.declared.tree.Tree.{Tree}
 use Rattle.checker_state.specs.declared.value.Known.{Known}
-use Rattle.checker_state.specs.declared.value.Known.TheVariants.{Ordinal}
-use Rattle.checker_state.specs.Conditions.{condition_of}
-use Rattle.checker_state.specs.Forms.{root_of}
+use Rattle.checker_state.specs.Values.{known_range}
 use Rattle.checker_state.specs.Joins.{joined_states}
 use Rattle.checker_state.specs.State.{Dead, State, table_of}
 use Rattle.checker_trail.specs.declared.state.State.{State as Kept}
@@ -27,7 +25,7 @@ use Rattle.checker_expressions.specs.View.{state_of}
 use Rattle.checker_expressions.specs.declared.fault.Breach.{Breach}
 use Rattle.checker_expressions.specs.Walk.{Context, Linked, Walking, ◌>>=◌, followed, tested}
 use Rattle.cert_checker.specs.declared.walk.Walk.{Walk}
-use Rattle.cert_checker.specs.Walk.{arm_walk, arms_walk, case_walk, statement_walk}
+use Rattle.cert_checker.specs.Walk.{arm_walk, arms_walk, case_walk, index_root, statement_walk}
 use Rattle.cert_checker.specs.View.{Came, Does, Goes, Noted, arms_from_here, at_state, context_of}
 use Rattle.cert_checker.proofs.Steps.{drop-past, goes-here, goes-then, item-cut, loops-same, noted-nothing, noted-then}
 use Rattle.cert_checker.proofs.StepsWays.{IsBack, MeetsFirst, StaysLong, context-back}
@@ -178,28 +176,33 @@ module _ (index : Option ℕ) (rows : List (Vec ℤ Global)) (arms : List Stmt) 
 -- ---- the index
 
 -- what comes behind a test of an index
-pub case-tested : (head : CaseHead) (arms : List Stmt) (count : ℕ) (index : Option ℕ) (rows : List (Vec ℤ Global)) (range : Interval) (known : Known)
-    {old mid new : Walk} {passed : Interval} → count ≡ length arms → index ≡ root_of (condition_of head.index).form → rows ≡ head.constants.items
-    → known ≡ Ordinal range
+pub case-tested : (head : CaseHead) (arms : List Stmt) (count : ℕ) (tree : Tree) (index : Option ℕ) (rows : List (Vec ℤ Global)) (range : Interval)
+    (known : Known) {old mid new : Walk} {passed : Interval} → count ≡ length arms → tree ≡ mid.flow.state.table.now → index ≡ index_root tree head
+    → rows ≡ head.constants.items → range ≡ known_range known
     → Goes (tested (is_covered range (constants_before count head.constants.items)) head.site
     (common range (hull (constants_before count head.constants.items)))) old mid passed
-    → Goes (arms_from_here index rows (map statement_walk arms)) mid new tt → Goes (case_walk head (map statement_walk arms) known) old new tt
-case-tested head arms count index rows range known {old = old} {mid = mid} {new = new} {passed = passed} count_is index_is rows_are known_is test rest =
+    → Goes (arms_from_here index rows (map statement_walk arms)) mid new tt
+    → Goes (λ context. case_walk context.tree head (map statement_walk arms) known context) old new tt
+case-tested head arms count tree index rows range known {old = old} {mid = mid} {new = new} {passed = passed} count_is tree_is index_is rows_are range_is test
+    rest =
     let walks = map statement_walk arms in
+    let own = known_range known in
     let many : count ≡ length walks = count_is ∙ sym (length-map arms statement_walk) in
-    let test_of = λ (n : ℕ). tested (is_covered range (constants_before n head.constants.items)) head.site
-    (common range (hull (constants_before n head.constants.items))) in
-    let tests : Goes (test_of (length walks)) old mid passed = subst (λ (n : ℕ). Goes (test_of n) old mid passed) many test in
-    let arms_go : Goes (arms_from_here (root_of (condition_of head.index).form) head.constants.items walks) mid new tt =
-    subst (λ (i : Option ℕ). Goes (arms_from_here i head.constants.items walks) mid new tt) index_is
+    let test_of = λ (r : Interval) (n : ℕ). tested (is_covered r (constants_before n head.constants.items)) head.site
+    (common r (hull (constants_before n head.constants.items))) in
+    let tests : Goes (test_of own (length walks)) old mid passed =
+    subst (λ (n : ℕ). Goes (test_of own n) old mid passed) many (subst (λ (r : Interval). Goes (test_of r count) old mid passed) range_is test) in
+    let behind = λ (t : Tree). arms_from_here (index_root t head) head.constants.items walks in
+    let arms_go : Goes (λ context. behind context.tree context) mid new tt =
+    subst (λ (i : Option ℕ). Goes (arms_from_here i head.constants.items walks) mid new tt)
+    (index_is ∙ ap (λ (t : Tree). index_root t head) tree_is)
     (subst (λ (l : List (Vec ℤ Global)). Goes (arms_from_here index l walks) mid new tt) rows_are rest) in
-    let first = test_of (length walks) (context_of old) (state_of old.flow) in
+    let first = test_of own (length walks) (context_of old) (state_of old.flow) in
     let last = λ (ids : List ℕ) (breaches : List Breach) (linked : List Linked).
     followed (record first { open_ids = ids; broken = breaches; linked = linked })
-    (arms_walk first.after (root_of (condition_of head.index).form) head.constants.items walks (context_of old) Dead) in
-    subst (λ (k : Known). Goes (case_walk head walks k) old new tt) (sym known_is)
-    (goes-here (test_of (length walks) >>= λ _. arms_from_here (root_of (condition_of head.index).form) head.constants.items walks)
-    (case_walk head walks (Ordinal range))
+    (arms_walk first.after (index_root old.flow.state.table.now head) head.constants.items walks (context_of old) Dead) in
+    goes-here (test_of own (length walks) >>= λ _ context. behind context.tree context)
+    (λ context. case_walk context.tree head walks known context)
     (ap₂ (λ ids breaches. last ids breaches first.linked) (sym (append-nil first.open_ids)) (sym (append-nil first.broken))
     ∙ ap (last (first.open_ids ++ []) (first.broken ++ [])) (sym (append-nil first.linked)))
-    (goes-then (test_of (length walks)) (λ _. arms_from_here (root_of (condition_of head.index).form) head.constants.items walks) tests arms_go))
+    (goes-then (test_of own (length walks)) (λ _ context. behind context.tree context) tests arms_go)

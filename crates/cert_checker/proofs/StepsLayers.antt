@@ -7,13 +7,14 @@ use Rattle.typed_tree.specs.declared.tree.CaseHead.{CaseHead}
 use Rattle.typed_tree.specs.declared.tree.Expr.{Expr}
 use Rattle.typed_tree.specs.declared.tree.ForHead.{ForHead}
 use Rattle.typed_tree.specs.declared.tree.LoopHead.{LoopHead}
+use Rattle.typed_tree.specs.declared.tree.WithHead.{WithHead}
 use Rattle.typed_tree.specs.declared.tree.Stmt.TheVariants as stmt
 use Rattle.typed_tree.specs.declared.tree.Stmt.{Stmt}
 use Rattle.typed_tree.specs.declared.tree.Stmt.TheFolds.{the_lemmas as stmt_lemmas}
 use Rattle.typed_tree.specs.Entries.{entries_of_expression, entries_of_statement}
 use Rattle.checker_expressions.specs.Walk.{Walking}
 use Rattle.cert_checker.specs.declared.walk.Walk.{Walk}
-use Rattle.cert_checker.specs.Walk.{all_of, bounds_walk, choice_walk, from_entry, index_walk, repeat_walk, statement_walk, while_walk}
+use Rattle.cert_checker.specs.Walk.{all_of, bounds_walk, choice_walk, from_entry, index_walk, repeat_walk, statement_walk, while_walk, with_walk}
 use Rattle.cert_checker.specs.View.{Goes, else_entries, else_walk}
 
 -- the same walk, told otherwise
@@ -48,3 +49,7 @@ statement-For head body = search (rules, stmt_lemmas)
 pub statement-Case : (head : CaseHead) (arms : Vec Stmt Global)
     → statement_walk (stmt.Case head arms) ≡ from_entry head.number (index_walk head (map statement_walk arms.items))
 statement-Case head arms = search (rules, stmt_lemmas)
+
+pub statement-With : (head : WithHead) (body : Box Stmt Global)
+    → statement_walk (stmt.With head body) ≡ from_entry head.number (with_walk head (statement_walk body.value))
+statement-With head body = search (rules, stmt_lemmas)

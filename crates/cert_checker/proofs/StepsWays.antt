@@ -14,7 +14,7 @@ use Rattle.checker_known.specs.Known.{Core, core}
 use Rattle.checker_trail.specs.Trail.{EndsAt, Leaves, Left, seen}
 use Rattle.checker_trail.proofs.Ways as ways
 use Rattle.domain.specs.Facts.{Fact}
-use Rattle.checker_loops.specs.Loops.{claims_at, gives_claims, head_of, round_of, with_own}
+use Rattle.checker_loops.specs.Loops.{Round, claims_at, gives_claims, head_of, round_of, with_own}
 use Rattle.checker_loops.specs.Ways.{Way}
 use Rattle.checker_expressions.specs.declared.fault.Breach.{Breach}
 use Rattle.checker_expressions.specs.declared.fault.Rule.TheVariants.{LoopEntry, LoopTurn}
@@ -112,13 +112,13 @@ parted-done one_state other_state one other mark {old = old} {done = done} {new 
 -- ---- loops
 
 -- a round of a loop: a piece that ends where it is told whether another turn follows, and what is known where one does
--- and where none does
-abbrev pub round_of_parts : {X : Type 0} → Walking X → (X → State → Walking (Unit {0})) → (X → State → State) → Walking State
+-- and where none does, which may go by the program
+abbrev pub round_of_parts : {X : Type 0} → Walking X → (X → State → Walking (Unit {0})) → (Tree → X → State → State) → Walking State
 round_of_parts first again out =
-    first >>= λ x. (here >>= λ tested. (again x tested >>= λ _. give (out x tested)))
+    first >>= λ x. (here >>= λ tested. (again x tested >>= λ _ context. give (out context.tree x tested) context))
 
 module _ {X : Type 0} (number : ℕ) (place : Place) (control : Option ℕ) (first : Walking X) (again : X → State → Walking (Unit {0}))
-    (out : X → State → State) (old : Walk) where
+    (out : Tree → X → State → State) (old : Walk) where
   abbrev round : Walking State
   round = round_of_parts first again out
 
@@ -144,13 +144,16 @@ module _ {X : Type 0} (number : ℕ) (place : Place) (control : Option ℕ) (fir
 
     module _ (tested turned : Walk) (x : X) (one : Came (first (context_of head) (state_of head.flow)) head tested x)
         (two : Came (again x (state_of tested.flow) (context_of tested) (state_of tested.flow)) tested turned tt) where
-      round-done : Came turn head turned (out x (state_of tested.flow))
+      abbrev ended : State
+      ended = out turned.flow.state.table.now x (state_of tested.flow)
+
+      round-done : Came turn head turned ended
       round-done =
-          subst (λ w. Came w head turned (out x (state_of tested.flow)))
+          subst (λ w. Came w head turned ended)
           (ap₂ (λ (c : Context) (s : State). round c s) at_head.context_is at_head.state_is)
-          (came-then first (λ x. (here >>= λ tested. (again x tested >>= λ _. give (out x tested)))) one
-          (came-then (again x (state_of tested.flow)) (λ _. give (out x (state_of tested.flow))) two
-          (came-give (out x (state_of tested.flow)) turned)))
+          (came-then first (λ x. (here >>= λ tested. (again x tested >>= λ _ context. give (out context.tree x tested) context))) one
+          (came-then (again x (state_of tested.flow)) (λ _ context. give (out context.tree x (state_of tested.flow)) context) two
+          (came-give ended turned)))
 
       module _ (outside : Walk) (is_out : IsOutside number place (context_of old).rounds turned outside) where
         -- what was noted from before the loop to behind it
@@ -198,22 +201,28 @@ module _ {X : Type 0} (number : ℕ) (place : Place) (control : Option ℕ) (fir
                 broken_is = noted.broken_is;
               }
 
-          loop-came : (new : Walk) → Came (changed_by (out x) (context_of (at_state back outside)) (seen back)) (at_state back outside) new tt
+          -- the program is the same behind the turn
+          same-program : back.table.now ≡ turned.flow.state.table.now
+          same-program = to_back.same_table ∙ sym (ways.goes-then at_head.goes (ways.goes-then one.goes two.goes)).same_table
+
+          loop-came : (new : Walk) → Came (changed_by (out back.table.now x) (context_of (at_state back outside)) (seen back)) (at_state back outside) new tt
               → Came whole old new tt
           loop-came new last = record {
             goes = ways.goes-then to_back last.goes;
             noted = noted-as whole (append-nil whole.open_ids) (append-nil whole.broken) (noted-then back-noted last.noted);
             value_is = refl;
-            state_is = last.state_is ∙ ap (out x) (ways.left-seen returned) ∙ round-done.value_is;
+            state_is = last.state_is
+                ∙ ap₂ (λ (tree : Tree) (s : State). out tree x s) same-program (ways.left-seen returned) ∙ round-done.value_is;
           }
 
 -- a loop: it is entered, and a turn of it is walked, behind which its facts are given; then the state goes back to where
 -- it was told whether another turn follows, and on from there where none does
 pub loop-done : {X : Type 0} (number : ℕ) (place : Place) (control : Option ℕ) (first : Walking X) (again : X → State → Walking (Unit {0}))
-    (out : X → State → State) (mark : ℕ) {old head tested turned outside new : Walk} {x : X} {back : Kept} {branch : Branch}
+    (out : Tree → X → State → State) (mark : ℕ) {old head tested turned outside new : Walk} {x : X} {back : Kept} {branch : Branch}
     → EntersLoop number place control old head → Goes first head tested x → mark ≡ length tested.flow.state.trail.items
     → Goes (again x (state_of tested.flow)) tested turned tt → LeavesLoop number place turned outside
-    → StaysLong outside.flow.state back → IsBack mark outside.flow.state back branch → Goes (changed_by (out x)) (at_state back outside) new tt
+    → StaysLong outside.flow.state back → IsBack mark outside.flow.state back branch
+    → Goes (changed_by (out back.table.now x)) (at_state back outside) new tt
     → Goes (loop_walk number place control (round_of_parts first again out)) old new tt
 loop-done number place control first again out mark {old = old} {head = head} {tested = tested} {turned = turned} {outside = outside} {new = new} {x = x}
     {back = back} {branch = branch} enters first_goes is turn_goes leaves back_long is_back out_goes = record {
@@ -261,18 +270,18 @@ then-assoc one two three context state =
       linked = linked;
     }) (append_assoc first.linked second.linked third.linked)
 
--- a loop by a round that does the same
-pub loop-alike : (number : ℕ) (place : Place) (control : Option ℕ) (one other : Walking State)
-    → ((context : Context) (state : State) → one context state ≡ other context state) → (context : Context) (state : State)
-    → loop_walk number place control one context state ≡ loop_walk number place control other context state
-loop-alike number place control one other alike context state =
+-- a loop by a round that does the same inside it
+pub loop-alike : (number : ℕ) (place : Place) (control : Option ℕ) (one other : Walking State) (context : Context)
+    → ((rounds : List Round) (state : State) → one (record context { rounds = rounds }) state ≡ other (record context { rounds = rounds }) state)
+    → (state : State) → loop_walk number place control one context state ≡ loop_walk number place control other context state
+loop-alike number place control one other context alike state =
     let facts = (claims_at context.claims number).facts in
     let loop = round_of context.tree context.pairs context.claims number in
     let head = head_of context.tree (with_own control loop) facts state in
     ap (λ (w : Walked State). followed (facts_given LoopEntry place facts context state)
     (followed (with_state head context state)
     (followed w (followed (facts_given LoopTurn place facts context w.after) (with_state w.value context w.after)))))
-    (alike (record context { rounds = context.rounds ++ loop ∷ [] }) head)
+    (alike (context.rounds ++ loop ∷ []) head)
 
 -- the rounds of a for are its loop
 pub rounds-go : (head : ForHead) (body : Walking (Unit {0})) (way steady : Way) {old new : Walk}

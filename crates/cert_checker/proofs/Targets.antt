@@ -10,7 +10,7 @@ use Rattle.types.specs.declared.form.Step.{Step}
 use Rattle.types.specs.declared.form.Step.TheVariants as step
 use Rattle.types.specs.declared.form.TypeId.{TypeId}
 use Rattle.types.specs.Types.{is_structured}
-use Rattle.typed_tree.specs.Accesses.{accessed}
+use Rattle.typed_tree.specs.Accesses.{AtVariable, accessed}
 use Rattle.typed_tree.specs.WellFormed.{of_one}
 use Rattle.typed_tree.specs.declared.tree.Variable.{Variable}
 use Rattle.typed_tree.specs.declared.tree.Selector.{Selector}
@@ -88,7 +88,7 @@ zipped-has way (first ∷ components) (v ∷ values) same rest inside =
 -- such values are ones of the types of their places
 pub zipped-typed : (tree : Tree) (pairs : List (ℕ × ℕ)) (block activations : ℕ) (env : Environment) → Proper tree pairs block activations env → (root : ℕ)
     (home : Place) → env.variables root ≡ Some home → (selectors : List Selector) (id : TypeId)
-    → accessed tree.variables.items tree.types root selectors ≡ Some id → (way : List Step) → Matches selectors way → (values : List Value)
+    → accessed tree.variables.items tree.types (AtVariable root) selectors ≡ Some id → (way : List Step) → Matches selectors way → (values : List Value)
     → AreComponentsOf tree.types id values → AreTyped tree env root (zipped way (components_of tree.types id) values)
 zipped-typed tree pairs block activations env proper root home at selectors id typed way matches values components pair place inside place_is =
     let of = zipped-at way (components_of tree.types id) values pair inside in
@@ -207,18 +207,18 @@ on-indexes env store (index ∷ indexes) (number ∷ numbers) on many = (on.0.of
 
 -- what is accessed is no variable's own row, unless that is an entire variable which isn't structured
 pub behind-variables : (tree : Tree) (root : ℕ) (selectors : List Selector) → (selectors ≡ [] → is_structured_variable tree root ≡ true) → (row : ℕ)
-    → Contains (rows_accessed tree root selectors) row → length tree.variables.items ≤ row
+    → Contains (rows_accessed tree (AtVariable root) selectors) row → length tree.variables.items ≤ row
 behind-variables tree root selectors structured row inside =
     ⊎_elim
     (λ (within : row < length tree.variables.items).
-    let own = variable-row tree root selectors row inside within in
+    let own = variable-row tree (AtVariable root) selectors row inside within in
     absurd (false≢true
     (sym (under-plain tree root (map leaf_step selectors) row inside within)
     ∙ subst (λ (r : ℕ). is_structured_variable tree r ≡ true) own.0 (structured own.1))))
     (λ beyond. let is = beyond.1 in omega (arith, is)) (below-or (length tree.variables.items) row)
 
 -- a structured variable as a whole
-pub structured-whole : (tree : Tree) (root : ℕ) (id : TypeId) → accessed tree.variables.items tree.types root [] ≡ Some id
+pub structured-whole : (tree : Tree) (root : ℕ) (id : TypeId) → accessed tree.variables.items tree.types (AtVariable root) [] ≡ Some id
     → is_structured tree.types id ≡ true → is_structured_variable tree root ≡ true
 structured-whole tree root id typed structured =
     let variable = variable-accessed tree root [] id typed in
@@ -227,10 +227,11 @@ structured-whole tree root id typed structured =
 
 -- ---- what is reached
 
-module _ (tree : Tree) (root : ℕ) (selectors : List Selector) (id : TypeId) (rows : RowsAre tree root selectors id) (env : Environment) (store : Store)
-    (way : List Step) (matches : Matches selectors way) where
+module _ (tree : Tree) (root : ℕ) (selectors : List Selector) (id : TypeId)
+    (rows : RowsAre tree root (rows_accessed tree (AtVariable root) selectors) selectors id) (env : Environment) (store : Store) (way : List Step)
+    (matches : Matches selectors way) where
   abbrev touched : List ℕ
-  touched = rows_accessed tree root selectors
+  touched = rows_accessed tree (AtVariable root) selectors
 
   abbrev Behind : List Step → Type 0
   Behind steps = (rest : List Step) × (steps ≡ way ++ rest) × Contains (components_of tree.types id) rest

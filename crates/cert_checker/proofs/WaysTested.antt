@@ -3,7 +3,6 @@ use Rattle.std.proofs.Common.{◌≡◌, refl, ap₂}
 use Rattle.domain.specs.Interval.{Interval}
 use Rattle.checker_rows.specs.Limits.{limits_of}
 use Rattle.checker_trail.specs.Trail.{seen}
-use Rattle.checker_state.specs.declared.value.Known.TheVariants.{Ordinal}
 use Rattle.checker_loops.specs.Ways.{Way, entered, met, with_values}
 use Rattle.checker_expressions.specs.View.{state_of}
 use Rattle.checker_expressions.specs.Walk.{Walking, ◌>>=◌, changed_by, give, within}
@@ -30,7 +29,7 @@ way-tested way told first_range last_range first last {old = old} {new = new} fi
 
 -- the control variable is the first bound, where a first turn may begin
 pub way-begun : (way : Way) {old mid new : Walk} → Goes (changed_by (entered way)) old mid tt
-    → Goes (assign way.control way.first.form (Ordinal way.first.values)) mid new tt → Goes (begin_way way) old new tt
+    → Goes (assign way.control way.first.form way.first.values) mid new tt → Goes (begin_way way) old new tt
 way-begun way one two =
-    goes-here (changed_by (entered way) >>= λ _. assign way.control way.first.form (Ordinal way.first.values)) (begin_way way) refl
-    (goes-then (changed_by (entered way)) (λ _. assign way.control way.first.form (Ordinal way.first.values)) one two)
+    goes-here (changed_by (entered way) >>= λ _. assign way.control way.first.form way.first.values) (begin_way way) refl
+    (goes-then (changed_by (entered way)) (λ _. assign way.control way.first.form way.first.values) one two)

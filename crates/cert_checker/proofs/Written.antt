@@ -1,8 +1,8 @@
 -- What a run leaves that stores a value, or the values of components one after another; and that the walk over such stores foretells it.
-use Rattle.std.proofs.Common.{arith, ◌≡◌, ⊎_elim, ◌∙◌, sym, ap, ap₂, subst, ℕ, ◌≤◌, ℤ, true, ◌||◌, length, List, [], ◌∷◌}
+use Rattle.std.proofs.Common.{arith, ◌≡◌, ⊎_elim, ◌∙◌, sym, ap, ap₂, subst, ℕ, ◌≤◌, true, ◌||◌, length, List, [], ◌∷◌}
 use Rattle.std.proofs.Common.{◌++◌, Option, Some}
 use Rattle.std.specs.List.{Contains}
-use Rattle.std.specs.Prelude.{is_some, map, slice_get}
+use Rattle.std.specs.Prelude.{map, slice_get}
 use Rattle.std.proofs.lemmas.Bool.{and_parts}
 use Rattle.types.specs.Components.{components_of}
 use Rattle.types.specs.declared.form.Step.{Step}
@@ -10,20 +10,17 @@ use Rattle.types.specs.declared.form.TypeId.{TypeId}
 use Rattle.place.specs.declared.Place.{Place}
 use Rattle.typed_tree.specs.declared.tree.Selector.{Selector}
 use Rattle.typed_tree.specs.declared.tree.Tree.{Tree}
-use Rattle.typed_tree.specs.Accesses.{accessed}
+use Rattle.typed_tree.specs.Accesses.{AtVariable, accessed}
 use Rattle.typed_tree.specs.WellFormed.{of_one}
 use Rattle.checker_state.specs.Bounds.{Bound}
-use Rattle.domain.specs.Interval.{HasMember, Interval}
+use Rattle.domain.specs.Interval.{Interval}
 use Rattle.meaning.specs.declared.store.Value.{Value}
-use Rattle.meaning.specs.declared.store.Value.TheVariants.{Number}
 use Rattle.meaning.specs.Store.{Environment, Place as StorePlace, Store, part, written}
 use Rattle.meaning.specs.Effect as effect
-use Rattle.checker_state.specs.declared.value.Known.TheVariants.{Ordinal}
 use Rattle.checker_state.specs.Holds.{IsIn, moment}
 use Rattle.checker_state.specs.Knows.{IsKept, IsOfForm, Knows}
 use Rattle.checker_state.proofs.Apart.{part as part_at}
-use Rattle.checker_rows.specs.Limits.{row_limits}
-use Rattle.checker_rows.specs.Rows.{is_structured_variable, rows_accessed, rows_of, type_at, values_at}
+use Rattle.checker_rows.specs.Rows.{is_structured_variable, rows_accessed, rows_of, type_at}
 use Rattle.checker_state.specs.Changes.{assigned}
 use Rattle.checker_state.specs.Stores.{Reach, all_stored}
 use Rattle.checker_state.specs.State.{State}
@@ -47,7 +44,7 @@ use Rattle.checker_rows.proofs.Selected.{Matches}
 use Rattle.checker_rows.proofs.Accessed.{RowsAre}
 use Rattle.cert_checker.specs.Walk as walk
 use Rattle.cert_checker.specs.Walk.{Stores}
-use Rattle.cert_checker.proofs.Changes.{assigned-knows, whole, whole-typed, whole-written}
+use Rattle.cert_checker.proofs.Changes.{LiesInVariable, assigned-knows, whole, whole-typed, whole-written}
 use Rattle.cert_checker.proofs.SoundStores.{AreTargets, made-knows, reached-unless}
 use Rattle.cert_checker.proofs.Targets.{behind-variables, is-reach, zipped, zipped-reached, zipped-typed}
 
@@ -72,11 +69,11 @@ module _ (world : World) (block : ℕ) (env : Environment) where
   -- ---- the store of a value
 
   module _ (root : ℕ) (home : StorePlace) (at : env.variables root ≡ Some home) where
-    assign-known : (n : ℤ) (range : Interval) (form : Option Bound) (context : Context) (state : State) (s : effect.State) (after : Store)
-        → Here world block env context state s → AreWritten env (aliases root) root (whole n) s.store after
-        → AreTyped world.tree env root (whole n) → HasMember range n → IsOfForm (moment env s.store) form (Number n)
-        → Knows (parts_in world) (variables_in world) env (walk.assign root form (Ordinal range) context state).after after
-    assign-known n range form context state s after here are typed inside of_form =
+    assign-known : (v : Value) (range : Interval) (form : Option Bound) (context : Context) (state : State) (s : effect.State) (after : Store)
+        → Here world block env context state s → AreWritten env (aliases root) root (whole v) s.store after
+        → AreTyped world.tree env root (whole v) → IsIn range v → IsOfForm (moment env s.store) form v
+        → Knows (parts_in world) (variables_in world) env (walk.assign root form range context state).after after
+    assign-known v range form context state s after here are typed inside of_form =
         let goes = here.stands.goes in
         let behind = λ (tree : Tree) (listed : Listed) (b : ℕ).
         assigned root range (unless_alias (aliases_in listed b root) form)
@@ -85,37 +82,36 @@ module _ (world : World) (block : ℕ) (env : Environment) where
         subst (λ (tree : Tree). K (behind tree context.pairs context.block)) (sym goes.tree_is)
         (subst (λ (listed : Listed). K (behind world.tree listed context.block)) (sym goes.pairs_are)
         (subst (λ (b : ℕ). K (behind world.tree (listed_in world) b)) (sym here.block_is)
-        (assigned-knows world.tree world.pairs block s.activations env here.proper root home at n s.store after are typed range form state inside of_form
+        (assigned-knows world.tree world.pairs block s.activations env here.proper root home at v s.store after are typed range form state inside of_form
         here.stands.known)))
 
     -- a value is assigned to a variable that each loop round it lists
-    pub listed-good : (n : ℤ) (range : Interval) (form : Option Bound) (context : Context) (state : State) (s : effect.State)
-        → Here world block env context state s → is_some (values_at (rows_of world.tree) root) ≡ true → IsIn (row_limits (rows_of world.tree) root) (Number n)
-        → HasMember range n → IsOfForm (moment env s.store) form (Number n) → all_list root context.rounds ≡ true
-        → Good world (Foretold world env context (walk.assign root form (Ordinal range) context state) s.store) s
-        (effect.store (env.variables root) (Number n) s)
-    listed-good n range form context state s here ordinal own inside of_form listed =
+    pub listed-good : (v : Value) (range : Interval) (form : Option Bound) (context : Context) (state : State) (s : effect.State)
+        → Here world block env context state s → LiesInVariable world.tree root v → IsIn range v → IsOfForm (moment env s.store) form v
+        → all_list root context.rounds ≡ true
+        → Good world (Foretold world env context (walk.assign root form range context state) s.store) s (effect.store (env.variables root) v s)
+    listed-good v range form context state s here lies inside of_form listed =
         let before = s.store in
-        let after = written before home (Number n) in
+        let after = written before home v in
         let apart = apart-seen world.tree world.pairs block s.activations env here.proper root home at in
-        let are = whole-written env (aliases root) root home at apart before n in
-        let typed = whole-typed world.tree world.pairs block s.activations env here.proper root home at n ordinal own in
-        let P = Foretold world env context (walk.assign root form (Ordinal range) context state) before in
-        subst (λ (place : Option StorePlace). Good world P s (effect.store place (Number n) s)) (sym at)
+        let are = whole-written env (aliases root) root home at apart before v in
+        let typed = whole-typed world.tree world.pairs block s.activations env here.proper root home at v lies in
+        let P = Foretold world env context (walk.assign root form range context state) before in
+        subst (λ (place : Option StorePlace). Good world P s (effect.store place v s)) (sym at)
         (record {
           errs = tt;
           new = nothing-new world s.visited;
           gives = record {
             so = record {
               tie = tt;
-              stands = record { goes = here.stands.goes; known = assign-known n range form context state s after here are typed inside of_form };
+              stands = record { goes = here.stands.goes; known = assign-known v range form context state s after here are typed inside of_form };
               kept =
                   listed-keeps world.tree world.pairs block s.activations env here.proper root home at context.rounds (closed-here context state s here)
-                  before after (wider root before after (one-kept env (aliases root) root (whole n) before after are)) listed;
+                  before after (wider root before after (one-kept env (aliases root) root (whole v) before after are)) listed;
             };
             fine = record {
-              typed = written-typed world.tree env (aliases root) root (whole n) before after are typed here.fine.typed;
-              begun = written-begun world.tree env (aliases root) root (whole n) before after are s.activations home at (here.proper.begun root home at)
+              typed = written-typed world.tree env (aliases root) root (whole v) before after are typed here.fine.typed;
+              begun = written-begun world.tree env (aliases root) root (whole v) before after are s.activations home at (here.proper.begun root home at)
                   here.fine.begun;
             };
             grown = omega arith;
@@ -184,10 +180,11 @@ module _ (world : World) (block : ℕ) (env : Environment) where
   -- ---- what the walk foretells of that
 
   module _ (root : ℕ) (home : StorePlace) (at : env.variables root ≡ Some home) (selectors : List Selector) (id : TypeId)
-      (rows : RowsAre world.tree root selectors id) (reach : Reach) (way : List Step) (matches : Matches selectors way) (values : List Value)
+      (rows : RowsAre world.tree root (rows_accessed world.tree (AtVariable root) selectors) selectors id) (reach : Reach) (way : List Step)
+      (matches : Matches selectors way) (values : List Value)
       (many : length (components_of (types_in world) id) ≡ length values) where
     abbrev touched : List ℕ
-    touched = rows_accessed world.tree root selectors
+    touched = rows_accessed world.tree (AtVariable root) selectors
 
     abbrev pairs : Pairs
     pairs = zipped way (components_of (types_in world) id) values
@@ -221,7 +218,7 @@ module _ (world : World) (block : ℕ) (env : Environment) where
         state here.stands.known))
 
     -- the stores of a walk, where they break no rule, of values that are components of the type
-    pub stores-good : accessed (declared_in world) (types_in world) root selectors ≡ Some id → AreComponentsOf (types_in world) id values
+    pub stores-good : accessed (declared_in world) (types_in world) (AtVariable root) selectors ≡ Some id → AreComponentsOf (types_in world) id values
         → (becomes : Place) (stores : Stores) → Fit stores → (context : Context) (state : State) (s : effect.State)
         → IsReachedBy env s.store selectors way reach → (walk.store_to becomes root reach stores context state).broken ≡ []
         → Here world block env context state s → (place : Option StorePlace) → place ≡ part (env.variables root) way

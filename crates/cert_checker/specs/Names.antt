@@ -11,12 +11,11 @@ use Rattle.certificate.specs.declared.AliasPair.{AliasPair}
 use Rattle.typed_tree.specs.declared.tree.Tree.{Tree}
 use Rattle.typed_tree.specs.declared.tree.Loop.{Loop}
 use Rattle.types.specs.Forms.{Form, Array}
-use Rattle.types.specs.Types.{form_at, is_ordinal}
+use Rattle.types.specs.Types.{form_at, is_scalar}
 use Rattle.types.specs.declared.form.TypeId.{TypeId}
 use Rattle.domain.specs.declared.facts.Bound.{Bound}
 use Rattle.domain.specs.declared.facts.Bound.TheVariants.{Number, Plus}
-use Rattle.checker_rows.specs.Rows.{Named, part_named}
-use Rattle.typed_tree.specs.declared.tree.Variable.{Variable}
+use Rattle.checker_rows.specs.Rows.{Named, is_ordinal_variable, part_named}
 use Rattle.certificate.specs.Contents.{is_empty, said_path}
 use Rattle.certificate.specs.declared.Certificate.{Certificate}
 use Rattle.certificate.specs.declared.LoopClaims.{LoopClaims}
@@ -24,14 +23,6 @@ use Rattle.certificate.specs.declared.Section.{Section}
 use Rattle.certificate.specs.declared.facts.Path.{Path}
 use Rattle.certificate.specs.declared.facts.Fact.{Fact}
 use Rattle.certificate.specs.declared.facts.Fact.TheVariants.{Range, Defined, Stretch, Order}
-
--- a variable of an ordinal type
-abbrev pub has_ordinals : List Form → Option Variable → Bool
-has_ordinals types None = false
-has_ordinals types (Some variable) = is_ordinal types variable.type_id
-
-abbrev pub is_ordinal_variable : Tree → ℕ → Bool
-is_ordinal_variable tree root = has_ordinals tree.types (slice_get tree.variables.items root)
 
 -- a path names a part that is there, of whose type a test holds
 abbrev pub is_named : (TypeId → Bool) → Option Named → Bool
@@ -53,10 +44,10 @@ abbrev pub bound_is_known : Tree → Bound → Bool
 bound_is_known tree (Number number) = true
 bound_is_known tree (Plus root number) = is_ordinal_variable tree root
 
--- a fact names parts of variables: a range those of an ordinal type, a stretch elements; its bounds and the variables
--- of an order are of ordinal types
+-- a fact names parts of variables: a range those of an ordinal or a set type, a stretch elements; its bounds and the
+-- variables of an order are of ordinal types
 abbrev pub fact_is_known : Tree → Fact → Bool
-fact_is_known tree (Range path range) = names tree (is_ordinal tree.types) path
+fact_is_known tree (Range path range) = names tree (is_scalar tree.types) path
 fact_is_known tree (Defined path) = names tree (λ id. true) path
 fact_is_known tree (Stretch path first last) =
     names tree (is_array tree.types) path && (bound_is_known tree first && bound_is_known tree last)

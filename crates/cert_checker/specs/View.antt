@@ -104,7 +104,7 @@ arms_from_here index rows arms = do
   _ ← no_more
   arms_walk base index rows arms
 
--- an ordinal of the type of a row
+-- an ordinal or a set of the type of a row
 abbrev pub row_stored : Tree → ℕ × Interval → Stored
 row_stored tree one = record { type_id = type_at (rows_of tree) one.0; range = one.1 }
 

@@ -7,6 +7,7 @@ use Rattle.std.specs.declared.alloc.Global.{Global}
 use Rattle.std.specs.declared.boxed.Box.{Box}
 use Rattle.std.specs.declared.vec.Vec.{Vec}
 use Rattle.place.specs.declared.Place.{Place}
+use Rattle.certificate.specs.Contents.{is_empty}
 use Rattle.certificate.specs.declared.Certificate.{Certificate}
 use Rattle.typed_tree.specs.declared.tree.Tree.{Tree}
 use Rattle.typed_tree.specs.declared.tree.Block.{Block}
@@ -18,28 +19,31 @@ use Rattle.typed_tree.specs.declared.tree.LoopHead.{LoopHead}
 use Rattle.typed_tree.specs.declared.tree.Selector.{Selector}
 use Rattle.typed_tree.specs.declared.tree.Selector.TheVariants.{Element}
 use Rattle.typed_tree.specs.declared.tree.FunctionResult.{FunctionResult}
+use Rattle.typed_tree.specs.declared.tree.WithHead.{WithHead}
+use Rattle.typed_tree.specs.declared.tree.WithRecord.{WithRecord}
 use Rattle.typed_tree.specs.declared.tree.Expr.{Expr}
 use Rattle.typed_tree.specs.declared.tree.Stmt.{Stmt}
 use Rattle.typed_tree.specs.declared.tree.Stmt.TheOpen.{Stmt-F}
 use Rattle.typed_tree.specs.declared.tree.Stmt.TheOpen.Stmt-F.{Empty, Assign, Write, Compound, If, While, Repeat, For}
-use Rattle.typed_tree.specs.declared.tree.Stmt.TheOpen.Stmt-F.{Case, Copy, Call}
+use Rattle.typed_tree.specs.declared.tree.Stmt.TheOpen.Stmt-F.{Case, Copy, Call, With}
 use Rattle.typed_tree.specs.declared.tree.Stmt.TheFolds.{fold-Stmt}
+use Rattle.typed_tree.specs.Accesses.{Origin, origin_of, root_of, steps_of}
 use Rattle.typed_tree.specs.Calls.{holds_call, whole_holds_call}
 use Rattle.domain.specs.Interval.{Interval, common}
 use Rattle.domain.specs.Numbers.{hull, is_covered}
 use Rattle.domain.specs.Facts.{Fact}
 use Rattle.checker_state.specs.Bounds.{Bound}
 use Rattle.checker_state.specs.declared.value.Known.{Known}
-use Rattle.checker_state.specs.declared.value.Known.TheVariants.{Ordinal}
 use Rattle.checker_rows.specs.Limits.{limits_of}
 use Rattle.checker_state.specs.State.{Dead, State, has_number, range_of, unless_empty}
 use Rattle.checker_state.specs.Joins.{joined_states}
 use Rattle.checker_state.specs.Stores.{Index, Reach, all_stored}
 use Rattle.checker_state.specs.Changes.{assigned}
 use Rattle.checker_state.specs.Conditions.{bound_form, branched, condition_of}
-use Rattle.checker_state.specs.Forms.{root_of}
+use Rattle.checker_state.specs.Forms.{root_of as entire_root}
 use Rattle.checker_state.specs.Loops.{with_undefined}
-use Rattle.checker_rows.specs.Rows.{rows_accessed, rows_of, type_at}
+use Rattle.checker_state.specs.Values.{known_range}
+use Rattle.checker_rows.specs.Rows.{is_ordinal_variable, rows_accessed, rows_of, type_at}
 use Rattle.checker_loops.specs.Cases.{arm_start, constants_before}
 use Rattle.checker_loops.specs.Loops.{Round, all_claims, claims_at, gives_claims}
 use Rattle.checker_loops.specs.Loops.{head_of, round_of, touched, with_own}
@@ -72,13 +76,13 @@ abbrev pub with_aliases : Context → ℕ → List Stored → State → State
 with_aliases context root stored state =
     with_aliases_stored context.tree (aliases_here context root) stored state
 
--- an ordinal of a variable's type
+-- an ordinal or a set of a variable's type
 abbrev pub stored_in : Context → ℕ → Interval → Stored
 stored_in context root range = record { type_id = type_at (rows_of context.tree) root; range = range }
 
--- the assignment of a value to a variable, perhaps of a bound form
-abbrev pub assign : ℕ → Option Bound → Known → Walking (Unit {0})
-assign root form (Ordinal range) context =
+-- the assignment of a value to a variable, perhaps of a bound form: its number lies in a range, or its members do
+abbrev pub assign : ℕ → Option Bound → Interval → Walking (Unit {0})
+assign root form range context =
     changed_by
     (λ state. assigned root range (unless_alias (aliases_here context root) form)
     (with_aliases context root (stored_in context root range ∷ []) state)) context
@@ -87,7 +91,7 @@ assign root form (Ordinal range) context =
 abbrev pub Stores : Type 0
 Stores = List (ℕ × Interval)
 
--- ordinals of the types of rows
+-- ordinals and sets of the types of rows
 abbrev pub stored_in_rows : Context → Stores → List Stored
 stored_in_rows context stores =
     map (λ one. record { type_id = type_at (rows_of context.tree) one.0; range = one.1 }) stores
@@ -106,25 +110,32 @@ store_to place root reach stores = do
   stores_made root reach stores
 
 -- the rows under what is accessed
-abbrev pub target_rows : Context → ℕ → List Selector → List ℕ
-target_rows context root selectors = rows_accessed context.tree root selectors
+abbrev pub target_rows : Context → Origin → List Selector → List ℕ
+target_rows context origin selectors = rows_accessed context.tree origin selectors
 
 -- the same range for each row
 abbrev pub alike : Interval → List ℕ → Stores
 alike range rows = map (λ row. (row, range)) rows
 
 -- the assignment of a value to a component
-abbrev pub assign_component : Place → ℕ → List Selector → Reach → Known → Walking (Unit {0})
-assign_component place root selectors reach (Ordinal range) context =
-    store_to place root reach (alike range (target_rows context root selectors)) context
+abbrev pub assign_component : Place → Origin → List Selector → Reach → Interval → Walking (Unit {0})
+assign_component place origin selectors reach range context =
+    store_to place (root_of origin) reach (alike range (target_rows context origin selectors)) context
+
+-- the assignment of a value to a variable as a whole
+abbrev pub assign_entire : Place → ℕ → Option Bound → Interval → Walking (Unit {0})
+assign_entire place root form range = do
+  _ ← change place root
+  assign root form range
+
+-- a variable is accessed as a whole: no step leads on from it
+abbrev pub is_whole_variable : Origin → List Selector → Bool
+is_whole_variable origin selectors = is_empty (steps_of origin) && is_empty selectors
 
 -- the assignment of a value to what is accessed
-abbrev pub assign_to : Place → ℕ → List Selector → Reach → Option Bound → Known → Walking (Unit {0})
-assign_to place root [] reach form passed = do
-  _ ← change place root
-  assign root form passed
-assign_to place root (selector ∷ selectors) reach form passed =
-    assign_component place root (selector ∷ selectors) reach passed
+abbrev pub assign_to : Place → Origin → List Selector → Reach → Option Bound → Interval → Walking (Unit {0})
+assign_to place origin selectors reach form range = if is_whole_variable origin selectors
+    then assign_entire place (root_of origin) form range else assign_component place origin selectors reach range
 
 -- rows with their ranges
 abbrev pub paired : List ℕ → List Interval → Stores
@@ -133,15 +144,15 @@ paired (row ∷ rows) [] = []
 paired (row ∷ rows) (range ∷ ranges) = (row, range) ∷ paired rows ranges
 
 -- components of these ranges are copied to what is accessed
-abbrev pub copy_to : Place → ℕ → List Selector → Reach → List Interval → Walking (Unit {0})
-copy_to place root selectors reach ranges context =
-    store_to place root reach (paired (target_rows context root selectors) ranges) context
+abbrev pub copy_to : Place → Origin → List Selector → Reach → List Interval → Walking (Unit {0})
+copy_to place origin selectors reach ranges context =
+    store_to place (root_of origin) reach (paired (target_rows context origin selectors) ranges) context
 
 -- the start of a block of a number, of which these facts are claimed
 abbrev pub begin : ℕ → List Fact → Walking (Unit {0})
 begin number facts context = with_state (block_start context.tree number facts) context
 
--- statements, or values that are written, one after another
+-- statements, values that are written, or records of a with, one after another
 abbrev pub all_of : List (Walking (Unit {0})) → Walking (Unit {0})
 all_of [] = give tt
 all_of (statement ∷ statements) = do
@@ -180,6 +191,12 @@ from_entry number walking = do
   _ ← enter number
   walking
 
+-- what is accessed gets the value of an expression, of which this is known
+abbrev pub assign_value : Assignment → Reach → Known → Walking (Unit {0})
+assign_value assignment reach known context =
+    assign_to assignment.becomes (origin_of assignment.target) assignment.target.selectors.items reach
+    (bound_form (is_ordinal_variable context.tree) assignment.value) (known_range known) context
+
 -- an assignment: the target is accessed, and then comes the value
 abbrev pub assignment_walk : Assignment → Walking (Unit {0})
 assignment_walk assignment =
@@ -187,8 +204,7 @@ assignment_walk assignment =
       reach ← access_walk target (index_pieces assignment.indexes.items)
       known ← value_walk assignment.value
       passed ← fitting assignment.fits known
-      assign_to assignment.becomes target.root target.selectors.items
-          (reach_stored target.selectors.items (holds_call assignment.value) reach) (bound_form assignment.value) passed
+      assign_value assignment (reach_stored target.selectors.items (holds_call assignment.value) reach) passed
 
 -- an assignment of a whole value: the target is accessed, and then come the components, one after another
 abbrev pub copying_walk : Copying → Walking (Unit {0})
@@ -197,16 +213,18 @@ copying_walk copying =
     let hold = whole_holds_call copying.value copying.value_indexes.items in do
       reach ← access_walk target (index_pieces copying.indexes.items)
       ranges ← whole_walk copying.value (index_pieces copying.value_indexes.items)
-      copy_to copying.becomes target.root target.selectors.items (reach_stored target.selectors.items hold reach) ranges
+      copy_to copying.becomes (origin_of target) target.selectors.items
+          (reach_stored target.selectors.items hold reach) ranges
 
 -- two pieces of which a run takes one, each walked from its own state; behind them the states are joined
 abbrev pub either_of : Context → Walked (Unit {0}) → Walked (Unit {0}) → Walked (Unit {0})
 either_of context one other =
     record (followed one other) { after = joined_states (table_of context.tree) one.after other.after }
 
--- the state where a condition has a truth value
-abbrev pub where_so : Bool → Expr → Known → State → State
-where_so truth condition (Ordinal range) state = branched truth condition range state
+-- the state of a program where a condition has a truth value
+abbrev pub where_so : Tree → Bool → Expr → Known → State → State
+where_so tree truth condition known state =
+    branched (is_ordinal_variable tree) truth condition (known_range known) state
 
 -- two ways from a state, each of them taken from what is known there
 abbrev pub parted : (one_state other_state : State → State) → (one other : Walking (Unit {0})) → Walking (Unit {0})
@@ -214,15 +232,15 @@ parted one_state other_state one other context state =
     either_of context (one context (one_state state)) (other context (other_state state))
 
 -- what is executed where a condition is true, and what is where it is false
-abbrev pub branches : Expr → (consequence alternative : Walking (Unit {0})) → Known → Walking (Unit {0})
-branches condition consequence alternative known =
-    parted (where_so true condition known) (where_so false condition known) consequence alternative
+abbrev pub branches : Tree → Expr → (consequence alternative : Walking (Unit {0})) → Known → Walking (Unit {0})
+branches tree condition consequence alternative known =
+    parted (where_so tree true condition known) (where_so tree false condition known) consequence alternative
 
 -- a conditional statement: the condition, and then one of its branches
 abbrev pub choice_walk : Expr → (consequence alternative : Walking (Unit {0})) → Walking (Unit {0})
 choice_walk condition consequence alternative = do
   known ← value_walk condition
-  branches condition consequence alternative known
+  λ context. branches context.tree condition consequence alternative known context
 
 -- the statement behind `else`, or nothing where there is none
 abbrev pub alternative_walk : Option (Box (Walking (Unit {0})) Global) → Walking (Unit {0})
@@ -236,22 +254,22 @@ here context state = give state context state
 -- a round of a loop: it ends where another round follows, and gives the state where none does
 
 -- a round of a while: the condition, and then perhaps the body
-abbrev pub while_round : Expr → Walking (Unit {0}) → Walking State
-while_round condition body = do
+abbrev pub while_round : Tree → Expr → Walking (Unit {0}) → Walking State
+while_round tree condition body = do
   known ← value_walk condition
   tested ← here
-  _ ← with_state (where_so true condition known tested)
+  _ ← with_state (where_so tree true condition known tested)
   _ ← body
-  give (where_so false condition known tested)
+  give (where_so tree false condition known tested)
 
 -- a round of a repeat: the body, and then the condition, which ends it
-abbrev pub repeat_round : Walking (Unit {0}) → Expr → Walking State
-repeat_round body condition = do
+abbrev pub repeat_round : Tree → Walking (Unit {0}) → Expr → Walking State
+repeat_round tree body condition = do
   _ ← body
   known ← value_walk condition
   tested ← here
-  _ ← with_state (where_so false condition known tested)
-  give (where_so true condition known tested)
+  _ ← with_state (where_so tree false condition known tested)
+  give (where_so tree true condition known tested)
 
 -- the facts of a loop are given at a point
 abbrev pub facts_given : Rule → Place → List Fact → Walking (Unit {0})
@@ -284,10 +302,12 @@ loop_walk number place control walking context =
 
 -- a while, and a repeat
 abbrev pub while_walk : LoopHead → Walking (Unit {0}) → Walking (Unit {0})
-while_walk head body = loop_walk head.loop_number head.place None (while_round head.condition body)
+while_walk head body context =
+    loop_walk head.loop_number head.place None (while_round context.tree head.condition body) context
 
 abbrev pub repeat_walk : LoopHead → Walking (Unit {0}) → Walking (Unit {0})
-repeat_walk head body = loop_walk head.loop_number head.place None (repeat_round body head.condition)
+repeat_walk head body context =
+    loop_walk head.loop_number head.place None (repeat_round context.tree body head.condition) context
 
 -- ---- for statements
 
@@ -326,7 +346,7 @@ rounds_of head body way context =
 -- the control variable is the first bound, where a first turn may begin
 abbrev pub begin_way : Way → Walking (Unit {0})
 begin_way way context state =
-    assign way.control way.first.form (Ordinal way.first.values) context (entered way state)
+    assign way.control way.first.form way.first.values context (entered way state)
 
 -- a for where there are values: the bounds are tested, and the control variable is the first
 abbrev pub for_turns : ForHead → Walking (Unit {0}) → Way → Walking (Unit {0})
@@ -347,7 +367,7 @@ abbrev pub bounds_walk : ForHead → Walking (Unit {0}) → Walking (Unit {0})
 bounds_walk head body = do
   from ← value_walk head.first.value
   to ← value_walk head.last.value
-  for_walk head body (way_of head from to)
+  λ context. for_walk head body (way_of (is_ordinal_variable context.tree) head from to) context
 
 -- ---- case statements
 
@@ -376,17 +396,35 @@ arms_walk base index rows (arm ∷ arms) = do
   _ ← arm_walk (arm_start index (slice_get rows 0) base) arm
   arms_walk base index (drop 1 rows) arms
 
+-- the variable of a program that an index is, if it is an ordinal one
+abbrev pub index_root : Tree → CaseHead → Option ℕ
+index_root tree head = entire_root (condition_of (is_ordinal_variable tree) head.index).form
+
 -- a case, from the value of its index
-abbrev pub case_walk : CaseHead → List (Walking (Unit {0})) → Known → Walking (Unit {0})
-case_walk head arms (Ordinal range) = do
-  base ← index_test head.site (constants_before (length arms) head.constants.items) range
-  arms_walk base (root_of (condition_of head.index).form) head.constants.items arms
+abbrev pub case_walk : Tree → CaseHead → List (Walking (Unit {0})) → Known → Walking (Unit {0})
+case_walk tree head arms known = do
+  base ← index_test head.site (constants_before (length arms) head.constants.items) (known_range known)
+  arms_walk base (index_root tree head) head.constants.items arms
 
 -- a case: its index, and then an arm
 abbrev pub index_walk : CaseHead → List (Walking (Unit {0})) → Walking (Unit {0})
 index_walk head arms = do
   known ← value_walk head.index
-  case_walk head arms known
+  λ context. case_walk context.tree head arms known context
+
+-- ---- with statements
+
+-- a record of a with is accessed
+abbrev pub record_walk : WithRecord → Walking (Unit {0})
+record_walk one = do
+  _ ← access_walk one.access (index_pieces one.indexes.items)
+  give tt
+
+-- a with: each record is accessed once, in their order (6.8.3.10), and then comes the body
+abbrev pub with_walk : WithHead → Walking (Unit {0}) → Walking (Unit {0})
+with_walk head body = do
+  _ ← all_of (map record_walk head.records.items)
+  body
 
 -- one layer of a statement
 abbrev pub statement_step : Stmt-F (Walking (Unit {0})) → Walking (Unit {0})
@@ -402,6 +440,7 @@ statement_step (While head body) = from_entry head.number (while_walk head body.
 statement_step (Repeat head statements) = from_entry head.number (repeat_walk head (all_of statements.items))
 statement_step (For head body) = from_entry head.number (bounds_walk head body.value)
 statement_step (Case head arms) = from_entry head.number (index_walk head arms.items)
+statement_step (With head body) = from_entry head.number (with_walk head body.value)
 
 -- the walk over a statement
 abbrev pub statement_walk : Stmt → Walking (Unit {0})

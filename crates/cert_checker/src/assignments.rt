@@ -1,13 +1,14 @@
 ghost use Rattle.std.specs.Prelude.{◌≡◌, ◌++◌, ◌∷◌, IfOk};
+ghost use Rattle.typed_tree.specs.Accesses.{origin_of};
 ghost use Rattle.typed_tree.specs.Entries.{access_entries, entries_of_expression, index_entries, whole_entries};
-ghost use Rattle.checker_state.specs.Conditions.{bound_form};
 ghost use Rattle.checker_state.specs.View.{said_form, said_reach};
-ghost use Rattle.checker_state.specs.declared.value.Known.TheVariants.{Ordinal};
+ghost use Rattle.checker_state.specs.Values.{known_range};
 ghost use Rattle.checker_expressions.specs.Visits.{all_counted};
 ghost use Rattle.cert_checker.specs.StoresView.{said_stores};
 ghost use Rattle.cert_checker.specs.View.{Goes, context_of};
-ghost use Rattle.cert_checker.specs.Walk.{aliases_here, assign, assign_component, assign_to, assignment_walk, change};
-ghost use Rattle.cert_checker.specs.Walk.{copy_to, copying_walk, from_entry, store_to, stores_made};
+ghost use Rattle.cert_checker.specs.Walk.{aliases_here, assign, assign_component, assign_value, assignment_walk};
+ghost use Rattle.cert_checker.specs.Walk.{change, copy_to, copying_walk, from_entry, is_whole_variable, store_to};
+ghost use Rattle.cert_checker.specs.Walk.{stores_made};
 
 use crate::reached::reach_stored;
 use crate::stores::{Stores, assign};
@@ -19,7 +20,7 @@ use domain::interval::Interval;
 use place::Place;
 use std::alloc::AllocError;
 use typed_tree::calls::{holds_call, whole_holds_call};
-use typed_tree::tree::{Assignment, Copying};
+use typed_tree::tree::{Access, Assignment, Base, Copying};
 
 // What statements store to variables and to components.
 impl<'a> Walk<'a> {
@@ -56,14 +57,13 @@ impl<'a> Walk<'a> {
 
     /// What is accessed gets the value of an expression.
     fn assign_to(&mut self, assignment: &Assignment, reach: Reach, passed: Known)
-        ensures { Goes (assign_to assignment.now.becomes assignment.now.target.root
-            assignment.now.target.selectors.items (said_reach reach) (bound_form assignment.now.value) passed)
-            self.old self.new tt }
+        ensures { Goes (assign_value assignment.now (said_reach reach) passed) self.old self.new tt }
     {
         let target = &assignment.target;
-        if target.selectors.is_empty() {
+        if is_whole_variable(target) {
+            let form = bound_form(self.flow.state.table(), &assignment.value);
             self.change(assignment.becomes, target.root);
-            self.assigned(target.root, passed.range(), bound_form(&assignment.value));
+            self.assigned(target.root, passed.range(), form);
         } else {
             self.assign_component(assignment, reach, passed);
         }
@@ -71,15 +71,11 @@ impl<'a> Walk<'a> {
 
     /// A component gets a value.
     fn assign_component(&mut self, assignment: &Assignment, reach: Reach, passed: Known)
-        ensures { Goes (assign_component assignment.now.becomes assignment.now.target.root
-            assignment.now.target.selectors.items (said_reach reach) passed) self.old self.new tt }
+        ensures { Goes (assign_component assignment.now.becomes (origin_of assignment.now.target)
+            assignment.now.target.selectors.items (said_reach reach) (known_range passed)) self.old self.new tt }
     {
         let target = &assignment.target;
-        let rows = self
-            .flow
-            .state
-            .table()
-            .accessed(target.root, &target.selectors);
+        let rows = self.flow.state.table().accessed(target);
         let range = passed.range();
         let stores = Stores::Alike { rows, range };
         self.store_to(assignment.becomes, target.root, reach, &stores);
@@ -87,15 +83,11 @@ impl<'a> Walk<'a> {
 
     /// Components of these ranges are copied to what is accessed.
     fn copy_to(&mut self, copying: &Copying, reach: Reach, ranges: &[Interval])
-        ensures { Goes (copy_to copying.now.becomes copying.now.target.root
+        ensures { Goes (copy_to copying.now.becomes (origin_of copying.now.target)
             copying.now.target.selectors.items (said_reach reach) ranges.now) self.old self.new tt }
     {
         let target = &copying.target;
-        let rows = self
-            .flow
-            .state
-            .table()
-            .accessed(target.root, &target.selectors);
+        let rows = self.flow.state.table().accessed(target);
         let stores = Stores::Paired { rows, ranges };
         self.store_to(copying.becomes, target.root, reach, &stores);
     }
@@ -129,7 +121,7 @@ impl<'a> Walk<'a> {
 
     /// A variable gets a value of a range, perhaps of a bound form; its aliases may have it.
     pub(crate) fn assigned(&mut self, root: u32, range: Interval, form: Option<Bound>)
-        ensures { Goes (assign root (said_form form) (Ordinal range)) self.old self.new tt }
+        ensures { Goes (assign root (said_form form) range) self.old self.new tt }
     {
         match self.aliases(root) {
             Ok(aliases) => assign(&mut self.flow.state, &aliases, root, range, form),
@@ -144,5 +136,15 @@ impl<'a> Walk<'a> {
         let grounds = &self.flow.grounds;
         let alloc = self.flow.state.alloc();
         grounds.pairs.aliases_in(alloc, grounds.block, root)
+    }
+}
+
+/// Whether a variable is accessed as a whole.
+fn is_whole_variable(access: &Access) -> bool
+    ensures { result ≡ is_whole_variable (origin_of access.now) access.now.selectors.items }
+{
+    match &access.base {
+        Base::Variable => access.selectors.is_empty(),
+        Base::Record { path, .. } => path.is_empty() && access.selectors.is_empty(),
     }
 }

@@ -2,10 +2,10 @@
 //! visible where something is claimed of them.
 ghost use Rattle.std.specs.Prelude.{◌≡◌, true, if◌then◌else◌, nat_eq, slice_get};
 ghost use Rattle.std.specs.List.{list_all};
-ghost use Rattle.types.specs.Types.{is_ordinal};
+ghost use Rattle.types.specs.Types.{is_scalar};
 ghost use Rattle.cert_checker.specs.Names.{block_is_known, bound_is_known, bound_roots, claims_are_known};
 ghost use Rattle.cert_checker.specs.Names.{exit_is_known, fact_is_known, fact_is_on, fact_roots, has_parameter};
-ghost use Rattle.cert_checker.specs.Names.{is_array, is_known, is_ordinal_variable};
+ghost use Rattle.cert_checker.specs.Names.{is_array, is_known};
 ghost use Rattle.cert_checker.specs.Names.{is_of_loops, is_own_result, is_round_about, names, pair_is_known};
 ghost use Rattle.cert_checker.specs.Names.{section_is_known, stands_in};
 ghost use Rattle.cert_checker.specs.NamesView.{may_name};
@@ -237,15 +237,14 @@ fn bound_names(tree: &Tree, block: u32, nameable: Nameable, bound: Bound) -> boo
 fn fact_is_known(rows: &Rows, fact: &Fact) -> bool
     ensures { result ≡ fact_is_known rows.now fact.now }
 {
-    let tree = rows.tree();
     match fact {
-        Fact::Range { path, .. } => names_ordinals(rows, path),
+        Fact::Range { path, .. } => names_scalars(rows, path),
         Fact::Defined { path } => names_part(rows, path),
         Fact::Stretch { path, first, last } => {
-            names_arrays(rows, path) && bound_is_known(tree, *first) && bound_is_known(tree, *last)
+            names_arrays(rows, path) && bound_is_known(rows, *first) && bound_is_known(rows, *last)
         }
         Fact::Order { root, other, .. } => {
-            is_ordinal_variable(tree, *root) && is_ordinal_variable(tree, *other)
+            rows.is_ordinal_variable(*root) && rows.is_ordinal_variable(*other)
         }
     }
 }
@@ -257,13 +256,13 @@ fn names_part(rows: &Rows, path: &Path) -> bool
     rows.named(path).is_some()
 }
 
-/// Whether it names one of an ordinal type.
-fn names_ordinals(rows: &Rows, path: &Path) -> bool
-    ensures { result ≡ names rows.now (is_ordinal rows.now.types) path.now }
+/// Whether it names one of an ordinal or a set type.
+fn names_scalars(rows: &Rows, path: &Path) -> bool
+    ensures { result ≡ names rows.now (is_scalar rows.now.types) path.now }
 {
     match rows.named(path) {
         None => false,
-        Some(part) => rows.tree().types.is_ordinal(part.type_id),
+        Some(part) => rows.tree().types.is_scalar(part.type_id),
     }
 }
 
@@ -287,21 +286,11 @@ fn is_array(types: &TypeTable, id: TypeId) -> bool
 }
 
 /// Whether the variable of a bound, if it has one, is there and of an ordinal type.
-fn bound_is_known(tree: &Tree, bound: Bound) -> bool
-    ensures { result ≡ bound_is_known tree.now bound }
+fn bound_is_known(rows: &Rows, bound: Bound) -> bool
+    ensures { result ≡ bound_is_known rows.now bound }
 {
     match bound {
         Bound::Number(_) => true,
-        Bound::Plus { root, .. } => is_ordinal_variable(tree, root),
-    }
-}
-
-/// Whether a variable is there, and of an ordinal type.
-fn is_ordinal_variable(tree: &Tree, root: u32) -> bool
-    ensures { result ≡ is_ordinal_variable tree.now root }
-{
-    match tree.variables.get(root as usize) {
-        None => false,
-        Some(variable) => tree.types.is_ordinal(variable.type_id),
+        Bound::Plus { root, .. } => rows.is_ordinal_variable(root),
     }
 }

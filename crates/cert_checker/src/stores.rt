@@ -51,7 +51,7 @@ impl<'a> Stores<'a> {
         }
     }
 
-    /// Ordinals of the types of these rows.
+    /// Ordinals and sets of the types of these rows.
     fn in_rows(&self, alloc: Global, rows: &Rows) -> Result<Vec<Stored>, AllocError>
         ensures { IfOk result (λ stored. map said_stored stored.items
             ≡ map (row_stored rows.now) (said_stores self.now)) }

@@ -1,6 +1,7 @@
 ghost use Rattle.std.specs.Prelude.{◌≡◌, ◌++◌, ◌∷◌, IfOk, flat_map, map};
 ghost use Rattle.typed_tree.specs.Entries.{access_entries, call_entries, entries_of_expression, entries_of_parameter};
-ghost use Rattle.typed_tree.specs.Entries.{entries_of_passed, entries_of_statement, index_entries, whole_entries};
+ghost use Rattle.typed_tree.specs.Entries.{entries_of_passed, entries_of_record, entries_of_statement, index_entries};
+ghost use Rattle.typed_tree.specs.Entries.{whole_entries};
 ghost use Rattle.domain.specs.Interval.{common};
 ghost use Rattle.domain.specs.Numbers.{hull, is_covered};
 ghost use Rattle.checker_state.specs.View.{said_reach};
@@ -11,7 +12,7 @@ ghost use Rattle.checker_expressions.specs.Walk.{access_walk, call_walk, changed
 ghost use Rattle.checker_expressions.specs.Walk.{passed_piece_of, tested, value_walk, whole_walk};
 ghost use Rattle.cert_checker.specs.View.{Goes, arms_from_here, else_entries, else_walk, statements_entries};
 ghost use Rattle.cert_checker.specs.Walk.{all_of, bounds_walk, choice_walk, for_turns, for_walk, from_entry};
-ghost use Rattle.cert_checker.specs.Walk.{index_walk};
+ghost use Rattle.cert_checker.specs.Walk.{index_walk, record_walk, with_walk};
 ghost use Rattle.cert_checker.specs.Walk.{repeat_walk, rounds_of, statement_walk, where_so, while_walk};
 
 use checker_expressions::flow::Flow;
@@ -24,7 +25,8 @@ use domain::Domain;
 use domain::interval::Interval;
 use std::alloc::{AllocError, Global};
 use typed_tree::tree::{
-    Access, CaseHead, Expr, ForHead, LoopHead, ProcedureCall, Stmt, Whole, Writing,
+    Access, CaseHead, Expr, ForHead, LoopHead, ProcedureCall, Stmt, Whole, WithHead, WithRecord,
+    Writing,
 };
 
 /// A walk over the statements of a program, in the order in which they stand. The counter of entries is lent to it.
@@ -75,6 +77,7 @@ impl<'a> Walk<'a> {
             Stmt::Repeat { head, statements } => self.repeat_loop(head, statements, visits),
             Stmt::For { head, body } => self.for_loop(head, body, visits),
             Stmt::Case { head, arms } => self.case(head, arms, visits),
+            Stmt::With { head, body } => self.with_statement(head, body, visits),
         }
     }
 
@@ -150,7 +153,8 @@ impl<'a> Walk<'a> {
         visits.tick(head.number);
         let from = self.expression(&head.first.value, visits);
         let to = self.expression(&head.last.value, visits);
-        self.for_statement(head, body, &Way::of(head, from, to), visits);
+        let way = Way::of(self.flow.state.table(), head, from, to);
+        self.for_statement(head, body, &way, visits);
     }
 
     /// A for, from the values of its bounds: where there are any, and where there are none.
@@ -207,7 +211,8 @@ impl<'a> Walk<'a> {
         visits.tick(head.number);
         let known = self.expression(&head.index, visits);
         self.test_index(head, arms.len(), known.range());
-        self.arms(arms, entire(&head.index), &head.constants, visits);
+        let index = entire(self.flow.state.table(), &head.index);
+        self.arms(arms, index, &head.constants, visits);
     }
 
     /// The arms of a case, each from here. No way behind it is known before the first.
@@ -232,6 +237,37 @@ impl<'a> Walk<'a> {
             behind = self.flow.state.leave(mark);
         }
         self.flow.state.go(&behind);
+    }
+
+    /// A with (ISO 7185:1990, 6.8.3.10).
+    #[cycle(statement)]
+    fn with_statement(&mut self, head: &WithHead, body: &Stmt, visits: &mut Visits)
+        ensures goes { Goes (from_entry head.now.number (with_walk head.now (statement_walk body.now)))
+            self.old self.new tt }
+        ensures counts { visits.new ≡ all_counted (head.now.number
+            ∷ (flat_map entries_of_record head.now.records.items ++ entries_of_statement body.now)) visits.old }
+    {
+        visits.tick(head.number);
+        self.records(&head.records, visits);
+        self.statement(body, visits);
+    }
+
+    /// The records of a with, each of which is accessed once.
+    fn records(&mut self, records: &[WithRecord], visits: &mut Visits)
+        ensures goes { Goes (all_of (map record_walk records.now)) self.old self.new tt }
+        ensures counts { visits.new ≡ all_counted (flat_map entries_of_record records.now) visits.old }
+    {
+        for one in records {
+            self.record_of(one, visits);
+        }
+    }
+
+    /// A record of a with.
+    fn record_of(&mut self, one: &WithRecord, visits: &mut Visits)
+        ensures goes { Goes (record_walk one.now) self.old self.new tt }
+        ensures counts { visits.new ≡ all_counted (entries_of_record one.now) visits.old }
+    {
+        let _reach = self.access(&one.access, &one.indexes, visits);
     }
 
     /// A call of a procedure.
@@ -289,7 +325,8 @@ impl<'a> Walk<'a> {
 
     /// Goes on where a condition has a truth value.
     fn go_where(&mut self, condition: &Expr, known: &Known, truth: bool)
-        ensures { Goes (changed_by (where_so truth condition.now known.now)) self.old self.new tt }
+        ensures { Goes (changed_by (where_so self.old.flow.state.table.now truth condition.now known.now))
+            self.old self.new tt }
     {
         self.flow.state.branch(condition, known.range(), truth);
     }

@@ -9,16 +9,17 @@ use Rattle.std.proofs.lemmas.Bool.{both_ways, cases_Bool, eq-eqb, eqb-true, fals
 use Rattle.std.proofs.lemmas.List.Folds.{list_any-append}
 use Rattle.std.proofs.lemmas.Option.{same_Some, slice_get_past}
 use Rattle.types.specs.Forms.{Form}
-use Rattle.types.specs.Types.{is_ordinal, is_structured, range_of}
+use Rattle.types.specs.Types.{is_scalar, is_structured, scalar_range_of}
 use Rattle.types.specs.declared.form.OrdinalRange.{OrdinalRange}
 use Rattle.types.specs.declared.form.Step.{Step}
 use Rattle.types.specs.declared.form.TypeId.{TypeId}
 use Rattle.typed_tree.specs.WellFormed.{is_round, is_visible, of_one, outline_of}
 use Rattle.typed_tree.specs.declared.tree.Tree.{Tree}
 use Rattle.typed_tree.specs.declared.tree.Variable.{Variable}
+use Rattle.domain.specs.Hulls.{common-has_set_left}
 use Rattle.domain.specs.contracts.interval.IntervalDomain.TheImpl.Laws.{meet_has_left-law}
 use Rattle.meaning.specs.declared.store.Value.{Value}
-use Rattle.meaning.specs.declared.store.Value.TheVariants.{Number}
+use Rattle.meaning.specs.declared.store.Value.TheVariants.{Members, Number}
 use Rattle.meaning.specs.Store.{Environment, Place, Store, stored}
 use Rattle.meaning.specs.Store as store
 use Rattle.checker_rows.specs.Limits.{integer, limits_or_integer, row_limits}
@@ -37,7 +38,7 @@ use Rattle.checker_loops.proofs.AliasedStores.{AreWritten, Pairs, all-pass, or-t
 use Rattle.checker_calls.specs.Environments.{Begun, LiesIn, Proper, Typed, place_type, type_led}
 pub use Rattle.checker_loops.proofs.AliasedStores.{stored-of}
 use Rattle.checker_state.proofs.Apart.{part}
-use Rattle.checker_loops.proofs.VariableRows.{not-both, own-row_steps, under-whole}
+use Rattle.checker_loops.proofs.VariableRows.{own-row_steps, scalar-unstructured, under-whole}
 use Rattle.checker_calls.proofs.PlaceTypes.{IsTypeOf, leaf-typed, part-typed}
 
 -- ---- what is visible
@@ -109,7 +110,7 @@ module _ (tree : Tree) (pairs : List (ℕ × ℕ)) (block activations : ℕ) (en
           (subst (λ (s : List Step). place_type tree (part home s) ≡ Some own) is.steps_are typed) in (
             own_of tree.types row variable.0,
             own-row tree row variable.0 variable.1,
-            record { values_are = ap (range_of tree.types) (sym same); type_is = λ ordinal. ap Some same },
+            record { values_are = ap (scalar_range_of tree.types) (sym same); type_is = λ one_value. ap Some same },
           )
 
       leaf-of-type : IsLeafRow tree row steps → (found : Row) × (slice_get (rows_of tree) row ≡ Some found) × IsTypeOf tree.types own found.leaf
@@ -124,56 +125,58 @@ module _ (tree : Tree) (pairs : List (ℕ × ℕ)) (block activations : ℕ) (en
 
   row-values : (row : ℕ) (steps : List Step) (home : Place) (own : TypeId) → IsOfRow (all_parts tree) row steps
       → env.variables (slice_index_or (all_parts tree) row no_parts).root ≡ Some home → place_type tree (part home steps) ≡ Some own
-      → values_at (rows_of tree) row ≡ range_of tree.types own
+      → values_at (rows_of tree) row ≡ scalar_range_of tree.types own
   row-values row steps home own of_row at typed =
       let found = row-typed row steps home own of_row at typed in
       ap (option_and_then (λ (r : Row). r.leaf.values)) found.1 ∙ sym found.2.values_are
 
   pub row-type : (row : ℕ) (steps : List Step) (home : Place) (own : TypeId) → IsOfRow (all_parts tree) row steps
       → env.variables (slice_index_or (all_parts tree) row no_parts).root ≡ Some home → place_type tree (part home steps) ≡ Some own
-      → is_ordinal tree.types own ≡ true → type_at (rows_of tree) row ≡ Some own
-  row-type row steps home own of_row at typed ordinal =
+      → is_scalar tree.types own ≡ true → type_at (rows_of tree) row ≡ Some own
+  row-type row steps home own of_row at typed one_value =
       let found = row-typed row steps home own of_row at typed in
-      ap (option_and_then (λ (r : Row). r.leaf.type_id)) found.1 ∙ found.2.type_is ordinal
+      ap (option_and_then (λ (r : Row). r.leaf.type_id)) found.1 ∙ found.2.type_is one_value
 
-  -- a structured variable as a whole is of no ordinal type
+  -- a structured variable as a whole is of no scalar type
   whole-plain : (root : ℕ) (home : Place) (own : TypeId) → env.variables root ≡ Some home → place_type tree (part home []) ≡ Some own
-      → is_ordinal tree.types own ≡ true → is_structured_variable tree root ≡ false
-  whole-plain root home own at typed ordinal =
+      → is_scalar tree.types own ≡ true → is_structured_variable tree root ≡ false
+  whole-plain root home own at typed one_value =
       let variable = declared root (seen root home at) in
       let same = whole-type root home own variable.0 at variable.1 typed in
       ap (of_one (λ (v : Variable). is_structured tree.types v.type_id)) variable.1
       ∙ false_from_ne_true (is_structured tree.types variable.0.type_id)
-      (λ structured. not-both tree.types own ordinal (subst (λ (t : TypeId). is_structured tree.types t ≡ true) same structured))
+      (λ structured. scalar-unstructured tree.types own one_value (subst (λ (t : TypeId). is_structured tree.types t ≡ true) same structured))
 
-  -- a row with a component of an ordinal type is one of those under its variable
+  -- a row with a component of a scalar type is one of those under its variable
   row-under : (row : ℕ) (steps : List Step) (home : Place) (own : TypeId) → IsOfRow (all_parts tree) row steps
       → env.variables (slice_index_or (all_parts tree) row no_parts).root ≡ Some home → place_type tree (part home steps) ≡ Some own
-      → is_ordinal tree.types own ≡ true → Contains (rows_under tree (slice_index_or (all_parts tree) row no_parts).root []) row
-  row-under row steps home own of_row at typed ordinal =
+      → is_scalar tree.types own ≡ true → Contains (rows_under tree (slice_index_or (all_parts tree) row no_parts).root []) row
+  row-under row steps home own of_row at typed one_value =
       under-whole tree row steps of_row
       (λ within.
       let root = ap (λ (p : Parts). p.root) (own-parts tree row within) in
       let none = own-row_steps tree row steps within of_row in
-      whole-plain row home own (ap env.variables (sym root) ∙ at) (subst (λ (s : List Step). place_type tree (part home s) ≡ Some own) none typed) ordinal)
+      whole-plain row home own (ap env.variables (sym root) ∙ at) (subst (λ (s : List Step). place_type tree (part home s) ≡ Some own) none typed) one_value)
 
 -- ---- values
 
--- each value of a component of a row lies in the limits of the row, and that of each part of a variable is an integer; a structured variable as a whole has
--- none
+-- each value of a component of a row lies in the limits of the row, and that of each part of a variable is an integer or a set of such; a structured
+-- variable as a whole has none
 pub record InTypes (tree : Tree) (env : Environment) (store : Store) : Type 0 where
   pub components : (row : ℕ) (steps : List Step) (v : Value) → IsOfRow (all_parts tree) row steps
       → component_at (all_parts tree) (moment env store) row steps ≡ Some v → IsIn (row_limits (rows_of tree) row) v
   pub integers : (root : ℕ) (steps : List Step) (v : Value) → value_at (moment env store) root steps ≡ Some v → IsIn integer v
   pub whole : (root : ℕ) (v : Value) → value_at (moment env store) root [] ≡ Some v → is_structured_variable tree root ≡ false
 
--- a value of an ordinal type is an integer
+-- a value of an ordinal type is an integer, and so is each member of a set
 pub type-integer : (types : List Form) (id : TypeId) (v : Value) → LiesIn types id v → IsIn integer v
-type-integer types id (Number n) (range, is, inside) = meet_has_left-law integer (record { first = range.first; last = range.last }) n inside
+type-integer types id (Number n) (range, is, inside, kind) = meet_has_left-law integer (record { first = range.first; last = range.last }) n inside
+type-integer types id (Members set) (range, is, (fits, each), kind) =
+    (fits, common-has_set_left integer (record { first = range.first; last = range.last }) set each)
 
-lies-in : (types : List Form) (id : TypeId) (values : Option OrdinalRange) (v : Value) → values ≡ range_of types id → LiesIn types id v
+lies-in : (types : List Form) (id : TypeId) (values : Option OrdinalRange) (v : Value) → values ≡ scalar_range_of types id → LiesIn types id v
     → IsIn (limits_or_integer values) v
-lies-in types id values v same (range, is, inside) =
+lies-in types id values v same (range, is, inside, kind) =
     subst (λ (r : Option OrdinalRange). IsIn (limits_or_integer r) v) (sym (same ∙ is)) inside
 
 -- a variable's own row has the type of the variable, and its limits
@@ -181,7 +184,7 @@ module _ (tree : Tree) (root : ℕ) (variable : Variable) (is : slice_get tree.v
   pub own-row_type : type_at (rows_of tree) root ≡ Some variable.type_id
   own-row_type = ap (option_and_then (λ (row : Row). row.leaf.type_id)) (own-row tree root variable is)
 
-  pub own-row_limits : row_limits (rows_of tree) root ≡ limits_or_integer (range_of tree.types variable.type_id)
+  pub own-row_limits : row_limits (rows_of tree) root ≡ limits_or_integer (scalar_range_of tree.types variable.type_id)
   own-row_limits = ap limits_or_integer (own-values tree root variable is)
 
 pub in-types : (tree : Tree) (pairs : List (ℕ × ℕ)) (block activations : ℕ) (env : Environment) (store : Store)
@@ -241,7 +244,7 @@ both-same one other own first second =
 abbrev pub AreStoredAs : Tree → Environment → ℕ → Pairs → List Stored → Type 0
 AreStoredAs tree env root pairs stored =
     (pair : List Step × Value) (place : Place) (own : TypeId) → Contains pairs pair → store.part (env.variables root) pair.0 ≡ Some place
-    → place_type tree place ≡ Some own → is_ordinal tree.types own ≡ true
+    → place_type tree place ≡ Some own → is_scalar tree.types own ≡ true
     → (one : Stored) × Contains stored one × (one.type_id ≡ Some own) × IsIn one.range pair.1
 
 module _ (tree : Tree) (pairs : List (ℕ × ℕ)) (block activations : ℕ) (env : Environment) (proper : Proper tree pairs block activations env)
@@ -259,14 +262,14 @@ module _ (tree : Tree) (pairs : List (ℕ × ℕ)) (block activations : ℕ) (en
   came-as row steps home v of_row at (pair, inside, same, is) =
       let place_is : store.part (env.variables root) pair.0 ≡ Some (part home steps) = same ∙ ap (λ (found : Option Place). store.part found steps) at in
       let own = typed pair (part home steps) inside place_is in
-      let ordinal : is_ordinal tree.types own.0 ≡ true = ap is_some own.2.1 in
-      let found = each pair (part home steps) own.0 inside place_is own.1 ordinal in
-      let type_is = row-type tree pairs block activations env proper row steps home own.0 of_row at own.1 ordinal in (
+      let one_value : is_scalar tree.types own.0 ≡ true = ap is_some own.2.1 in
+      let found = each pair (part home steps) own.0 inside place_is own.1 one_value in
+      let type_is = row-type tree pairs block activations env proper row steps home own.0 of_row at own.1 one_value in (
         found.0,
         found.1,
         both-same found.0.type_id (type_at (rows_of tree) row) own.0 found.2 type_is,
         subst (IsIn found.0.range) (sym is) found.3,
-        row-under tree pairs block activations env proper row steps home own.0 of_row at own.1 ordinal,
+        row-under tree pairs block activations env proper row steps home own.0 of_row at own.1 one_value,
       )
 
   pub are-aliased : AreAliased tree env aliases stored before after

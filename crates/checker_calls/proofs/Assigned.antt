@@ -11,8 +11,8 @@ use Rattle.types.specs.Components.{components_of}
 use Rattle.types.specs.Forms.{Form}
 use Rattle.types.specs.declared.form.Step.{Step}
 use Rattle.types.specs.declared.form.Step.TheVariants as step
-use Rattle.types.proofs.Scalars.{ordinal_component}
-use Rattle.types.specs.Types.{is_ordinal, range_of}
+use Rattle.types.proofs.Scalars.{scalar_component}
+use Rattle.types.specs.Types.{is_scalar, scalar_range_of}
 use Rattle.types.specs.declared.form.OrdinalRange.{OrdinalRange}
 use Rattle.types.specs.declared.form.TypeId.{TypeId}
 use Rattle.typed_tree.specs.WellFormed.{is_value_kind}
@@ -300,11 +300,11 @@ module _ (tree : Tree) (number activations : ℕ) (visible : Environment) where
       (k, steps_at ∙ ap Some (steps-of root steps rest (own ∙ same)), v_at))
       store (λ place v at rest same. absurd (none-some v (sym (empty rest) ∙ ap (stored store) (sym same) ∙ at))))
 
-  only-whole : (types : List Form) (formal : Variable) (range : OrdinalRange) (rest : List Step) → range_of types formal.type_id ≡ Some range
+  only-whole : (types : List Form) (formal : Variable) (range : OrdinalRange) (rest : List Step) → scalar_range_of types formal.type_id ≡ Some range
       → Contains (components_of types formal.type_id) rest → rest ≡ []
   only-whole types formal range rest is inside =
-      let ordinal : is_ordinal types formal.type_id ≡ true = ap Rattle.std.specs.Prelude.is_some is in
-      alone (subst (λ (all : List (List Step)). Contains all rest) (ordinal_component types formal.type_id ordinal) inside)
+      let one_value : is_scalar types formal.type_id ≡ true = ap Rattle.std.specs.Prelude.is_some is in
+      alone (subst (λ (all : List (List Step)). Contains all rest) (scalar_component types formal.type_id one_value) inside)
     where
       alone : Contains ([] ∷ []) rest → rest ≡ []
       alone (zero, within, at) = sym at

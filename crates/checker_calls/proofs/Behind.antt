@@ -4,7 +4,7 @@ use Rattle.std.proofs.Common.{filter, nat_eq, List, [], ◌∷◌, ◌++◌, len
 use Rattle.std.specs.List.{Contains}
 use Rattle.std.specs.Prelude.{is_some, slice_index_or}
 use Rattle.std.proofs.lemmas.Bool.{and_parts, cases_Bool, eqb-true, false≢true}
-use Rattle.types.specs.Types.{is_ordinal}
+use Rattle.types.specs.Types.{is_scalar}
 use Rattle.types.specs.declared.form.Step.{Step}
 use Rattle.types.specs.declared.form.TypeId.{TypeId}
 use Rattle.typed_tree.specs.declared.tree.Block.{Block}
@@ -133,7 +133,7 @@ module _ (tree : Tree) (pairs : List (ℕ × ℕ)) (number : ℕ) (block : Block
   -- a value of the caller's is as it was, or a change of its type tells it
   told-value : (root : ℕ) (steps : List Step) (v : Value) (type_id : Option TypeId)
       → ((home : Place) (own : TypeId) → caller.variables root ≡ Some home → place_type tree (record home { steps = home.steps ++ steps }) ≡ Some own
-      → is_ordinal tree.types own ≡ true → type_id ≡ Some own)
+      → is_scalar tree.types own ≡ true → type_id ≡ Some own)
       → value_at outer root steps ≡ Some v → (value_at before root steps ≡ Some v) ⊎ Told all type_id v
   told-value root steps v type_id type_is is =
       let at = stored-of after (caller.variables root) steps v is in
@@ -154,7 +154,7 @@ module _ (tree : Tree) (pairs : List (ℕ × ℕ)) (number : ℕ) (block : Block
       → (component_at (all_parts tree) before row steps ≡ Some v) ⊎ Told all (type_at (rows_of tree) row) v
   row-told row steps v of_row is =
       told-value (root_at row) steps v (type_at (rows_of tree) row)
-      (λ home own home_is own_is ordinal. row-type tree pairs from activations caller back.call.proper row steps home own of_row home_is own_is ordinal) is
+      (λ home own home_is own_is one_value. row-type tree pairs from activations caller back.call.proper row steps home own of_row home_is own_is one_value) is
 
   -- what is changed just as a row is lies where its change says
   row-exact : (change : Change) → Contains all change → (row : ℕ) → is_row row change.bearer ≡ true → ValuesLie (all_parts tree) row change.range outer

@@ -10,6 +10,7 @@ use Rattle.std.proofs.lemmas.Option.{cond_some, none-some, same_Some, slice_get_
 use Rattle.types.specs.Types.{is_structured}
 use Rattle.types.specs.declared.form.OrdinalRange.{OrdinalRange}
 use Rattle.types.specs.declared.form.Step.{Step}
+use Rattle.typed_tree.specs.Accesses.{Origin, AtVariable, root_of}
 use Rattle.typed_tree.specs.WellFormed.{is_parameter_kind, is_result_kind, is_value_kind}
 use Rattle.typed_tree.specs.declared.tree.Block.{Block}
 use Rattle.typed_tree.specs.declared.tree.Selector.{Selector}
@@ -65,6 +66,7 @@ use Rattle.checker_calls.proofs.FormalRows.{same-value}
 use Rattle.checker_calls.proofs.Given.{AreOutward, bound_roots, fact_roots}
 use Rattle.checker_calls.proofs.Headings.{one-there}
 use Rattle.checker_calls.proofs.Parameters.{IsOuter, IsOutward, IsParameter, actual-of_parameter, outward-cases, parameter-block}
+use Rattle.checker_calls.proofs.Origins.{rows-same}
 use Rattle.checker_calls.proofs.Passed.{Fits, IsArgument}
 use Rattle.checker_calls.proofs.SeenAliases.{listed_pairs}
 use Rattle.checker_calls.proofs.Started.{value-home}
@@ -166,9 +168,9 @@ module _ (tree : Tree) (pairs : List (ℕ × ℕ)) (number : ℕ) (block : Block
   abbrev ParameterHere : ℕ → DeclaredVariable → Type 0
   ParameterHere root variable = IsParameter tree caller store activations block.heading.parameters.items actuals arguments root variable
 
-  abbrev LiesHere : ℕ → DeclaredVariable → ℕ → List Selector → Reach → Type 0
-  LiesHere root variable other selectors reach =
-      Lies tree pairs number block arguments caller activations from store actuals claims after back.left root variable other selectors reach
+  abbrev LiesHere : ℕ → DeclaredVariable → Origin → List Selector → Reach → Type 0
+  LiesHere root variable origin selectors reach =
+      Lies tree pairs number block arguments caller activations from store actuals claims after back.left root variable origin selectors reach
 
   abbrev BearsHere : Bearer → ℕ → Type 0
   BearsHere bearer row = Bears tree pairs number block arguments caller activations from store actuals claims after back.left bearer row
@@ -221,13 +223,17 @@ module _ (tree : Tree) (pairs : List (ℕ × ℕ)) (number : ℕ) (block : Block
       (row, (0, omega arith, refl), (and_parts (is_variable_row tree row) (is_steady touches row) found.0).0, found.1)
 
   -- it is the whole of a variable, and so is the parameter
-  row-value : (root : ℕ) (variable : DeclaredVariable) (other : ℕ) (selectors : List Selector) (reach : Reach) → LiesHere root variable other selectors reach
-      → (row : ℕ) → Contains (rows_accessed tree other selectors) row → is_variable_row tree row ≡ true → value_at inner root [] ≡ value_at outer row []
-  row-value root variable other selectors reach lies row inside own =
+  row-value : (root : ℕ) (variable : DeclaredVariable) (origin : Origin) (selectors : List Selector) (reach : Reach)
+      → LiesHere root variable origin selectors reach → (row : ℕ) → Contains (rows_accessed tree origin selectors) row → is_variable_row tree row ≡ true
+      → value_at inner root [] ≡ value_at outer row []
+  row-value root variable origin selectors reach lies row inside own =
+      let other = root_of origin in
       let found = one-there (λ (v : DeclaredVariable). not (is_structured tree.types v.type_id)) (slice_get tree.variables.items row) own in
-      let whole = variable-row tree other selectors row inside (slice_get_within tree.variables.items row found.0 found.1) in
-      let matches = subst (λ (s : List Selector). Matches s lies.0) whole.1 lies.1.matches in
-      same-value tree caller callee root other selectors lies.0 variable.type_id lies.1 after [] ∙ ap (value_at outer other) (no-way lies.0 matches)
+      let whole = variable-row tree (AtVariable other) lies.all row
+      (subst (λ (rows : List ℕ). Contains rows row) (sym (rows-same tree origin selectors lies.all lies.steps_are)) inside)
+      (slice_get_within tree.variables.items row found.0 found.1) in
+      let matches = subst (λ (s : List Selector). Matches s lies.way) whole.1 lies.at.matches in
+      same-value tree caller callee root other lies.all lies.way variable.type_id lies.at after [] ∙ ap (value_at outer other) (no-way lies.way matches)
       ∙ ap (λ (r : ℕ). value_at outer r []) whole.0
 
   parameter-bound : (root : ℕ) (variable : DeclaredVariable) → slice_get tree.variables.items root ≡ Some variable → (p : ParameterHere root variable)
@@ -246,19 +252,19 @@ module _ (tree : Tree) (pairs : List (ℕ × ℕ)) (number : ℕ) (block : Block
   parameter-bound root variable is p lasting k m n has n_is b (OfValue range form) (meaning.OfPlace place) argument_is place_is known fits bound_is = absurd
       known
   parameter-bound root variable is p lasting k m n has n_is b (OfRows ranges) argument argument_is place_is known fits bound_is = absurd (none-some b bound_is)
-  parameter-bound root variable is p lasting k m n has n_is b (OfVariable other selectors reach) (meaning.OfValue v) argument_is place_is known fits bound_is =
+  parameter-bound root variable is p lasting k m n has n_is b (OfVariable origin selectors reach) (meaning.OfValue v) argument_is place_is known fits bound_is =
       absurd known
-  parameter-bound root variable is p lasting k m n has n_is b (OfVariable other selectors reach) (meaning.OfRow values) argument_is place_is known fits
+  parameter-bound root variable is p lasting k m n has n_is b (OfVariable origin selectors reach) (meaning.OfRow values) argument_is place_is known fits
       bound_is = absurd known
-  parameter-bound root variable is p lasting k m n has n_is b (OfVariable other selectors reach) (meaning.OfPlace None) argument_is place_is known fits
+  parameter-bound root variable is p lasting k m n has n_is b (OfVariable origin selectors reach) (meaning.OfPlace None) argument_is place_is known fits
       bound_is =
       absurd fits
-  parameter-bound root variable is p lasting k m n has n_is b (OfVariable other selectors reach) (meaning.OfPlace (Some place)) argument_is place_is known fits
+  parameter-bound root variable is p lasting k m n has n_is b (OfVariable origin selectors reach) (meaning.OfPlace (Some place)) argument_is place_is known fits
       bound_is =
-      let lies = passed-lies tree pairs number block arguments caller activations from store actuals claims after back.left root variable is p other selectors
+      let lies = passed-lies tree pairs number block arguments caller activations from store actuals claims after back.left root variable is p origin selectors
       reach place place_is known fits in
-      let (row, inside, own, same) = steady-row k (rows_accessed tree other selectors) reach b bound_is in
-      subst (λ (x : Bound). IsBound outer x n) same (m, sym (row-value root variable other selectors reach lies row inside own) ∙ has, n_is)
+      let (row, inside, own, same) = steady-row k (rows_accessed tree origin selectors) reach b bound_is in
+      subst (λ (x : Bound). IsBound outer x n) same (m, sym (row-value root variable origin selectors reach lies row inside own) ∙ has, n_is)
 
   -- a variable of the callee plus a number at its end is that number for the caller
   plus-behind : (root : ℕ) (k m n : ℤ) → IsOutward tree number root → AreLasting tree number claims.changes (root ∷ []) → HasNumber inner root m

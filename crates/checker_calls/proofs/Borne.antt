@@ -5,9 +5,9 @@ use Rattle.std.proofs.Common.{List, [], ◌∷◌, ◌++◌, map, Option, Some, 
 use Rattle.std.specs.List.{Contains}
 use Rattle.std.specs.Prelude.{is_some, slice_get}
 use Rattle.std.proofs.lemmas.Option.{slice_get_within}
-use Rattle.types.specs.Types.{is_ordinal}
+use Rattle.types.specs.Types.{is_scalar}
 use Rattle.types.specs.declared.form.Step.{Step}
-use Rattle.typed_tree.specs.Accesses.{accessed}
+use Rattle.typed_tree.specs.Accesses.{Origin, AtVariable, accessed, root_of}
 use Rattle.typed_tree.specs.WellFormed.{is_value_kind, is_variable_kind}
 use Rattle.typed_tree.specs.declared.tree.Block.{Block}
 use Rattle.typed_tree.specs.declared.tree.Selector.{Selector}
@@ -27,7 +27,7 @@ use Rattle.checker_state.specs.Holds.{IsIn, Moment, component_at, moment, part_o
 use Rattle.checker_state.specs.Loops.{is_among}
 use Rattle.checker_state.specs.Stores.{Reach, entire}
 use Rattle.checker_loops.specs.Loops.{rows_named}
-use Rattle.checker_loops.proofs.VariableRows.{not-both, own-type, row-component}
+use Rattle.checker_loops.proofs.VariableRows.{own-type, row-component, scalar-unstructured}
 use Rattle.checker_loops.proofs.Lists.{contains-among, in-map, some-there}
 use Rattle.checker_calls.specs.Actuals.{Actual, Bearer, Binding, OfRows, OfValue, OfVariable, Passed, all_of_rows, bearers_at, bearers_for, bearers_named}
 use Rattle.checker_calls.specs.Actuals.{Reached, bearers_of, bound_to}
@@ -36,7 +36,8 @@ use Rattle.checker_calls.proofs.Assigned.{Received}
 use Rattle.checker_calls.proofs.Bearers.{bearer-at, named-root, named-under}
 use Rattle.checker_calls.proofs.Callee.{IsCalled, activation_of}
 use Rattle.checker_calls.proofs.Entered.{behind_assignments, outer-kept, own-home, passed-where}
-use Rattle.checker_calls.proofs.FormalRows.{LiesAt, actual-of_row, formal-row, same-value}
+use Rattle.checker_calls.proofs.FormalRows.{LiesBy, actual-of_row, formal-row, same-value}
+use Rattle.checker_calls.proofs.Origins.{rows-same}
 use Rattle.checker_calls.proofs.Parameters.{IsOuter, IsOutward, IsParameter, outward-cases, parameter-block}
 use Rattle.checker_calls.proofs.Passed.{AreArguments, Fits, IsArgument, IsReachedBy}
 use Rattle.checker_calls.proofs.Started.{callee-received, value-home}
@@ -108,21 +109,24 @@ module _ (tree : Tree) (pairs : List (ℕ × ℕ)) (number : ℕ) (block : Block
   -- a variable parameter lies where its actual one leads
   pub lies-at : (root : ℕ) (variable : DeclaredVariable) → slice_get tree.variables.items root ≡ Some variable → is_variable_kind variable.kind ≡ true
       → variable.block ≡ number → (place : Place) → place_for root block.heading.parameters.items arguments ≡ Some place
-      → (other : ℕ) (selectors : List Selector) (reach : Reach)
-      → IsArgument tree caller store variable (OfVariable other selectors reach) (meaning.OfPlace (Some place))
-      → (way : List Step) × LiesAt tree caller callee root other selectors way variable.type_id × IsReachedBy caller store selectors way reach
-  lies-at root variable is kind_is own place found other selectors reach known =
-      let leads = known.0 in (
-        leads.way,
-        record {
+      → (origin : Origin) (selectors : List Selector) (reach : Reach)
+      → IsArgument tree caller store variable (OfVariable origin selectors reach) (meaning.OfPlace (Some place))
+      → LiesBy tree caller callee store root origin selectors reach variable.type_id
+  lies-at root variable is kind_is own place found origin selectors reach known =
+      let leads = known.0 in
+      record {
+        all = leads.all;
+        steps_are = leads.steps_are;
+        way = leads.way;
+        at = record {
           formal_type = own-type tree root variable is;
           actual_type = known.1;
           place_is = own-home tree (activation_of number block arguments caller activations) root variable is own
               ∙ passed-where (activation_of number block arguments caller activations) root variable.kind kind_is ∙ found ∙ leads.place_is;
           matches = leads.matches;
-        },
-        leads.reached,
-      )
+        };
+        reached = leads.reached;
+      }
 
   own-block : (root : ℕ) (variable : DeclaredVariable) → slice_get tree.variables.items root ≡ Some variable → ParameterHere root variable
       → variable.block ≡ number
@@ -144,7 +148,7 @@ module _ (tree : Tree) (pairs : List (ℕ × ℕ)) (number : ℕ) (block : Block
   module _ (path : Path) (variable : DeclaredVariable) (is : slice_get tree.variables.items path.root ≡ Some variable) (row : ℕ) (steps : List Step)
       (of_row : IsOf tree row steps) (among : is_among row (rows_named tree path) ≡ true) (j : ℕ) (at : slice_get (own_rows path.root) j ≡ Some row)
       (p : ParameterHere path.root variable) where
-    typed : accessed tree.variables.items tree.types path.root [] ≡ Some variable.type_id
+    typed : accessed tree.variables.items tree.types (AtVariable path.root) [] ≡ Some variable.type_id
     typed = own-type tree path.root variable is
 
     of_type : Contains (components_of tree.types variable.type_id) steps
@@ -157,13 +161,13 @@ module _ (tree : Tree) (pairs : List (ℕ × ℕ)) (number : ℕ) (block : Block
     abbrev Borne : Actual → Type 0
     Borne actual = IsBorneBy (bearers_at (rows_named tree path) (own_rows path.root) (bearers_of tree actual)) path.root steps
 
-    -- one to which an ordinal is passed has one row
+    -- one to which an ordinal or a set is passed has one row
     value-borne : (range : Interval) (form : Option Bound) (v : Value) → p.argument ≡ meaning.OfValue v → IsIn range v
         → Fits tree activations (meaning.OfValue v) variable → Borne (OfValue range form)
     value-borne range form v argument_is inside fits =
-        let ordinal : is_ordinal tree.types variable.type_id ≡ true = ap is_some fits.1.1 in
+        let one_value : is_scalar tree.types variable.type_id ≡ true = ap is_some fits.1.1 in
         let plain : is_structured tree.types variable.type_id ≡ false =
-        false_from_ne_true (is_structured tree.types variable.type_id) (not-both tree.types variable.type_id ordinal) in
+        false_from_ne_true (is_structured tree.types variable.type_id) (scalar-unstructured tree.types variable.type_id one_value) in
         let rows : own_rows path.root ≡ path.root ∷ [] =
         ap (λ (b : Bool). cond b (numbers_where (is_under path.root []) (length tree.variables.items) (leaf_rows tree)) (own_row path.root []))
         (ap (of_one (λ (v : DeclaredVariable). is_structured tree.types v.type_id)) is ∙ plain) in
@@ -185,10 +189,10 @@ module _ (tree : Tree) (pairs : List (ℕ × ℕ)) (number : ℕ) (block : Block
         → IsArgument tree caller store variable (OfRows ranges) (meaning.OfRow values) → Fits tree activations (meaning.OfRow values) variable
         → Borne (OfRows ranges)
     rows-borne ranges values argument_is known fits =
-        let count = rows-count tree path.root [] variable.type_id typed in
+        let count = rows-count tree (AtVariable path.root) [] variable.type_id typed in
         let within = slice_get_within (own_rows path.root) j row at in
         let range = some-there ranges j (omega (arith, count, known.1, within)) in
-        let leaf = row-leaf tree path.root [] variable.type_id typed [] steps j row tt at of_row in
+        let leaf = row-leaf tree (AtVariable path.root) [] variable.type_id typed [] steps j row tt at of_row in
         let got = subst (λ (a : Argument). Received tree activations activations callee path.root variable a behind) argument_is
         (value-received path.root variable is p fits.0) in
         let has = got.has steps of_type in
@@ -201,27 +205,31 @@ module _ (tree : Tree) (pairs : List (ℕ × ℕ)) (number : ℕ) (block : Block
           borne = (has.0, ap (λ (found : Option Place). part_of behind found steps) (home fits.0) ∙ has.1, member);
         }
 
-    place-borne : (other : ℕ) (selectors : List Selector) (reach : Reach) (place : Place)
-        → IsArgument tree caller store variable (OfVariable other selectors reach) (meaning.OfPlace (Some place))
+    place-borne : (origin : Origin) (selectors : List Selector) (reach : Reach) (place : Place)
+        → IsArgument tree caller store variable (OfVariable origin selectors reach) (meaning.OfPlace (Some place))
         → Fits tree activations (meaning.OfPlace (Some place)) variable → place_for path.root block.heading.parameters.items arguments ≡ Some place
-        → Borne (OfVariable other selectors reach)
-    place-borne other selectors reach place known fits place_is =
-        let lies = lies-at path.root variable is fits.0 (own-block path.root variable is p) place place_is other selectors reach known in
-        let own = actual-of_row tree caller callee path.root other selectors lies.0 variable.type_id lies.1 j row at in
-        let accessed = rows_accessed tree other selectors in
+        → Borne (OfVariable origin selectors reach)
+    place-borne origin selectors reach place known fits place_is =
+        let lies = lies-at path.root variable is fits.0 (own-block path.root variable is p) place place_is origin selectors reach known in
+        let other = root_of origin in
+        let own = actual-of_row tree caller callee path.root other lies.all lies.way variable.type_id lies.at j row at in
+        let accessed = rows_accessed tree origin selectors in
+        let whole = rows_accessed tree (AtVariable other) lies.all in
         record {
           bearer = Reached own.0 reach;
           inside = bearer-at (rows_named tree path) (own_rows path.root) (map (λ r. Reached r reach) accessed) j row (Reached own.0 reach) among at
-              (map-at (λ r. Reached r reach) accessed j own.0 own.1);
+              (map-at (λ r. Reached r reach) accessed j own.0
+              (ap (λ (rows : List ℕ). slice_get rows j) (sym (rows-same tree origin selectors lies.all lies.steps_are)) ∙ own.1));
           borne = record {
-            selectors = selectors;
-            way = lies.0;
-            of_row = formal-row tree caller callee path.root other selectors lies.0 variable.type_id lies.1 j row own.0 steps at own.1 of_row;
-            reached = lies.2;
-            matches = lies.1.matches;
-            same = same-value tree caller callee path.root other selectors lies.0 variable.type_id lies.1 behind steps ∙ caller-kept other (lies.0 ++ steps)
-                ∙ ap (λ (r : ℕ). value_at outer r (lies.0 ++ steps))
-                (sym ((rows-are tree other selectors variable.type_id lies.1.actual_type).root_is own.0 (has-contains accessed own.0 (j, own.1))));
+            selectors = lies.all;
+            way = lies.way;
+            of_row = formal-row tree caller callee path.root other lies.all lies.way variable.type_id lies.at j row own.0 steps at own.1 of_row;
+            reached = lies.reached;
+            matches = lies.at.matches;
+            same = same-value tree caller callee path.root other lies.all lies.way variable.type_id lies.at behind steps
+                ∙ caller-kept other (lies.way ++ steps)
+                ∙ ap (λ (r : ℕ). value_at outer r (lies.way ++ steps))
+                (sym ((rows-are tree (AtVariable other) lies.all variable.type_id lies.at.actual_type).root_is own.0 (has-contains whole own.0 (j, own.1))));
           };
         }
 
@@ -233,11 +241,11 @@ module _ (tree : Tree) (pairs : List (ℕ × ℕ)) (number : ℕ) (block : Block
     actual-borne (OfRows ranges) (meaning.OfValue v) argument_is known fits place_is = absurd known
     actual-borne (OfRows ranges) (meaning.OfPlace place) argument_is known fits place_is = absurd known
     actual-borne (OfRows ranges) (meaning.OfRow values) argument_is known fits place_is = rows-borne ranges values argument_is known fits
-    actual-borne (OfVariable other selectors reach) (meaning.OfValue v) argument_is known fits place_is = absurd known
-    actual-borne (OfVariable other selectors reach) (meaning.OfRow values) argument_is known fits place_is = absurd known
-    actual-borne (OfVariable other selectors reach) (meaning.OfPlace None) argument_is known fits place_is = absurd fits
-    actual-borne (OfVariable other selectors reach) (meaning.OfPlace (Some place)) argument_is known fits place_is =
-        place-borne other selectors reach place known fits place_is
+    actual-borne (OfVariable origin selectors reach) (meaning.OfValue v) argument_is known fits place_is = absurd known
+    actual-borne (OfVariable origin selectors reach) (meaning.OfRow values) argument_is known fits place_is = absurd known
+    actual-borne (OfVariable origin selectors reach) (meaning.OfPlace None) argument_is known fits place_is = absurd fits
+    actual-borne (OfVariable origin selectors reach) (meaning.OfPlace (Some place)) argument_is known fits place_is =
+        place-borne origin selectors reach place known fits place_is
 
   -- a component of a row that a path names
   pub component-borne : (path : Path) → IsOutward tree number path.root → (row : ℕ) (steps : List Step) → Contains (rows_named tree path) row

@@ -5,11 +5,8 @@ use Rattle.std.proofs.Common.{inl, inr, min}
 use Rattle.std.proofs.lemmas.Bool.{cases_lt}
 use Rattle.std.proofs.lemmas.List.{drop_all, drop_more}
 use Rattle.std.proofs.lemmas.Option.{slice_get_cases}
-use Rattle.typed_tree.specs.declared.tree.Selector.{Selector}
-use Rattle.typed_tree.specs.declared.tree.Selector.TheVariants.{Element, Field}
 use Rattle.checker_calls.specs.declared.actuals.Actual.{Actual as KeptActual}
 use Rattle.checker_calls.specs.Actuals.{Actual, Binding, actual_of, bound_to}
-use Rattle.checker_calls.specs.Overlaps.{are_parted}
 use Rattle.checker_calls.specs.View.{said_actual}
 
 abbrev bound_from : List ℕ → List KeptActual → ℕ → List Binding
@@ -57,20 +54,4 @@ actual-next roots actuals i root all inside other is =
           ap (λ some. actual_of some root)
           (bound-past roots actuals (i + 1) (omega (arith, past.0)) ∙ sym (bound-past roots actuals i past.0))
           ∙ is
-    ]
-
--- ---- selectors
-
-unparted : (selectors : List Selector) → are_parted selectors [] ≡ false
-unparted [] = refl
-unparted (Element fits cells ∷ selectors) = refl
-unparted (Field position offset ∷ selectors) = refl
-
-pub parted-end : (selectors others : List Selector) (i n : ℕ) → n ≡ min (length selectors) (length others) → n ≤ i
-    → false ≡ are_parted (drop i selectors) (drop i others)
-parted-end selectors others i n is behind =
-    elim (cases_lt i (length selectors)) [
-      | inl inside ↦
-          sym (ap (are_parted (drop i selectors)) (drop_all i others (omega (arith, is, behind, inside))) ∙ unparted (drop i selectors))
-      | inr past ↦ sym (ap (λ some. are_parted some (drop i others)) (drop_all i selectors past))
     ]

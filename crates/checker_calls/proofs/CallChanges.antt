@@ -8,6 +8,7 @@ use Rattle.std.proofs.lemmas.List.Folds.{list_any-append}
 use Rattle.std.proofs.lemmas.Option.{none-some, same_Some}
 use Rattle.types.specs.declared.form.Step.{Step}
 use Rattle.typed_tree.specs.WellFormed.{is_value_kind, is_visible, outline_of}
+use Rattle.typed_tree.specs.Accesses.{root_of}
 use Rattle.typed_tree.specs.declared.tree.Block.{Block}
 use Rattle.typed_tree.specs.declared.tree.Tree.{Tree}
 use Rattle.typed_tree.specs.declared.tree.Variable.{Variable}
@@ -145,9 +146,10 @@ module _ (tree : Tree) (pairs : List (ℕ × ℕ)) (number : ℕ) (block : Block
       → Contains claims.changes root → callee.variables root ≡ Some home → home.activation < activations → (actual : Actual) (argument : Argument)
       → actual_of bindings root ≡ Some actual → place_for root block.heading.parameters.items arguments ≡ place_passed argument
       → IsArgument tree caller store variable actual argument → Fits tree activations argument variable → LiesIn_caller home
-  passed-lies root variable home is own listed home_is older (OfVariable other selectors reach) (meaning.OfPlace None) actual_is place_is known fits =
+  passed-lies root variable home is own listed home_is older (OfVariable origin selectors reach) (meaning.OfPlace None) actual_is place_is known fits =
       absurd fits
-  passed-lies root variable home is own listed home_is older (OfVariable other selectors reach) (meaning.OfPlace (Some place)) actual_is place_is known fits =
+  passed-lies root variable home is own listed home_is older (OfVariable origin selectors reach) (meaning.OfPlace (Some place)) actual_is place_is known fits =
+      let other = root_of origin in
       let at : Some place ≡ Some home =
       sym (own-home tree (activation_of number block arguments caller activations) root variable is own
       ∙ passed-where (activation_of number block arguments caller activations) root variable.kind fits.0 ∙ place_is) ∙ home_is in
@@ -161,8 +163,9 @@ module _ (tree : Tree) (pairs : List (ℕ × ℕ)) (number : ℕ) (block : Block
         way = known.0.way;
         home_is = there.2;
       }
-  passed-lies root variable home is own listed home_is older (OfVariable other selectors reach) (meaning.OfValue v) actual_is place_is known fits = absurd known
-  passed-lies root variable home is own listed home_is older (OfVariable other selectors reach) (meaning.OfRow values) actual_is place_is known fits =
+  passed-lies root variable home is own listed home_is older (OfVariable origin selectors reach) (meaning.OfValue v) actual_is place_is known fits =
+      absurd known
+  passed-lies root variable home is own listed home_is older (OfVariable origin selectors reach) (meaning.OfRow values) actual_is place_is known fits =
       absurd known
   passed-lies root variable home is own listed home_is older actual (meaning.OfValue v) actual_is place_is known fits =
       absurd (own-older root variable home is own home_is older fits.0)

@@ -7,9 +7,10 @@ use Rattle.std.specs.Prelude.{is_some, slice_get}
 use Rattle.std.proofs.lemmas.List.{length-map}
 use Rattle.std.proofs.lemmas.List.Elements.{All-contains}
 use Rattle.std.proofs.lemmas.Option.{none-some, same_Some, slice_get_within}
-use Rattle.types.specs.Types.{is_ordinal}
+use Rattle.types.specs.Types.{is_scalar}
 use Rattle.types.specs.declared.form.Step.{Step}
 use Rattle.types.specs.declared.form.TypeId.{TypeId}
+use Rattle.typed_tree.specs.Accesses.{Origin, AtVariable, root_of}
 use Rattle.typed_tree.specs.WellFormed.{is_value_kind}
 use Rattle.typed_tree.specs.declared.tree.Block.{Block}
 use Rattle.typed_tree.specs.declared.tree.Selector.{Selector}
@@ -39,6 +40,7 @@ use Rattle.checker_calls.specs.Actuals.{Actual, Bearer, Binding, OfRows, OfValue
 use Rattle.checker_calls.specs.Environments.{LiesIn, place_type, type_led}
 use Rattle.checker_calls.specs.Exit.{Change, all_changes, bearers_changed, changes_of, claimed_of_row, exit_range, range_at_end, row_change, rows_changed}
 use Rattle.checker_calls.proofs.AliasedTypes.{InTypes, in-types, part-type, row-type}
+use Rattle.checker_calls.proofs.Origins.{rows-same}
 use Rattle.checker_calls.proofs.CallChanges.{HasReturned, IsChanged, own-older}
 use Rattle.checker_calls.proofs.Callee.{activation_of}
 use Rattle.checker_calls.proofs.ExitBearers.{Bears, Lies, parameter-bears, passed-lies, rows-bear}
@@ -100,9 +102,9 @@ module _ (tree : Tree) (pairs : List (ℕ × ℕ)) (number : ℕ) (block : Block
   abbrev BearsHere : Bearer → ℕ → Type 0
   BearsHere bearer row = Bears tree pairs number block arguments caller activations from store actuals claims after back.left bearer row
 
-  abbrev LiesHere : ℕ → DeclaredVariable → ℕ → List Selector → Reach → Type 0
-  LiesHere root variable other selectors reach =
-      Lies tree pairs number block arguments caller activations from store actuals claims after back.left root variable other selectors reach
+  abbrev LiesHere : ℕ → DeclaredVariable → Origin → List Selector → Reach → Type 0
+  LiesHere root variable origin selectors reach =
+      Lies tree pairs number block arguments caller activations from store actuals claims after back.left root variable origin selectors reach
 
   -- ---- what is claimed of the end
 
@@ -154,10 +156,10 @@ module _ (tree : Tree) (pairs : List (ℕ × ℕ)) (number : ℕ) (block : Block
       → value_at inner root rest ≡ Some v → type_led tree.types rest variable.type_id ≡ Some own → LiesIn tree.types own v
       → HasChange (rows_changed tree claims.exit (rows_under tree root []) bearers) own v
   leaf-change root variable bearers home rest own v is home_is many at leads lies =
-      let ordinal : is_ordinal tree.types own ≡ true = ap is_some lies.1 in
+      let one_value : is_scalar tree.types own ≡ true = ap is_some lies.1 in
       let rows = rows_under tree root [] in
-      let are = rows-are tree root [] variable.type_id (own-type tree root variable is) in
-      let found = are.covers [] rest tt (led-component tree.types rest variable.type_id own leads ordinal) in
+      let are = rows-are tree (AtVariable root) [] variable.type_id (own-type tree root variable is) in
+      let found = are.covers [] rest tt (led-component tree.types rest variable.type_id own leads one_value) in
       let there = contains-has rows found.0 found.1 in
       let within = slice_get_within rows there.0 found.0 there.1 in
       let bearer = some-there bearers there.0 (omega (arith, many, within)) in
@@ -166,16 +168,17 @@ module _ (tree : Tree) (pairs : List (ℕ × ℕ)) (number : ℕ) (block : Block
         change = row_change tree claims.exit found.0 bearer.0;
         inside = row-change_at tree claims.exit rows bearers there.0 found.0 bearer.0 there.1 bearer.1;
         type_is = row-type tree pairs number (suc activations) callee back.proper found.0 rest home own found.2 (ap callee.variables root_is ∙ home_is)
-            (part-type tree pairs number (suc activations) callee back.proper root home variable rest home_is is ∙ leads) ordinal;
+            (part-type tree pairs number (suc activations) callee back.proper root home variable rest home_is is ∙ leads) one_value;
         in_range = row-ends found.0 rest v found.2 (ap (λ (r : ℕ). value_at inner r rest) root_is ∙ at);
       }
 
   -- those of a variable parameter
-  passed-many : (root : ℕ) (variable : DeclaredVariable) (other : ℕ) (selectors : List Selector) (reach : Reach)
-      → LiesHere root variable other selectors reach → length (bearers_of tree (OfVariable other selectors reach)) ≡ length (rows_under tree root [])
-  passed-many root variable other selectors reach lies =
-      length-map (rows_accessed tree other selectors) (λ row. Reached row reach)
-      ∙ sym (rows-alike tree caller callee root other selectors lies.0 variable.type_id lies.1)
+  passed-many : (root : ℕ) (variable : DeclaredVariable) (origin : Origin) (selectors : List Selector) (reach : Reach)
+      → LiesHere root variable origin selectors reach → length (bearers_of tree (OfVariable origin selectors reach)) ≡ length (rows_under tree root [])
+  passed-many root variable origin selectors reach lies =
+      length-map (rows_accessed tree origin selectors) (λ row. Reached row reach)
+      ∙ ap length (sym (rows-same tree origin selectors lies.all lies.steps_are))
+      ∙ sym (rows-alike tree caller callee root (root_of origin) lies.all lies.way variable.type_id lies.at)
 
   abbrev changes_at : ℕ → List Change
   changes_at root = changes_of tree claims.exit root (actual_of bindings root)
@@ -189,11 +192,11 @@ module _ (tree : Tree) (pairs : List (ℕ × ℕ)) (number : ℕ) (block : Block
   }
 
   lies-here : (root : ℕ) (variable : DeclaredVariable) → slice_get tree.variables.items root ≡ Some variable → ParameterHere root variable
-      → (other : ℕ) (selectors : List Selector) (reach : Reach) (place : Place) → place_for root block.heading.parameters.items arguments ≡ Some place
-      → IsArgument tree caller store variable (OfVariable other selectors reach) (meaning.OfPlace (Some place))
-      → Fits tree activations (meaning.OfPlace (Some place)) variable → LiesHere root variable other selectors reach
-  lies-here root variable is p other selectors reach place found known fits =
-      passed-lies tree pairs number block arguments caller activations from store actuals claims after back.left root variable is p other selectors reach place
+      → (origin : Origin) (selectors : List Selector) (reach : Reach) (place : Place) → place_for root block.heading.parameters.items arguments ≡ Some place
+      → IsArgument tree caller store variable (OfVariable origin selectors reach) (meaning.OfPlace (Some place))
+      → Fits tree activations (meaning.OfPlace (Some place)) variable → LiesHere root variable origin selectors reach
+  lies-here root variable is p origin selectors reach place found known fits =
+      passed-lies tree pairs number block arguments caller activations from store actuals claims after back.left root variable is p origin selectors reach place
       found known fits
 
   not-older : (root : ℕ) (variable : DeclaredVariable) (home : Place) → slice_get tree.variables.items root ≡ Some variable → ParameterHere root variable
@@ -209,15 +212,15 @@ module _ (tree : Tree) (pairs : List (ℕ × ℕ)) (number : ℕ) (block : Block
       → Fits tree activations argument variable
       → value_at inner root rest ≡ Some v → type_led tree.types rest variable.type_id ≡ Some own → LiesIn tree.types own v
       → HasChange (changes_of tree claims.exit root (Some actual)) own v
-  passed-change root variable home rest own v is home_is older p (OfVariable other selectors reach) (meaning.OfPlace None) place_is known fits at leads lies =
+  passed-change root variable home rest own v is home_is older p (OfVariable origin selectors reach) (meaning.OfPlace None) place_is known fits at leads lies =
       absurd fits
-  passed-change root variable home rest own v is home_is older p (OfVariable other selectors reach) (meaning.OfPlace (Some place)) place_is known fits at leads
+  passed-change root variable home rest own v is home_is older p (OfVariable origin selectors reach) (meaning.OfPlace (Some place)) place_is known fits at leads
       lies =
-      leaf-change root variable (bearers_of tree (OfVariable other selectors reach)) home rest own v is home_is
-      (passed-many root variable other selectors reach (lies-here root variable is p other selectors reach place place_is known fits)) at leads lies
-  passed-change root variable home rest own v is home_is older p (OfVariable other selectors reach) (meaning.OfValue w) place_is known fits at leads lies =
+      leaf-change root variable (bearers_of tree (OfVariable origin selectors reach)) home rest own v is home_is
+      (passed-many root variable origin selectors reach (lies-here root variable is p origin selectors reach place place_is known fits)) at leads lies
+  passed-change root variable home rest own v is home_is older p (OfVariable origin selectors reach) (meaning.OfValue w) place_is known fits at leads lies =
       absurd known
-  passed-change root variable home rest own v is home_is older p (OfVariable other selectors reach) (meaning.OfRow values) place_is known fits at leads lies =
+  passed-change root variable home rest own v is home_is older p (OfVariable origin selectors reach) (meaning.OfRow values) place_is known fits at leads lies =
       absurd known
   passed-change root variable home rest own v is home_is older p actual (meaning.OfValue w) place_is known fits at leads lies =
       absurd (not-older root variable home is p home_is older fits.0)
@@ -271,7 +274,7 @@ module _ (tree : Tree) (pairs : List (ℕ × ℕ)) (number : ℕ) (block : Block
       ⊎_elim
       (λ (here : IsOuterHere root outward.0).
       rows-bear tree pairs number block arguments caller activations from store actuals claims after back.left root outward.0 here (rows_under tree root [])
-      (λ r inside. (rows-are tree root [] outward.0.type_id (own-type tree root outward.0 outward.1)).root_is r inside) j row bearer row_at
+      (λ r inside. (rows-are tree (AtVariable root) [] outward.0.type_id (own-type tree root outward.0 outward.1)).root_is r inside) j row bearer row_at
       (ap (λ (found : Option Actual). slice_get (bearers_changed tree root found) j) (sym here.no_actual) ∙ at))
       (λ (p : ParameterHere root outward.0).
       passed p p.actual p.argument p.place_is p.known p.fits
@@ -283,9 +286,9 @@ module _ (tree : Tree) (pairs : List (ℕ × ℕ)) (number : ℕ) (block : Block
           → Fits tree activations argument outward.0 → slice_get (bearers_changed tree root (Some actual)) j ≡ Some bearer → BearsHere bearer row
       passed p (OfValue range form) argument place_is known fits at = absurd (none-some bearer at)
       passed p (OfRows ranges) argument place_is known fits at = absurd (none-some bearer at)
-      passed p (OfVariable other selectors reach) argument place_is known fits at =
+      passed p (OfVariable origin selectors reach) argument place_is known fits at =
           parameter-bears tree pairs number block arguments caller activations from store actuals claims after back.left root outward.0 outward.1 p
-          (OfVariable other selectors reach) argument place_is known fits j row bearer row_at at
+          (OfVariable origin selectors reach) argument place_is known fits j row bearer row_at at
 
   -- each change is exact
   pub changes-exact : (change : Change) → Contains changes change → IsExact change.bearer change.range

@@ -9,8 +9,8 @@ use Rattle.std.proofs.lemmas.Option.{none-some, same_Some, slice_get_past}
 use Rattle.std.specs.Option.{option_and_then}
 use Rattle.std.specs.Prelude.{int_le, slice_get}
 use Rattle.types.specs.Components.{LaidOut, Steps, components_at, components_of, entry_values, form_components, laid_out, range_values, values_at}
-use Rattle.types.specs.Forms.{Array, Boolean, Char, Enumeration, FieldForm, Form, Integer, Record, Subrange}
-use Rattle.types.specs.Types.{Counted, before, cells_at, element_in, elements, fields_in, form_at, own_field, placed_fields, range_of}
+use Rattle.types.specs.Forms.{Array, Boolean, Char, Enumeration, FieldForm, Form, Integer, Record, Set, Subrange}
+use Rattle.types.specs.Types.{Counted, before, cells_at, element_in, elements, fields_in, form_at, own_field, placed_fields, range_of, scalar_range_of}
 use Rattle.types.specs.declared.form.OrdinalRange.{OrdinalRange}
 use Rattle.types.specs.declared.form.RecordField.{RecordField}
 use Rattle.types.specs.declared.form.Step.TheVariants as step
@@ -130,6 +130,7 @@ module _ (types : List Form) where
       of-form Char is rows leaves = absurd (no-element index steps (only [] whole rows))
       of-form (Enumeration last) is rows leaves = absurd (no-element index steps (only [] whole rows))
       of-form (Subrange host first last) is rows leaves = absurd (no-element index steps (only [] whole rows))
+      of-form (Set packed host first last) is rows leaves = absurd (no-element index steps (only [] whole rows))
 
       by : (form : Option Form) → form_at types id ≡ form → (own : TypeId) × (type_led types whole id ≡ Some own)
       by None is =
@@ -190,6 +191,7 @@ module _ (types : List Form) where
       of-form Char is rows leaves = absurd (no-field position steps (only [] whole rows))
       of-form (Enumeration last) is rows leaves = absurd (no-field position steps (only [] whole rows))
       of-form (Subrange host first last) is rows leaves = absurd (no-field position steps (only [] whole rows))
+      of-form (Set packed host first last) is rows leaves = absurd (no-field position steps (only [] whole rows))
 
       by : (form : Option Form) → form_at types id ≡ form → (own : TypeId) × (type_led types whole id ≡ Some own)
       by None is =
@@ -206,7 +208,7 @@ module _ (types : List Form) where
   -- such a component has a type, which has the leaf's values
   pub component-typed : (steps : Steps) (id : TypeId) (leaf : Leaf) (range : OrdinalRange) → Has (components_of types id) steps → Has (leaves_of types id) leaf
       → is_named leaf.steps steps ≡ true → leaf.values ≡ Some range
-      → (own : TypeId) × (type_led types steps id ≡ Some own) × (range_of types own ≡ Some range)
+      → (own : TypeId) × (type_led types steps id ≡ Some own) × (scalar_range_of types own ≡ Some range)
   component-typed steps id leaf range has_component has_leaf named values =
       let found = there steps id leaf range has_component has_leaf named values in
       (found.0, found.1, (leaf-typed types steps id found.0 leaf has_leaf named found.1).values_are ∙ values)

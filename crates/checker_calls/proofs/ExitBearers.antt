@@ -6,6 +6,7 @@ use Rattle.std.specs.Prelude.{slice_get, slice_index_or}
 use Rattle.std.proofs.lemmas.Bool.{false≢true}
 use Rattle.std.proofs.lemmas.Option.{same_Some}
 use Rattle.types.specs.declared.form.Step.{Step}
+use Rattle.typed_tree.specs.Accesses.{Origin, AtVariable, root_of}
 use Rattle.typed_tree.specs.declared.tree.Block.{Block}
 use Rattle.typed_tree.specs.declared.tree.Selector.{Selector}
 use Rattle.typed_tree.specs.declared.tree.Tree.{Tree}
@@ -26,9 +27,10 @@ use Rattle.checker_calls.specs.Actuals.{Actual, Bearer, OfRows, OfValue, OfVaria
 use Rattle.checker_calls.proofs.Borne.{lies-at}
 use Rattle.checker_calls.proofs.Callee.{activation_of}
 use Rattle.checker_calls.proofs.CallChanges.{HasLeft}
-use Rattle.checker_calls.proofs.FormalRows.{LiesAt, actual-row, same-value}
+use Rattle.checker_calls.proofs.FormalRows.{LiesBy, actual-row, same-value}
+use Rattle.checker_calls.proofs.Origins.{rows-same}
 use Rattle.checker_calls.proofs.Parameters.{IsOuter, IsParameter, parameter-block}
-use Rattle.checker_calls.proofs.Passed.{Fits, IsArgument, IsReachedBy}
+use Rattle.checker_calls.proofs.Passed.{Fits, IsArgument}
 
 no-index : (is_all : Bool) (indexes : List Index) → is_entire_by is_all indexes ≡ true → indexes ≡ []
 no-index is_all [] is = refl
@@ -53,20 +55,19 @@ module _ (tree : Tree) (pairs : List (ℕ × ℕ)) (number : ℕ) (block : Block
   abbrev ParameterHere : ℕ → DeclaredVariable → Type 0
   ParameterHere root variable = IsParameter tree caller store activations block.heading.parameters.items actuals arguments root variable
 
-  abbrev pub Lies : ℕ → DeclaredVariable → ℕ → List Selector → Reach → Type 0
-  Lies root variable other selectors reach =
-      (way : List Step) × LiesAt tree caller callee root other selectors way variable.type_id × IsReachedBy caller store selectors way reach
+  abbrev pub Lies : ℕ → DeclaredVariable → Origin → List Selector → Reach → Type 0
+  Lies root variable origin selectors reach = LiesBy tree caller callee store root origin selectors reach variable.type_id
 
   -- where a variable parameter lies
   pub passed-lies : (root : ℕ) (variable : DeclaredVariable) → slice_get tree.variables.items root ≡ Some variable → ParameterHere root variable
-      → (other : ℕ) (selectors : List Selector) (reach : Reach) (place : Place)
+      → (origin : Origin) (selectors : List Selector) (reach : Reach) (place : Place)
       → place_for root block.heading.parameters.items arguments ≡ Some place
-      → IsArgument tree caller store variable (OfVariable other selectors reach) (meaning.OfPlace (Some place))
-      → Fits tree activations (meaning.OfPlace (Some place)) variable → Lies root variable other selectors reach
-  passed-lies root variable is p other selectors reach place found known fits =
+      → IsArgument tree caller store variable (OfVariable origin selectors reach) (meaning.OfPlace (Some place))
+      → Fits tree activations (meaning.OfPlace (Some place)) variable → Lies root variable origin selectors reach
+  passed-lies root variable is p origin selectors reach place found known fits =
       lies-at tree pairs number block arguments caller activations from back.call store back.begun actuals back.are root variable is fits.0
       (parameter-block tree pairs number block arguments caller activations from back.call store actuals back.are root variable is p) place found
-      other selectors reach known
+      origin selectors reach known
 
   pub outer-same : (root : ℕ) (variable : DeclaredVariable) → IsOuterHere root variable → (steps : List Step)
       → value_at inner root steps ≡ value_at outer root steps
@@ -97,27 +98,31 @@ module _ (tree : Tree) (pairs : List (ℕ × ℕ)) (number : ℕ) (block : Block
   }
 
   -- a row under what is passed bears the row of the parameter at its place
-  passed-bears : (root : ℕ) (variable : DeclaredVariable) (other : ℕ) (selectors : List Selector) (reach : Reach) → Lies root variable other selectors reach
-      → (j row own : ℕ) → slice_get (rows_under tree root []) j ≡ Some row → slice_get (rows_accessed tree other selectors) j ≡ Some own
-      → Bears (Reached own reach) row
-  passed-bears root variable other selectors reach lies j row own row_at own_at = λ all steps of_row.
-      let way = lies.0 in
-      let at = lies.1 in
-      let rows = rows-are tree other selectors variable.type_id at.actual_type in
-      let inside = has-contains (rows_accessed tree other selectors) own (j, own_at) in
-      let none = lies.2.none (no-index reach.is_all reach.indexes all) in
+  passed-bears : (root : ℕ) (variable : DeclaredVariable) (origin : Origin) (selectors : List Selector) (reach : Reach)
+      → Lies root variable origin selectors reach → (j row own : ℕ) → slice_get (rows_under tree root []) j ≡ Some row
+      → slice_get (rows_accessed tree origin selectors) j ≡ Some own → Bears (Reached own reach) row
+  passed-bears root variable origin selectors reach lies j row own row_at at_own = λ entire_is steps of_row.
+      let other = root_of origin in
+      let all = lies.all in
+      let way = lies.way in
+      let at = lies.at in
+      let rows = rows-are tree (AtVariable other) all variable.type_id at.actual_type in
+      let own_at : slice_get (rows_accessed tree (AtVariable other) all) j ≡ Some own =
+      ap (λ (list : List ℕ). slice_get list j) (rows-same tree origin selectors all lies.steps_are) ∙ at_own in
+      let inside = has-contains (rows_accessed tree (AtVariable other) all) own (j, own_at) in
+      let none = lies.reached.none (no-index reach.is_all reach.indexes entire_is) in
       let behind = rows.lies own steps inside of_row in
-      let way_is : behind.0 ≡ way = one-way selectors behind.0 way none behind.3 at.matches in
+      let way_is : behind.0 ≡ way = one-way all behind.0 way none behind.3 at.matches in
       let steps_are : steps ≡ way ++ behind.1 = behind.2 ∙ ap (λ (w : List Step). w ++ behind.1) way_is in
-      let root_is = (rows-are tree root [] variable.type_id at.formal_type).root_is row (has-contains (rows_under tree root []) row (j, row_at)) in
+      let root_is = (rows-are tree (AtVariable root) [] variable.type_id at.formal_type).root_is row (has-contains (rows_under tree root []) row (j, row_at)) in
       record {
         rest = behind.1;
-        of_row = actual-row tree caller callee root other selectors way variable.type_id at j row own behind.1 row_at own_at
+        of_row = actual-row tree caller callee root other all way variable.type_id at j row own behind.1 row_at own_at
             (subst (λ (s : List Step). IsOf tree own s) steps_are of_row);
         value = ap (λ (r : ℕ). value_at outer r steps) (rows.root_is own inside) ∙ ap (value_at outer other) steps_are
-            ∙ sym (same-value tree caller callee root other selectors way variable.type_id at after behind.1)
+            ∙ sym (same-value tree caller callee root other all way variable.type_id at after behind.1)
             ∙ ap (λ (r : ℕ). value_at inner r behind.1) (sym root_is);
-        first = ap first_index steps_are ∙ first-behind_fields selectors way behind.1 none at.matches;
+        first = ap first_index steps_are ∙ first-behind_fields all way behind.1 none at.matches;
       }
 
   values-bear : (ranges : List Interval) (j row : ℕ) (bearer : Bearer) → slice_get (map Passed ranges) j ≡ Some bearer → Bears bearer row
@@ -130,13 +135,13 @@ module _ (tree : Tree) (pairs : List (ℕ × ℕ)) (number : ℕ) (block : Block
       → slice_get (rows_under tree root []) j ≡ Some row → slice_get (bearers_of tree actual) j ≡ Some bearer → Bears bearer row
   parameter-bears root variable is p (OfValue range form) argument place_is known fits j row bearer row_at at = values-bear (range ∷ []) j row bearer at
   parameter-bears root variable is p (OfRows ranges) argument place_is known fits j row bearer row_at at = values-bear ranges j row bearer at
-  parameter-bears root variable is p (OfVariable other selectors reach) (meaning.OfValue v) place_is known fits j row bearer row_at at = absurd known
-  parameter-bears root variable is p (OfVariable other selectors reach) (meaning.OfRow values) place_is known fits j row bearer row_at at = absurd known
-  parameter-bears root variable is p (OfVariable other selectors reach) (meaning.OfPlace None) place_is known fits j row bearer row_at at = absurd fits
-  parameter-bears root variable is p (OfVariable other selectors reach) (meaning.OfPlace (Some place)) place_is known fits j row bearer row_at at =
-      let lies = passed-lies root variable is p other selectors reach place place_is known fits in
-      let own = mapped-at (λ r. Reached r reach) (rows_accessed tree other selectors) j bearer at in
-      subst (λ (b : Bearer). Bears b row) own.2 (passed-bears root variable other selectors reach lies j row own.0 row_at own.1)
+  parameter-bears root variable is p (OfVariable origin selectors reach) (meaning.OfValue v) place_is known fits j row bearer row_at at = absurd known
+  parameter-bears root variable is p (OfVariable origin selectors reach) (meaning.OfRow values) place_is known fits j row bearer row_at at = absurd known
+  parameter-bears root variable is p (OfVariable origin selectors reach) (meaning.OfPlace None) place_is known fits j row bearer row_at at = absurd fits
+  parameter-bears root variable is p (OfVariable origin selectors reach) (meaning.OfPlace (Some place)) place_is known fits j row bearer row_at at =
+      let lies = passed-lies root variable is p origin selectors reach place place_is known fits in
+      let own = mapped-at (λ r. Reached r reach) (rows_accessed tree origin selectors) j bearer at in
+      subst (λ (b : Bearer). Bears b row) own.2 (passed-bears root variable origin selectors reach lies j row own.0 row_at own.1)
 
   -- where all rows of a variable round the block are changed
   pub rows-bear : (root : ℕ) (variable : DeclaredVariable) → IsOuterHere root variable → (rows : List ℕ)

@@ -3,7 +3,7 @@ use Rattle.std.proofs.Common.{◌≡◌, ◌∙◌, sym, ap, subst, ℕ, ◌<◌
 use Rattle.std.specs.Option.{option_and_then}
 use Rattle.types.specs.declared.form.Step.{Step}
 use Rattle.types.specs.declared.form.TypeId.{TypeId}
-use Rattle.typed_tree.specs.Accesses.{accessed}
+use Rattle.typed_tree.specs.Accesses.{Origin, AtVariable, accessed, root_of}
 use Rattle.typed_tree.specs.declared.tree.Selector.{Selector}
 use Rattle.typed_tree.specs.declared.tree.Tree.{Tree}
 use Rattle.meaning.specs.declared.store.Value.{Value}
@@ -21,7 +21,7 @@ use Rattle.checker_calls.proofs.PlaceTypes.{led-then, way-typed}
 use Rattle.checker_calls.proofs.Places.{part-there}
 
 module _ (tree : Tree) (pairs : List (ℕ × ℕ)) (block activations : ℕ) (env : Environment) (proper : Proper tree pairs block activations env)
-    (root : ℕ) (selectors : List Selector) (id : TypeId) (typed : accessed tree.variables.items tree.types root selectors ≡ Some id) where
+    (root : ℕ) (selectors : List Selector) (id : TypeId) (typed : accessed tree.variables.items tree.types (AtVariable root) selectors ≡ Some id) where
   -- each part of what is accessed lies at a place of the type to which its steps lead
   pub part-accessed : (home : Place) → env.variables root ≡ Some home → (way rest : List Step) → Matches selectors way
       → place_type tree (part home (way ++ rest)) ≡ type_led tree.types rest id
@@ -39,13 +39,17 @@ module _ (tree : Tree) (pairs : List (ℕ × ℕ)) (block activations : ℕ) (en
       let own = all (part at.0 (way ++ rest)) v at.2 in
       (own.0, sym (part-accessed at.0 at.1 way rest matches) ∙ own.1, own.2)
 
+module _ (tree : Tree) (pairs : List (ℕ × ℕ)) (block activations : ℕ) (env : Environment) (proper : Proper tree pairs block activations env)
+    (origin : Origin) (selectors : List Selector) (id : TypeId) where
   -- a variable that is passed lies at a place of its type, in an activation that has begun
-  pub place-fits : (store : Store) (reach : Reach) (place : Place) → Leads env root selectors store reach (Some place)
+  pub place-fits : (store : Store) (reach : Reach) (place : Place) → (leads : Leads env origin selectors store reach (Some place))
+      → accessed tree.variables.items tree.types (AtVariable (root_of origin)) leads.all ≡ Some id
       → (place_type tree place ≡ Some id) × (place.activation < activations)
-  place-fits store reach place leads =
-      let variable = variable-accessed tree root selectors id typed in
+  place-fits store reach place leads typed =
+      let root = root_of origin in
+      let variable = variable-accessed tree root leads.all id typed in
       let there = part-there (env.variables root) leads.way place (sym leads.place_is) in
-      let way = way-typed tree.types selectors leads.way variable.0.type_id id variable.2 leads.matches in (
+      let way = way-typed tree.types leads.all leads.way variable.0.type_id id variable.2 leads.matches in (
         ap (place_type tree) (sym there.2) ∙ part-type tree pairs block activations env proper root there.0 variable.0 leads.way there.1 variable.1 ∙ way,
         subst (λ (p : Place). p.activation < activations) there.2 (proper.begun root there.0 there.1),
       )

@@ -9,10 +9,11 @@ use Rattle.std.proofs.lemmas.List.Elements.{All-append, All-cons, All-contains, 
 use Rattle.std.proofs.lemmas.List.Elements.{Contains-append_right}
 use Rattle.std.proofs.lemmas.List.Sums.{AllPass-from_list_all}
 use Rattle.std.proofs.lemmas.Option.{cond_some, none-some, same_Some, slice_get_within}
-use Rattle.types.specs.Types.{is_ordinal, is_structured}
+use Rattle.types.specs.Types.{is_ordinal, is_scalar, is_structured}
 use Rattle.types.specs.declared.form.OrdinalRange.{OrdinalRange}
 use Rattle.types.specs.declared.form.Step.{Step}
-use Rattle.types.proofs.Scalars.{ordinal_component}
+use Rattle.types.proofs.Scalars.{scalar_component}
+use Rattle.typed_tree.specs.Accesses.{Origin, AtVariable, root_of}
 use Rattle.typed_tree.specs.WellFormed.{is_value_kind, is_variable_kind}
 use Rattle.typed_tree.specs.declared.tree.Block.{Block}
 use Rattle.typed_tree.specs.declared.tree.Selector.{Selector}
@@ -29,6 +30,7 @@ use Rattle.meaning.specs.Store.{Environment, Place, Store}
 use Rattle.checker_loops.proofs.Lists.{contains-more}
 use Rattle.checker_loops.proofs.VariableRows.{first-behind_fields, no-way, variable-row}
 use Rattle.checker_calls.proofs.Headings.{one-there}
+use Rattle.checker_calls.proofs.Numbers.{hold-numbers, ordinal-number}
 use Rattle.checker_calls.proofs.Claimed.{AllHold}
 use Rattle.checker_calls.proofs.Bearers.{named-root}
 use Rattle.checker_calls.proofs.Started.{value-home}
@@ -42,9 +44,10 @@ use Rattle.checker_state.proofs.Ranged.{included-in}
 use Rattle.checker_state.specs.Stores.{Index, Reach, all_of_row, gives_reached}
 use Rattle.checker_calls.proofs.Borne.{IsBorne, IsBorneBy, IsReached, caller-kept, component-borne, lies-at, outer-value, value-received}
 use Rattle.checker_calls.proofs.Entered.{behind_assignments}
+use Rattle.checker_calls.proofs.Origins.{rows-same}
 use Rattle.checker_calls.proofs.Passed.{AreArguments, Fits, IsArgument}
 use Rattle.checker_calls.specs.Actuals.{Actual, Bearer, Binding, OfRows, OfValue, OfVariable, Passed, Reached, actual_of, bearers_named, bearers_of, bound_to}
-use Rattle.checker_calls.specs.Environments.{Begun, LiesIn}
+use Rattle.checker_calls.specs.Environments.{Begun, LiesIn, Typed}
 use Rattle.checker_calls.proofs.Callee.{IsCalled, activation_of}
 use Rattle.checker_rows.proofs.Accessed.{IsOf}
 use Rattle.checker_state.proofs.Given.{first-of, value-is}
@@ -54,14 +57,14 @@ use Rattle.checker_loops.specs.Loops.{all_said, gives_claims, rows_named, said, 
 use Rattle.checker_state.specs.State.{table_of}
 use Rattle.checker_state.proofs.Bounds.{le-is, raised-is, told-of}
 use Rattle.checker_state.specs.Bounds.{Bound, constant, plus, raised_bound}
-use Rattle.checker_rows.specs.Rows.{all_parts, first_index, index_at, is_variable_row, rows_accessed, rows_of}
+use Rattle.checker_rows.specs.Rows.{all_parts, first_index, index_at, is_ordinal_variable, is_variable_row, rows_accessed, rows_of}
 use Rattle.checker_state.specs.Knows.{IsOfForm, Knows}
 use Rattle.checker_state.specs.State.{Claim, Dead, Held, Live, Ordered, Range, Span, State, Stretched, at_most, has_value, is_below, is_dead, range_of}
 use Rattle.checker_calls.specs.Entry.{Limit, are_borne_between, are_given, are_ordered, are_reached, covers_between, forms_at_most, has_between, held_in}
 use Rattle.checker_calls.specs.Entry.{is_at_most, is_borne_between, is_defined_borne, is_given, limit_moved, limit_of, limit_of_actual, limit_of_bound}
 use Rattle.checker_calls.specs.Entry.{limit_of_plus, limit_of_variable, range_borne}
-use Rattle.checker_state.specs.Holds.{HasComponent, HasNumber, HasValue, HeldHolds, Holds, IsBound, IsIn, LieBetween, Moment, StateHolds, StretchHolds, moment}
-use Rattle.checker_state.specs.Holds.{part_of, value_at}
+use Rattle.checker_state.specs.Holds.{HasComponent, HasNumber, HasValue, HeldHolds, HoldNumbers, Holds, IsBound, IsIn, LieBetween, Moment, StateHolds}
+use Rattle.checker_state.specs.Holds.{StretchHolds, moment, part_of, value_at}
 use Rattle.checker_calls.proofs.Parameters.{IsOuter, IsOutward, IsParameter, outward-cases, parameter-block}
 use Rattle.checker_state.specs.State.{Holds as Holding}
 
@@ -83,9 +86,10 @@ AreOutward tree number one = (root : ℕ) → Contains (fact_roots one) root →
 
 -- a state gives what holds where it does
 pub given-claims : (tree : Tree) (env : Environment) (state : State) (store : Store) (facts : List Fact)
-    → Knows (all_parts tree) (length tree.variables.items) env state store → gives_claims tree state facts ≡ true → AllHold tree facts env store
-given-claims tree env state store facts known given =
-    given-all (all_parts tree) (table_of tree) (are-rows tree) env state store (all_said tree facts) known given
+    → HoldNumbers (is_ordinal_variable tree) (moment env store) → Knows (all_parts tree) (length tree.variables.items) env state store
+    → gives_claims tree state facts ≡ true → AllHold tree facts env store
+given-claims tree env state store facts numbers known given =
+    given-all (all_parts tree) (table_of tree) (are-rows tree) env state store (all_said tree facts) numbers known given
 
 -- ---- limits
 
@@ -102,7 +106,7 @@ below-holds a b m n left right is =
     let low = right.0 in
     omega (arith, ints)
 
-module _ (tree : Tree) (env : Environment) (store : Store) (state : State)
+module _ (tree : Tree) (env : Environment) (store : Store) (state : State) (numbers : HoldNumbers (is_ordinal_variable tree) (moment env store))
     (knows : Knows (all_parts tree) (length tree.variables.items) env state store) where
   abbrev here : Moment
   here = moment env store
@@ -137,7 +141,7 @@ module _ (tree : Tree) (env : Environment) (store : Store) (state : State)
       → (n : ℤ) × IsBound here bound n
   value-here Dead holds bound is = absurd holds
   value-here (Live known) holds bound is =
-      value-is (all_parts tree) (table_of tree) (are-rows tree) env knows.shows store known holds bound is
+      value-is (all_parts tree) (table_of tree) (are-rows tree) env knows.shows store numbers known holds bound is
 
   moved-form : (k n : ℤ) (form : Option Bound) → ((b : Bound) → form ≡ Some b → IsBound here b n) → (b : Bound)
       → option_map (raised_bound k) form ≡ Some b → IsBound here b (n +ℤ k)
@@ -191,7 +195,8 @@ module _ (tree : Tree) (env : Environment) (store : Store) (state : State)
 -- ---- what a call gives
 
 module _ (tree : Tree) (pairs : List (ℕ × ℕ)) (number : ℕ) (block : Block) (arguments : List Argument) (caller : Environment) (activations from : ℕ)
-    (call : IsCalled tree pairs number block arguments caller activations from) (store : Store) (begun : Begun activations store) (actuals : List Actual)
+    (call : IsCalled tree pairs number block arguments caller activations from) (store : Store) (typed : Typed tree store) (begun : Begun activations store)
+    (actuals : List Actual)
     (are : AreArguments tree caller store block.heading.parameters.items actuals arguments) (state : State)
     (knows : Knows (all_parts tree) (length tree.variables.items) caller state store) where
   abbrev callee : Environment
@@ -208,6 +213,9 @@ module _ (tree : Tree) (pairs : List (ℕ × ℕ)) (number : ℕ) (block : Block
 
   abbrev outer : Moment
   outer = moment caller store
+
+  numbers : HoldNumbers (is_ordinal_variable tree) (moment caller store)
+  numbers = hold-numbers tree pairs from activations caller store call.proper typed
 
   abbrev IsBorneHere : Bearer → ℕ → List Step → Type 0
   IsBorneHere bearer root steps = IsBorne tree pairs number block arguments caller activations from call store begun actuals are bearer root steps
@@ -235,8 +243,8 @@ module _ (tree : Tree) (pairs : List (ℕ × ℕ)) (number : ℕ) (block : Block
   component-has : (row : ℕ) (reach : Reach) (root : ℕ) (steps : List Step) → IsReachedHere row reach root steps
       → gives_reached (table_of tree) state reach row ≡ true → HasValue inner root steps
   component-has row reach root steps borne is =
-      let has = reached-has (all_parts tree) (table_of tree) (are-rows tree) caller state store knows borne.selectors row borne.way steps reach borne.reached
-      borne.of_row is in
+      let has = reached-has (all_parts tree) (table_of tree) (are-rows tree) caller state store numbers knows borne.selectors row borne.way steps reach
+      borne.reached borne.of_row is in
       (has.0, borne.same ∙ has.1)
 
   -- that it is defined
@@ -257,10 +265,10 @@ module _ (tree : Tree) (pairs : List (ℕ × ℕ)) (number : ℕ) (block : Block
           ⊎_elim (λ whole. component-has row reach root steps borne whole)
           (λ any.
           let (one, listed, covers) = any-in (covers_between tree state row first last) (held_in state) any in
-          let has = covered-has tree caller store state knows first last low high index low_is high_is above below row one (borne.way ++ steps)
+          let has = covered-has tree caller store state numbers knows first last low high index low_is high_is above below row one (borne.way ++ steps)
           borne.of_row
           (first-behind_fields borne.selectors borne.way steps (borne.reached.none none) borne.matches ∙ at) covers
-          (held-here tree caller store state knows state knows.holds one listed) in
+          (held-here tree caller store state numbers knows state knows.holds one listed) in
           (has.0, borne.same ∙ has.1))
           (or_cases (gives_reached (table_of tree) state reach row) (list_any (covers_between tree state row first last) (held_in state)) is)
 
@@ -283,21 +291,18 @@ module _ (tree : Tree) (pairs : List (ℕ × ℕ)) (number : ℕ) (block : Block
     pub is_bound : IsBound inner bound n
     pub is_limit : IsLimit outer limit n
 
-  number-of : (v : Value) → (n : ℤ) × (v ≡ Number n)
-  number-of (Number n) = (n, refl)
-
   -- a variable of the callee that is an entire one of the caller's
   variable-limit : (root other : ℕ) (limit : Limit) → value_at inner root [] ≡ value_at outer other []
       → limit_of tree state (plus other (pos 0)) ≡ limit → limit.has_value ≡ true → HasLimit root limit
   variable-limit root other limit same is has =
-      let own = value-here tree caller store state knows state knows.holds (plus other (pos 0)) (ap (λ (l : Limit). l.has_value) is ∙ has) in
+      let own = value-here tree caller store state numbers knows state knows.holds (plus other (pos 0)) (ap (λ (l : Limit). l.has_value) is ∙ has) in
       let m = own.1.0 in
       let e : own.0 ≡ m = (let s = own.1.2 in omega (arith, ints, s)) in (
         m,
         same ∙ own.1.1,
         subst (λ (l : Limit). IsLimit outer l m) is
             (subst (λ (n : ℤ). IsLimit outer (limit_of tree state (plus other (pos 0))) n) e
-            (limit-is tree caller store state knows (plus other (pos 0)) own.0 own.1)),
+            (limit-is tree caller store state numbers knows (plus other (pos 0)) own.0 own.1)),
       )
 
   abbrev IsOuterHere : ℕ → DeclaredVariable → Type 0
@@ -315,38 +320,44 @@ module _ (tree : Tree) (pairs : List (ℕ × ℕ)) (number : ℕ) (block : Block
       let found = cond_some (is_variable_row tree row) (limit_of tree state (plus row (pos 0))) limit is in
       (row, (0, omega arith, refl), found.0, found.1)
 
-  variable-passed : (root : ℕ) (outward : IsOutward tree number root) (p : ParameterHere root outward.0) (other : ℕ) (selectors : List Selector)
+  variable-passed : (root : ℕ) (outward : IsOutward tree number root) (p : ParameterHere root outward.0) (origin : Origin) (selectors : List Selector)
       (reach : Reach) (place : Place) (limit : Limit) → p.argument ≡ meaning.OfPlace (Some place)
-      → IsArgument tree caller store outward.0 (OfVariable other selectors reach) (meaning.OfPlace (Some place)) → is_variable_kind outward.0.kind ≡ true
-      → limit_of_variable tree state (bearers_of tree (OfVariable other selectors reach)) ≡ Some limit → limit.has_value ≡ true → HasLimit root limit
-  variable-passed root (variable, is, round, own) p other selectors reach place limit argument_is known kind_is limit_is has =
-      let (row, inside, whole, row_is) = alone-row (rows_accessed tree other selectors) reach limit limit_is in
+      → IsArgument tree caller store outward.0 (OfVariable origin selectors reach) (meaning.OfPlace (Some place)) → is_variable_kind outward.0.kind ≡ true
+      → limit_of_variable tree state (bearers_of tree (OfVariable origin selectors reach)) ≡ Some limit → limit.has_value ≡ true → HasLimit root limit
+  variable-passed root (variable, is, round, own) p origin selectors reach place limit argument_is known kind_is limit_is has =
+      let other = root_of origin in
+      let (row, inside, whole, row_is) = alone-row (rows_accessed tree origin selectors) reach limit limit_is in
       let one = one-there (λ (v : DeclaredVariable). not (is_structured tree.types v.type_id)) (slice_get tree.variables.items row) whole in
-      let entire = variable-row tree other selectors row inside (slice_get_within tree.variables.items row one.0 one.1) in
       let lies = lies-at tree pairs number block arguments caller activations from call store begun actuals are root variable is kind_is
       (parameter-block tree pairs number block arguments caller activations from call store actuals are root variable is p) place
-      (p.place_is ∙ ap place_passed argument_is) other selectors reach known in
-      let whole_way = no-way lies.0 (subst (λ (list : List Selector). Matches list lies.0) entire.1 lies.1.matches) in
+      (p.place_is ∙ ap place_passed argument_is) origin selectors reach known in
+      let entire = variable-row tree (AtVariable other) lies.all row
+      (subst (λ (rows : List ℕ). Contains rows row) (sym (rows-same tree origin selectors lies.all lies.steps_are)) inside)
+      (slice_get_within tree.variables.items row one.0 one.1) in
+      let whole_way = no-way lies.way (subst (λ (list : List Selector). Matches list lies.way) entire.1 lies.at.matches) in
       variable-limit root row limit
-      (same-value tree caller callee root other selectors lies.0 variable.type_id lies.1 behind []
-      ∙ caller-kept tree pairs number block arguments caller activations from call store begun actuals are other (lies.0 ++ [])
+      (same-value tree caller callee root other lies.all lies.way variable.type_id lies.at behind []
+      ∙ caller-kept tree pairs number block arguments caller activations from call store begun actuals are other (lies.way ++ [])
       ∙ ap (value_at outer other) whole_way ∙ ap (λ (r : ℕ). value_at outer r []) entire.0)
       row_is has
 
   -- a value that is passed
   value-passed : (root : ℕ) (outward : IsOutward tree number root) (p : ParameterHere root outward.0) (range : Interval) (form : Option Bound) (v : Value)
       → p.argument ≡ meaning.OfValue v → is_value_kind outward.0.kind ≡ true → LiesIn tree.types outward.0.type_id v → IsIn range v
-      → IsOfForm outer form v → HasLimit root (record { form = form; range = range; has_value = true })
-  value-passed root (variable, is, round, own) p range form v argument_is value lies inside of_form =
-      let ordinal : is_ordinal tree.types variable.type_id ≡ true = ap is_some lies.1 in
+      → IsOfForm outer form v → (test : Bool) → is_ordinal_variable tree root ≡ true
+      → HasLimit root (record { form = form; range = range; has_value = test })
+  value-passed root (variable, is, round, own) p range form v argument_is value lies inside of_form test ordinal =
+      let one_value : is_scalar tree.types variable.type_id ≡ true = ap is_some lies.1 in
       let got = subst (λ (a : Argument). Received tree activations activations callee root variable a behind) argument_is
       (value-received tree pairs number block arguments caller activations from call store begun actuals are root variable is p value) in
-      let has = got.has [] (subst (λ (all : List (List Step)). Contains all []) (sym (ordinal_component tree.types variable.type_id ordinal))
+      let has = got.has [] (subst (λ (all : List (List Step)). Contains all []) (sym (scalar_component tree.types variable.type_id one_value))
       (0, omega arith, refl)) in
       let same = (got.gets [] has.0 has.1).1 in
       let block_is = parameter-block tree pairs number block arguments caller activations from call store actuals are root variable is p in
       let home = value-home tree pairs number block arguments caller activations from call root variable is block_is value in
-      let m = number-of v in
+      let found = one-there (λ (x : DeclaredVariable). is_ordinal tree.types x.type_id) (slice_get tree.variables.items root) ordinal in
+      let m = ordinal-number tree.types variable.type_id v
+      (subst (λ (x : DeclaredVariable). is_ordinal tree.types x.type_id ≡ true) (same_Some found.0 variable (sym found.1 ∙ is)) found.2) lies.3 in
       let at : value_at inner root [] ≡ Some (Number m.0) =
       ap (λ (found : Option Place). part_of behind found []) home ∙ has.1 ∙ ap Some same ∙ ap Some m.1 in (
         m.0,
@@ -366,16 +377,18 @@ module _ (tree : Tree) (pairs : List (ℕ × ℕ)) (number : ℕ) (block : Block
       → p.argument ≡ argument → IsArgument tree caller store outward.0 actual argument → Fits tree activations argument outward.0
       → limit_of_actual tree state root (Some actual) ≡ Some limit → limit.has_value ≡ true → HasLimit root limit
   passed-limit root outward p limit (OfValue range form) (meaning.OfValue v) argument_is is fits limit_is has =
-      let same = same_Some (record { form = form; range = range; has_value = true }) limit limit_is in
-      subst (HasLimit root) same (value-passed root outward p range form v argument_is fits.0 fits.1 is.0 is.1)
+      let ordinal = is_ordinal_variable tree root in
+      let same = same_Some (record { form = form; range = range; has_value = ordinal }) limit limit_is in
+      subst (HasLimit root) same
+      (value-passed root outward p range form v argument_is fits.0 fits.1 is.0 is.1 ordinal (ap (λ (l : Limit). l.has_value) same ∙ has))
   passed-limit root outward p limit (OfValue range form) (meaning.OfRow values) argument_is is fits limit_is has = absurd is
   passed-limit root outward p limit (OfValue range form) (meaning.OfPlace place) argument_is is fits limit_is has = absurd is
   passed-limit root outward p limit (OfRows ranges) argument argument_is is fits limit_is has = absurd (none-some limit limit_is)
-  passed-limit root outward p limit (OfVariable other selectors reach) (meaning.OfValue v) argument_is is fits limit_is has = absurd is
-  passed-limit root outward p limit (OfVariable other selectors reach) (meaning.OfRow values) argument_is is fits limit_is has = absurd is
-  passed-limit root outward p limit (OfVariable other selectors reach) (meaning.OfPlace None) argument_is is fits limit_is has = absurd fits
-  passed-limit root outward p limit (OfVariable other selectors reach) (meaning.OfPlace (Some place)) argument_is is fits limit_is has =
-      variable-passed root outward p other selectors reach place limit argument_is is fits.0 limit_is has
+  passed-limit root outward p limit (OfVariable origin selectors reach) (meaning.OfValue v) argument_is is fits limit_is has = absurd is
+  passed-limit root outward p limit (OfVariable origin selectors reach) (meaning.OfRow values) argument_is is fits limit_is has = absurd is
+  passed-limit root outward p limit (OfVariable origin selectors reach) (meaning.OfPlace None) argument_is is fits limit_is has = absurd fits
+  passed-limit root outward p limit (OfVariable origin selectors reach) (meaning.OfPlace (Some place)) argument_is is fits limit_is has =
+      variable-passed root outward p origin selectors reach place limit argument_is is fits.0 limit_is has
 
   root-limit : (root : ℕ) (limit : Limit) → IsOutward tree number root → limit_of_actual tree state root (actual_of bindings root) ≡ Some limit
       → limit.has_value ≡ true → HasLimit root limit
@@ -405,7 +418,7 @@ module _ (tree : Tree) (pairs : List (ℕ × ℕ)) (number : ℕ) (block : Block
           record {
             n = at.0 +ℤ k;
             is_bound = (at.0, at.1, refl);
-            is_limit = subst (λ (l : Limit). IsLimit outer l (at.0 +ℤ k)) same (moved-limit tree caller store state knows k at.0 own at.2);
+            is_limit = subst (λ (l : Limit). IsLimit outer l (at.0 +ℤ k)) same (moved-limit tree caller store state numbers knows k at.0 own at.2);
           }
 
   bound-limit : (bound : fact.Bound) (limit : Limit) → ((root : ℕ) → Contains (bound_roots bound) root → IsOutward tree number root)
@@ -414,7 +427,7 @@ module _ (tree : Tree) (pairs : List (ℕ × ℕ)) (number : ℕ) (block : Block
     n = n;
     is_bound = refl;
     is_limit = subst (λ (l : Limit). IsLimit outer l n) (same_Some (limit_of tree state (constant n)) limit is)
-        (limit-is tree caller store state knows (constant n) n refl);
+        (limit-is tree caller store state numbers knows (constant n) n refl);
   }
   bound-limit (fact.Plus root k) limit outward is has = plus-limit root k limit (outward root (0, omega arith, refl)) is has
 
@@ -448,7 +461,7 @@ module _ (tree : Tree) (pairs : List (ℕ × ℕ)) (number : ℕ) (block : Block
       (limit_of_plus tree state bindings other k) (are_ordered state) (λ a b. refl) (λ b. refl) (λ a. refl) is in
       let first = plus-limit root (pos 0) a (outward root (0, omega arith, refl)) a_is a_has in
       let last = plus-limit other k b (outward other (1, omega arith, refl)) b_is b_has in
-      let less = limits-hold tree caller store state knows a b first.n last.n first.is_limit last.is_limit below in
+      let less = limits-hold tree caller store state numbers knows a b first.n last.n first.is_limit last.is_limit below in
       let m = first.is_bound in
       let n = last.is_bound in
       let one = m.2 in
@@ -493,8 +506,8 @@ module _ (tree : Tree) (pairs : List (ℕ × ℕ)) (number : ℕ) (block : Block
       (above : low.n ≤ℤ index) (below : index ≤ℤ high.n).
       ⊎_elim
       (λ (empty : is_at_most state (limit_moved (pos 1) b) a ≡ true).
-      let less = limits-hold tree caller store state knows (limit_moved (pos 1) b) a (high.n +ℤ pos 1) low.n
-      (moved-limit tree caller store state knows (pos 1) high.n b high.is_limit) low.is_limit empty in
+      let less = limits-hold tree caller store state numbers knows (limit_moved (pos 1) b) a (high.n +ℤ pos 1) low.n
+      (moved-limit tree caller store state numbers knows (pos 1) high.n b high.is_limit) low.is_limit empty in
       absurd (omega (arith, ints, less, above, below)))
       (λ (each : list_all (is_borne_between tree state a b) bearers ≡ true).
       let borne = borne-at path (outward path.root (0, omega arith, refl)) row steps inside of_row in

@@ -1,4 +1,4 @@
--- Steps that lead to an ordinal lead to a component; none lead on from an ordinal.
+-- Steps that lead to a scalar lead to a component; none lead on from a scalar.
 use Rattle.std.proofs.Common.{arith, ◌≡◌, ◌∙◌, sym, ap, refl, subst, Bool, true, cond, nat_eq, List, [], ◌∷◌, Option, Some}
 use Rattle.std.proofs.Common.{None}
 use Rattle.std.specs.Cmp.{int_eq_equiv}
@@ -9,14 +9,15 @@ use Rattle.std.proofs.lemmas.Bool.{and_from, eq-eqb}
 use Rattle.std.proofs.lemmas.Option.{cond_some, none-some, same_Some}
 use Rattle.types.specs.Components.{components_of}
 use Rattle.types.specs.Forms.{Form}
-use Rattle.types.specs.Types.{element_of, field_at, is_ordinal}
+use Rattle.types.specs.Types.{element_of, field_at, is_scalar}
 use Rattle.types.specs.declared.form.ArrayElement.{ArrayElement}
 use Rattle.types.specs.declared.form.RecordField.{RecordField}
 use Rattle.types.specs.declared.form.Step.{Step}
 use Rattle.types.specs.declared.form.Step.TheVariants as step
 use Rattle.types.specs.declared.form.TypeId.{TypeId}
-use Rattle.types.proofs.Scalars.{ordinal_component}
+use Rattle.types.proofs.Scalars.{scalar_component}
 use Rattle.typed_tree.specs.Accesses.{are_values_of, element_type, field_type, led, selected}
+use Rattle.typed_tree.specs.declared.tree.Scalar.TheVariants as scalar
 use Rattle.typed_tree.specs.declared.tree.Selector.{Selector}
 use Rattle.typed_tree.specs.declared.tree.Selector.TheVariants.{Element, Field}
 use Rattle.meaning.specs.Integers.{is_within}
@@ -46,12 +47,13 @@ module _ (types : List Form) where
           let lies = is_within-has e.range.first e.range.last index within.0 in
           let same : are_values_of e.range e.range ≡ true =
           and_from (int_eq e.range.first e.range.first) (int_eq e.range.last e.range.last) (int_eq_equiv.refl e.range.first) (int_eq_equiv.refl e.range.last) in
-          let leads : selected types (Element (record { site = 0; range = e.range }) e.cells) id ≡ Some next =
+          let leads : selected types (Element (record { site = 0; tests = scalar.Ordinal; range = e.range }) e.cells) id ≡ Some next =
           ap (element_type e.range e.cells) found
           ∙ ap (λ (b : Bool). cond b (Some e.type_id) None) (and_from (are_values_of e.range e.range) (nat_eq e.cells e.cells) same
           (eq-eqb e.cells e.cells refl))
           ∙ ap Some within.1 in
-          covered (Element (record { site = 0; range = e.range }) e.cells) (step.Element index) id next rest leads (lies.0, lies.1, tt) has
+          covered (Element (record { site = 0; tests = scalar.Ordinal; range = e.range }) e.cells) (step.Element index) id next rest leads
+          (lies.0, lies.1, tt) has
   step-covers (step.Field position) id next rest is has = by (field_at types id position) refl is
     where
       by : (found : Option RecordField) → field_at types id position ≡ found → field_behind found ≡ Some next
@@ -62,14 +64,14 @@ module _ (types : List Form) where
           ap (field_type f.offset) found ∙ ap (λ (b : Bool). cond b (Some f.type_id) None) (eq-eqb f.offset f.offset refl) ∙ is in
           covered (Field position f.offset) (step.Field position) id next rest leads (refl, tt) has
 
-  -- what steps lead to is a component, if it is an ordinal
-  pub led-component : (steps : List Step) (id own : TypeId) → type_led types steps id ≡ Some own → is_ordinal types own ≡ true
+  -- what steps lead to is a component, if it is a scalar
+  pub led-component : (steps : List Step) (id own : TypeId) → type_led types steps id ≡ Some own → is_scalar types own ≡ true
       → Contains (components_of types id) steps
-  led-component [] id own leads ordinal =
-      let same : is_ordinal types id ≡ true = ap (is_ordinal types) (same_Some id own leads) ∙ ordinal in
-      subst (λ (all : List (List Step)). Contains all []) (sym (ordinal_component types id same)) (0, omega arith, refl)
-  led-component (s ∷ steps) id own leads ordinal =
+  led-component [] id own leads one_value =
+      let same : is_scalar types id ≡ true = ap (is_scalar types) (same_Some id own leads) ∙ one_value in
+      subst (λ (all : List (List Step)). Contains all []) (sym (scalar_component types id same)) (0, omega arith, refl)
+  led-component (s ∷ steps) id own leads one_value =
       let first = first-led types s steps id own leads in
       has-contains (components_of types id) (s ∷ steps)
       (step-covers s id first.0 steps first.1
-      (contains-has (components_of types first.0) steps (led-component steps first.0 own first.2 ordinal)))
+      (contains-has (components_of types first.0) steps (led-component steps first.0 own first.2 one_value)))

@@ -1,3 +1,5 @@
+pub mod Origins
+pub mod Numbers
 pub mod Limited
 pub mod Headings
 pub mod Passed

@@ -1,19 +1,21 @@
 -- Bounds of a callee where it is called: forms and ranges that are greater by a number, and those of variables.
-use Rattle.std.proofs.Common.{arith, ◌≡◌, ◌∙◌, sym, ap, ap₂, refl, ℕ, ℤ, pos, ◌+ℤ◌, Bool, true, false, cond, not, ◌&&◌, ◌||◌, List, [], ◌∷◌}
+use Rattle.std.proofs.Common.{arith, ◌≡◌, ◌∙◌, sym, ap, ap₂, refl, ℕ, ℤ, pos, ◌+ℤ◌, Bool, true, false, cond, not, ◌&&◌, ◌||◌, nat_eq, List, [], ◌∷◌}
 use Rattle.std.proofs.Common.{map, length, Option, Some, None}
 use Rattle.std.specs.List.{Contains}
 use Rattle.std.specs.Prelude.{int_le, int_lt, option_map, slice_get}
 use Rattle.std.proofs.lemmas.Int.{ints}
-use Rattle.std.proofs.lemmas.List.{nil_from_length}
 use Rattle.std.proofs.lemmas.Option.{slice_get_past}
 use Rattle.domain.specs.Interval.{Interval}
 use Rattle.types.specs.Types.{is_structured}
+use Rattle.typed_tree.specs.Accesses.{Origin, root_of}
+use Rattle.typed_tree.specs.declared.tree.PathStep.{PathStep}
 use Rattle.typed_tree.specs.declared.tree.Selector.{Selector}
 use Rattle.typed_tree.specs.declared.tree.Tree.{Tree}
 use Rattle.typed_tree.specs.declared.tree.Variable.{Variable}
 use Rattle.typed_tree.specs.WellFormed.{of_one}
 use Rattle.checker_rows.specs.Leaves.{LeafStep}
-use Rattle.checker_rows.specs.Rows.{is_structured_variable, is_under, is_variable_row, leaf_rows, leaf_step, numbers_where, own_row, rows_accessed}
+use Rattle.checker_rows.specs.Rows.{is_structured_variable, is_under, is_variable_row, leaf_rows, numbers_where, own_row, rows_accessed}
+use Rattle.checker_rows.specs.Rows.{rows_under, steps_accessed}
 use Rattle.checker_rows.proofs.Numbered.{contains-has, in-numbers}
 use Rattle.checker_state.specs.declared.bound.Bound.{Bound as KeptBound}
 use Rattle.checker_state.specs.declared.ends.Ends.{Ends}
@@ -22,8 +24,9 @@ use Rattle.checker_state.specs.State.{State, is_below, moved}
 use Rattle.checker_state.specs.Stores.{Reach}
 use Rattle.checker_state.specs.Terms.{bound_of_parts}
 use Rattle.checker_state.specs.View.{AreEnds, said_form}
-use Rattle.checker_calls.specs.Actuals.{Actual, Bearer, OfVariable, Reached}
+use Rattle.checker_calls.specs.Actuals.{Actual, Bearer, OfVariable, Reached, way_accessed}
 use Rattle.checker_calls.specs.Entry.{Limit, forms_at_most, is_at_most, limit_moved, limit_of, limit_of_actual, limit_of_variable}
+use Rattle.checker_calls.proofs.Origins.{whole-rows, whole-way}
 
 -- ---- what is greater by a number
 
@@ -105,7 +108,7 @@ module _ (tree : Tree) (state : State) (reach : Reach) where
 
   -- an entire variable that is not structured
   entire-limit : (root : ℕ) → is_variable_row tree root ≡ true
-      → limit_of_variable tree state (borne (rows_accessed tree root [])) ≡ Some (limit_of tree state (plus root (pos 0)))
+      → limit_of_variable tree state (borne (rows_under tree root [])) ≡ Some (limit_of tree state (plus root (pos 0)))
   entire-limit root is =
       ap (λ (b : Bool). limit_of_variable tree state
       (borne (cond b (numbers_where (is_under root []) (length tree.variables.items) (leaf_rows tree)) (own_row root [])))) (variable-plain root is)
@@ -140,31 +143,35 @@ module _ (tree : Tree) (state : State) (reach : Reach) where
   under-none root steps false none = own-none root steps none
 
   -- parts of variables, and structured ones
-  parts-limit : (root : ℕ) (selectors : List Selector) → (selectors ≡ [] → is_variable_row tree root ≡ false)
-      → limit_of_variable tree state (borne (rows_accessed tree root selectors)) ≡ None
-  parts-limit root [] none = under-none root [] (is_structured_variable tree root) (λ _. none refl)
-  parts-limit root (selector ∷ selectors) none =
-      under-none root (leaf_step selector ∷ map leaf_step selectors) (is_structured_variable tree root) (λ is. absurd (cc))
+  parts-limit : (origin : Origin) (selectors : List Selector) → (way_accessed origin selectors ≡ [] → is_variable_row tree (root_of origin) ≡ false)
+      → limit_of_variable tree state (borne (rows_accessed tree origin selectors)) ≡ None
+  parts-limit origin selectors none =
+      under-none (root_of origin) (steps_accessed origin selectors) (is_structured_variable tree (root_of origin))
+      (λ is. none (whole-way origin selectors is))
 
 -- ---- actual parameters
 
-module _ (tree : Tree) (state : State) (reach : Reach) (formal root : ℕ) (selectors : List Selector) (number : ℤ) (actual : Actual) where
+module _ (tree : Tree) (state : State) (reach : Reach) (formal : ℕ) (origin : Origin) (selectors : List Selector) (number : ℤ) (actual : Actual) where
   abbrev accessed : Actual
-  accessed = OfVariable root selectors reach
+  accessed = OfVariable origin selectors reach
 
-  pub actual-entire : (limit : Limit) (bound : Bound) → actual ≡ accessed → length selectors ≡ 0 → is_variable_row tree root ≡ true
-      → bound ≡ plus root number → limit ≡ limit_of tree state bound
-      → Some limit ≡ option_map (limit_moved number) (limit_of_actual tree state formal (Some actual))
-  actual-entire limit bound actual_is none is bound_is limit_is =
-      let all : selectors ≡ [] = nil_from_length selectors none in
+  pub actual-entire : (root : ℕ) (limit : Limit) (bound : Bound) → root_of origin ≡ root → actual ≡ accessed
+      → nat_eq (length (way_accessed origin selectors)) 0 ≡ true → is_variable_row tree root ≡ true → bound ≡ plus root number
+      → limit ≡ limit_of tree state bound → Some limit ≡ option_map (limit_moved number) (limit_of_actual tree state formal (Some actual))
+  actual-entire root limit bound root_is actual_is none is bound_is limit_is =
       ap Some (said-plus tree state root number limit bound bound_is limit_is)
       ∙ ap (option_map (limit_moved number))
       (sym (entire-limit tree state reach root is)
-      ∙ ap (λ (some : List Selector). limit_of_actual tree state formal (Some (OfVariable root some reach))) (sym all)
+      ∙ ap (λ (rows : List ℕ). limit_of_variable tree state (borne tree state reach rows))
+      (ap (λ (r : ℕ). rows_under tree r []) (sym root_is) ∙ sym (whole-rows tree origin selectors none))
       ∙ ap (λ (a : Actual). limit_of_actual tree state formal (Some a)) (sym actual_is))
 
-  pub actual-parts : actual ≡ accessed → (selectors ≡ [] → is_variable_row tree root ≡ false)
+  pub actual-parts : (root : ℕ) → root_of origin ≡ root → actual ≡ accessed
+      → (nat_eq (length (way_accessed origin selectors)) 0 ≡ true → is_variable_row tree root ≡ false)
       → None ≡ option_map (limit_moved number) (limit_of_actual tree state formal (Some actual))
-  actual-parts actual_is none =
+  actual-parts root root_is actual_is none =
       ap (option_map (limit_moved number))
-      (sym (parts-limit tree state reach root selectors none) ∙ ap (λ (a : Actual). limit_of_actual tree state formal (Some a)) (sym actual_is))
+      (sym
+      (parts-limit tree state reach origin selectors
+      (λ is. ap (is_variable_row tree) root_is ∙ none (ap (λ (way : List PathStep). nat_eq (length way) 0) is)))
+      ∙ ap (λ (a : Actual). limit_of_actual tree state formal (Some a)) (sym actual_is))

@@ -12,7 +12,7 @@ use Rattle.types.specs.declared.form.Step.{Step}
 use Rattle.types.specs.declared.form.Step.TheVariants as step
 use Rattle.types.specs.declared.form.TypeId.{TypeId}
 use Rattle.types.specs.Types.{is_structured}
-use Rattle.typed_tree.specs.Accesses.{accessed, index_count}
+use Rattle.typed_tree.specs.Accesses.{Origin, AtVariable, accessed, index_count, root_of, step_of}
 use Rattle.typed_tree.specs.WellFormed.{Outline, is_value_kind, is_variable_kind, is_well_formed_selector, is_whole}
 use Rattle.typed_tree.specs.declared.tree.Selector.{Selector}
 use Rattle.typed_tree.specs.declared.tree.Selector.TheVariants.{Element, Field}
@@ -30,7 +30,7 @@ use Rattle.checker_rows.proofs.Selected.{Matches}
 use Rattle.checker_state.specs.Holds.{IsIn, indexes_of, moment}
 use Rattle.checker_state.specs.Knows.{IsIndex, IsOfForm}
 use Rattle.checker_state.specs.Stores.{Index, Reach}
-use Rattle.checker_calls.specs.Actuals.{Actual, OfRows, OfValue, OfVariable, after_call, unknown_index, unknown_reach}
+use Rattle.checker_calls.specs.Actuals.{Actual, OfRows, OfValue, OfVariable, after_call, unknown_index, unknown_reach, way_accessed}
 use Rattle.checker_calls.specs.Environments.{LiesIn, place_type, type_led}
 
 -- ---- what an access reaches
@@ -57,12 +57,15 @@ abbrev pub AreIntegers : List ℤ → Type 0
 AreIntegers [] = Unit {0}
 AreIntegers (number ∷ numbers) = HasMember integer number × AreIntegers numbers
 
--- selectors lead to the place of a part of a variable, which is reached as the walk tells
-pub record Leads (env : Environment) (root : ℕ) (selectors : List Selector) (store : Store) (reach : Reach) (place : Option Place) : Type 0 where
+-- an access leads to the place of a part of a variable, which is reached as the walk tells: by all selectors from the variable, those to the record at which
+-- it begins and its own
+pub record Leads (env : Environment) (origin : Origin) (selectors : List Selector) (store : Store) (reach : Reach) (place : Option Place) : Type 0 where
+  pub all : List Selector
+  pub steps_are : map step_of all ≡ way_accessed origin selectors
   pub way : List Step
-  pub place_is : place ≡ part (env.variables root) way
-  pub matches : Matches selectors way
-  pub reached : IsReachedBy env store selectors way reach
+  pub place_is : place ≡ part (env.variables (root_of origin)) way
+  pub matches : Matches all way
+  pub reached : IsReachedBy env store all way reach
 
 -- the value of each component of a type lies in the range of the leaf that names it
 abbrev pub LieIn : List Form → TypeId → List Interval → List Value → Type 0
@@ -104,9 +107,9 @@ IsArgument tree env store formal (OfValue range form) (meaning.OfValue v) = IsIn
 IsArgument tree env store formal (OfRows ranges) (meaning.OfRow values) =
     (is_structured tree.types formal.type_id ≡ true) × (length ranges ≡ length (leaves_of tree.types formal.type_id))
     × LieIn tree.types formal.type_id ranges values
-IsArgument tree env store formal (OfVariable root selectors reach) (meaning.OfPlace place) =
-    Leads env root selectors store reach place × (accessed tree.variables.items tree.types root selectors ≡ Some formal.type_id)
-    × ((way : List Step) → Matches selectors way → AreIntegers (indexes_of way))
+IsArgument tree env store formal (OfVariable origin selectors reach) (meaning.OfPlace place) =
+    (leads : Leads env origin selectors store reach place)
+    × (accessed tree.variables.items tree.types (AtVariable (root_of origin)) leads.all ≡ Some formal.type_id) × AreIntegers (indexes_of leads.way)
 IsArgument tree env store formal actual argument = ⊥
 
 abbrev pub AreArguments : Tree → Environment → Store → List ℕ → List Actual → List Argument → Type 0
@@ -175,14 +178,16 @@ module _ (tree : Tree) (env : Environment) (before after : Store) where
   after-call_argument formal (OfRows ranges) (meaning.OfValue v) is = absurd is
   after-call_argument formal (OfRows ranges) (meaning.OfRow values) is = is
   after-call_argument formal (OfRows ranges) (meaning.OfPlace place) is = absurd is
-  after-call_argument formal (OfVariable root selectors reach) (meaning.OfValue v) is = absurd is
-  after-call_argument formal (OfVariable root selectors reach) (meaning.OfRow values) is = absurd is
-  after-call_argument formal (OfVariable root selectors reach) (meaning.OfPlace place) (leads, typed, integers) = (
+  after-call_argument formal (OfVariable origin selectors reach) (meaning.OfValue v) is = absurd is
+  after-call_argument formal (OfVariable origin selectors reach) (meaning.OfRow values) is = absurd is
+  after-call_argument formal (OfVariable origin selectors reach) (meaning.OfPlace place) (leads, typed, integers) = (
     record {
+      all = leads.all;
+      steps_are = leads.steps_are;
       way = leads.way;
       place_is = leads.place_is;
       matches = leads.matches;
-      reached = reached-later selectors leads.way reach (integers leads.way leads.matches) leads.reached;
+      reached = reached-later leads.all leads.way reach integers leads.reached;
     },
     typed,
     integers,

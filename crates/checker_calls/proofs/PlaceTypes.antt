@@ -4,11 +4,11 @@ use Rattle.std.proofs.Common.{length}
 use Rattle.std.proofs.lemmas.Bool.{and_parts, eqb-true, false≢true}
 use Rattle.std.proofs.lemmas.Int.{ints}
 use Rattle.std.proofs.lemmas.Option.{cond_some, none-some, same_Some}
-use Rattle.std.specs.Option.{option_and_then}
+use Rattle.std.specs.Option.{option_and_then, option_map}
 use Rattle.std.specs.Prelude.{int_le, is_some, slice_get}
 use Rattle.types.specs.Components.{Steps}
-use Rattle.types.specs.Forms.{Array, Boolean, Char, Enumeration, FieldForm, Form, Integer, Record, Subrange}
-use Rattle.types.specs.Types.{before, element_of, field_at, form_at, form_range, is_ordinal, range_of}
+use Rattle.types.specs.Forms.{Array, Boolean, Char, Enumeration, FieldForm, Form, Integer, Record, Set, Subrange}
+use Rattle.types.specs.Types.{before, element_of, field_at, form_at, form_kind, is_scalar, scalar_range, scalar_range_of}
 use Rattle.types.specs.declared.form.ArrayElement.{ArrayElement}
 use Rattle.types.specs.declared.form.OrdinalRange.{OrdinalRange}
 use Rattle.types.specs.declared.form.RecordField.{RecordField}
@@ -55,10 +55,10 @@ part-typed tree place steps = by (slice_get tree.variables.items place.variable)
     by None = refl
     by (Some variable) = led-then tree.types place.steps steps variable.type_id
 
--- what a leaf says of the type of a component: its values, and which it is, if it is ordinal
+-- what a leaf says of the type of a component: its values, and which it is, if it is scalar
 pub record IsTypeOf (types : List Form) (part : TypeId) (leaf : Leaf) : Type 0 where
-  pub values_are : range_of types part ≡ leaf.values
-  pub type_is : is_ordinal types part ≡ true → leaf.type_id ≡ Some part
+  pub values_are : scalar_range_of types part ≡ leaf.values
+  pub type_is : is_scalar types part ≡ true → leaf.type_id ≡ Some part
 
 -- ---- what a step leads to
 
@@ -104,24 +104,28 @@ module _ (types : List Form) where
   no-step steps Elements rest is named = false≢true (ap (λ (s : List LeafStep). is_named s []) (sym is) ∙ named)
   no-step steps (FieldAt position) rest is named = false≢true (ap (λ (s : List LeafStep). is_named s []) (sym is) ∙ named)
 
+  -- the values of a form
+  abbrev scalar_of : Option Form → Option OrdinalRange
+  scalar_of form = option_and_then scalar_range (option_map form_kind form)
+
   abbrev numbered : ℕ → TypeId
   numbered n = record { index = n }
 
   scalar-typed : (id : TypeId) (leaf : Leaf) (form : Form) → form_at types id ≡ Some form → Has (scalar_leaves (leafed_before types id) form) leaf
       → IsTypeOf types id leaf
   scalar-typed id leaf form is has =
-      let one = only (scalar (Some (numbered (length (leafed_before types id)))) (form_range form)) leaf has in
+      let one = only (scalar (Some (numbered (length (leafed_before types id)))) (scalar_range (form_kind form))) leaf has in
       record {
-        values_are = ap (option_and_then form_range) is ∙ ap (λ (l : Leaf). l.values) one;
-        type_is = λ ordinal. ap (λ (l : Leaf). l.type_id) (sym one) ∙ ap (λ (n : ℕ). Some (numbered n)) (leafed_many types id form is);
+        values_are = ap scalar_of is ∙ ap (λ (l : Leaf). l.values) one;
+        type_is = λ one_value. ap (λ (l : Leaf). l.type_id) (sym one) ∙ ap (λ (n : ℕ). Some (numbered n)) (leafed_many types id form is);
       }
 
   whole-typed : (id : TypeId) (leaf : Leaf) (form : Option Form) → form_at types id ≡ form → Has (leaves_of types id) leaf → is_named leaf.steps [] ≡ true
       → IsTypeOf types id leaf
   whole-typed id leaf None is has named = record {
-    values_are = ap (option_and_then form_range) is
+    values_are = ap scalar_of is
         ∙ ap (λ (l : Leaf). l.values) (only (scalar None None) leaf (subst (λ (all : List Leaf). Has all leaf) (leaves_of_none types id is) has));
-    type_is = λ ordinal. absurd (false≢true (sym (ap (λ (f : Option Form). is_some (option_and_then form_range f)) is) ∙ ordinal));
+    type_is = λ one_value. absurd (false≢true (sym (ap (λ (f : Option Form). is_some (scalar_of f)) is) ∙ one_value));
   }
   whole-typed id leaf (Some form) is has named = by form is (subst (λ (all : List Leaf). Has all leaf) (leaves_of_form types id form is) has)
     where
@@ -131,6 +135,7 @@ module _ (types : List Form) where
       by Char is has = scalar-typed id leaf Char is has
       by (Enumeration last) is has = scalar-typed id leaf (Enumeration last) is has
       by (Subrange host first last) is has = scalar-typed id leaf (Subrange host first last) is has
+      by (Set packed host first last) is has = scalar-typed id leaf (Set packed host first last) is has
       by (Array packed index element) is has =
           let found = mapped-at (behind_elements (range_at (leafed_before types id) index)) (leaves_at (leafed_before types id) element) has.0 leaf has.1 in
           absurd (no-step leaf.steps Elements found.0.steps (ap (λ (l : Leaf). l.steps) (sym found.2)) named)
@@ -143,7 +148,7 @@ module _ (types : List Form) where
       → IsTypeOf types part leaf
   still-typed part own leaf values type_id is = record {
     values_are = is.values_are ∙ values;
-    type_is = λ ordinal. sym type_id ∙ is.type_is ordinal;
+    type_is = λ one_value. sym type_id ∙ is.type_is one_value;
   }
 
   behind-name : (position place : ℕ) (path : List LeafStep) (steps : Steps) → is_named (FieldAt position ∷ path) (step.Field place ∷ steps) ≡ true

@@ -1,5 +1,5 @@
 -- Places that overlap, and pairs of variables that are listed.
-use Rattle.std.proofs.Common.{arith, ◌≡◌, ⊎_elim, ◌⊎◌, inl, inr, ◌∙◌, sym, ap, refl, ℕ, zero, suc, Bool, true, false, not, cond, ◌&&◌, ◌||◌}
+use Rattle.std.proofs.Common.{arith, ◌≡◌, ⊎_elim, ◌⊎◌, inl, inr, ◌∙◌, sym, ap, ap₂, refl, ℕ, zero, suc, Bool, true, false, not, cond, ◌&&◌, ◌||◌}
 use Rattle.std.proofs.Common.{nat_eq, List, [], ◌∷◌, ◌++◌, Option, Some, None}
 use Rattle.std.specs.List.{Contains}
 use Rattle.std.specs.Ordering.{int_eq}
@@ -9,13 +9,16 @@ use Rattle.std.proofs.lemmas.List.Folds.{list_any-append}
 use Rattle.std.proofs.lemmas.Option.{none-some, same_Some}
 use Rattle.types.specs.declared.form.Step.{Step}
 use Rattle.types.specs.declared.form.Step.TheVariants as step
+use Rattle.typed_tree.specs.Accesses.{Origin, root_of}
+use Rattle.typed_tree.specs.declared.tree.PathStep.{PathStep}
+use Rattle.typed_tree.specs.declared.tree.PathStep.TheVariants as path
 use Rattle.typed_tree.specs.declared.tree.Selector.{Selector}
-use Rattle.typed_tree.specs.declared.tree.Selector.TheVariants.{Element, Field}
+use Rattle.meaning.specs.Kinds.{way_of}
 use Rattle.meaning.specs.Store.{Environment, Place, is_beginning, overlap, part, step_eq}
-use Rattle.checker_rows.proofs.Selected.{Matches}
 use Rattle.checker_state.specs.Holds.{Separate}
 use Rattle.checker_state.specs.Loops.{is_among}
 use Rattle.checker_loops.specs.Pairs.{aliases_of, partner}
+use Rattle.checker_calls.specs.Actuals.{way_accessed}
 use Rattle.checker_calls.specs.Overlaps.{are_parted, is_listed, may_overlap}
 
 -- ---- places
@@ -104,16 +107,16 @@ behind-beginning : (ps more others : List Step) → is_beginning (ps ++ more) (p
 behind-beginning [] more others is = is
 behind-beginning (s ∷ ps) more others is = behind-beginning ps more others (and_parts (step_eq s s) (is_beginning (ps ++ more) (ps ++ others)) is).1
 
--- ---- selectors that part
+-- ---- ways that part
 
-parted-back : (one other : List Selector) → are_parted one other ≡ true → are_parted other one ≡ true
+parted-back : (one other : List PathStep) → are_parted one other ≡ true → are_parted other one ≡ true
 parted-back [] other is = absurd (false≢true is)
-parted-back (Element fits cells ∷ one) [] is = absurd (false≢true is)
-parted-back (Field a offset ∷ one) [] is = absurd (false≢true is)
-parted-back (Element fits cells ∷ one) (Element other_fits other_cells ∷ other) is = parted-back one other is
-parted-back (Element fits cells ∷ one) (Field b offset ∷ other) is = absurd (false≢true is)
-parted-back (Field a offset ∷ one) (Element fits cells ∷ other) is = absurd (false≢true is)
-parted-back (Field a offset ∷ one) (Field b other_offset ∷ other) is =
+parted-back (path.Element ∷ one) [] is = absurd (false≢true is)
+parted-back (path.Field a ∷ one) [] is = absurd (false≢true is)
+parted-back (path.Element ∷ one) (path.Element ∷ other) is = parted-back one other is
+parted-back (path.Element ∷ one) (path.Field b ∷ other) is = absurd (false≢true is)
+parted-back (path.Field a ∷ one) (path.Element ∷ other) is = absurd (false≢true is)
+parted-back (path.Field a ∷ one) (path.Field b ∷ other) is =
     ⊎_elim (λ differ. or_left (not (nat_eq b a)) (are_parted other one) (ap not (swapped a b) ∙ differ))
     (λ later. or_right (not (nat_eq b a)) (are_parted other one) (parted-back one other later))
     (or_cases (not (nat_eq a b)) (are_parted one other) is)
@@ -126,38 +129,27 @@ parted-back (Field a offset ∷ one) (Field b other_offset ∷ other) is =
         nat_eq_back a b false true x_is y_is = eq-eqb b a (sym (eqb-true a b y_is)) ∙ sym y_is
         nat_eq_back a b false false x_is y_is = x_is ∙ sym y_is
 
--- neither of their ways begins the other
-parted-ways : (one other : List Selector) (way second : List Step) → are_parted one other ≡ true → Matches one way → Matches other second
-    → is_beginning way second ≡ true → ⊥
-parted-ways [] other way second parted first last is = false≢true parted
-parted-ways (Element fits cells ∷ one) [] way second parted first last is = false≢true parted
-parted-ways (Field a offset ∷ one) [] way second parted first last is = false≢true parted
-parted-ways (Element fits cells ∷ one) (Field b offset ∷ other) way second parted first last is = false≢true parted
-parted-ways (Field a offset ∷ one) (Element fits cells ∷ other) way second parted first last is = false≢true parted
-parted-ways (Element fits cells ∷ one) (Element other_fits other_cells ∷ other) [] second parted first last is = first
-parted-ways (Element fits cells ∷ one) (Element other_fits other_cells ∷ other) (step.Field p ∷ way) second parted first last is = first
-parted-ways (Element fits cells ∷ one) (Element other_fits other_cells ∷ other) (step.Element i ∷ way) [] parted first last is = last
-parted-ways (Element fits cells ∷ one) (Element other_fits other_cells ∷ other) (step.Element i ∷ way) (step.Field q ∷ second) parted first last is = last
-parted-ways (Element fits cells ∷ one) (Element other_fits other_cells ∷ other) (step.Element i ∷ way) (step.Element j ∷ second) parted first last is =
-    parted-ways one other way second parted first.2 last.2 (and_parts (int_eq i j) (is_beginning way second) is).1
-parted-ways (Field a offset ∷ one) (Field b other_offset ∷ other) [] second parted first last is = first
-parted-ways (Field a offset ∷ one) (Field b other_offset ∷ other) (step.Element i ∷ way) second parted first last is = first
-parted-ways (Field a offset ∷ one) (Field b other_offset ∷ other) (step.Field p ∷ way) [] parted first last is = last
-parted-ways (Field a offset ∷ one) (Field b other_offset ∷ other) (step.Field p ∷ way) (step.Element j ∷ second) parted first last is = last
-parted-ways (Field a offset ∷ one) (Field b other_offset ∷ other) (step.Field p ∷ way) (step.Field q ∷ second) parted first last is =
+-- neither begins the other
+parted-ways : (way second : List Step) → are_parted (way_of way) (way_of second) ≡ true → is_beginning way second ≡ true → ⊥
+parted-ways [] second parted is = false≢true parted
+parted-ways (s ∷ way) [] parted is = false≢true is
+parted-ways (step.Element i ∷ way) (step.Field q ∷ second) parted is = false≢true parted
+parted-ways (step.Field p ∷ way) (step.Element j ∷ second) parted is = false≢true parted
+parted-ways (step.Element i ∷ way) (step.Element j ∷ second) parted is =
+    parted-ways way second parted (and_parts (int_eq i j) (is_beginning way second) is).1
+parted-ways (step.Field p ∷ way) (step.Field q ∷ second) parted is =
     let parts = and_parts (nat_eq p q) (is_beginning way second) is in
-    let same : a ≡ b = first.0 ∙ eqb-true p q parts.0 ∙ sym last.0 in
-    ⊎_elim (λ differ. false≢true (sym (ap not (eq-eqb a b same)) ∙ differ))
-    (λ later. parted-ways one other way second later first.1 last.1 parts.1)
-    (or_cases (not (nat_eq a b)) (are_parted one other) parted)
+    ⊎_elim (λ differ. false≢true (sym (ap not parts.0) ∙ differ))
+    (λ later. parted-ways way second later parts.1)
+    (or_cases (not (nat_eq p q)) (are_parted (way_of way) (way_of second)) parted)
 
 -- parts of one variable on ways that part overlap nowhere
-pub parted-apart : (p : Place) (one other : List Selector) (way second : List Step) → are_parted one other ≡ true → Matches one way → Matches other second
+pub parted-apart : (p : Place) (way second : List Step) → are_parted (way_of way) (way_of second) ≡ true
     → overlap (record p { steps = p.steps ++ way }) (record p { steps = p.steps ++ second }) ≡ true → ⊥
-parted-apart p one other way second parted first last is =
+parted-apart p way second parted is =
     let so = overlaps-from (record p { steps = p.steps ++ way }) (record p { steps = p.steps ++ second }) is in
-    ⊎_elim (λ begun. parted-ways one other way second parted first last (behind-beginning p.steps way second begun))
-    (λ begun. parted-ways other one second way (parted-back one other parted) last first (behind-beginning p.steps second way begun))
+    ⊎_elim (λ begun. parted-ways way second parted (behind-beginning p.steps way second begun))
+    (λ begun. parted-ways second way (parted-back (way_of way) (way_of second) parted) (behind-beginning p.steps second way begun))
     (cond-cases (is_beginning (p.steps ++ way) (p.steps ++ second)) (is_beginning (p.steps ++ second) (p.steps ++ way)) so.steps)
 
 -- ---- pairs
@@ -236,28 +228,32 @@ part-there None way p is = absurd (none-some p is)
 part-there (Some home) way p is = (home, refl, same_Some (record home { steps = home.steps ++ way }) p is)
 
 -- parts of two variables overlap only where the checker knows that they may
-pub may-overlap : (pairs : List (ℕ × ℕ)) (env : Environment) → Separate env pairs → (root : ℕ) (selectors : List Selector) (way : List Step) (other : ℕ)
-    (other_selectors : List Selector) (second : List Step) (p q : Place) → Matches selectors way → Matches other_selectors second
-    → part (env.variables root) way ≡ Some p → part (env.variables other) second ≡ Some q → overlap p q ≡ true
-    → may_overlap pairs root selectors other other_selectors ≡ true
-may-overlap pairs env separate root selectors way other other_selectors second p q one two p_is q_is over =
-    let first = part-there (env.variables root) way p p_is in
-    let last = part-there (env.variables other) second q q_is in
+pub may-overlap : (pairs : List (ℕ × ℕ)) (env : Environment) → Separate env pairs → (origin : Origin) (selectors : List Selector) (way : List Step)
+    (other : Origin) (other_selectors : List Selector) (second : List Step) (p q : Place) → way_of way ≡ way_accessed origin selectors
+    → way_of second ≡ way_accessed other other_selectors → part (env.variables (root_of origin)) way ≡ Some p
+    → part (env.variables (root_of other)) second ≡ Some q → overlap p q ≡ true → may_overlap pairs origin selectors other other_selectors ≡ true
+may-overlap pairs env separate origin selectors way other other_selectors second p q one two p_is q_is over =
+    let a = root_of origin in
+    let b = root_of other in
+    let apart = not (are_parted (way_accessed origin selectors) (way_accessed other other_selectors)) in
+    let first = part-there (env.variables a) way p p_is in
+    let last = part-there (env.variables b) second q q_is in
     let parts : overlap (record (first.0) { steps = first.0.steps ++ way }) (record (last.0) { steps = last.0.steps ++ second }) ≡ true =
     ap (λ (x : Place). overlap x (record (last.0) { steps = last.0.steps ++ second })) first.2 ∙ ap (overlap p) last.2 ∙ over in
     ⊎_elim
-    (λ (same : root ≡ other).
-    or_left (nat_eq root other && not (are_parted selectors other_selectors)) (is_listed pairs root other)
-    (and_from (nat_eq root other) (not (are_parted selectors other_selectors)) (eq-eqb root other same)
-    (unparted first.0 last.0 (same_Some first.0 last.0 (sym first.1 ∙ ap env.variables same ∙ last.1)) parts (are_parted selectors other_selectors) refl)))
+    (λ (same : a ≡ b).
+    or_left (nat_eq a b && apart) (is_listed pairs a b)
+    (and_from (nat_eq a b) apart (eq-eqb a b same)
+    (ap not (ap₂ are_parted (sym one) (sym two))
+    ∙ unparted first.0 last.0 (same_Some first.0 last.0 (sym first.1 ∙ ap env.variables same ∙ last.1)) parts (are_parted (way_of way) (way_of second)) refl)))
     (λ differ.
-    or_right (nat_eq root other && not (are_parted selectors other_selectors)) (is_listed pairs root other)
-    (pair-listed pairs root other (separate root other first.0 last.0 first.1 last.1 differ (parts-overlap first.0 last.0 way second parts))))
-    (cases_eq root other)
+    or_right (nat_eq a b && apart) (is_listed pairs a b)
+    (pair-listed pairs a b (separate a b first.0 last.0 first.1 last.1 differ (parts-overlap first.0 last.0 way second parts))))
+    (cases_eq a b)
   where
     unparted : (a b : Place) → a ≡ b → overlap (record a { steps = a.steps ++ way }) (record b { steps = b.steps ++ second }) ≡ true
-        → (parted : Bool) → are_parted selectors other_selectors ≡ parted → not parted ≡ true
+        → (parted : Bool) → are_parted (way_of way) (way_of second) ≡ parted → not parted ≡ true
     unparted a b same parts true is =
-        absurd (parted-apart a selectors other_selectors way second is one two
+        absurd (parted-apart a way second is
         (ap (λ (x : Place). overlap (record a { steps = a.steps ++ way }) (record x { steps = x.steps ++ second })) same ∙ parts))
     unparted a b same parts false is = refl

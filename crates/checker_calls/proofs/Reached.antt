@@ -17,7 +17,7 @@ use Rattle.checker_state.specs.Bounds.{Bound, constant}
 use Rattle.checker_state.specs.State.{Claim, Dead, Defined, Holds as Holding, Live, Span, State, Stretched, Table, is_dead, state_gives}
 use Rattle.checker_state.specs.Stores.{Index, Reach, all_of_row, gives_form, gives_index, gives_indexes, gives_reached, gives_some, range_stretch}
 use Rattle.checker_state.specs.Stores.{stretch_between}
-use Rattle.checker_state.specs.Holds.{AreBounds, AreDefined, HasComponent, IsBound, IsOfRow, LieBetween, Moment, Numbers, indexes_of, moment}
+use Rattle.checker_state.specs.Holds.{AreBounds, AreDefined, HasComponent, HoldNumbers, IsBound, IsOfRow, LieBetween, Moment, Numbers, indexes_of, moment}
 use Rattle.checker_state.specs.Knows.{AreRows, Knows}
 use Rattle.checker_state.proofs.Given.{first-of, given-holds}
 use Rattle.checker_calls.proofs.Passed.{AreIndexesOn, IsIndexOn, IsReachedBy}
@@ -59,7 +59,7 @@ abbrev between : ℕ → Bound → Bound → Claim
 between row first last = Holding (Stretched (record { row = row; spans = span_of first last ∷ [] }))
 
 module _ (rows : List Parts) (table : Table) (are : AreRows rows table) (env : Environment) (state : State) (store : Store)
-    (known : Knows rows table.variables env state store) where
+    (ordinals : HoldNumbers table.ordinal (moment env store)) (known : Knows rows table.variables env state store) where
   abbrev m : Moment
   m = moment env store
 
@@ -68,7 +68,7 @@ module _ (rows : List Parts) (table : Table) (are : AreRows rows table) (env : E
       → ((n : ℤ) → IsBound m first n → n ≤ℤ number) → ((n : ℤ) → IsBound m last n → number ≤ℤ n)
       → state_gives table state (between row first last) ≡ true → HasComponent rows m row steps
   between-has row first last number steps of_row at low high is =
-      let holds = given-holds rows table are env state store (between row first last) known is in by holds.0 holds.1 holds.2
+      let holds = given-holds rows table are env state store (between row first last) ordinals known is in by holds.0 holds.1 holds.2
     where
       by : (numbers : List Numbers) → AreBounds m (span_of first last ∷ []) numbers → AreDefined rows row numbers m → HasComponent rows m row steps
       by [] bounds defined = absurd bounds
@@ -87,7 +87,7 @@ module _ (rows : List Parts) (table : Table) (are : AreRows rows table) (env : E
   -- all of a row
   pub row-has : (row : ℕ) (steps : List Step) (found : Option OrdinalRange) → table.index row ≡ found → IsOfRow rows row steps
       → state_gives table state (all_of_row found row) ≡ true → HasComponent rows m row steps
-  row-has row steps None found of_row is = given-holds rows table are env state store (Defined row) known is steps of_row
+  row-has row steps None found of_row is = given-holds rows table are env state store (Defined row) ordinals known is steps of_row
   row-has row steps (Some range) found of_row is =
       let at = are.indexes row range found steps of_row in numbers-has row range.first range.last at.0 steps of_row at.1 at.2 at.3 is
 

@@ -10,8 +10,10 @@ use Rattle.std.proofs.lemmas.Option.{none-some}
 use Rattle.typed_tree.specs.WellFormed.{is_one_of, is_visible, outline_of}
 use Rattle.typed_tree.specs.declared.tree.Block.{Block}
 use Rattle.typed_tree.specs.declared.tree.Selector.{Selector}
+use Rattle.typed_tree.specs.Accesses.{Origin, AtVariable, root_of}
 use Rattle.typed_tree.specs.declared.tree.Tree.{Tree}
 use Rattle.typed_tree.specs.declared.tree.Variable.{Variable}
+use Rattle.meaning.specs.Kinds.{way_of}
 use Rattle.meaning.specs.Meaning as meaning
 use Rattle.meaning.specs.Meaning.{Argument, environment_of, own_place, place_for, place_passed}
 use Rattle.meaning.specs.Store.{Environment, Place, Store, overlap, part}
@@ -19,12 +21,13 @@ use Rattle.checker_state.specs.Holds.{Separate}
 use Rattle.checker_state.specs.Loops.{is_among}
 use Rattle.checker_state.specs.Stores.{Reach}
 use Rattle.checker_loops.specs.Pairs.{Listed, aliases_in}
-use Rattle.checker_calls.specs.Actuals.{Actual, Binding, OfRows, OfValue, OfVariable, bound_to}
+use Rattle.checker_calls.specs.Actuals.{Actual, Binding, OfRows, OfValue, OfVariable, bound_to, way_accessed}
 use Rattle.checker_calls.specs.Environments.{Proper}
 use Rattle.checker_calls.specs.Overlaps.{are_parted, are_separate, is_actual_separate, is_declared_in, is_listed, is_listed_round, is_listed_with}
 use Rattle.checker_calls.specs.Overlaps.{may_overlap}
 use Rattle.checker_calls.proofs.AliasedTypes.{seen}
 use Rattle.checker_calls.proofs.Callee.{IsCalled, Outer, Own, PassedTo, Seen, activation_of, callee-proper, either-cond, place-for_fits, seen-as}
+use Rattle.checker_calls.proofs.Origins.{goes}
 use Rattle.checker_calls.proofs.Passed.{AreArguments, IsArgument, Leads}
 use Rattle.checker_calls.proofs.Places.{IsPair, listed-pair, may-overlap, overlap-back, overlaps-from, pair-back}
 use Rattle.checker_calls.proofs.SeenAliases.{alias-seen, listed_pairs}
@@ -41,31 +44,36 @@ all-among test (first ∷ items) item all among =
 
 -- an actual parameter by which a place is passed to a formal one
 pub record IsPassed (env : Environment) (store : Store) (bindings : List Binding) (formal : ℕ) (place : Place) : Type 0 where
-  pub root : ℕ
+  pub origin : Origin
   pub selectors : List Selector
   pub reach : Reach
-  pub inside : Contains bindings (record { root = formal; actual = OfVariable root selectors reach })
-  pub leads : Leads env root selectors store reach (Some place)
+  pub inside : Contains bindings (record { root = formal; actual = OfVariable origin selectors reach })
+  pub leads : Leads env origin selectors store reach (Some place)
 
 -- what is passed as a place is a variable
 pub record IsVariable (env : Environment) (store : Store) (actual : Actual) (place : Place) : Type 0 where
-  pub root : ℕ
+  pub origin : Origin
   pub selectors : List Selector
   pub reach : Reach
-  pub is : actual ≡ OfVariable root selectors reach
-  pub leads : Leads env root selectors store reach (Some place)
+  pub is : actual ≡ OfVariable origin selectors reach
+  pub leads : Leads env origin selectors store reach (Some place)
+
+-- the way on which it lies
+pub way-is : (env : Environment) (store : Store) (origin : Origin) (selectors : List Selector) (reach : Reach) (place : Option Place)
+    → (leads : Leads env origin selectors store reach place) → way_of leads.way ≡ way_accessed origin selectors
+way-is env store origin selectors reach place leads = goes leads.all leads.way leads.matches ∙ leads.steps_are
 
 pub passed-variable : (tree : Tree) (env : Environment) (store : Store) (formal : Variable) (actual : Actual) (argument : Argument) (place : Place)
     → IsArgument tree env store formal actual argument → place_passed argument ≡ Some place → IsVariable env store actual place
-passed-variable tree env store formal (OfVariable root selectors reach) (meaning.OfPlace found) place is at = record {
-  root = root;
+passed-variable tree env store formal (OfVariable origin selectors reach) (meaning.OfPlace found) place is at = record {
+  origin = origin;
   selectors = selectors;
   reach = reach;
   is = refl;
-  leads = subst (λ (p : Option Place). Leads env root selectors store reach p) at is.0;
+  leads = subst (λ (p : Option Place). Leads env origin selectors store reach p) at is.0;
 }
-passed-variable tree env store formal (OfVariable root selectors reach) (meaning.OfValue v) place is at = absurd is
-passed-variable tree env store formal (OfVariable root selectors reach) (meaning.OfRow values) place is at = absurd is
+passed-variable tree env store formal (OfVariable origin selectors reach) (meaning.OfValue v) place is at = absurd is
+passed-variable tree env store formal (OfVariable origin selectors reach) (meaning.OfRow values) place is at = absurd is
 passed-variable tree env store formal actual (meaning.OfValue v) place is at = absurd (none-some place at)
 passed-variable tree env store formal actual (meaning.OfRow values) place is at = absurd (none-some place at)
 passed-variable tree env store formal (OfValue range form) (meaning.OfPlace found) place is at = absurd is
@@ -75,7 +83,7 @@ module _ (tree : Tree) (env : Environment) (store : Store) where
   later : (first : Binding) (bindings : List Binding) (formal : ℕ) (place : Place) → IsPassed env store bindings formal place
       → IsPassed env store (first ∷ bindings) formal place
   later first bindings formal place is = record {
-    root = is.root;
+    origin = is.origin;
     selectors = is.selectors;
     reach = is.reach;
     inside = (let within = is.inside.1 in (suc is.inside.0, omega (arith, within), is.inside.2));
@@ -94,7 +102,7 @@ module _ (tree : Tree) (env : Environment) (store : Store) where
       (λ (here : (nat_eq root formal ≡ true) × (place_passed argument ≡ Some place)).
       let passed = passed-variable tree env store variable actual argument place own here.1 in
       record {
-        root = passed.root;
+        origin = passed.origin;
         selectors = passed.selectors;
         reach = passed.reach;
         inside = (0, omega arith, λ i. record { root = eqb-true root formal here.0 i; actual = passed.is i });
@@ -113,18 +121,20 @@ module _ (tree : Tree) (env : Environment) (store : Store) where
     with-later : (one : ℕ) (actual : Actual) (others : List Binding) (other : ℕ) (p q : Place) → IsVariable env store actual p
         → IsPassed env store others other q → is_actual_separate listed from around others one actual ≡ true → overlap p q ≡ true → IsPair pairs one other
     with-later one actual others other p q first last tested over =
-        let tests = and_parts (list_all (is_listed_round pairs tree around one) (first.root ∷ aliases_in listed from first.root))
-        (list_all (is_listed_with pairs one first.root first.selectors) others)
+        let root = root_of first.origin in
+        let tests = and_parts (list_all (is_listed_round pairs tree around one) (root ∷ aliases_in listed from root))
+        (list_all (is_listed_with pairs one first.origin first.selectors) others)
         (ap (is_actual_separate listed from around others one) (sym first.is) ∙ tested) in
-        let binding : Binding = record { root = other; actual = OfVariable last.root last.selectors last.reach } in
-        let test = λ (b : Binding). is_listed_with pairs one first.root first.selectors b ≡ true in
-        let listed = All-contains test others binding (AllPass-from_list_all (is_listed_with pairs one first.root first.selectors) others tests.1)
+        let binding : Binding = record { root = other; actual = OfVariable last.origin last.selectors last.reach } in
+        let test = λ (b : Binding). is_listed_with pairs one first.origin first.selectors b ≡ true in
+        let listed = All-contains test others binding (AllPass-from_list_all (is_listed_with pairs one first.origin first.selectors) others tests.1)
         last.inside in
-        let may = may-overlap pairs env separate first.root first.selectors first.leads.way last.root last.selectors last.leads.way p q first.leads.matches
-        last.leads.matches (sym first.leads.place_is) (sym last.leads.place_is) over in
-        ⊎_elim (λ never. absurd (both_ways (not (may_overlap pairs first.root first.selectors last.root last.selectors)) (not_from_true _ may) never))
+        let may = may-overlap pairs env separate first.origin first.selectors first.leads.way last.origin last.selectors last.leads.way p q
+        (way-is env store first.origin first.selectors first.reach (Some p) first.leads)
+        (way-is env store last.origin last.selectors last.reach (Some q) last.leads) (sym first.leads.place_is) (sym last.leads.place_is) over in
+        ⊎_elim (λ never. absurd (both_ways (not (may_overlap pairs first.origin first.selectors last.origin last.selectors)) (not_from_true _ may) never))
         (λ pair. listed-pair pairs one other pair)
-        (or_cases (not (may_overlap pairs first.root first.selectors last.root last.selectors)) (is_listed pairs one other) listed)
+        (or_cases (not (may_overlap pairs first.origin first.selectors last.origin last.selectors)) (is_listed pairs one other) listed)
 
     pub both-passed : (roots : List ℕ) (actuals : List Actual) (arguments : List Argument) → AreArguments tree env store roots actuals arguments
         → are_separate listed from around (bound_to roots actuals) ≡ true → (one other : ℕ) (p q : Place) → one ≢ other
@@ -161,22 +171,23 @@ module _ (tree : Tree) (env : Environment) (store : Store) where
         → is_actual_separate listed from around others one actual ≡ true → slice_get tree.variables.items outer ≡ Some variable
         → is_one_of around variable.block ≡ true → env.variables outer ≡ Some q → overlap p q ≡ true → IsPair pairs one outer
     with-outer one actual others outer variable p q first tested is among q_is over =
-        let tests = and_parts (list_all (is_listed_round pairs tree around one) (first.root ∷ aliases_in listed from first.root))
-        (list_all (is_listed_with pairs one first.root first.selectors) others)
+        let root = root_of first.origin in
+        let tests = and_parts (list_all (is_listed_round pairs tree around one) (root ∷ aliases_in listed from root))
+        (list_all (is_listed_with pairs one first.origin first.selectors) others)
         (ap (is_actual_separate listed from around others one) (sym first.is) ∙ tested) in
+        let apart = not (are_parted (way_accessed first.origin first.selectors) []) in
         let whole : part (env.variables outer) [] ≡ Some q =
         ap (λ (found : Option Place). part found []) q_is ∙ ap (λ (s : List _). Some (record q { steps = s })) (append-nil q.steps) in
-        let may = may-overlap pairs env separate first.root first.selectors first.leads.way outer [] [] p q first.leads.matches tt
-        (sym first.leads.place_is) whole over in
-        let near : is_among outer (first.root ∷ aliases_in listed from first.root) ≡ true =
+        let may = may-overlap pairs env separate first.origin first.selectors first.leads.way (AtVariable outer) [] [] p q
+        (way-is env store first.origin first.selectors first.reach (Some p) first.leads) refl (sym first.leads.place_is) whole over in
+        let near : is_among outer (root ∷ aliases_in listed from root) ≡ true =
         ⊎_elim
-        (λ same. or_left (nat_eq first.root outer) (is_among outer (aliases_in listed from first.root))
-        (and_parts (nat_eq first.root outer) (not (are_parted first.selectors [])) same).0)
+        (λ same. or_left (nat_eq root outer) (is_among outer (aliases_in listed from root)) (and_parts (nat_eq root outer) apart same).0)
         (λ pair.
-        or_right (nat_eq first.root outer) (is_among outer (aliases_in listed from first.root))
-        (alias-seen tree pairs from first.root outer pair (shown outer q q_is)))
-        (or_cases (nat_eq first.root outer && not (are_parted first.selectors [])) (is_listed pairs first.root outer) may) in
-        let listed = all-among (is_listed_round pairs tree around one) (first.root ∷ aliases_in listed from first.root) outer tests.0 near in
+        or_right (nat_eq root outer) (is_among outer (aliases_in listed from root))
+        (alias-seen tree pairs from root outer pair (shown outer q q_is)))
+        (or_cases (nat_eq root outer && apart) (is_listed pairs root outer) may) in
+        let listed = all-among (is_listed_round pairs tree around one) (root ∷ aliases_in listed from root) outer tests.0 near in
         ⊎_elim
         (λ never. absurd (both_ways (not (is_declared_in pairs around (slice_get tree.variables.items outer)))
         (not_from_true _ (ap (is_declared_in pairs around) is ∙ among)) never))

@@ -1,8 +1,10 @@
 -- What the checker knows of the actual parameters of a call, and what has the values of the formal ones for the caller
 -- (ISO 7185:1990, 6.6.3). It says nothing of what a call does.
-use Rattle.std.specs.Prelude.{ℕ, Bool, List, [], ◌∷◌, Option, Some, None, if◌then◌else◌, map, nat_eq}
+use Rattle.std.specs.Prelude.{ℕ, ◌++◌, Bool, List, [], ◌∷◌, Option, Some, None, if◌then◌else◌, map, nat_eq}
+use Rattle.typed_tree.specs.declared.tree.PathStep.{PathStep}
 use Rattle.typed_tree.specs.declared.tree.Tree.{Tree}
 use Rattle.typed_tree.specs.declared.tree.Selector.{Selector}
+use Rattle.typed_tree.specs.Accesses.{Origin, step_of, steps_of}
 use Rattle.domain.specs.Interval.{Interval}
 use Rattle.domain.specs.Facts.{Path}
 use Rattle.checker_rows.specs.Limits.{integer}
@@ -12,12 +14,16 @@ use Rattle.checker_state.specs.Loops.{is_among}
 use Rattle.checker_state.specs.Stores.{Index, Reach, entire}
 use Rattle.checker_loops.specs.Loops.{rows_named}
 
--- an actual parameter: an ordinal, where it lies and its bound form, if it has one; a copy, where its components lie,
--- leaf by leaf; or a variable, by its root, its selectors and what they reach
+-- the way from a variable to what is accessed in it, its indexes aside
+abbrev pub way_accessed : Origin → List Selector → List PathStep
+way_accessed origin selectors = steps_of origin ++ map step_of selectors
+
+-- an actual parameter: an ordinal or a set, where it or its members lie, and its bound form, if it has one; a copy,
+-- where its components lie, leaf by leaf; or a variable, by where its access begins, its selectors and what they reach
 pub data Actual : Type 0 where
   OfValue : Interval → Option Bound → Actual
   OfRows : List Interval → Actual
-  OfVariable : ℕ → List Selector → Reach → Actual
+  OfVariable : Origin → List Selector → Reach → Actual
 
 -- what has the values of a leaf of a formal parameter for the caller: a value of its own, which lies in a range; or
 -- what is reached in a row
@@ -33,8 +39,8 @@ all_of_rows rows = map (λ row. Reached row entire) rows
 abbrev pub bearers_of : Tree → Actual → List Bearer
 bearers_of tree (OfValue range form) = Passed range ∷ []
 bearers_of tree (OfRows ranges) = map Passed ranges
-bearers_of tree (OfVariable root selectors reach) =
-    map (λ row. Reached row reach) (rows_accessed tree root selectors)
+bearers_of tree (OfVariable origin selectors reach) =
+    map (λ row. Reached row reach) (rows_accessed tree origin selectors)
 
 -- a formal parameter, by its root, with its actual one
 pub record Binding : Type 0 where
@@ -82,7 +88,7 @@ unknown_reach reach = record reach { indexes = map (λ index. unknown_index) rea
 abbrev pub after_call : Actual → Actual
 after_call (OfValue range form) = OfValue range None
 after_call (OfRows ranges) = OfRows ranges
-after_call (OfVariable root selectors reach) = OfVariable root selectors (unknown_reach reach)
+after_call (OfVariable origin selectors reach) = OfVariable origin selectors (unknown_reach reach)
 
 -- the actual parameters of a call, of which one may hold a call
 abbrev pub settled : Bool → List Actual → List Actual

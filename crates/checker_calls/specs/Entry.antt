@@ -12,7 +12,7 @@ use Rattle.checker_state.specs.State.{has_value}
 use Rattle.checker_state.specs.State.{is_below, is_dead, moved, range_of}
 use Rattle.checker_state.specs.Stores.{Index, Reach, gives_reached}
 use Rattle.checker_state.specs.State.{table_of}
-use Rattle.checker_rows.specs.Rows.{is_variable_row}
+use Rattle.checker_rows.specs.Rows.{is_ordinal_variable, is_variable_row}
 use Rattle.checker_calls.specs.Actuals.{Actual, OfValue, OfRows, OfVariable, Bearer, Passed, Reached, Binding}
 use Rattle.checker_calls.specs.Actuals.{actual_of, bearers_named, bearers_of}
 
@@ -59,13 +59,14 @@ limit_of_variable tree state (Reached row reach ∷ []) =
     if is_variable_row tree row then Some (limit_of tree state (plus row (pos 0))) else None
 limit_of_variable tree state bearers = None
 
+-- the value of a set is no bound
 abbrev pub limit_of_actual : Tree → State → ℕ → Option Actual → Option Limit
 limit_of_actual tree state root None = Some (limit_of tree state (plus root (pos 0)))
 limit_of_actual tree state root (Some (OfValue range form)) =
-    Some (record { form = form; range = range; has_value = true })
+    Some (record { form = form; range = range; has_value = is_ordinal_variable tree root })
 limit_of_actual tree state root (Some (OfRows ranges)) = None
-limit_of_actual tree state root (Some (OfVariable other selectors reach)) =
-    limit_of_variable tree state (bearers_of tree (OfVariable other selectors reach))
+limit_of_actual tree state root (Some (OfVariable origin selectors reach)) =
+    limit_of_variable tree state (bearers_of tree (OfVariable origin selectors reach))
 
 -- a variable of the callee plus a number
 abbrev pub limit_of_plus : Tree → State → List Binding → ℕ → ℤ → Option Limit

@@ -5,7 +5,7 @@ use Rattle.std.specs.Prelude.{◌≡◌, ℕ, ℤ, ◌<◌, true, false, List, [
 use Rattle.std.specs.Prelude.{◌⊎◌, slice_get, Contains}
 use Rattle.std.specs.Option.{option_and_then}
 use Rattle.types.specs.Forms.{Form}
-use Rattle.types.specs.Types.{element_of, field_at, range_of}
+use Rattle.types.specs.Types.{element_of, field_at, scalar_range_of}
 use Rattle.types.specs.declared.form.ArrayElement.{ArrayElement}
 use Rattle.types.specs.declared.form.OrdinalRange.{OrdinalRange}
 use Rattle.types.specs.declared.form.RecordField.{RecordField}
@@ -18,6 +18,7 @@ use Rattle.typed_tree.specs.WellFormed.{is_visible, outline_of}
 use Rattle.meaning.specs.declared.store.Value.{Value}
 use Rattle.meaning.specs.Effect as effect
 use Rattle.meaning.specs.Integers.{is_within}
+use Rattle.meaning.specs.Kinds.{IsOfType}
 use Rattle.meaning.specs.Store.{Environment, Place, Store, is_beginning, stored}
 use Rattle.checker_state.specs.Holds.{IsIn, Separate}
 use Rattle.checker_state.specs.Loops.{is_among}
@@ -53,9 +54,11 @@ place_type tree place =
 
 -- ---- stores
 
--- a value lies among those of an ordinal type
+-- a value lies among those of a scalar type: it is of its kind, a number or a set, and in its range
 abbrev pub LiesIn : List Form → TypeId → Value → Type 0
-LiesIn types id v = (range : OrdinalRange) × (range_of types id ≡ Some range) × IsIn (limits_of range) v
+LiesIn types id v =
+    (range : OrdinalRange) × (scalar_range_of types id ≡ Some range) × IsIn (limits_of range) v
+    × IsOfType types (Some id) v
 
 -- each value lies among those of the type of its place
 abbrev pub Typed : Tree → Store → Type 0

@@ -7,6 +7,7 @@ use Rattle.std.specs.List.{list_any}
 use Rattle.types.specs.declared.form.TypeId.{TypeId}
 use Rattle.typed_tree.specs.declared.tree.Tree.{Tree}
 use Rattle.typed_tree.specs.declared.tree.Variable.{Variable as DeclaredVariable}
+use Rattle.typed_tree.specs.Accesses.{root_of}
 use Rattle.domain.specs.Interval.{Interval, common, joined}
 use Rattle.domain.specs.Facts as fact
 use Rattle.domain.specs.Facts.{Path}
@@ -32,7 +33,7 @@ abbrev pub root_changed : ℕ → Option Actual → List ℕ
 root_changed root None = root ∷ []
 root_changed root (Some (OfValue range form)) = []
 root_changed root (Some (OfRows ranges)) = []
-root_changed root (Some (OfVariable other selectors reach)) = other ∷ []
+root_changed root (Some (OfVariable origin selectors reach)) = root_of origin ∷ []
 
 -- the variables of the caller that a call may change
 abbrev pub roots_changed : List Binding → List ℕ → List ℕ
@@ -79,8 +80,8 @@ abbrev pub bearers_changed : Tree → ℕ → Option Actual → List Bearer
 bearers_changed tree root None = all_of_rows (rows_under tree root [])
 bearers_changed tree root (Some (OfValue range form)) = []
 bearers_changed tree root (Some (OfRows ranges)) = []
-bearers_changed tree root (Some (OfVariable other selectors reach)) =
-    bearers_of tree (OfVariable other selectors reach)
+bearers_changed tree root (Some (OfVariable origin selectors reach)) =
+    bearers_of tree (OfVariable origin selectors reach)
 
 -- the leaves of a variable that the callee lists
 abbrev pub changes_of : Tree → List fact.Fact → ℕ → Option Actual → List Change
@@ -159,8 +160,8 @@ abbrev pub exit_bound_of : Tree → Touches → ℕ → ℤ → Option Actual �
 exit_bound_of tree touches root n None = if is_steady touches root then Some (plus root n) else None
 exit_bound_of tree touches root n (Some (OfValue range form)) = untouched_form touches n form
 exit_bound_of tree touches root n (Some (OfRows ranges)) = None
-exit_bound_of tree touches root n (Some (OfVariable other selectors reach)) =
-    steady_bound tree touches n (bearers_of tree (OfVariable other selectors reach))
+exit_bound_of tree touches root n (Some (OfVariable origin selectors reach)) =
+    steady_bound tree touches n (bearers_of tree (OfVariable origin selectors reach))
 
 abbrev pub exit_plus : Tree → List Binding → Touches → ℕ → ℤ → Option Bound
 exit_plus tree bindings touches root n = exit_bound_of tree touches root n (actual_of bindings root)

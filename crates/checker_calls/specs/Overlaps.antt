@@ -4,21 +4,22 @@
 use Rattle.std.specs.Prelude.{ℕ, Bool, true, false, not, ◌&&◌, ◌||◌, List, [], ◌∷◌, Option, Some, None, nat_eq}
 use Rattle.std.specs.Prelude.{slice_get}
 use Rattle.std.specs.List.{list_all}
+use Rattle.typed_tree.specs.declared.tree.PathStep.{PathStep}
+use Rattle.typed_tree.specs.declared.tree.PathStep.TheVariants.{Element, Field}
 use Rattle.typed_tree.specs.declared.tree.Tree.{Tree}
 use Rattle.typed_tree.specs.declared.tree.Variable.{Variable}
 use Rattle.typed_tree.specs.declared.tree.Selector.{Selector}
-use Rattle.typed_tree.specs.declared.tree.Selector.TheVariants.{Element, Field}
+use Rattle.typed_tree.specs.Accesses.{Origin, root_of}
 use Rattle.typed_tree.specs.WellFormed.{is_one_of}
 use Rattle.checker_state.specs.Loops.{is_among}
-use Rattle.checker_calls.specs.Actuals.{Actual, OfValue, OfRows, OfVariable, Binding}
+use Rattle.checker_calls.specs.Actuals.{Actual, OfValue, OfRows, OfVariable, Binding, way_accessed}
 use Rattle.checker_loops.specs.Pairs.{Listed, aliases_in, aliases_of}
 
--- selectors from one variable lead to different fields of a record
-abbrev pub are_parted : List Selector → List Selector → Bool
-are_parted (Element fits cells ∷ selectors) (Element other_fits other_cells ∷ others) = are_parted selectors others
-are_parted (Field position offset ∷ selectors) (Field other other_offset ∷ others) =
-    not (nat_eq position other) || are_parted selectors others
-are_parted selectors others = false
+-- ways from one variable lead to different fields of a record
+abbrev pub are_parted : List PathStep → List PathStep → Bool
+are_parted (Element ∷ way) (Element ∷ other_way) = are_parted way other_way
+are_parted (Field position ∷ way) (Field other ∷ other_way) = not (nat_eq position other) || are_parted way other_way
+are_parted way other_way = false
 
 -- with the listed pairs
 module _ (pairs : List (ℕ × ℕ)) where
@@ -27,19 +28,22 @@ module _ (pairs : List (ℕ × ℕ)) where
   is_listed one other = is_among other (aliases_of pairs one)
 
   -- two variables that are accessed may share a place
-  abbrev pub may_overlap : ℕ → List Selector → ℕ → List Selector → Bool
-  may_overlap root selectors other other_selectors =
-      (nat_eq root other && not (are_parted selectors other_selectors)) || is_listed root other
+  abbrev pub may_overlap : Origin → List Selector → Origin → List Selector → Bool
+  may_overlap origin selectors other other_selectors =
+      (nat_eq (root_of origin) (root_of other)
+      && not (are_parted (way_accessed origin selectors) (way_accessed other other_selectors)))
+      || is_listed (root_of origin) (root_of other)
 
   -- a formal parameter to which this is passed and another to which a variable is are a listed pair where these may
-  abbrev pub is_actual_listed : ℕ → ℕ → List Selector → ℕ → Actual → Bool
-  is_actual_listed formal root selectors other (OfValue range form) = true
-  is_actual_listed formal root selectors other (OfRows ranges) = true
-  is_actual_listed formal root selectors other (OfVariable other_root other_selectors reach) =
-      not (may_overlap root selectors other_root other_selectors) || is_listed formal other
+  abbrev pub is_actual_listed : ℕ → Origin → List Selector → ℕ → Actual → Bool
+  is_actual_listed formal origin selectors other (OfValue range form) = true
+  is_actual_listed formal origin selectors other (OfRows ranges) = true
+  is_actual_listed formal origin selectors other (OfVariable other_origin other_selectors reach) =
+      not (may_overlap origin selectors other_origin other_selectors) || is_listed formal other
 
-  abbrev pub is_listed_with : ℕ → ℕ → List Selector → Binding → Bool
-  is_listed_with formal root selectors binding = is_actual_listed formal root selectors binding.root binding.actual
+  abbrev pub is_listed_with : ℕ → Origin → List Selector → Binding → Bool
+  is_listed_with formal origin selectors binding =
+      is_actual_listed formal origin selectors binding.root binding.actual
 
   -- a variable is declared in one of some blocks
   abbrev pub is_declared_in : List ℕ → Option Variable → Bool
@@ -56,9 +60,10 @@ module _ (pairs : List (ℕ × ℕ)) where
 abbrev pub is_actual_separate : Listed → (caller : ℕ) → List ℕ → List Binding → ℕ → Actual → Bool
 is_actual_separate listed caller around others formal (OfValue range form) = true
 is_actual_separate listed caller around others formal (OfRows ranges) = true
-is_actual_separate listed caller around others formal (OfVariable root selectors reach) =
-    list_all (is_listed_round listed.pairs listed.tree around formal) (root ∷ aliases_in listed caller root)
-    && list_all (is_listed_with listed.pairs formal root selectors) others
+is_actual_separate listed caller around others formal (OfVariable origin selectors reach) =
+    list_all (is_listed_round listed.pairs listed.tree around formal)
+    (root_of origin ∷ aliases_in listed caller (root_of origin))
+    && list_all (is_listed_with listed.pairs formal origin selectors) others
 
 -- what is passed in one block to another, round which there are some, makes listed aliases alone
 abbrev pub are_separate : Listed → (caller : ℕ) → List ℕ → List Binding → Bool

@@ -1,6 +1,8 @@
 -- Calls of the program as the definitions see them: what is passed, and bounds. It does not say what is known of them.
-use Rattle.std.specs.Prelude.{List, Option, Some, None, map, option_map}
+use Rattle.std.specs.Prelude.{◌≡◌, ◌∷◌, ◌++◌, List, [], Option, Some, None, map, option_map}
 use denote.Ref.{Bor}
+use Rattle.typed_tree.specs.declared.tree.PathStep.{PathStep}
+use Rattle.typed_tree.specs.Accesses.{origin_of, step_of}
 use Rattle.checker_rows.specs.View.{numbers}
 use Rattle.checker_state.specs.Bounds.{Bound, raised_bound}
 use Rattle.checker_state.specs.State.{moved}
@@ -12,6 +14,7 @@ use Rattle.checker_calls.specs.declared.actuals.Bearers.{Bearers}
 use Rattle.checker_calls.specs.declared.actuals.Bearers.TheVariants as bearers
 use Rattle.checker_calls.specs.declared.actuals.Bindings.{Bindings}
 use Rattle.checker_calls.specs.declared.limits.Limit.{Limit as KeptLimit}
+use Rattle.checker_calls.specs.declared.ways.Way.{Way}
 use Rattle.checker_calls.specs.Actuals.{Actual, Bearer, Binding, OfRows, OfValue, OfVariable, Passed, Reached, bound_to}
 use Rattle.checker_calls.specs.Entry.{Limit}
 
@@ -20,7 +23,8 @@ use Rattle.checker_calls.specs.Entry.{Limit}
 abbrev pub said_actual : KeptActual → Actual
 said_actual (kept.Value range form) = OfValue range (said_form form)
 said_actual (kept.Rows ranges) = OfRows ranges.items
-said_actual (kept.Variable root selectors reach) = OfVariable root selectors.now (said_reach reach)
+said_actual (kept.Variable access reach) =
+    OfVariable (origin_of access.now) access.now.selectors.items (said_reach reach)
 
 abbrev pub said_found : Option (Bor KeptActual) → Option Actual
 said_found None = None
@@ -32,6 +36,17 @@ said_bearers (bearers.Reached rows reach) = map (λ row. Reached row (said_reach
 
 abbrev pub said_bindings : Bindings → List Binding
 said_bindings bindings = bound_to bindings.roots.now (map said_actual bindings.actuals.now)
+
+-- ---- ways
+
+-- what is left of a way
+abbrev pub said_way : Way → List PathStep
+said_way way = way.path.now ++ map step_of way.selectors.now
+
+-- its first step and what is left behind it, if there is one
+abbrev pub IsSplit : List PathStep → Option (PathStep × Way) → Type 0
+IsSplit way None = way ≡ []
+IsSplit way (Some (step, behind)) = way ≡ step ∷ said_way behind
 
 -- ---- bounds
 

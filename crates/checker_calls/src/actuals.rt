@@ -15,22 +15,21 @@ use checker_rows::{Rows, Span};
 use checker_state::{Bound, Index, Indexes, Reach};
 use domain::interval::Interval;
 use std::slice;
-use typed_tree::tree::Selector;
+use typed_tree::tree::Access;
 
 /// What is passed to a formal parameter (ISO 7185:1990, 6.6.3).
 #[derive(Drop)]
 pub enum Actual<'a> {
-    /// An ordinal: where it lies, and its bound form, if it has one.
+    /// An ordinal or a set: where it or its members lie, and its bound form, if it has one.
     Value {
         range: Interval,
         form: Option<Bound>,
     },
     /// A copy: where its components lie, leaf by leaf.
     Rows(Vec<Interval>),
-    /// A variable: what is accessed by the selectors, and what they reach.
+    /// A variable: its access, and what that reaches.
     Variable {
-        root: u32,
-        selectors: &'a [Selector],
+        access: &'a Access,
         reach: Reach,
     },
 }
@@ -148,12 +147,8 @@ impl<'b> Bearers<'b> {
         match actual {
             Actual::Value { range, .. } => Bearers::Passed(slice::from_ref(range)),
             Actual::Rows(ranges) => Bearers::Passed(ranges.as_slice()),
-            Actual::Variable {
-                root,
-                selectors,
-                reach,
-            } => Bearers::Reached {
-                rows: table.accessed(*root, selectors),
+            Actual::Variable { access, reach } => Bearers::Reached {
+                rows: table.accessed(access),
                 reach: *reach,
             },
         }

@@ -29,12 +29,13 @@ pub(crate) struct Change {
 }
 
 /// The variable that the caller knows by a root of the callee's; what is passed as a value is not the caller's.
+#[tactic(auto, using(crate::proofs::Origins::root_is))]
 pub fn root_changed(root: u32, actual: Option<&Actual>) -> Option<u32>
     ensures { cons_option result [] ≡ root_changed root (said_found actual.entry) }
 {
     match actual {
         None => Some(root),
-        Some(Actual::Variable { root: other, .. }) => Some(*other),
+        Some(Actual::Variable { access, .. }) => Some(access.root),
         Some(Actual::Value { .. } | Actual::Rows(_)) => None,
     }
 }
@@ -88,13 +89,9 @@ fn add_changes(
     match actual {
         None => add_leaves(found, claims, own, own, &entire()),
         Some(Actual::Value { .. } | Actual::Rows(_)) => Ok(()),
-        Some(
-            Actual::Variable {
-                root: other,
-                selectors,
-                reach,
-            },
-        ) => add_leaves(found, claims, own, rows.accessed(*other, selectors), reach),
+        Some(Actual::Variable { access, reach }) => {
+            add_leaves(found, claims, own, rows.accessed(access), reach)
+        }
     }
 }
 

@@ -20,6 +20,7 @@ use crate::actuals::{Actual, Bearers, Bindings, bearers_named, is_entire, is_var
 use crate::changes::{all_changes, roots_changed};
 use crate::exit_claims::{ExitClaims, range_at_end};
 use crate::touches::Touches;
+use crate::ways::is_whole;
 use certificate::{Fact, Path};
 use checker_loops::pairs::Pairs;
 use checker_loops::sections::BlockClaims;
@@ -356,13 +357,9 @@ fn exit_of_actual(rows: &Rows, touches: &Touches, actual: &Actual, number: i32) 
     match actual {
         Actual::Value { form, .. } => untouched(touches, number, *form),
         Actual::Rows(_) => None,
-        Actual::Variable {
-            root,
-            selectors,
-            ..
-        } => {
-            if selectors.is_empty() && is_variable_row(rows, *root as usize) {
-                steady(touches, *root, number)
+        Actual::Variable { access, .. } => {
+            if is_whole(access) && is_variable_row(rows, access.root as usize) {
+                steady(touches, access.root, number)
             } else {
                 None
             }

@@ -10,3 +10,4 @@ mod limits;
 pub mod overlaps;
 mod ranges;
 mod touches;
+mod ways;

@@ -9,6 +9,7 @@ ghost use Rattle.checker_calls.specs.Entry.{limit_of_bound, limit_of_plus};
 ghost use Rattle.checker_calls.specs.View.{said_actual, said_bindings, said_limit, said_some_limit, said_terms};
 
 use crate::actuals::{Actual, Bindings, is_variable_row};
+use crate::ways::is_whole;
 use checker_state::{Bound, Ends, Term};
 use checker_trail::State;
 use domain::facts::Bound as ClaimedBound;
@@ -127,13 +128,13 @@ pub(crate) fn limit_above(
 {
     match bindings.actual(root) {
         None => Some(Limit::of(state, Bound::plus(root, number))),
-        Some(actual) => limit_of_actual(state, actual, number),
+        Some(actual) => limit_of_actual(state, root, actual, number),
     }
 }
 
 // A formal parameter of it plus a number.
-fn limit_of_actual(state: &State, actual: &Actual, number: i32) -> Option<Limit>
-    ensures { (root : ℕ) → said_some_limit result ≡ option_map (limit_moved number)
+fn limit_of_actual(state: &State, root: u32, actual: &Actual, number: i32) -> Option<Limit>
+    ensures { said_some_limit result ≡ option_map (limit_moved number)
         (limit_of_actual state.now.table.now (seen state.now) root (Some (said_actual actual.now))) }
 {
     match actual {
@@ -141,16 +142,12 @@ fn limit_of_actual(state: &State, actual: &Actual, number: i32) -> Option<Limit>
             form: *form,
             range: *range,
             number,
-            has_value: true,
+            has_value: state.table().is_ordinal_variable(root),
         }),
         Actual::Rows(_) => None,
-        Actual::Variable {
-            root,
-            selectors,
-            ..
-        } => {
-            if selectors.is_empty() && is_variable_row(state.table(), *root as usize) {
-                return Some(Limit::of(state, Bound::plus(*root, number)));
+        Actual::Variable { access, .. } => {
+            if is_whole(access) && is_variable_row(state.table(), access.root as usize) {
+                return Some(Limit::of(state, Bound::plus(access.root, number)));
             }
             None
         }

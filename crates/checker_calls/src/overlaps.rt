@@ -1,16 +1,18 @@
 ghost use Rattle.std.specs.Prelude.{◌≡◌, ◌∷◌, ℕ, List, IfOk, slice_get};
 ghost use Rattle.std.specs.List.{list_all};
 ghost use Rattle.std.specs.Option.{unwrap_or};
-ghost use Rattle.typed_tree.specs.declared.tree.Selector.{Selector};
+ghost use Rattle.typed_tree.specs.declared.tree.PathStep.{PathStep};
+ghost use Rattle.typed_tree.specs.Accesses.{origin_of};
 ghost use Rattle.checker_loops.specs.Pairs.{aliases_in};
 ghost use Rattle.checker_calls.specs.Overlaps.{are_parted, are_separate, is_actual_listed, is_actual_separate};
 ghost use Rattle.checker_calls.specs.Overlaps.{is_declared_in, is_listed_round, is_listed_with, may_overlap};
-ghost use Rattle.checker_calls.specs.View.{said_actual, said_bindings};
+ghost use Rattle.checker_calls.specs.View.{said_actual, said_bindings, said_way};
 
 use crate::actuals::{Actual, Bindings};
+use crate::ways::Way;
 use checker_loops::pairs::Pairs;
 use std::alloc::{AllocError, Global};
-use typed_tree::tree::{Selector, Tree};
+use typed_tree::tree::{Access, PathStep, Tree};
 
 /// Whether what is passed in one block to another, round which there are some, makes listed aliases alone
 /// (ISO 7185:1990, 6.6.3.3).
@@ -39,6 +41,7 @@ pub fn are_separate(
 }
 
 // Whether this holds of what is passed to a formal parameter, behind which there are others.
+#[tactic(auto, using(crate::proofs::Origins::root_is))]
 fn is_separate(
     alloc: Global,
     pairs: &Pairs,
@@ -54,14 +57,10 @@ fn is_separate(
     match actual {
         Actual::Value { .. } => Ok(true),
         Actual::Rows(_) => Ok(true),
-        Actual::Variable {
-            root,
-            selectors,
-            ..
-        } => {
+        Actual::Variable { access, .. } => {
             Ok(
-                are_listed_round(alloc, pairs, caller, around, formal, *root)?
-                    && are_listed_with(pairs, formal, *root, selectors, others),
+                are_listed_round(alloc, pairs, caller, around, formal, access.root)?
+                    && are_listed_with(pairs, formal, access, others),
             )
         }
     }
@@ -113,89 +112,72 @@ fn is_declared_in(tree: &Tree, blocks: &[u32], root: u32) -> bool
 
 // Whether a variable parameter is a listed pair with each of some others whose variable may share a place with its
 // own.
-fn are_listed_with(
-    pairs: &Pairs,
-    formal: u32,
-    root: u32,
-    selectors: &[Selector],
-    others: Bindings,
-) -> bool
+fn are_listed_with(pairs: &Pairs, formal: u32, access: &Access, others: Bindings) -> bool
     ensures { result
-        ≡ list_all (is_listed_with pairs.now.pairs formal root selectors.now) (said_bindings others.entry) }
+        ≡ list_all (is_listed_with pairs.now.pairs formal (origin_of access.now) access.now.selectors.items)
+        (said_bindings others.entry) }
 {
     let roots = others.roots;
     let actuals = others.actuals;
     for i in 0..roots.len().min(actuals.len()) {
-        if !is_listed_with(pairs, formal, root, selectors, roots[i], &actuals[i]) {
+        if !is_listed_with(pairs, formal, access, roots[i], &actuals[i]) {
             return false;
         }
     }
     true
 }
 
-fn is_listed_with(
-    pairs: &Pairs,
-    formal: u32,
-    root: u32,
-    selectors: &[Selector],
-    other: u32,
-    actual: &Actual,
-) -> bool
-    ensures { result ≡ is_actual_listed pairs.now.pairs formal root selectors.now other (said_actual actual.now) }
+fn is_listed_with(pairs: &Pairs, formal: u32, access: &Access, other: u32, actual: &Actual) -> bool
+    ensures { result ≡ is_actual_listed pairs.now.pairs formal (origin_of access.now) access.now.selectors.items other
+        (said_actual actual.now) }
 {
     match actual {
         Actual::Value { .. } => true,
         Actual::Rows(_) => true,
         Actual::Variable {
-            root: other_root,
-            selectors: other_selectors,
+            access: other_access,
             ..
-        } => {
-            !may_overlap(pairs, root, selectors, *other_root, other_selectors)
-                || pairs.has(formal, other)
-        }
+        } => !may_overlap(pairs, access, other_access) || pairs.has(formal, other),
     }
 }
 
 // Whether two variables that are accessed may share a place.
-fn may_overlap(
-    pairs: &Pairs,
-    root: u32,
-    selectors: &[Selector],
-    other: u32,
-    other_selectors: &[Selector],
-) -> bool
-    ensures { result ≡ may_overlap pairs.now.pairs root selectors.now other other_selectors.now }
+#[tactic(auto, using(crate::proofs::Origins::root_is))]
+fn may_overlap(pairs: &Pairs, one: &Access, other: &Access) -> bool
+    ensures { result ≡ may_overlap pairs.now.pairs (origin_of one.now) one.now.selectors.items (origin_of other.now)
+        other.now.selectors.items }
 {
-    root == other && !are_parted(selectors, other_selectors) || pairs.has(root, other)
+    one.root == other.root && !are_parted(Way::of(one), Way::of(other))
+        || pairs.has(one.root, other.root)
 }
 
-// Whether selectors from one variable lead to different fields of a record.
-fn are_parted(selectors: &[Selector], others: &[Selector]) -> bool
-    ensures { result ≡ are_parted selectors.now others.now }
+// Whether ways from one variable lead to different fields of a record.
+fn are_parted(mut one: Way, mut other: Way) -> bool
+    ensures { result ≡ are_parted (said_way one.entry) (said_way other.entry) }
 {
-    for i in 0..selectors.len().min(others.len()) {
-        if let Some(parted) = parted_by(selectors[i], others[i]) {
+    while let Some((step, way)) = one.split_first() {
+        let Some((other_step, other_way)) = other.split_first() else {
+            return false;
+        };
+        if let Some(parted) = parted_by(step, other_step) {
             return parted;
         }
+        one = way;
+        other = other_way;
     }
     false
 }
 
-// Whether they do by two selectors, if these tell it.
-fn parted_by(one: Selector, other: Selector) -> Option<bool>
-    ensures { (more others : List Selector)
+// Whether they do by two steps, if these tell it.
+fn parted_by(one: PathStep, other: PathStep) -> Option<bool>
+    ensures { (more others : List PathStep)
         → are_parted (one ∷ more) (other ∷ others) ≡ unwrap_or result (are_parted more others) }
 {
     match (one, other) {
-        (Selector::Element { .. }, Selector::Element { .. }) => None,
-        (
-            Selector::Field { position, .. },
-            Selector::Field {
-                position: other,
-                ..
-            },
-        ) => { if position == other { None } else { Some(true) } }
+        (PathStep::Element, PathStep::Element) => None,
+        (PathStep::Field(position), PathStep::Field(other)) => {
+            if position == other { None } else { Some(true) }
+        }
         _ => Some(false),
     }
 }

@@ -71,8 +71,8 @@ module _ (world : World) (well : IsWellFormed world.tree) (are_claims : AreClaim
     one-fits formal actual (meaning.OfValue v) known kind = kind
     one-fits formal actual (meaning.OfRow values) known kind = kind
     one-fits formal actual (meaning.OfPlace None) known kind = absurd kind
-    one-fits formal (OfVariable other selectors reach) (meaning.OfPlace (Some place)) known kind =
-        let fits = place-fits tree world.pairs block activations visible proper other selectors formal.type_id known.1 store reach place known.0 in
+    one-fits formal (OfVariable origin selectors reach) (meaning.OfPlace (Some place)) known kind =
+        let fits = place-fits tree world.pairs block activations visible proper origin selectors formal.type_id store reach place known.0 known.1 in
         (kind, fits.0, fits.1)
     one-fits formal (OfValue range form) (meaning.OfPlace (Some place)) known kind = absurd known
     one-fits formal (OfRows ranges) (meaning.OfPlace (Some place)) known kind = absurd known
@@ -116,8 +116,8 @@ module _ (world : World) (well : IsWellFormed world.tree) (are_claims : AreClaim
     call-entry : (begun ready : effect.State) → begun.store ≡ s.store → assign_all tree inner roots arguments begun ≡ effect.Gives tt ready
         → AllHold tree (block_claims_at world.blocks number).entry inner ready.store
     call-entry begun ready same is =
-        let given = given-hold tree world.pairs number callee arguments visible s.activations block is-called s.store may.fine.begun actuals are-arguments
-        state may.known (block_claims_at world.blocks number).entry (are_claims.entry number) may.given in
+        let given = given-hold tree world.pairs number callee arguments visible s.activations block is-called s.store may.fine.typed may.fine.begun actuals
+        are-arguments state may.known (block_claims_at world.blocks number).entry (are_claims.entry number) may.given in
         let ready_is : record begun { store = all_assigned tree inner roots arguments begun.store } ≡ ready =
         gives-same tt tt (record begun { store = all_assigned tree inner roots arguments begun.store }) ready
         (sym (assigns-all tree inner roots arguments begun) ∙ is) in

@@ -14,6 +14,7 @@ use Rattle.typed_tree.specs.declared.tree.Selector.{Selector}
 use Rattle.typed_tree.specs.declared.tree.Variable.{Variable as DeclaredVariable}
 use Rattle.typed_tree.specs.declared.tree.VariableKind.{VariableKind}
 use Rattle.typed_tree.specs.declared.tree.VariableKind.TheVariants as kind
+use Rattle.typed_tree.specs.Accesses.{Origin, root_of}
 use Rattle.typed_tree.specs.WellFormed.{is_one_of, of_one}
 use Rattle.meaning.specs.Store.{Environment, Place}
 use Rattle.meaning.specs.Effect as effect
@@ -55,6 +56,11 @@ yields-then context first next b both =
       record { state = both.state; unbroken = unbroken-left one.broken two.broken both.unbroken; value_is = refl },
       record { state = one.after; unbroken = unbroken-right one.broken two.broken both.unbroken; value_is = both.value_is },
     )
+
+-- a walk that goes by its context
+pub yields-in : {A : Type 0} (context : Context) (walking : Context → Walking A) (a : A) → Yields context (λ own. walking own own) a
+    → Yields context (walking context) a
+yields-in context walking a yields = record { state = yields.state; unbroken = yields.unbroken; value_is = yields.value_is }
 
 pub yields-asked : (context : Context) (kept : Bool) (rule : Rule) (place : SourcePlace) (done : Unit {0})
     → Yields context (asked kept rule place) done → kept ≡ true
@@ -117,8 +123,8 @@ module _ (tree : Tree) (blocks : List BlockClaims) (block : ℕ) (at : Standing)
 abbrev pub Ties : Environment → Actual → Argument → Type 0
 Ties visible (OfValue range form) (meaning.OfValue v) = Unit {0}
 Ties visible (OfRows ranges) (OfRow values) = Unit {0}
-Ties visible (OfVariable root selectors reach) (OfPlace found) =
-    (place : Place) → found ≡ Some place → (home : Place) × (visible.variables root ≡ Some home) × LiesUnder home place
+Ties visible (OfVariable origin selectors reach) (OfPlace found) =
+    (place : Place) → found ≡ Some place → (home : Place) × (visible.variables (root_of origin) ≡ Some home) × LiesUnder home place
 Ties visible actual argument = ⊥
 
 abbrev pub AllTied : Environment → List Actual → List Argument → Type 0
@@ -131,9 +137,9 @@ tie-after visible (OfValue range form) (meaning.OfValue v) tie = tt
 tie-after visible (OfValue range form) (OfRow values) tie = tie
 tie-after visible (OfValue range form) (OfPlace found) tie = tie
 tie-after visible (OfRows ranges) argument tie = tie
-tie-after visible (OfVariable root selectors reach) (meaning.OfValue v) tie = tie
-tie-after visible (OfVariable root selectors reach) (OfRow values) tie = tie
-tie-after visible (OfVariable root selectors reach) (OfPlace found) tie = tie
+tie-after visible (OfVariable origin selectors reach) (meaning.OfValue v) tie = tie
+tie-after visible (OfVariable origin selectors reach) (OfRow values) tie = tie
+tie-after visible (OfVariable origin selectors reach) (OfPlace found) tie = tie
 
 tied-after : (visible : Environment) (actuals : List Actual) (arguments : List Argument) → AllTied visible actuals arguments
     → AllTied visible (map after_call actuals) arguments
@@ -150,8 +156,8 @@ tied-settled visible false actuals arguments tied = tied
 -- a formal parameter that lies at a place has an actual variable under whose place that is
 abbrev IsBorne : Environment → Place → Option Actual → Type 0
 IsBorne visible home found =
-    (root : ℕ) × (selectors : List Selector) × (reach : Reach) × (found ≡ Some (OfVariable root selectors reach))
-    × (outer : Place) × (visible.variables root ≡ Some outer) × LiesUnder outer home
+    (origin : Origin) × (selectors : List Selector) × (reach : Reach) × (found ≡ Some (OfVariable origin selectors reach))
+    × (outer : Place) × (visible.variables (root_of origin) ≡ Some outer) × LiesUnder outer home
 
 borne-passed : (visible : Environment) (home : Place) (actual : Actual) (argument : Argument) → Ties visible actual argument
     → place_passed argument ≡ Some home → IsBorne visible home (Some actual)
@@ -161,11 +167,11 @@ borne-passed visible home (OfValue range form) (OfPlace found) tie is = absurd t
 borne-passed visible home (OfRows ranges) (meaning.OfValue v) tie is = absurd tie
 borne-passed visible home (OfRows ranges) (OfRow values) tie is = absurd (cc)
 borne-passed visible home (OfRows ranges) (OfPlace found) tie is = absurd tie
-borne-passed visible home (OfVariable root selectors reach) (meaning.OfValue v) tie is = absurd tie
-borne-passed visible home (OfVariable root selectors reach) (OfRow values) tie is = absurd tie
-borne-passed visible home (OfVariable root selectors reach) (OfPlace found) tie is =
+borne-passed visible home (OfVariable origin selectors reach) (meaning.OfValue v) tie is = absurd tie
+borne-passed visible home (OfVariable origin selectors reach) (OfRow values) tie is = absurd tie
+borne-passed visible home (OfVariable origin selectors reach) (OfPlace found) tie is =
     let (outer, seen, lies) = tie home is in
-    (root, selectors, reach, refl, outer, seen, lies)
+    (origin, selectors, reach, refl, outer, seen, lies)
 
 borne-here : (visible : Environment) (home : Place) (same : Bool) (actual : Actual) (argument : Argument) (found : Option Actual) (later : Option Place)
     → Ties visible actual argument → (later ≡ Some home → IsBorne visible home found)
@@ -312,8 +318,9 @@ module _ (tree : Tree) (blocks : List BlockClaims) (declares : DeclareTheirs tre
         → IsOuter (activation_from number callee arguments at.visible s) root (slice_get tree.variables.items root) home
         → home.activation < at.number → at.may home
     outer-listed root home allowed (inl passed) earlier =
-        let (other, selectors, reach, actual_is, outer_home, seen, lies) =
+        let (origin, selectors, reach, actual_is, outer_home, seen, lies) =
         borne at.visible root home callee.heading.parameters.items actuals arguments tied passed in
+        let other = root_of origin in
         let may = allowed-one other (subst (Allowed root) actual_is allowed) in
         under-write at other (Some home) may
         (λ place is. (outer_home, seen, subst (λ (p : Place). LiesUnder outer_home p) (let same : home ≡ place = cc in same) lies)) home refl earlier

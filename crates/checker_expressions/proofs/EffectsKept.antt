@@ -11,15 +11,17 @@ use Rattle.typed_tree.specs.declared.tree.Monadic.{Monadic}
 use Rattle.typed_tree.specs.declared.tree.Monadic.TheVariants as monadic
 use Rattle.typed_tree.specs.declared.tree.Dyadic.{Dyadic}
 use Rattle.typed_tree.specs.declared.tree.Dyadic.TheVariants as dyadic
+use Rattle.members.specs.Members.{can_be_member, range_fits}
 use Rattle.meaning.specs.declared.outcome.Ending.{Ending}
 use Rattle.meaning.specs.declared.outcome.Ending.TheVariants as ending
 use Rattle.meaning.specs.declared.store.Value.{Value}
 use Rattle.meaning.specs.declared.store.Value.TheVariants.{Number}
 use Rattle.meaning.specs.Integers.{is_integer_number}
 use Rattle.meaning.specs.Store.{Environment, Place, Store, forgotten, held, is_beginning, kept, part, place_eq, step_eq, stored}
-use Rattle.meaning.specs.Effect.{State, Reply, Gives, Stops, Action, Round, ◌>>=◌, and_then, give, stop, require, enter, use_turn, take_turn}
+use Rattle.meaning.specs.Effect.{State, Reply, Gives, Stops, Action, Round, ◌>>=◌, and_then, give, stop, require, enter, number_of, use_turn, take_turn}
 use Rattle.meaning.specs.Effect.{another, looped, looping, fetch, fetch_all, fetched, is_in, store, store_all, undefine, write}
-use Rattle.meaning.specs.Meaning.{calculated, combined, divides, line_ended, of_both, operated, overflow_of, overflow_of_both, shifted, unless_overflow}
+use Rattle.meaning.specs.Meaning.{calculated, combined, divides, line_ended, of_both, operated, operated_both, overflow_of, overflow_of_both, shifted}
+use Rattle.meaning.specs.Meaning.{unless_overflow, with_one, with_range}
 use Rattle.meaning.specs.Laws.{state_after}
 use Rattle.checker_state.proofs.Apart.{place-same}
 use Rattle.checker_calls.specs.Environments.{IsListed, LiesUnder}
@@ -294,10 +296,38 @@ module _ (at : Standing) where
   keeps-divides dyadic.And b = keeps-give tt
   keeps-divides dyadic.Or b = keeps-give tt
   keeps-divides (dyadic.Relation r) b = keeps-give tt
+  keeps-divides dyadic.Union b = keeps-give tt
+  keeps-divides dyadic.Difference b = keeps-give tt
+  keeps-divides dyadic.Intersection b = keeps-give tt
+  keeps-divides (dyadic.SetRelation r) b = keeps-give tt
+  keeps-divides dyadic.In b = keeps-give tt
 
-  pub keeps-combined : (operation : Dyadic) (a b : ℤ) → Keeps at (combined operation a b)
+  keeps-combined : (operation : Dyadic) (a b : ℤ) → Keeps at (combined operation a b)
   keeps-combined operation a b =
       keeps-then _ _ (keeps-divides operation b) (λ _. keeps-unless_overflow (overflow_of_both operation) (of_both operation a b))
+
+  pub keeps-operated_both : (operation : Dyadic) (v w : Value) → Keeps at (operated_both operation v w)
+  keeps-operated_both (dyadic.Plus overflow) v w = keeps-valued _ (keeps-combined (dyadic.Plus overflow) (number_of v) (number_of w))
+  keeps-operated_both (dyadic.Minus overflow) v w = keeps-valued _ (keeps-combined (dyadic.Minus overflow) (number_of v) (number_of w))
+  keeps-operated_both (dyadic.Times overflow) v w = keeps-valued _ (keeps-combined (dyadic.Times overflow) (number_of v) (number_of w))
+  keeps-operated_both (dyadic.Div by_zero) v w = keeps-valued _ (keeps-combined (dyadic.Div by_zero) (number_of v) (number_of w))
+  keeps-operated_both (dyadic.Mod by_zero_or_less) v w = keeps-valued _ (keeps-combined (dyadic.Mod by_zero_or_less) (number_of v) (number_of w))
+  keeps-operated_both dyadic.And v w = keeps-valued _ (keeps-combined dyadic.And (number_of v) (number_of w))
+  keeps-operated_both dyadic.Or v w = keeps-valued _ (keeps-combined dyadic.Or (number_of v) (number_of w))
+  keeps-operated_both (dyadic.Relation r) v w = keeps-valued _ (keeps-combined (dyadic.Relation r) (number_of v) (number_of w))
+  keeps-operated_both dyadic.Union v w = keeps-give _
+  keeps-operated_both dyadic.Difference v w = keeps-give _
+  keeps-operated_both dyadic.Intersection v w = keeps-give _
+  keeps-operated_both (dyadic.SetRelation r) v w = keeps-give _
+  keeps-operated_both dyadic.In v w = keeps-give _
+
+  -- ---- members of a set
+
+  pub keeps-with_one : (site : ℕ) (v : Value) (set : ℕ) → Keeps at (with_one site v set)
+  keeps-with_one site v set = keeps-then _ _ (keeps-require (can_be_member (number_of v)) site) (λ _. keeps-give _)
+
+  pub keeps-with_range : (site : ℕ) (a b : Value) (set : ℕ) → Keeps at (with_range site a b set)
+  keeps-with_range site a b set = keeps-then _ _ (keeps-require (range_fits (number_of a) (number_of b)) site) (λ _. keeps-give _)
 
   -- ---- loops
 

@@ -5,6 +5,8 @@ use Rattle.typed_tree.specs.declared.tree.Monadic.{Monadic}
 use Rattle.typed_tree.specs.declared.tree.Monadic.TheVariants as monadic
 use Rattle.typed_tree.specs.declared.tree.Dyadic.{Dyadic}
 use Rattle.typed_tree.specs.declared.tree.Dyadic.TheVariants as dyadic
+use Rattle.typed_tree.specs.declared.tree.Designator.{Designator}
+use Rattle.typed_tree.specs.declared.tree.Designator.TheVariants.{Single, Range}
 use Rattle.typed_tree.specs.declared.tree.Width.{Width}
 use Rattle.typed_tree.specs.declared.tree.WriteParameter.{WriteParameter}
 use Rattle.typed_tree.specs.declared.tree.Written.{Written}
@@ -17,7 +19,7 @@ use Rattle.typed_tree.specs.declared.tree.Selector.{Selector}
 use Rattle.typed_tree.specs.declared.tree.Expr.{Expr}
 use Rattle.typed_tree.specs.declared.tree.Link.{Link}
 use Rattle.typed_tree.specs.declared.tree.Expr.TheOpen.{Expr-F, Link-F, Passed-F}
-use Rattle.typed_tree.specs.declared.tree.Expr.TheOpen.Expr-F.{Constant, Variable, Monadic as MonadicOf, Chain, Compare, Call as CallOf}
+use Rattle.typed_tree.specs.declared.tree.Expr.TheOpen.Expr-F.{Constant, Variable, Monadic as MonadicOf, Chain, Compare, Call as CallOf, Set}
 use Rattle.typed_tree.specs.declared.tree.Expr.TheOpen.Passed-F.{Value as PassedValue, Whole as PassedWhole, Reference}
 use Rattle.typed_tree.specs.declared.tree.Expr.TheViews.{roll-Expr, roll-Link, roll-Passed}
 use Rattle.typed_tree.specs.declared.tree.Call.{Call}
@@ -25,17 +27,19 @@ use Rattle.typed_tree.specs.declared.tree.FunctionResult.{FunctionResult}
 use Rattle.typed_tree.specs.declared.tree.Passed.{Passed}
 use Rattle.typed_tree.specs.declared.tree.Expr.TheFolds.{fold-Link, map-Expr, map-Link, map-Passed, fold-roll-Expr, fold-roll-Link, fold-roll-Passed, ind-Expr}
 use Rattle.typed_tree.specs.declared.tree.Expr.TheFolds.{ind-Passed}
+use Rattle.typed_tree.specs.Accesses.{origin_of}
 use Rattle.typed_tree.specs.Entries.{joined, expression_entries, link_entries, entries_of_expression, entries_of_width, entries_of_parameter, access_entries}
 use Rattle.typed_tree.specs.Entries.{call_entries, entries_of_passed, passed_entries, whole_entries}
 use Rattle.typed_tree.specs.Entries.{entries_of_written, index_entries}
 use Rattle.domain.specs.Interval.{Interval}
 use Rattle.meaning.specs.Meaning.{overflow_of, overflow_of_both}
 use Rattle.checker_state.specs.declared.value.Known.{Known}
-use Rattle.checker_state.specs.declared.value.Known.TheVariants.{Ordinal}
-use Rattle.checker_state.specs.Stores.{Reach, entire}
+use Rattle.checker_state.specs.Values.{known_range}
+use Rattle.checker_state.specs.Stores.{Reach}
 use Rattle.checker_state.specs.State.{State}
-use Rattle.checker_expressions.specs.Walk.{Context, Joint, Linked, Piece, Walking, Combination, numbers_of, calculated, combined, divides, of_both, operated}
-use Rattle.checker_expressions.specs.Walk.{unless_overflow, width_test}
+use Rattle.checker_expressions.specs.Walk.{Context, Joint, Linked, Piece, Walking, Combination, numbers_of, calculated, calculated_both, combined, divides}
+use Rattle.checker_expressions.specs.Walk.{Gathering, gathered, gathered_by, members_walk, none_gathered, of_both, operated, reach_at, unless_overflow}
+use Rattle.checker_expressions.specs.Walk.{width_test}
 use Rattle.checker_expressions.specs.Walk.{PassedPiece, actuals_walk, call_walk, called_block, fitting, form_before, passed_piece_of, passed_step, result_of}
 use Rattle.checker_expressions.specs.Walk.{result_walk}
 use Rattle.checker_expressions.specs.Walk.{piece_step, link_step, piece_of, joint_of, value_walk}
@@ -74,8 +78,8 @@ unless-silent None range context state = refl
 unless-silent (Some site) range context state = refl
 
 operated-silent : (operation : Monadic) (known : Known) → Enters (operated operation known) []
-operated-silent (monadic.Plain does) (Ordinal range) context state = unless-silent (overflow_of does) (calculated does range) context state
-operated-silent (monadic.Tested fits does) (Ordinal range) context state = refl
+operated-silent (monadic.Plain does) known context state = unless-silent (overflow_of does) (calculated does (known_range known)) context state
+operated-silent (monadic.Tested fits does) known context state = refl
 
 divides-silent : (operation : Dyadic) (range : Interval) → Enters (divides operation range) []
 divides-silent (dyadic.Plus overflow) range context state = refl
@@ -86,13 +90,33 @@ divides-silent (dyadic.Mod by_zero_or_less) range context state = refl
 divides-silent dyadic.And range context state = refl
 divides-silent dyadic.Or range context state = refl
 divides-silent (dyadic.Relation relation) range context state = refl
+divides-silent dyadic.Union range context state = refl
+divides-silent dyadic.Difference range context state = refl
+divides-silent dyadic.Intersection range context state = refl
+divides-silent (dyadic.SetRelation relation) range context state = refl
+divides-silent dyadic.In range context state = refl
 
-combined-silent : (operation : Dyadic) (left right : Known) → Enters (combined operation left right) []
-combined-silent operation (Ordinal left) (Ordinal right) context state =
+both-silent : (operation : Dyadic) (left right : Interval) → Enters (calculated_both operation left right) []
+both-silent operation left right context state =
     let first = divides operation right context state in
     let second = unless_overflow (overflow_of_both operation) (of_both operation left first.value) context first.after in
     and_no_more first.linked second.linked [] (divides-silent operation right context state)
     (unless-silent (overflow_of_both operation) (of_both operation left first.value) context first.after)
+
+combined-silent : (operation : Dyadic) (left right : Known) → Enters (combined operation left right) []
+combined-silent (dyadic.Plus overflow) left right = both-silent (dyadic.Plus overflow) (known_range left) (known_range right)
+combined-silent (dyadic.Minus overflow) left right = both-silent (dyadic.Minus overflow) (known_range left) (known_range right)
+combined-silent (dyadic.Times overflow) left right = both-silent (dyadic.Times overflow) (known_range left) (known_range right)
+combined-silent (dyadic.Div by_zero) left right = both-silent (dyadic.Div by_zero) (known_range left) (known_range right)
+combined-silent (dyadic.Mod by_zero_or_less) left right = both-silent (dyadic.Mod by_zero_or_less) (known_range left) (known_range right)
+combined-silent dyadic.And left right = both-silent dyadic.And (known_range left) (known_range right)
+combined-silent dyadic.Or left right = both-silent dyadic.Or (known_range left) (known_range right)
+combined-silent (dyadic.Relation relation) left right = both-silent (dyadic.Relation relation) (known_range left) (known_range right)
+combined-silent dyadic.Union left right = λ context state. refl
+combined-silent dyadic.Difference left right = λ context state. refl
+combined-silent dyadic.Intersection left right = λ context state. refl
+combined-silent (dyadic.SetRelation relation) left right = λ context state. refl
+combined-silent dyadic.In left right = λ context state. refl
 
 -- the walks of operators with their operands
 abbrev combinations : List EnteredLink → List Combination
@@ -115,7 +139,7 @@ AllEnter pieces rows = ⊥
 
 tested-silent : (fits : Option RangeTest) (known : Known) → Enters (index_test fits known) []
 tested-silent None known context state = refl
-tested-silent (Some fits) (Ordinal range) context state = refl
+tested-silent (Some fits) known context state = refl
 
 indexes-entered : (selectors : List Selector) (pieces : List Piece) (reach : Reach) (rows : List (List ℕ)) → AllEnter pieces rows
     → Enters (indexes_walk selectors pieces reach) (joined rows)
@@ -123,7 +147,7 @@ indexes-entered selectors [] reach [] all context state = refl
 indexes-entered selectors (piece ∷ pieces) reach (numbers ∷ rows) all context state =
     let first = piece.walk context state in
     let test = index_test (next_test selectors) first.value context first.after in
-    let next = deeper (record { form = form_before piece.form pieces; range = test.value }) reach in
+    let next = deeper (record { form = form_before context piece pieces; range = test.value }) reach in
     let rest = indexes_walk (behind_next selectors) pieces next context test.after in
     and_then first.linked (test.linked ++ rest.linked) numbers (joined rows) (all.0 context state)
     (and_then test.linked rest.linked [] (joined rows) (tested-silent (next_test selectors) first.value context first.after)
@@ -135,10 +159,28 @@ access-of : (access : Access) (pieces : List Piece) (rows : List (List ℕ)) →
     → Enters (access_walk access pieces) (access_entries access rows)
 access-of access pieces rows all context state =
     ap (λ (numbers : List ℕ). access.number ∷ numbers)
-    (indexes-entered access.selectors.items pieces entire rows all context state)
+    (indexes-entered access.selectors.items pieces (reach_at (origin_of access)) rows all context state)
 
-used-silent : (root : ℕ) (selectors : List Selector) (reach : Reach) (site : ℕ) → Enters (value_use root selectors reach site) []
-used-silent root selectors reach site context state = refl
+-- member expressions link states to these, and what becomes of their values enters nothing
+gathered-silent : (left : List Designator) (first : Option Interval) (range hull : Interval) → Enters (gathered_by left first range hull) []
+gathered-silent [] first range hull context state = refl
+gathered-silent (Single site ∷ left) first range hull context state = refl
+gathered-silent (Range site ∷ left) None range hull context state = refl
+gathered-silent (Range site ∷ left) (Some first) range hull context state = refl
+
+members-entered : (pieces : List Piece) (gathering : Gathering) (rows : List (List ℕ)) → AllEnter pieces rows
+    → Enters (members_walk pieces gathering) (joined rows)
+members-entered [] gathering [] all context state = refl
+members-entered [] gathering (numbers ∷ rows) all context state = absurd all
+members-entered (piece ∷ pieces) gathering [] all context state = absurd all
+members-entered (piece ∷ pieces) gathering (numbers ∷ rows) all context state =
+    let first = piece.walk context state in
+    let range = known_range first.value in
+    let more = gathered gathering range context first.after in
+    let rest = members_walk pieces more.value context more.after in
+    and_then first.linked (more.linked ++ rest.linked) numbers (joined rows) (all.0 context state)
+    (and_then more.linked rest.linked [] (joined rows) (gathered-silent gathering.left gathering.first range gathering.hull context first.after)
+    (members-entered pieces more.value rows all.1 context more.after))
 
 whole-of : (value : Whole) (pieces : List Piece) (rows : List (List ℕ)) → AllEnter pieces rows
     → Enters (whole_walk value pieces) (whole_entries value rows)
@@ -184,7 +226,7 @@ result-silent call context state None = refl
 result-silent call context state (Some result) = refl
 
 fitting-silent : (fits : RangeTest) (known : Known) → Enters (fitting fits known) []
-fitting-silent fits (Ordinal range) context state = refl
+fitting-silent fits known context state = refl
 
 value-parts : (y : Expr-F EnteredExpr EnteredPassed EnteredLink)
     → Enters (piece_step
@@ -194,13 +236,19 @@ value-parts : (y : Expr-F EnteredExpr EnteredPassed EnteredLink)
     (map-Expr Expr Passed Link (List ℕ) (List ℕ) (List ℕ) entries_of_expression entries_of_passed entries_of_link
     (map-Expr EnteredExpr EnteredPassed EnteredLink Expr Passed Link (λ e. e.0) (λ p. p.0) (λ l. l.0) y)))
 value-parts (Constant number value) context state = refl
-value-parts (Variable access indexes defined) context state =
+value-parts (Variable access indexes holds defined) context state =
     let pieces = index_pieces (map (λ (e : EnteredExpr). e.0) indexes.items) in
     let rows = map entries_of_expression (map (λ (e : EnteredExpr). e.0) indexes.items) in
     let begun = access_walk access pieces context state in
-    let selectors = access.selectors.items in
-    and_no_more begun.linked (value_use access.root selectors begun.value defined context begun.after).linked (access_entries access rows)
-    (access-of access pieces rows (all-entered indexes.items) context state) (used-silent access.root selectors begun.value defined context begun.after)
+    let used = value_use holds (origin_of access) access.selectors.items begun.value defined context begun.after in
+    and_no_more begun.linked used.linked (access_entries access rows) (access-of access pieces rows (all-entered indexes.items) context state) refl
+value-parts (Set number designators members) context state =
+    let pieces = index_pieces (map (λ (e : EnteredExpr). e.0) members.items) in
+    let rows = map entries_of_expression (map (λ (e : EnteredExpr). e.0) members.items) in
+    let gathering = none_gathered designators.items in
+    ap (λ (numbers : List ℕ). number ∷ numbers)
+    (and_no_more (members_walk pieces gathering context state).linked [] (joined rows)
+    (members-entered pieces gathering rows (all-entered members.items) context state) refl)
 value-parts (MonadicOf number operation operand) context state =
     let begun = value_walk operand.value.0 context state in
     let after = operated operation begun.value context begun.after in
@@ -320,7 +368,7 @@ pub call-entered : (call : Call) (actuals : List Passed)
 call-entered call actuals = called-entered call (map passed_piece_of actuals) (map entries_of_passed actuals) (all-actual actuals)
 
 test-silent : (site : ℕ) (known : Known) → Enters (width_test site known) []
-test-silent site (Ordinal range) context state = refl
+test-silent site known context state = refl
 
 width-entered : (width : Option Width) → Enters (width_walk width) (entries_of_width width)
 width-entered None context state = refl

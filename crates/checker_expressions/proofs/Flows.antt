@@ -1,8 +1,8 @@
 -- What the checker did over a piece of a program, from what it did over the parts of it.
-use Rattle.std.proofs.Common.{◌≡◌, ◌∙◌, sym, ap, ap₂, refl, Bool, true, ℕ, List, [], ◌∷◌, ◌++◌, Option, Some, None, map, append_assoc, append-nil}
+use Rattle.std.proofs.Common.{◌≡◌, ◌∙◌, sym, ap, ap₂, refl, Bool, true, ◌||◌, ℕ, List, [], ◌∷◌, ◌++◌, Option, Some, None, map, append_assoc, append-nil}
 use Rattle.std.proofs.lemmas.Bool.{true≢false}
 use Rattle.typed_tree.specs.declared.tree.Tree.{Tree}
-use Rattle.checker_state.specs.State.{State}
+use Rattle.checker_state.specs.State.{State, is_dead}
 use Rattle.checker_trail.specs.declared.state.State.{State as Kept}
 use Rattle.checker_trail.specs.Trail.{Moves}
 use Rattle.checker_trail.proofs.Ways as ways
@@ -13,7 +13,7 @@ use Rattle.checker_expressions.specs.declared.fault.Breach.{Breach}
 use Rattle.checker_expressions.specs.declared.flow.Flow.{Flow}
 use Rattle.checker_expressions.specs.declared.grounds.Grounds.{Grounds}
 use Rattle.checker_expressions.specs.View.{Flowed, Goes, context_of, first_of, opened, state_of}
-use Rattle.checker_expressions.specs.Walk.{Context, Walked, Walking, ◌>>=◌, changed_by, enter, first_breach, give, left_open}
+use Rattle.checker_expressions.specs.Walk.{Context, Walked, Walking, ◌>>=◌, changed_by, checked, enter, first_breach, give, left_open}
 
 -- ---- breaches
 
@@ -193,4 +193,17 @@ goes-used {A = A} walking {closed = closed} covered site step a {old = old} {mid
     ap (λ (ids : List ℕ). let walked : Walked A = record { value = a; after = step (state_of old); open_ids = ids; broken = []; linked = [] } in walked)
     (append-nil (left_open closed site) ∙ ap (λ (b : Bool). left_open b site) closed_is) ∙ sym (is claims))
     (goes-then (opened closed site) (λ _. (changed_by step >>= λ _. give a)) opens
+    (goes-mapped (changed_by step) (λ _. a) (goes-moved step mid moves) refl))
+
+-- a test at a site, and then a step
+pub goes-checked : {A : Type 0} (walking : Walking A) (closed : Bool) (site : ℕ) (step : State → State) (a : A) {old mid : Flow}
+    {state : Kept} → ((claims : List Claims) → walking (context_of old claims) (state_of old)
+    ≡ record { value = a; after = step (state_of old); open_ids = left_open (is_dead (state_of old) || closed) site; broken = []; linked = [] })
+    → Goes (checked closed site) old mid tt → Moves step mid.state state → Goes walking old (record mid { state = state }) a
+goes-checked {A = A} walking closed site step a {old = old} {mid = mid} is tests moves =
+    goes-alike (checked closed site >>= λ _. (changed_by step >>= λ _. give a)) walking
+    (λ claims.
+    ap (λ (ids : List ℕ). let walked : Walked A = record { value = a; after = step (state_of old); open_ids = ids; broken = []; linked = [] } in walked)
+    (append-nil (left_open (is_dead (state_of old) || closed) site)) ∙ sym (is claims))
+    (goes-then (checked closed site) (λ _. (changed_by step >>= λ _. give a)) tests
     (goes-mapped (changed_by step) (λ _. a) (goes-moved step mid moves) refl))

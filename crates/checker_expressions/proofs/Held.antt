@@ -16,13 +16,14 @@ use Rattle.typed_tree.specs.declared.tree.Dyadic.{Dyadic}
 use Rattle.typed_tree.specs.declared.tree.Dyadic.TheVariants as dyadic
 use Rattle.meaning.specs.Meaning.{overflow_of, overflow_of_both}
 use Rattle.checker_state.specs.declared.value.Known.{Known}
-use Rattle.checker_state.specs.declared.value.Known.TheVariants.{Ordinal}
+use Rattle.checker_state.specs.Values.{known_range}
 use Rattle.checker_rows.specs.Limits.{integer, limits_of}
 use Rattle.checker_loops.proofs.Behind.{held-itself, held-moved}
 use Rattle.checker_expressions.specs.declared.flow.Flow.{Flow}
 use Rattle.checker_expressions.specs.View.{Goes, IsRangeOf}
 use Rattle.checker_expressions.proofs.Flows.{goes-as}
-use Rattle.checker_expressions.specs.Walk.{Walking, ◌>>=◌, calculated, combined, divides, of_both, operated, ordinal, shifted, tested, unless_overflow, within}
+use Rattle.checker_expressions.specs.Walk.{Walking, ◌>>=◌, calculated, calculated_both, combined, divides, of_both, operated, ordinal, shifted, tested}
+use Rattle.checker_expressions.specs.Walk.{unless_overflow, within}
 
 -- ---- results that are tested
 
@@ -58,6 +59,11 @@ of_both-plain (dyadic.Mod by_zero_or_less) left right site is = absurd (none-som
 of_both-plain dyadic.And left right site is = absurd (none-some site is)
 of_both-plain dyadic.Or left right site is = absurd (none-some site is)
 of_both-plain (dyadic.Relation relation) left right site is = absurd (none-some site is)
+of_both-plain dyadic.Union left right site is = absurd (none-some site is)
+of_both-plain dyadic.Difference left right site is = absurd (none-some site is)
+of_both-plain dyadic.Intersection left right site is = absurd (none-some site is)
+of_both-plain (dyadic.SetRelation relation) left right site is = absurd (none-some site is)
+of_both-plain dyadic.In left right site is = absurd (none-some site is)
 
 -- a result of which the checker keeps the range
 result-goes : {told : Option ℕ} (overflow : Option ℕ) (kept range : Interval) {old new : Flow} {known : Known}
@@ -66,36 +72,39 @@ result-goes : {told : Option ℕ} (overflow : Option ℕ) (kept range : Interval
 result-goes overflow kept range told_is is plain goes =
     goes-as (ap (λ (o : Option ℕ). unless_overflow o kept) told_is ∙ unless-held overflow kept range is plain) goes
 
--- an operation on the range of an ordinal
-operated-as : (operation same : Monadic) (known : Known) (range : Interval) → operation ≡ same → known ≡ Ordinal range
-    → operated operation known ≡ operated same (Ordinal range)
-operated-as operation same known range is known_is = ap (λ o. operated o known) is ∙ ap (operated same) known_is
-
 pub calculated-goes : (operation : Monadic) (does : Calculation) (known : Known) {told : Option ℕ} (kept range : Interval) {old new : Flow} {result : Known}
-    → operation ≡ monadic.Plain does → known ≡ Ordinal range → told ≡ overflow_of does
+    → operation ≡ monadic.Plain does → range ≡ known_range known → told ≡ overflow_of does
     → IsRangeOf (overflow_of does) kept (calculated does range) → Goes (unless_overflow told kept) old new result
     → Goes (operated operation known) old new result
-calculated-goes operation does known kept range is known_is told_is kept_is goes =
-    goes-as (sym (operated-as operation (monadic.Plain does) known range is known_is))
+calculated-goes operation does known kept range is range_is told_is kept_is goes =
+    goes-as (sym (ap (λ o. operated o known) is ∙ ap (λ r. unless_overflow (overflow_of does) (calculated does r)) (sym range_is)))
     (result-goes (overflow_of does) kept (calculated does range) told_is kept_is (calculated-plain does range) goes)
 
 -- a test, and what comes behind it
 pub tested-as : (operation : Monadic) (fits : RangeTest) (does : Shift) (known : Known) (limits range : Interval) → operation ≡ monadic.Tested fits does
-    → known ≡ Ordinal range → limits ≡ limits_of fits.range
+    → range ≡ known_range known → limits ≡ limits_of fits.range
     → operated operation known ≡ (within limits fits.site range >>= λ passed. ordinal (shifted does passed))
-tested-as operation fits does known limits range is known_is limits_are =
-    operated-as operation (monadic.Tested fits does) known range is known_is
+tested-as operation fits does known limits range is range_is limits_are =
+    ap (λ o. operated o known) is
+    ∙ ap (λ r. within (limits_of fits.range) fits.site r >>= λ passed. ordinal (shifted does passed)) (sym range_is)
     ∙ ap (λ l. within l fits.site range >>= λ passed. ordinal (shifted does passed)) (sym limits_are)
 
 -- an operation on two operands behind the test of the right one
 abbrev pub behind : Dyadic → Interval → Interval → Walking Known
 behind operation left passed = unless_overflow (overflow_of_both operation) (of_both operation left passed)
 
--- an operation on the ranges of two ordinals
-pub combined-as : (operation : Dyadic) (left right : Known) (one two : Interval) → left ≡ Ordinal one → right ≡ Ordinal two
-    → combined operation left right ≡ (divides operation two >>= behind operation one)
-combined-as operation left right one two left_is right_is =
-    ap (λ l. combined operation l right) left_is ∙ ap (combined operation (Ordinal one)) right_is
+-- an operation on the ranges of two numbers
+pub calculated_both-as : (operation : Dyadic) (left right one two : Interval) → one ≡ left → two ≡ right
+    → calculated_both operation left right ≡ (divides operation two >>= behind operation one)
+calculated_both-as operation left right one two left_is right_is =
+    ap (λ l. calculated_both operation l right) (sym left_is) ∙ ap (calculated_both operation one) (sym right_is)
+
+-- an operation on two operands that are numbers
+pub of-numbers : {operation : Dyadic} (same : Dyadic) (left right : Known) {old new : Flow} {result : Known} → operation ≡ same
+    → combined same left right ≡ calculated_both same (known_range left) (known_range right)
+    → Goes (calculated_both operation (known_range left) (known_range right)) old new result → Goes (combined operation left right) old new result
+of-numbers same left right is of_numbers goes =
+    goes-as (ap (λ o. calculated_both o (known_range left) (known_range right)) is ∙ sym of_numbers ∙ ap (λ o. combined o left right) (sym is)) goes
 
 pub both-goes : (operation : Dyadic) {told : Option ℕ} (one passed kept : Interval) {old new : Flow} {result : Known}
     → told ≡ overflow_of_both operation → IsRangeOf (overflow_of_both operation) kept (of_both operation one passed)

@@ -1,22 +1,29 @@
 -- What the checker did over operators, index expressions and actual parameters, from one of them on.
-use Rattle.std.proofs.Common.{◌≡◌, ◌∙◌, ap, sym, refl, ℕ, suc, ◌+◌, ◌<◌, ◌≤◌, List, [], ◌∷◌, ◌++◌, drop, get_or, length, map, append_assoc}
+use Rattle.std.proofs.Common.{◌≡◌, ◌∙◌, ap, sym, refl, ℕ, suc, ◌+◌, ◌<◌, ◌≤◌, Bool, false, List, [], ◌∷◌, ◌++◌, drop, get_or, length, map, append_assoc}
 use Rattle.std.proofs.Common.{add-one, append-nil, drop-cons}
 use Rattle.std.proofs.Math.ListN.{drop_of_length-le}
+use Rattle.std.proofs.lemmas.Bool.{false≢true}
+use Rattle.std.specs.Prelude.{◌==◌}
+use Rattle.typed_tree.specs.declared.tree.Designator.{Designator}
+use Rattle.typed_tree.specs.declared.tree.Designator.TheVariants.{Single}
 use Rattle.typed_tree.specs.declared.tree.Expr.{Expr}
 use Rattle.typed_tree.specs.declared.tree.Link.{Link}
 use Rattle.typed_tree.specs.declared.tree.Passed.{Passed}
 use Rattle.typed_tree.specs.declared.tree.Selector.{Selector}
 use Rattle.typed_tree.specs.Entries.{joined}
 use Rattle.domain.specs.Interval.{Interval}
+use Rattle.checker_rows.specs.Rows.{is_ordinal_variable}
 use Rattle.checker_state.specs.State.{State}
 use Rattle.checker_state.specs.Stores.{Index, Reach}
 use Rattle.checker_state.specs.declared.value.Known.{Known}
+use Rattle.checker_state.specs.Values.{known_range}
 use Rattle.checker_calls.specs.Actuals.{Actual}
 use Rattle.checker_expressions.specs.declared.fault.Breach.{Breach}
 use Rattle.checker_expressions.specs.declared.flow.Flow.{Flow}
 use Rattle.checker_expressions.specs.View.{Goes, context_of, state_of}
-use Rattle.checker_expressions.specs.Walk.{Linked, Walked, Walking, ◌>>=◌, actuals_walk, behind_next, deeper, form_before, give, in_turn, index_pieces}
-use Rattle.checker_expressions.specs.Walk.{index_test, indexes_walk, link_walk, next_test, passed_piece_of, piece_of, value_walk}
+use Rattle.checker_expressions.specs.Walk.{Gathering, Linked, Walked, Walking, ◌>>=◌, actuals_walk, behind_next, deeper, form_before_by, gathered, give}
+use Rattle.checker_expressions.specs.Walk.{in_turn, index_pieces, index_test, indexes_walk, link_walk, members_walk, next_test, passed_piece_of, piece_of}
+use Rattle.checker_expressions.specs.Walk.{value_walk}
 use Rattle.checker_expressions.specs.Visits.{Visits, all_counted}
 use Rattle.checker_expressions.proofs.Counted.{counted-both}
 use Rattle.checker_expressions.proofs.Flows.{goes-alike, goes-as, goes-give, goes-then}
@@ -53,30 +60,61 @@ turn-end items i left flow past =
 -- ---- index expressions
 
 -- an index, by the form of its expression, if none of those behind it holds a call, and by where it lies
-abbrev pub index_at : Expr → List Expr → Interval → Index
-index_at index more range = record { form = form_before (piece_of index).form (index_pieces more); range = range }
+abbrev pub index_at : (ordinal : ℕ → Bool) → Expr → List Expr → Interval → Index
+index_at ordinal index more range = record { form = form_before_by ordinal (piece_of index) (index_pieces more); range = range }
 
 -- the index expressions behind one of them, by where that lies
 abbrev behind_walk : List Selector → Expr → List Expr → Reach → Interval → Walking Reach
-behind_walk behind index more reach range = indexes_walk behind (index_pieces more) (deeper (index_at index more range) reach)
+behind_walk behind index more reach range context =
+    indexes_walk behind (index_pieces more) (deeper (index_at (is_ordinal_variable context.tree) index more range) reach) context
+
+-- which variables are ordinals where a flow is
+abbrev pub ordinal_in : Flow → ℕ → Bool
+ordinal_in flow = is_ordinal_variable flow.state.table.now
 
 pub index-step : (selectors : List Selector) (items : List Expr) (i : ℕ) (index : Expr) (reach : Reach) {known : Known} {range : Interval}
     {old mid tested new : Flow} {result : Reach} → i < length items → index ≡ get_or items i index → Goes (value_walk index) old mid known
     → Goes (index_test (next_test selectors) known) mid tested range
-    → Goes (indexes_walk (behind_next selectors) (index_pieces (drop (i + 1) items)) (deeper (index_at index (drop (i + 1) items) range) reach)) tested new
-    result
+    → Goes (indexes_walk (behind_next selectors) (index_pieces (drop (i + 1) items))
+    (deeper (index_at (ordinal_in tested) index (drop (i + 1) items) range) reach)) tested new result
     → Goes (indexes_walk selectors (index_pieces (drop i items)) reach) old new result
-index-step selectors items i index reach {known = known} inside is one two three =
+index-step selectors items i index reach {known = known} {range = range} {tested = tested} inside is one two three =
     let more = drop (i + 1) items in
     let behind = behind_walk (behind_next selectors) index more reach in
     goes-as (sym (ap (λ indexes. indexes_walk selectors (index_pieces indexes) reach) (item-cut items i index inside is)))
     (goes-then (value_walk index) (λ known. index_test (next_test selectors) known >>= behind) one
-    (goes-then (index_test (next_test selectors) known) behind two three))
+    (goes-then (index_test (next_test selectors) known) behind two
+    (goes-alike (indexes_walk (behind_next selectors) (index_pieces more) (deeper (index_at (ordinal_in tested) index more range) reach)) (behind range)
+    (λ claims. refl) three)))
 
 pub index-end : (selectors : List Selector) (items : List Expr) (i : ℕ) (reach : Reach) (flow : Flow) → length items ≤ i
     → Goes (indexes_walk selectors (index_pieces (drop i items)) reach) flow flow reach
 index-end selectors items i reach flow past =
     goes-as (sym (ap (λ indexes. indexes_walk selectors (index_pieces indexes) reach) (drop_of_length-le items past))) (goes-give reach flow)
+
+-- ---- member expressions
+
+-- the first of some designators, and those behind it
+pub designators-cut : (items : List Designator) (one : Designator) → (length items == 0) ≡ false → get_or items 0 (Single 0) ≡ one
+    → items ≡ one ∷ drop 1 items
+designators-cut [] one some is = absurd (false≢true (sym some))
+designators-cut (item ∷ items) one some is = ap (λ (first : Designator). first ∷ items) is
+
+pub member-step : (items : List Expr) (i : ℕ) (member : Expr) (gathering : Gathering) {known : Known} {more : Gathering} {old mid gathers new : Flow}
+    {result : Interval} → i < length items → member ≡ get_or items i member → Goes (value_walk member) old mid known
+    → Goes (gathered gathering (known_range known)) mid gathers more
+    → Goes (members_walk (index_pieces (drop (i + 1) items)) more) gathers new result
+    → Goes (members_walk (index_pieces (drop i items)) gathering) old new result
+member-step items i member gathering {known = known} inside is one two three =
+    let rest = members_walk (index_pieces (drop (i + 1) items)) in
+    goes-as (sym (ap (λ members. members_walk (index_pieces members) gathering) (item-cut items i member inside is)))
+    (goes-then (value_walk member) (λ known. gathered gathering (known_range known) >>= rest) one
+    (goes-then (gathered gathering (known_range known)) rest two three))
+
+pub member-end : (items : List Expr) (i : ℕ) (gathering : Gathering) (flow : Flow) → length items ≤ i
+    → Goes (members_walk (index_pieces (drop i items)) gathering) flow flow gathering.hull
+member-end items i gathering flow past =
+    goes-as (sym (ap (λ members. members_walk (index_pieces members) gathering) (drop_of_length-le items past))) (goes-give gathering.hull flow)
 
 -- ---- actual parameters
 

@@ -1,29 +1,32 @@
 -- The walk is sound: what a piece of a program does from a state that holds, the walk over that piece foretells.
-use Rattle.std.proofs.Common.{arith, ◌≡◌, ⊎_elim, ◌⊎◌, inl, inr, sym, refl, subst, ℕ, ◌<◌, Bool, true, false, cond, ◌||◌, List, [], ◌∷◌, ◌++◌, length}
+use Rattle.std.proofs.Common.{arith, ◌≡◌, ⊎_elim, ◌⊎◌, inl, inr, sym, refl, subst, ℕ, ℤ, ◌<◌, Bool, true, false, cond, ◌||◌, List, [], ◌∷◌, ◌++◌, length}
 use Rattle.std.proofs.Common.{Option, Some, None}
 use Rattle.std.specs.Prelude.{◌≤◌, slice_get}
 use Rattle.std.specs.List.{Contains}
 use Rattle.std.proofs.lemmas.Bool.{false≢true}
 use Rattle.std.proofs.lemmas.List.Elements.{Contains-append_left, Contains-append_right, Contains-push_cases}
-use Rattle.domain.specs.Interval.{Interval}
+use Rattle.domain.specs.Interval.{HasMember, Interval}
 use Rattle.place.specs.declared.Place.{Place as SourcePlace}
 use Rattle.types.specs.Forms.{Form}
 use Rattle.typed_tree.specs.declared.tree.Tree.{Tree}
 use Rattle.typed_tree.specs.declared.tree.Block.{Block}
 use Rattle.typed_tree.specs.declared.tree.FunctionResult.{FunctionResult}
+use Rattle.typed_tree.specs.declared.tree.Scalar.{Scalar}
 use Rattle.typed_tree.specs.declared.tree.Variable.{Variable}
 use Rattle.typed_tree.specs.WellFormed.{declarer, is_round, is_visible, of_one, outline_of}
 use Rattle.meaning.specs.declared.outcome.Ending.TheVariants.{Error}
 use Rattle.meaning.specs.declared.store.Value.{Value}
+use Rattle.meaning.specs.declared.store.Value.TheVariants.{Members, Number}
 use Rattle.meaning.specs.Store.{Environment, Store}
 use Rattle.meaning.specs.Effect as effect
 use Rattle.meaning.specs.Effect.{Action, Reply, Visit, and_then}
 use Rattle.meaning.specs.Meaning.{Activation, Argument, Calls, assign_all, environment_of}
-use Rattle.checker_rows.specs.Rows.{Parts, all_parts}
+use Rattle.checker_rows.specs.Rows.{Parts, all_parts, is_ordinal_variable}
 use Rattle.checker_state.specs.declared.value.Known.{Known}
-use Rattle.checker_state.specs.declared.value.Known.TheVariants.{Ordinal}
+use Rattle.checker_state.specs.declared.value.Known.TheVariants.{Ordinal, Set}
 use Rattle.checker_state.specs.State.{Dead, State, is_dead, unless_empty}
-use Rattle.checker_state.specs.Holds.{IsIn, Separate, StateHolds}
+use Rattle.checker_state.specs.Holds.{HoldNumbers, Separate, StateHolds, moment}
+use Rattle.checker_state.specs.Values.{IsKnown, unless_none}
 use Rattle.checker_state.specs.Knows.{Knows}
 use Rattle.checker_state.specs.Loops.{is_among}
 use Rattle.checker_state.proofs.Ranged.{in-present}
@@ -33,12 +36,13 @@ use Rattle.checker_loops.specs.Sections.{BlockClaims, block_claims_at}
 use Rattle.checker_calls.specs.Environments.{Fine, Leaves as LeavesAll, LeavesPassed, Proper}
 use Rattle.checker_calls.specs.Exit.{result_range}
 use Rattle.checker_calls.proofs.Claimed.{AllHold}
+use Rattle.checker_calls.proofs.Numbers.{hold-numbers}
 use Rattle.checker_calls.proofs.Passed.{AllFit}
 use Rattle.checker_calls.proofs.Reached.{alive}
 use Rattle.checker_expressions.specs.declared.fault.Rule.{Rule}
 use Rattle.checker_expressions.specs.Walk as walk
 use Rattle.checker_expressions.specs.declared.fault.Breach.{Breach}
-use Rattle.checker_expressions.specs.Walk.{Context, Linked, Walked, Walking, followed, left_open}
+use Rattle.checker_expressions.specs.Walk.{Context, Linked, Walked, Walking, followed, left_open, scalar_of}
 use Rattle.checker_expressions.specs.Visits.{moment_of, visits_of}
 use Rattle.checker_expressions.proofs.Keeping.{Keeps, keeps-itself, keeps-then}
 
@@ -68,6 +72,10 @@ sites_in world = length world.tree.sites.items
 -- the components of each of its rows
 abbrev pub parts_in : World → List Parts
 parts_in world = all_parts world.tree
+
+-- which of its variables are ordinals
+abbrev pub ordinal_in : World → ℕ → Bool
+ordinal_in world = is_ordinal_variable world.tree
 
 -- its pairs
 abbrev pub listed_in : World → Listed
@@ -168,13 +176,13 @@ Leaves {A} action = (s t : effect.State) (a : A) → action s ≡ effect.Gives a
 abbrev pub Any_value : {A B : Type 0} → B → A → Store → Type 0
 Any_value b a store = Unit {0}
 
--- a value is as it is known
-abbrev pub IsKnown : Known → Value → Type 0
-IsKnown (Ordinal range) v = IsIn range v
-
 -- a value is known, whatever the store
 abbrev pub IsValue : Known → Value → Store → Type 0
 IsValue known v store = IsKnown known v
+
+-- and it is an ordinal, or a set
+abbrev pub IsHeld : Scalar → Known → Value → Store → Type 0
+IsHeld one known v store = IsKnown known v × (scalar_of known ≡ one)
 
 -- ---- calls
 
@@ -198,10 +206,10 @@ pub record Called (world : World) (number : ℕ) (block : Block) (arguments : Li
       → AllHold world.tree (block_claims_at world.blocks number).entry
       (environment_of world.tree (activation_of number block arguments caller s)) ready.store
 
--- the value of a function lies in the range of its result; a procedure gives 0
+-- the value of a function is an ordinal in the range of its result; a procedure gives 0
 abbrev pub LiesInResult : World → ℕ → Option FunctionResult → Value → Type 0
 LiesInResult world number None v = Unit {0}
-LiesInResult world number (Some result) v = IsIn (result_range world.tree (block_claims_at world.blocks number) result.root) v
+LiesInResult world number (Some result) v = IsKnown (Ordinal (result_range world.tree (block_claims_at world.blocks number) result.root)) v
 
 -- behind a call: it changed what its block lists alone, and what is claimed of the block's end holds
 pub record Returned (world : World) (number : ℕ) (block : Block) (arguments : List Argument) (caller : Environment) (s : effect.State) (v : Value)
@@ -316,14 +324,14 @@ here-behind world block env R context state walked s t a here behind = record {
   stands = behind.so.stands;
 }
 
--- what the first reply gives is told to the second
-pub from-then : {A B C D : Type 0} (world : World) (block : ℕ) (env : Environment) (store : Store) (R : B → A → Store → Type 0) (S : D → C → Store → Type 0)
+-- what the first reply gives is told to the second, and that its ordinal variables have numbers
+pub from-held : {A B C D : Type 0} (world : World) (block : ℕ) (env : Environment) (store : Store) (R : B → A → Store → Type 0) (S : D → C → Store → Type 0)
     (action : Action A) (next : A → Action C) (walking : Walking B) (walk_next : B → Walking D)
     → SoundFrom world block env store R action walking
     → ((b : B) (a : A) (s t : effect.State) → action s ≡ effect.Gives a t → s.store ≡ store → R b a t.store
-    → SoundFrom world block env t.store S (next a) (walk_next b))
+    → HoldNumbers (ordinal_in world) (moment env t.store) → SoundFrom world block env t.store S (next a) (walk_next b))
     → SoundFrom world block env store S (effect.◌>>=◌ action next) (walk.◌>>=◌ walking walk_next)
-from-then world block env store R S action next walking walk_next one two context state s same unbroken part here =
+from-held world block env store R S action next walking walk_next one two context state s same unbroken part here =
     let first = walking context state in
     let second = walk_next first.value context first.after in
     good-then world (IsForetold world env R context first s.store) (IsForetold world env S context (followed first second) s.store) s (action s) next
@@ -332,8 +340,19 @@ from-then world block env store R S action next walking walk_next one two contex
     good-weaker world (IsForetold world env S context second t.store) (IsForetold world env S context (followed first second) s.store) t (next a t)
     (λ c u gives then.
     record { tie = then.so.tie; stands = then.so.stands; kept = keeps-then env context.rounds s.store t.store u.store told.so.kept then.so.kept })
-    (two first.value a s t is same told.so.tie context first.after t refl (unbroken-right first.broken second.broken unbroken)
+    (two first.value a s t is same told.so.tie
+    (hold-numbers world.tree world.pairs block s.activations env t.store here.proper told.fine.typed)
+    context first.after t refl (unbroken-right first.broken second.broken unbroken)
     (part-right world first second part) (here-behind world block env R context state first s t a here told)))
+
+pub from-then : {A B C D : Type 0} (world : World) (block : ℕ) (env : Environment) (store : Store) (R : B → A → Store → Type 0) (S : D → C → Store → Type 0)
+    (action : Action A) (next : A → Action C) (walking : Walking B) (walk_next : B → Walking D)
+    → SoundFrom world block env store R action walking
+    → ((b : B) (a : A) (s t : effect.State) → action s ≡ effect.Gives a t → s.store ≡ store → R b a t.store
+    → SoundFrom world block env t.store S (next a) (walk_next b))
+    → SoundFrom world block env store S (effect.◌>>=◌ action next) (walk.◌>>=◌ walking walk_next)
+from-then world block env store R S action next walking walk_next one two =
+    from-held world block env store R S action next walking walk_next one (λ b a s t is same tie held. two b a s t is same tie)
 
 -- from each store, or from one
 pub sound-anywhere : {A B : Type 0} (world : World) (block : ℕ) (env : Environment) (R : B → A → Store → Type 0) (action : Action A) (walking : Walking B)
@@ -388,6 +407,16 @@ sound-written world block env R bytes action walking one context state s unbroke
       };
     })
 
+-- what follows from what a walk foretells
+pub from-weaker : {A B : Type 0} (world : World) (block : ℕ) (env : Environment) (store : Store) (R S : B → A → Store → Type 0)
+    → ((b : B) (a : A) (after : Store) → R b a after → S b a after) → (action : Action A) (walking : Walking B)
+    → SoundFrom world block env store R action walking → SoundFrom world block env store S action walking
+from-weaker world block env store R S ties action walking one context state s same unbroken part here =
+    let first = walking context state in
+    good-weaker world (IsForetold world env R context first s.store) (IsForetold world env S context first s.store) s (action s)
+    (λ a t is told. record { tie = ties first.value a t.store told.so.tie; stands = told.so.stands; kept = told.so.kept })
+    (one context state s same unbroken part here)
+
 -- the walk goes on with a value of which the run doesn't know
 pub sound-named : {A B C : Type 0} (world : World) (block : ℕ) (env : Environment) (R : B → A → Store → Type 0) (S : C → A → Store → Type 0) (f : B → C)
     → ((b : B) (a : A) (store : Store) → R b a store → S (f b) a store)
@@ -399,6 +428,15 @@ sound-named world block env R S f ties action walking one context state s unbrok
     good-weaker world (IsForetold world env R context first s.store) (IsForetold world env S context (followed first second) s.store) s (action s)
     (λ a t is told. record { tie = ties first.value a t.store told.so.tie; stands = told.so.stands; kept = told.so.kept })
     (one context state s (unbroken-left first.broken second.broken unbroken) (part-left world first second part) here)
+
+-- a walk that goes by the program
+pub sound-by_tree : {A B : Type 0} (world : World) (block : ℕ) (env : Environment) (store : Store) (R : B → A → Store → Type 0) (action : Action A)
+    (walking : Tree → Walking B) → SoundFrom world block env store R action (walking world.tree)
+    → SoundFrom world block env store R action (λ context. walking context.tree context)
+sound-by_tree world block env store R action walking one context state s same unbroken part here =
+    subst (λ (tree : Tree). (walking tree context state).broken ≡ [] → IsPartOf world (walking tree context state)
+    → Good world (IsForetold world env R context (walking tree context state) s.store) s (action s))
+    (sym here.stands.goes.tree_is) (λ kept walked. one context state s same kept walked here) unbroken part
 
 -- ---- the pieces
 
@@ -445,14 +483,28 @@ pub stands-as : (world : World) (env : Environment) (context : Context) (state o
 stands-as world env context state other store stands known = record { goes = stands.goes; known = known }
 
 -- no run goes on from an empty range
-pub nonempty-stands : (world : World) (env : Environment) (context : Context) (range : Interval) (state : State) (store : Store) (v : Value) → IsIn range v
-    → Stands world env context state store → Stands world env context (unless_empty range state) store
-nonempty-stands world env context range state store v inside stands =
-    subst (λ (vacant : Bool). Stands world env context (cond vacant Dead state) store) (sym (in-present range v inside)) stands
+pub nonempty-stands : (world : World) (env : Environment) (context : Context) (range : Interval) (state : State) (store : Store) (n : ℤ)
+    → HasMember range n → Stands world env context state store → Stands world env context (unless_empty range state) store
+nonempty-stands world env context range state store n inside stands =
+    subst (λ (vacant : Bool). Stands world env context (cond vacant Dead state) store) (sym (in-present range n inside)) stands
 
--- a value that passes a test lies in the range that passes
-abbrev pub Passes : Bool → Value → Interval → Unit {0} → Store → Type 0
-Passes test v range done store = IsIn range v × (test ≡ true)
+pub known-stands : (world : World) (env : Environment) (context : Context) (known : Known) (state : State) (store : Store) (v : Value)
+    → IsKnown known v → Stands world env context state store → Stands world env context (unless_none known state) store
+known-stands world env context (Ordinal range) state store (Number n) inside stands = nonempty-stands world env context range state store n inside stands
+known-stands world env context (Ordinal range) state store (Members set) inside stands = absurd inside
+known-stands world env context (Set hull) state store v inside stands = stands
+
+-- a number that passes a test lies in the range that passes
+abbrev pub Passes : Bool → ℤ → Interval → Unit {0} → Store → Type 0
+Passes test n range done store = HasMember range n × (test ≡ true)
+
+-- a value that passes is known to
+abbrev pub PassesAs : Bool → Value → Known → Unit {0} → Store → Type 0
+PassesAs test v known done store = IsKnown known v × (test ≡ true)
+
+-- what is tested is so
+abbrev pub IsSo : Bool → Unit {0} → Unit {0} → Store → Type 0
+IsSo test told done store = test ≡ true
 
 -- where a site is closed, no run comes or the test holds
 pub closed-passes : (rows : List Parts) (roots : ℕ) (env : Environment) (state : State) (store : Store) (closed test : Bool)
@@ -462,22 +514,57 @@ pub closed-passes : (rows : List Parts) (roots : ℕ) (env : Environment) (state
 closed-passes rows roots env state store closed test known holds is =
     holds (subst (λ (dead : Bool). (dead || closed) ≡ true) (alive rows roots env state store known) is)
 
--- a test at a site: it holds where the site is closed, and what passes lies in the range that passes
-pub sound-tested : (world : World) (block : ℕ) (env : Environment) (closed : Bool) (site : ℕ) (passed : Interval) (v : Value) (test : Bool)
-    → site < sites_in world → (closed ≡ true → test ≡ true) → (test ≡ true → IsIn passed v)
-    → Sound world block env (Passes test v) (effect.require test site) (walk.tested closed site passed)
-sound-tested world block env closed site passed v true below holds lets context state s unbroken part here =
-    let inside : IsIn passed v = lets refl in
-    good-give world (IsForetold world env (Passes true v) context (walk.tested closed site passed context state) s.store) tt s here.fine (record {
-      tie = (inside, refl);
-      stands = nonempty-stands world env context passed state s.store v inside here.stands;
-      kept = keeps-itself env context.rounds s.store;
-    })
-sound-tested world block env closed site passed v false below holds lets context state s unbroken part here =
+-- a test fails at a site that isn't closed
+fails-open : {B : Type 0} (world : World) (block : ℕ) (env : Environment) (R : B → Unit {0} → Store → Type 0) (closed : Bool) (site : ℕ)
+    (context : Context) (state : State) (walked : Walked B) (s : effect.State) → site < sites_in world → (closed ≡ true → false ≡ true)
+    → walked.open_ids ≡ left_open (is_dead state || closed) site → IsPartOf world walked → Here world block env context state s
+    → Good world (IsForetold world env R context walked s.store) s (effect.require false site s)
+fails-open world block env R closed site context state walked s below holds ids part here =
     let unclosed : (is_dead state || closed) ≡ true
     → ⊥ = λ is. false≢true (closed-passes (parts_in world) (variables_in world) env state s.store closed false here.stands.known holds is) in
     record {
-      errs = errs-here world site (part.ids site (open-here site (is_dead state || closed) unclosed)) below;
+      errs = errs-here world site
+          (part.ids site (subst (λ (list : List ℕ). Contains list site) (sym ids) (open-here site (is_dead state || closed) unclosed))) below;
       new = nothing-new world s.visited;
       gives = tt;
     }
+
+-- a test at a site: it holds where the site is closed
+pub sound-checked : (world : World) (block : ℕ) (env : Environment) (closed : Bool) (site : ℕ) (test : Bool) → site < sites_in world
+    → (closed ≡ true → test ≡ true) → Sound world block env (IsSo test) (effect.require test site) (walk.checked closed site)
+sound-checked world block env closed site true below holds context state s unbroken part here =
+    good-give world (IsForetold world env (IsSo true) context (walk.checked closed site context state) s.store) tt s here.fine (record {
+      tie = refl;
+      stands = here.stands;
+      kept = keeps-itself env context.rounds s.store;
+    })
+sound-checked world block env closed site false below holds context state s unbroken part here =
+    fails-open world block env (IsSo false) closed site context state (walk.checked closed site context state) s below holds refl part here
+
+-- and a number that passes lies in the range that passes
+pub sound-tested : (world : World) (block : ℕ) (env : Environment) (closed : Bool) (site : ℕ) (passed : Interval) (n : ℤ) (test : Bool)
+    → site < sites_in world → (closed ≡ true → test ≡ true) → (test ≡ true → HasMember passed n)
+    → Sound world block env (Passes test n) (effect.require test site) (walk.tested closed site passed)
+sound-tested world block env closed site passed n true below holds lets context state s unbroken part here =
+    let inside : HasMember passed n = lets refl in
+    good-give world (IsForetold world env (Passes true n) context (walk.tested closed site passed context state) s.store) tt s here.fine (record {
+      tie = (inside, refl);
+      stands = nonempty-stands world env context passed state s.store n inside here.stands;
+      kept = keeps-itself env context.rounds s.store;
+    })
+sound-tested world block env closed site passed n false below holds lets context state s unbroken part here =
+    fails-open world block env (Passes false n) closed site context state (walk.tested closed site passed context state) s below holds refl part here
+
+-- a value that passes is as it passes
+pub sound-tested_value : (world : World) (block : ℕ) (env : Environment) (closed : Bool) (site : ℕ) (passed : Known) (v : Value) (test : Bool)
+    → site < sites_in world → (closed ≡ true → test ≡ true) → (test ≡ true → IsKnown passed v)
+    → Sound world block env (PassesAs test v) (effect.require test site) (walk.tested_value closed site passed)
+sound-tested_value world block env closed site passed v true below holds lets context state s unbroken part here =
+    let inside : IsKnown passed v = lets refl in
+    good-give world (IsForetold world env (PassesAs true v) context (walk.tested_value closed site passed context state) s.store) tt s here.fine (record {
+      tie = (inside, refl);
+      stands = known-stands world env context passed state s.store v inside here.stands;
+      kept = keeps-itself env context.rounds s.store;
+    })
+sound-tested_value world block env closed site passed v false below holds lets context state s unbroken part here =
+    fails-open world block env (PassesAs false v) closed site context state (walk.tested_value closed site passed context state) s below holds refl part here

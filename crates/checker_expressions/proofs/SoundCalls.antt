@@ -17,7 +17,10 @@ use Rattle.meaning.specs.Effect as effect
 use Rattle.meaning.specs.Meaning as meaning
 use Rattle.meaning.specs.Meaning.{Argument, Passing, Surroundings, all_passed}
 use Rattle.meaning.specs.Store.{Environment, Place, Store}
-use Rattle.checker_state.specs.Holds.{HasValue, IsIn, part_of, value_at}
+use Rattle.typed_tree.specs.declared.tree.Scalar.TheVariants as scalar
+use Rattle.checker_state.specs.declared.value.Known.TheVariants.{Ordinal}
+use Rattle.checker_state.specs.Values.{IsKnown}
+use Rattle.checker_state.specs.Holds.{HasValue, part_of, value_at}
 use Rattle.checker_state.specs.Holds.{moment}
 use Rattle.checker_state.specs.Loops.{is_among}
 use Rattle.checker_state.specs.State.{State}
@@ -37,11 +40,11 @@ use Rattle.checker_expressions.specs.declared.fault.Rule.TheVariants.{Aliases, C
 use Rattle.checker_expressions.specs.Walk as walk
 use Rattle.checker_expressions.specs.Walk.{Context, PassedPiece, Walked, Walking, actuals_hold_call, actuals_walk, called_block, may_change}
 use Rattle.checker_expressions.proofs.Keeping.{Keeps, keeps-itself}
-use Rattle.checker_expressions.proofs.Sound.{World, Any_value, Called, Good, Goes, Here, IsClosed, IsForetold, IsPartOf, IsValue, Leaves, LiesInResult}
+use Rattle.checker_expressions.proofs.Sound.{World, Any_value, Called, Good, Goes, Here, IsClosed, IsForetold, IsHeld, IsPartOf, Leaves, LiesInResult}
 use Rattle.checker_expressions.proofs.Sound.{Returned, Sound, SoundCalls, SoundFrom, from-then, gives-state, good-give, good-weaker, is_seen, kept-rule}
 use Rattle.checker_expressions.proofs.Sound.{listed_in}
 use Rattle.checker_expressions.proofs.Sound.{part-left, parts_in, sound-anywhere, sound-enter, sound-give, sound-here, unbroken-left, unbroken-right}
-use Rattle.checker_expressions.proofs.Sound.{nonempty-stands, types_in, variables_in}
+use Rattle.checker_expressions.proofs.Sound.{known-stands, types_in, variables_in}
 
 -- ---- what is passed
 
@@ -401,29 +404,30 @@ module _ (world : World) (block : ℕ) (env : Surroundings) where
 
     -- the value of a function
     pub function-sound : (result : FunctionResult) → callee.heading.result ≡ Some result
-        → Sound world block visible IsValue (meaning.call_of call passings env) (walk.function_walk call pieces)
+        → Sound world block visible (IsHeld scalar.Ordinal) (meaning.call_of call passings env) (walk.function_walk call pieces)
     function-sound result result_is = λ context state s unbroken part here.
+        let R = IsHeld scalar.Ordinal in
         let first = walk.call_walk call pieces context state in
         let result_at = λ (c : Context). walk.result_walk call (walk.result_of (walk.called_block c call)) c first.after in
         let second = result_at context in
         let range = result_range world.tree (block_claims_at world.blocks call.block) result.root in
         good-weaker world (IsForetold world visible Behind_it context first s.store)
-        (IsForetold world visible IsValue context (walk.followed first second) s.store)
+        (IsForetold world visible R context (walk.followed first second) s.store)
         s (meaning.call_of call passings env s)
         (λ v t is behind.
         let told = behind.so in
-        let inside : IsIn range v = subst (λ (found : Option FunctionResult). LiesInResult world call.block found v) result_is told.tie in
-        let P = λ (c : Context). IsForetold world visible IsValue context (walk.followed first (result_at c)) s.store v t.store in
+        let inside : IsKnown (Ordinal range) v = subst (λ (found : Option FunctionResult). LiesInResult world call.block found v) result_is told.tie in
+        let P = λ (c : Context). IsForetold world visible R context (walk.followed first (result_at c)) s.store v t.store in
         let own = in_world world context in
         by-world world context P here.stands.goes
         (subst (λ (found : Option Block).
-        IsForetold world visible IsValue context (walk.followed first (walk.result_walk call (walk.result_of found) own first.after)) s.store v t.store)
+        IsForetold world visible R context (walk.followed first (walk.result_walk call (walk.result_of found) own first.after)) s.store v t.store)
         (sym at)
         (subst (λ (found : Option FunctionResult).
-        IsForetold world visible IsValue context (walk.followed first (walk.result_walk call found own first.after)) s.store v t.store) (sym result_is)
+        IsForetold world visible R context (walk.followed first (walk.result_walk call found own first.after)) s.store v t.store) (sym result_is)
         (record {
-          tie = inside;
-          stands = nonempty-stands world visible context range first.after t.store v inside told.stands;
+          tie = (inside, refl);
+          stands = known-stands world visible context (Ordinal range) first.after t.store v inside told.stands;
           kept = told.kept;
         }))))
         (call-sound context state s (unbroken-left first.broken second.broken unbroken) (part-first context state part) here)

@@ -22,12 +22,12 @@ use Rattle.meaning.specs.declared.store.Value.TheVariants.{Number}
 use Rattle.meaning.specs.Store.{Environment, Store}
 use Rattle.checker_state.specs.Holds.{HasValue, IsIn, moment}
 use Rattle.checker_rows.specs.Leaves.{leaves_of}
-use Rattle.checker_rows.specs.Rows.{Parts, all_parts, rows_accessed}
+use Rattle.checker_rows.specs.Rows.{Parts, all_parts}
 pub use Rattle.checker_rows.proofs.Accessed.{RowsAre, rows-are}
 pub use Rattle.checker_rows.proofs.Selected.{Matches}
 use Rattle.checker_loops.proofs.AliasedStores.{all-pass}
 pub use Rattle.checker_loops.proofs.VariableRows.{one-way}
-pub use Rattle.checker_calls.proofs.Passed.{AreComponentsOf, AreIndexesOn, IsIndexOn, IsReachedBy, Leads, LieIn}
+pub use Rattle.checker_calls.proofs.Passed.{AreComponentsOf, AreIndexesOn, IsIndexOn, IsReachedBy, LieIn}
 pub use Rattle.checker_calls.proofs.Reached.{reached-has}
 use Rattle.checker_state.specs.State.{State, range_of, with_defined}
 use Rattle.checker_state.specs.Stores.{Index, Reach, gives_reached, is_entire, is_entire_by}
@@ -126,20 +126,20 @@ entire-is reach is = by reach.indexes is
     by (index ∷ indexes) is = absurd (false≢true is)
 
 -- where all components of the type that is reached have values
-pub used-known : (tree : Tree) (roots : ℕ) (env : Environment) (store : Store) (root : ℕ) (selectors : List Selector) (id : TypeId)
-    → RowsAre tree root selectors id → (way : List Step) → Matches selectors way → (reach : Reach) → IsReachedBy env store selectors way reach
+pub used-known : (tree : Tree) (roots : ℕ) (env : Environment) (store : Store) (root : ℕ) (under : List ℕ) (selectors : List Selector) (id : TypeId)
+    → RowsAre tree root under selectors id → (way : List Step) → Matches selectors way → (reach : Reach) → IsReachedBy env store selectors way reach
     → ((rest : List Step) → Contains (components_of tree.types id) rest → HasValue (moment env store) root (way ++ rest)) → (state : State)
     → Knows (all_parts tree) roots env state store
-    → Knows (all_parts tree) roots env (with_used reach (rows_accessed tree root selectors) state) store
-used-known tree roots env store root selectors id rows way matches reach reached has state known = by (is_entire reach) refl
+    → Knows (all_parts tree) roots env (with_used reach under state) store
+used-known tree roots env store root under selectors id rows way matches reach reached has state known = by (is_entire reach) refl
   where
     by : (b : Bool) → is_entire reach ≡ b
-        → Knows (all_parts tree) roots env (cond b (all_defined (rows_accessed tree root selectors) state) state) store
+        → Knows (all_parts tree) roots env (cond b (all_defined under state) state) store
     by false is = known
     by true is =
         let all = entire-is reach is in
         let none : index_count selectors ≡ 0 = sym (reached.all all.0) ∙ all.1 in
-        all_defined-known (all_parts tree) roots env store (rows_accessed tree root selectors)
+        all_defined-known (all_parts tree) roots env store under
         (λ row steps inside of_row.
         let lies = rows.lies row steps inside of_row in
         let same : steps ≡ way ++ lies.1 = lies.2 ∙ ap (λ (w : List Step). w ++ lies.1) (one-way selectors lies.0 way none lies.3 matches) in

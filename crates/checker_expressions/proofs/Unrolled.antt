@@ -6,6 +6,7 @@ use Rattle.std.specs.declared.vec.Vec.{Vec}
 use Rattle.types.specs.declared.form.TypeId.{TypeId}
 use Rattle.typed_tree.specs.declared.tree.Access.{Access}
 use Rattle.typed_tree.specs.declared.tree.Call.{Call}
+use Rattle.typed_tree.specs.declared.tree.Designator.{Designator}
 use Rattle.typed_tree.specs.declared.tree.Expr.{Expr}
 use Rattle.typed_tree.specs.declared.tree.Expr.TheVariants as expr
 use Rattle.typed_tree.specs.declared.tree.Expr.TheFolds.{fold-Link, the_lemmas}
@@ -15,6 +16,7 @@ use Rattle.typed_tree.specs.declared.tree.Passed.{Passed}
 use Rattle.typed_tree.specs.declared.tree.Passed.TheVariants as passed
 use Rattle.typed_tree.specs.declared.tree.RangeTest.{RangeTest}
 use Rattle.typed_tree.specs.declared.tree.Relation.{Relation}
+use Rattle.typed_tree.specs.declared.tree.Scalar.{Scalar}
 use Rattle.typed_tree.specs.declared.tree.Whole.{Whole}
 use Rattle.typed_tree.specs.Calls as calls
 use Rattle.typed_tree.specs.Entries.{entries_of_expression, expression_entries, index_entries, joined}
@@ -25,14 +27,18 @@ use Rattle.checker_expressions.specs.View.{entries_of_link}
 use Rattle.checker_expressions.specs.Walk as walk
 use Rattle.checker_expressions.specs.Walk.{◌>>=◌, combined, enter, function_walk, in_turn, index_pieces, joint_of, link_walk, operated, ordinal}
 use Rattle.checker_expressions.specs.Walk.{passed_piece_of}
-use Rattle.checker_expressions.specs.Walk.{piece_of, related_walk, value_passed, value_walk, variable_passed, variable_walk, whole_passed, whole_walk}
+use Rattle.checker_expressions.specs.Walk.{piece_of, related_walk, set_walk, value_passed, value_walk, variable_passed, variable_walk, whole_passed, whole_walk}
 use Rattle.checker_expressions.proofs.Forms.{passed-holds}
 
 -- ---- the walk
 
-pub value-Variable : (access : Access) (indexes : Vec Expr Global) (defined : ℕ)
-    → value_walk (expr.Variable access indexes defined) ≡ variable_walk access (index_pieces indexes.items) defined
-value-Variable access indexes defined = search (rules, the_lemmas)
+pub value-Variable : (access : Access) (indexes : Vec Expr Global) (holds : Scalar) (defined : ℕ)
+    → value_walk (expr.Variable access indexes holds defined) ≡ variable_walk holds access (index_pieces indexes.items) defined
+value-Variable access indexes holds defined = search (rules, the_lemmas)
+
+pub value-Set : (number : ℕ) (designators : Vec Designator Global) (members : Vec Expr Global)
+    → value_walk (expr.Set number designators members) ≡ set_walk number designators.items (index_pieces members.items)
+value-Set number designators members = search (rules, the_lemmas)
 
 pub value-Monadic : (number : ℕ) (operation : Monadic) (operand : Box Expr Global)
     → value_walk (expr.Monadic number operation operand) ≡ (enter number >>= λ _. (value_walk operand.value >>= operated operation))

@@ -1,6 +1,7 @@
 -- What the checker did over an expression, as the definitions see it. It does not say what a walk is.
 use Rattle.std.specs.Prelude.{◌≡◌, ℕ, Bool, false, List, [], ◌∷◌, ◌++◌, Option, Some, None, map, slice_get}
 use denote.Ref.{Bor}
+use Rattle.checker_expressions.specs.declared.gathering.Gathering.{Gathering as KeptGathering}
 use Rattle.typed_tree.specs.declared.tree.Block.{Block}
 use Rattle.typed_tree.specs.declared.tree.Call.{Call}
 use Rattle.typed_tree.specs.declared.tree.FunctionResult.{FunctionResult}
@@ -18,7 +19,8 @@ use Rattle.checker_loops.specs.BlockView.{said_section}
 use Rattle.checker_calls.specs.Exit.{result_range}
 use Rattle.checker_expressions.specs.declared.fault.Breach.{Breach}
 use Rattle.checker_expressions.specs.declared.flow.Flow.{Flow}
-use Rattle.checker_expressions.specs.Walk.{Context, Walking, called_block, first_breach, left_open, result_of}
+use Rattle.checker_expressions.specs.Walk.{Context, Gathering, Walking, called_block, first_breach, left_open}
+use Rattle.checker_expressions.specs.Walk.{result_of}
 
 -- what a walk goes by where a flow is, with these claims on loops
 abbrev pub context_of : Flow → List Claims → Context
@@ -84,6 +86,10 @@ pub record Goes {A : Type 0} (walking : Walking A) (old new : Flow) (value : A) 
 abbrev pub IsRangeOf : Option ℕ → (kept range : Interval) → Type 0
 IsRangeOf None kept range = kept ≡ range
 IsRangeOf (Some overflow) kept range = kept ≡ held range
+
+-- what was gathered of a set constructor
+abbrev pub said_gathering : KeptGathering → Gathering
+said_gathering gathering = record { hull = gathering.hull; left = gathering.left.now; first = gathering.first }
 
 -- a site is left open unless it is closed, and nothing else happens
 abbrev pub opened : Bool → ℕ → Walking (Unit {0})

@@ -1,6 +1,6 @@
 -- The walk of the checker over an expression, one equation a form: what is known of its value, the state after it, the
 -- sites that it leaves open, the rules of certificates that its calls break, and the state at each entry into an
--- expression (ISO 7185:1990, 6.7). It does not say that a run does what the walk says of it.
+-- expression (ISO 7185:1990, 6.7, 6.8.3.10). It does not say that a run does what the walk says of it.
 use Rattle.std.specs.Prelude.{◌≡◌, ℕ, pos, Bool, not, ◌||◌, int_le, List, [], ◌∷◌, ◌++◌}
 use Rattle.std.specs.Prelude.{Option, Some, None, if◌then◌else◌, map, ◌&&◌, true, false, slice_get}
 use Rattle.std.specs.List.{list_all, list_any}
@@ -21,6 +21,12 @@ use Rattle.typed_tree.specs.declared.tree.Shift.{Shift}
 use Rattle.typed_tree.specs.declared.tree.Shift.TheVariants as shift
 use Rattle.typed_tree.specs.declared.tree.Dyadic.{Dyadic}
 use Rattle.typed_tree.specs.declared.tree.Dyadic.TheVariants as dyadic
+use Rattle.typed_tree.specs.declared.tree.Designator.{Designator}
+use Rattle.typed_tree.specs.declared.tree.Designator.TheVariants.{Single, Range}
+use Rattle.typed_tree.specs.declared.tree.PathStep.{PathStep}
+use Rattle.typed_tree.specs.declared.tree.PathStep.TheVariants as path
+use Rattle.typed_tree.specs.declared.tree.Scalar.{Scalar}
+use Rattle.typed_tree.specs.declared.tree.Scalar.TheVariants as scalar
 use Rattle.typed_tree.specs.declared.tree.Width.{Width}
 use Rattle.typed_tree.specs.declared.tree.WriteParameter.{WriteParameter}
 use Rattle.typed_tree.specs.declared.tree.Written.{Written}
@@ -34,13 +40,16 @@ use Rattle.typed_tree.specs.declared.tree.Link.{Link}
 use Rattle.typed_tree.specs.declared.tree.Passed.{Passed}
 use Rattle.typed_tree.specs.declared.tree.Expr.TheOpen.{Expr-F, Passed-F, Link-F}
 use Rattle.typed_tree.specs.declared.tree.Expr.TheOpen.Expr-F.{Constant, Variable, Monadic as MonadicOf, Chain}
-use Rattle.typed_tree.specs.declared.tree.Expr.TheOpen.Expr-F.{Compare, Call as CallOf}
+use Rattle.typed_tree.specs.declared.tree.Expr.TheOpen.Expr-F.{Compare, Call as CallOf, Set as SetOf}
 use Rattle.typed_tree.specs.declared.tree.Expr.TheOpen.Passed-F.{Value as PassedValue, Whole as PassedWhole, Reference}
 use Rattle.typed_tree.specs.declared.tree.Expr.TheFolds.{fold-Expr, fold-Passed, fold-Link}
+use Rattle.typed_tree.specs.Accesses.{Origin, origin_of, steps_of}
 use Rattle.typed_tree.specs.WellFormed.{of_one, whole_indexes}
 use Rattle.domain.specs.Interval.{Interval, is_included, has_number, common, sum, difference, negated, product, squared}
 use Rattle.domain.specs.Interval.{absolute, quotient, remainder, without_zero_end, at_least, both, either}
 use Rattle.domain.specs.Interval.{complement, joined, truth_values, vacant}
+use Rattle.domain.specs.Hull.{hull_of}
+use Rattle.members.specs.declared.sets.Operator.TheVariants as operator
 use Rattle.checker_state.specs.Bounds.{Bound}
 use Rattle.meaning.specs.Meaning.{overflow_of, overflow_of_both}
 use Rattle.checker_expressions.specs.declared.fault.Breach.{Breach}
@@ -49,11 +58,13 @@ use Rattle.checker_expressions.specs.declared.fault.Rule.TheVariants.{Aliases, C
 use Rattle.checker_expressions.specs.declared.fault.CheckFault.{CheckFault}
 use Rattle.checker_expressions.specs.declared.fault.CheckFault.TheVariants.{Memory, Foreign, Broken}
 use Rattle.checker_state.specs.declared.value.Known.{Known}
-use Rattle.checker_state.specs.declared.value.Known.TheVariants.{Ordinal}
+use Rattle.checker_state.specs.declared.value.Known.TheVariants.{Ordinal, Set}
+use Rattle.checker_state.specs.Values.{is_closed_member, is_closed_range, known_range, no_members, operated_sets}
+use Rattle.checker_state.specs.Values.{tested_member, unless_none, with_member, with_members}
 use Rattle.checker_rows.specs.Limits.{integer, limits_of}
 use Rattle.checker_state.specs.State.{State, is_dead, range_of, unless_empty, with_defined}
 use Rattle.checker_state.specs.Forms.{Form, Literal, Other, Operand, access_form, bound_of, chain_form, sign_form}
-use Rattle.checker_rows.specs.Rows.{rows_accessed}
+use Rattle.checker_rows.specs.Rows.{is_ordinal_variable, rows_accessed}
 use Rattle.checker_state.specs.Stores.{Index, Reach, entire, gives_reached, is_entire}
 use Rattle.checker_state.specs.Loops.{is_among}
 use Rattle.checker_loops.specs.Loops.{Claims, Round, all_list}
@@ -63,6 +74,7 @@ use Rattle.checker_loops.specs.Ways.{single}
 use Rattle.checker_loops.specs.Sections.{BlockClaims, block_claims_at}
 use Rattle.checker_loops.specs.Starts.{is_own}
 use Rattle.checker_calls.specs.Actuals.{Actual, OfValue, OfRows, OfVariable, Binding, bound_to, settled}
+use Rattle.checker_calls.specs.Actuals.{unknown_index}
 use Rattle.checker_calls.specs.Entry.{are_given}
 use Rattle.checker_calls.specs.Overlaps.{are_separate}
 use Rattle.checker_calls.specs.Exit.{behind_call, result_range, roots_changed}
@@ -168,7 +180,12 @@ IsBreachOf walked (Broken rule place) = first_breach walked.broken ≡ Some (rec
 abbrev pub left_open : Bool → ℕ → List ℕ
 left_open closed site = if closed then [] else site ∷ []
 
--- the test of a value at a site: closed where it surely passes; afterwards the value lies in the range that passes
+-- a test at a site, of which nothing more is known behind it: closed where it surely passes
+abbrev pub checked : Bool → ℕ → Walking (Unit {0})
+checked closed site context state =
+    record { value = tt; after = state; open_ids = left_open (is_dead state || closed) site; broken = []; linked = [] }
+
+-- the test of a number at a site: afterwards the number lies in the range that passes
 abbrev pub tested : Bool → ℕ → Interval → Walking Interval
 tested closed site passed context state = record {
   value = passed;
@@ -190,9 +207,22 @@ positive site range = tested (int_le (pos 1) range.first) site (at_least (pos 1)
 abbrev pub divisor : ℕ → Interval → Walking Interval
 divisor site range = tested (not (has_number range (pos 0))) site (without_zero_end range)
 
--- an ordinal of a range
+-- an ordinal of a range, and a set of a hull
 abbrev pub ordinal : Interval → Walking Known
 ordinal range = give (Ordinal range)
+
+abbrev pub set : Interval → Walking Known
+set hull = give (Set hull)
+
+-- such a value with its number, or its members, in a range
+abbrev pub held_in : Scalar → Interval → Known
+held_in scalar.Ordinal range = Ordinal range
+held_in scalar.Set range = Set (hull_of range)
+
+-- what a value is
+abbrev pub scalar_of : Known → Scalar
+scalar_of (Ordinal range) = scalar.Ordinal
+scalar_of (Set hull) = scalar.Set
 
 -- a result that has to be an integer, where its overflow has a site
 abbrev pub unless_overflow : Option ℕ → Interval → Walking Known
@@ -219,9 +249,9 @@ shifted shift.Previous range = difference range single
 
 -- an operation on one operand, by what is known of the operand
 abbrev pub operated : Monadic → Known → Walking Known
-operated (monadic.Plain does) (Ordinal range) = unless_overflow (overflow_of does) (calculated does range)
-operated (monadic.Tested fits does) (Ordinal range) = do
-  passed ← within (limits_of fits.range) fits.site range
+operated (monadic.Plain does) known = unless_overflow (overflow_of does) (calculated does (known_range known))
+operated (monadic.Tested fits does) known = do
+  passed ← within (limits_of fits.range) fits.site (known_range known)
   ordinal (shifted does passed)
 
 -- the test of a right operand, where it is a divisor: that of `mod` has to be at least 1
@@ -230,7 +260,7 @@ divides (dyadic.Div by_zero) range = divisor by_zero range
 divides (dyadic.Mod by_zero_or_less) range = positive by_zero_or_less range
 divides other range = give range
 
--- the range of what is calculated from a number of each range
+-- the range of what is calculated from a number of each range; the operations of sets calculate none
 abbrev pub of_both : Dyadic → Interval → Interval → Interval
 of_both (dyadic.Plus overflow) left right = sum left right
 of_both (dyadic.Minus overflow) left right = difference left right
@@ -239,19 +269,89 @@ of_both (dyadic.Div by_zero) left right = quotient left right
 of_both (dyadic.Mod by_zero_or_less) left right = remainder left right
 of_both dyadic.And left right = both left right
 of_both dyadic.Or left right = either left right
-of_both (dyadic.Relation relation) left right = truth_values
+of_both other left right = truth_values
 
--- an operation on two operands, by what is known of them
-abbrev pub combined : Dyadic → Known → Known → Walking Known
-combined operation (Ordinal left) (Ordinal right) = do
+-- an operation on the ranges of two numbers
+abbrev pub calculated_both : Dyadic → Interval → Interval → Walking Known
+calculated_both operation left right = do
   passed ← divides operation right
   unless_overflow (overflow_of_both operation) (of_both operation left passed)
 
+-- the hull of a set
+abbrev pub hull_known : Known → Interval
+hull_known (Ordinal range) = hull_of range
+hull_known (Set hull) = hull
+
+-- an operation on two operands, by what is known of them: of two sets, a relation of them, or whether a number is a
+-- member of a set; else of two numbers
+abbrev pub combined : Dyadic → Known → Known → Walking Known
+combined dyadic.Union left right = set (operated_sets operator.Union (hull_known left) (hull_known right))
+combined dyadic.Difference left right = set (operated_sets operator.Difference (hull_known left) (hull_known right))
+combined dyadic.Intersection left right =
+    set (operated_sets operator.Intersection (hull_known left) (hull_known right))
+combined (dyadic.SetRelation relation) left right = ordinal truth_values
+combined dyadic.In left right = ordinal truth_values
+combined of_numbers left right = calculated_both of_numbers (known_range left) (known_range right)
+
+-- the test of a value at a site: afterwards the value is one that passes
+abbrev pub tested_value : Bool → ℕ → Known → Walking Known
+tested_value closed site passed context state = record {
+  value = passed;
+  after = unless_none passed state;
+  open_ids = left_open (is_dead state || closed) site;
+  broken = [];
+  linked = [];
+}
+
+-- a value whose number lies in limits, or whose members do
+abbrev pub limited : Interval → Known → Known
+limited limits known = held_in (scalar_of known) (common (known_range known) limits)
+
 -- a value has to lie in the range of a type
 abbrev pub fitting : RangeTest → Known → Walking Known
-fitting fits (Ordinal range) = do
-  passed ← within (limits_of fits.range) fits.site range
-  ordinal passed
+fitting fits known =
+    tested_value (is_included (known_range known) (limits_of fits.range)) fits.site
+    (limited (limits_of fits.range) known)
+
+-- ---- set constructors
+
+-- where a set constructor is evaluated: the hull of the members so far, the designators that are left, and where the
+-- first value of a range lies whose last value comes next
+pub record Gathering : Type 0 where
+  pub hull : Interval
+  pub left : List Designator
+  pub first : Option Interval
+
+-- before the first member
+abbrev pub none_gathered : List Designator → Gathering
+none_gathered designators = record { hull = no_members; left = designators; first = None }
+
+-- a set with a member more, which is tested
+abbrev pub member_walk : ℕ → Interval → Interval → Walking Interval
+member_walk site range hull = do
+  passed ← tested (is_closed_member range) site (tested_member range)
+  give (with_member hull passed)
+
+-- a set with all members from a first to a last one more, which are tested if there are any
+abbrev pub between_walk : ℕ → (first last : Interval) → Interval → Walking Interval
+between_walk site first last hull = do
+  _ ← checked (is_closed_range first last) site
+  give (with_members hull first last)
+
+-- the value of a member expression, by the designators that are left: a member, the first of several, or the last
+abbrev pub gathered_by : List Designator → Option Interval → Interval → Interval → Walking Gathering
+gathered_by [] first range hull = give (record { hull = hull; left = []; first = first })
+gathered_by (Single site ∷ left) first range hull = do
+  more ← member_walk site range hull
+  give (record { hull = more; left = left; first = None })
+gathered_by (Range site ∷ left) None range hull =
+    give (record { hull = hull; left = Range site ∷ left; first = Some range })
+gathered_by (Range site ∷ left) (Some first) range hull = do
+  more ← between_walk site first range hull
+  give (record { hull = more; left = left; first = None })
+
+abbrev pub gathered : Gathering → Interval → Walking Gathering
+gathered gathering range = gathered_by gathering.left gathering.first range gathering.hull
 
 -- ---- accesses
 
@@ -266,10 +366,11 @@ behind_next [] = []
 behind_next (Element fits cells ∷ selectors) = selectors
 behind_next (Field position offset ∷ selectors) = behind_next selectors
 
--- an expression: its walk, its form, as far as that is part of a bound form, and whether it holds a call
+-- an expression: its walk, its form, as far as that is part of a bound form, by which variables are ordinals, and
+-- whether it holds a call
 pub record Piece : Type 0 where
   pub walk : Walking Known
-  pub form : Form
+  pub form : (ordinal : ℕ → Bool) → Form
   pub holds_call : Bool
 
 -- an actual parameter: its walk, and whether it holds a call
@@ -280,19 +381,27 @@ pub record PassedPiece : Type 0 where
 abbrev pub hold_call : List Piece → Bool
 hold_call pieces = list_any (λ piece. piece.holds_call) pieces
 
--- the bound form of an expression behind which others were evaluated
-abbrev pub form_before : Form → List Piece → Option Bound
-form_before form later = if hold_call later then None else bound_of form
+-- the bound form of an expression, by which variables are ordinals
+abbrev pub form_by : (ordinal : ℕ → Bool) → Piece → Option Bound
+form_by ordinal piece = bound_of (piece.form ordinal)
 
-abbrev pub range_in : Known → Interval
-range_in (Ordinal range) = range
+-- the same, where others were evaluated behind it
+abbrev pub form_before_by : (ordinal : ℕ → Bool) → Piece → List Piece → Option Bound
+form_before_by ordinal piece later = if hold_call later then None else form_by ordinal piece
+
+-- so it is in a program
+abbrev pub form_in : Context → Piece → Option Bound
+form_in context piece = form_by (is_ordinal_variable context.tree) piece
+
+abbrev pub form_before : Context → Piece → List Piece → Option Bound
+form_before context piece later = form_before_by (is_ordinal_variable context.tree) piece later
 
 -- an index is tested, if selectors take it: where it lies then
 abbrev pub index_test : Option RangeTest → Known → Walking Interval
-index_test None known = give (range_in known)
+index_test None known = give (known_range known)
 index_test (Some fits) known = do
   passed ← fitting fits known
-  give (range_in passed)
+  give (known_range passed)
 
 -- what is reached with one index more, of which two are kept
 abbrev pub deeper_by : Index → List Index → Reach → Reach
@@ -308,14 +417,24 @@ indexes_walk selectors [] reach = give reach
 indexes_walk selectors (index ∷ indexes) reach = do
   known ← index.walk
   range ← index_test (next_test selectors) known
-  indexes_walk (behind_next selectors) indexes
-      (deeper (record { form = form_before index.form indexes; range = range }) reach)
+  λ context. indexes_walk (behind_next selectors) indexes
+      (deeper (record { form = form_before context index indexes; range = range }) reach) context
+
+-- what is reached behind steps to a record: the indexes of elements aren't known
+abbrev pub behind_steps : List PathStep → Reach → Reach
+behind_steps [] reach = reach
+behind_steps (path.Element ∷ steps) reach = behind_steps steps (deeper unknown_index reach)
+behind_steps (path.Field position ∷ steps) reach = behind_steps steps reach
+
+-- what is reached where an access begins: at a variable, or at a record of a with statement
+abbrev pub reach_at : Origin → Reach
+reach_at origin = behind_steps (steps_of origin) entire
 
 -- an access, which is entered before its index expressions: what is reached
 abbrev pub access_walk : Access → List Piece → Walking Reach
 access_walk access indexes = do
   _ ← enter access.number
-  indexes_walk access.selectors.items indexes entire
+  indexes_walk access.selectors.items indexes (reach_at (origin_of access))
 
 -- the ranges of rows
 abbrev pub ranges_of : State → List ℕ → List Interval
@@ -338,24 +457,43 @@ all_defined (row ∷ rows) state = all_defined rows (with_defined row state)
 abbrev pub with_used : Reach → List ℕ → State → State
 with_used reach rows state = if is_entire reach then all_defined rows state else state
 
--- the use of what is accessed, an ordinal: closed where what is reached in its rows is defined
-abbrev pub rows_use : List ℕ → Reach → ℕ → Walking Known
-rows_use rows reach site context state = record {
-  value = Ordinal (all_joined (ranges_of state rows));
-  after = unless_empty (all_joined (ranges_of state rows)) (with_used reach rows state);
+-- the value in some rows, an ordinal or a set
+abbrev pub rows_value : Scalar → State → List ℕ → Known
+rows_value holds state rows = held_in holds (all_joined (ranges_of state rows))
+
+-- its use: closed where what is reached in the rows is defined
+abbrev pub rows_use : Scalar → List ℕ → Reach → ℕ → Walking Known
+rows_use holds rows reach site context state = record {
+  value = rows_value holds state rows;
+  after = unless_none (rows_value holds state rows) (with_used reach rows state);
   open_ids = left_open (is_covered context.tree state reach rows) site;
   broken = [];
   linked = [];
 }
 
-abbrev pub value_use : ℕ → List Selector → Reach → ℕ → Walking Known
-value_use root selectors reach site context =
-    rows_use (rows_accessed context.tree root selectors) reach site context
+abbrev pub value_use : Scalar → Origin → List Selector → Reach → ℕ → Walking Known
+value_use holds origin selectors reach site context =
+    rows_use holds (rows_accessed context.tree origin selectors) reach site context
 
-abbrev pub variable_walk : Access → List Piece → ℕ → Walking Known
-variable_walk access indexes site = do
+abbrev pub variable_walk : Scalar → Access → List Piece → ℕ → Walking Known
+variable_walk holds access indexes site = do
   reach ← access_walk access indexes
-  value_use access.root access.selectors.items reach site
+  value_use holds (origin_of access) access.selectors.items reach site
+
+-- the member expressions of a set constructor: the hull of the set
+abbrev pub members_walk : List Piece → Gathering → Walking Interval
+members_walk [] gathering = give gathering.hull
+members_walk (member ∷ members) gathering = do
+  known ← member.walk
+  more ← gathered gathering (known_range known)
+  members_walk members more
+
+-- a set constructor, which is entered before them
+abbrev pub set_walk : ℕ → List Designator → List Piece → Walking Known
+set_walk number designators members = do
+  _ ← enter number
+  hull ← members_walk members (none_gathered designators)
+  set hull
 
 -- the use of a whole value of a type in some rows: the ranges of its components, row by row
 abbrev pub whole_rows_use : TypeId → List ℕ → Reach → ℕ → Walking (List Interval)
@@ -369,9 +507,9 @@ whole_rows_use type_id rows reach site context state = record {
   linked = [];
 }
 
-abbrev pub whole_use : TypeId → ℕ → List Selector → Reach → ℕ → Walking (List Interval)
-whole_use type_id root selectors reach site context =
-    whole_rows_use type_id (rows_accessed context.tree root selectors) reach site context
+abbrev pub whole_use : TypeId → Origin → List Selector → Reach → ℕ → Walking (List Interval)
+whole_use type_id origin selectors reach site context =
+    whole_rows_use type_id (rows_accessed context.tree origin selectors) reach site context
 
 -- the range of the characters of a string
 abbrev pub text_range : List ℕ → Interval
@@ -384,7 +522,7 @@ whole_walk (Text number text) indexes = do
   give (text_range text.items ∷ [])
 whole_walk (VariableOf access type_id cells defined) indexes = do
   reach ← access_walk access indexes
-  whole_use type_id access.root access.selectors.items reach defined
+  whole_use type_id (origin_of access) access.selectors.items reach defined
 
 -- a relation of two whole values, from its operator on, which is entered between them
 abbrev pub related_walk : ℕ → Whole → List Piece → Walking Known
@@ -400,7 +538,7 @@ Combination = Known → Walking Known
 -- an operator with its right operand: its walk, the form of the operand, and whether that holds a call
 pub record Joint : Type 0 where
   pub combination : Combination
-  pub operand : Operand
+  pub operand : (ordinal : ℕ → Bool) → Operand
   pub holds_call : Bool
 
 -- the right operand, and then the operation
@@ -413,7 +551,7 @@ combination_of link left = do
 abbrev pub link_step : Link-F Piece PassedPiece Joint → Joint
 link_step link = record {
   combination = combination_of link;
-  operand = record { operation = link.operation; form = link.operand.form };
+  operand = λ ordinal. record { operation = link.operation; form = link.operand.form ordinal };
   holds_call = link.operand.holds_call;
 }
 
@@ -431,7 +569,7 @@ abbrev pub value_passed : Piece → RangeTest → Walking Actual
 value_passed value fits = do
   known ← value.walk
   passed ← fitting fits known
-  give (OfValue (range_in passed) (bound_of value.form))
+  λ context. give (OfValue (known_range passed) (form_in context value)) context
 
 abbrev pub whole_passed : Whole → List Piece → Walking Actual
 whole_passed value indexes = do
@@ -441,7 +579,7 @@ whole_passed value indexes = do
 abbrev pub variable_passed : Access → List Piece → Walking Actual
 variable_passed access indexes = do
   reach ← access_walk access indexes
-  give (OfVariable access.root access.selectors.items reach)
+  give (OfVariable (origin_of access) access.selectors.items reach)
 
 abbrev pub passed_walk : Passed-F Piece PassedPiece Joint → Walking Actual
 passed_walk (PassedValue value fits) = value_passed value fits
@@ -552,7 +690,8 @@ abbrev pub walk_step : Expr-F Piece PassedPiece Joint → Walking Known
 walk_step (Constant number value) = do
   _ ← enter number
   ordinal (record { first = value; last = value })
-walk_step (Variable access indexes defined) = variable_walk access indexes.items defined
+walk_step (Variable access indexes holds defined) = variable_walk holds access indexes.items defined
+walk_step (SetOf number designators members) = set_walk number designators.items members.items
 walk_step (MonadicOf number operation operand) = do
   _ ← enter number
   known ← operand.value.walk
@@ -566,18 +705,22 @@ walk_step (Compare number relation left left_indexes right right_indexes) = do
 walk_step (CallOf call actuals) = function_walk call actuals.items
 
 -- and its form
-abbrev pub form_step : Expr-F Piece PassedPiece Joint → Form
-form_step (Constant number value) = Literal value
-form_step (Variable access indexes defined) = access_form access.root access.selectors.items
-form_step (MonadicOf number operation operand) = sign_form operand.value.form operation
-form_step (Chain first rest) = chain_form first.value.form (map (λ joint. joint.operand) rest.items)
-form_step (Compare number relation left left_indexes right right_indexes) = Other
-form_step (CallOf call actuals) = Other
+abbrev pub form_step : Expr-F Piece PassedPiece Joint → (ordinal : ℕ → Bool) → Form
+form_step (Constant number value) ordinal = Literal value
+form_step (Variable access indexes holds defined) ordinal =
+    access_form ordinal (origin_of access) access.selectors.items
+form_step (SetOf number designators members) ordinal = Other
+form_step (MonadicOf number operation operand) ordinal = sign_form (operand.value.form ordinal) operation
+form_step (Chain first rest) ordinal =
+    chain_form (first.value.form ordinal) (map (λ joint. joint.operand ordinal) rest.items)
+form_step (Compare number relation left left_indexes right right_indexes) ordinal = Other
+form_step (CallOf call actuals) ordinal = Other
 
 -- and whether it holds a call
 abbrev pub holds_step : Expr-F Piece PassedPiece Joint → Bool
 holds_step (Constant number value) = false
-holds_step (Variable access indexes defined) = hold_call indexes.items
+holds_step (Variable access indexes holds defined) = hold_call indexes.items
+holds_step (SetOf number designators members) = hold_call members.items
 holds_step (MonadicOf number operation operand) = operand.value.holds_call
 holds_step (Chain first rest) = first.value.holds_call || list_any (λ joint. joint.holds_call) rest.items
 holds_step (Compare number relation left left_indexes right right_indexes) =
@@ -612,8 +755,8 @@ index_pieces = map piece_of
 
 -- a width has to be at least 1
 abbrev pub width_test : ℕ → Known → Walking (Unit {0})
-width_test site (Ordinal range) = do
-  _ ← positive site range
+width_test site known = do
+  _ ← positive site (known_range known)
   give tt
 
 -- the width of a value that is written

@@ -1,9 +1,10 @@
 ghost use Rattle.std.specs.Prelude.{◌≡◌};
 ghost use Rattle.checker_expressions.specs.View.{Goes, first_of, opened};
-ghost use Rattle.checker_expressions.specs.Walk.{asked, first_breach, fitting, breach_unless, tested, within};
+ghost use Rattle.checker_expressions.specs.Walk.{asked, breach_unless, checked, first_breach, fitting, tested, within};
 
 use crate::fault::{Breach, Rule};
 use crate::grounds::Grounds;
+use crate::values::{lies_in, limited, unless_none};
 use checker_rows::{Rows, limits};
 use checker_state::Known;
 use checker_trail::State;
@@ -45,29 +46,40 @@ impl<'a> Flow<'a> {
         }
     }
 
-    /// A value that has to lie in the range of a type.
+    /// A value that has to lie in the range of a type: its number, or its members.
     pub fn fitting(&mut self, fits: RangeTest, known: Known) -> Known
         ensures { Goes (fitting fits known) self.old self.new result }
     {
-        let range = known.range();
-        Known::Ordinal(self.within(limits(fits.range), fits.site, range))
+        let limits = limits(fits.range);
+        let closed = lies_in(&limits, &known);
+        let passed = limited(&limits, &known);
+        self.check(closed, fits.site);
+        unless_none(&mut self.state, &passed);
+        passed
     }
 
-    /// A value that has to lie in limits.
+    /// A number that has to lie in limits.
     pub fn within(&mut self, limits: Interval, site: u32, range: Interval) -> Interval
         ensures { Goes (within limits site range) self.old self.new result }
     {
         self.test(range.leq(&limits), site, range.meet(&limits))
     }
 
-    /// The test of a value at a site: what passes lies in a range, and it is closed where the value surely passes.
+    /// The test of a number at a site: what passes lies in a range, and it is closed where the number surely passes.
     pub fn test(&mut self, closed: bool, site: u32, passed: Interval) -> Interval
         ensures { Goes (tested closed site passed) self.old self.new result }
     {
-        let is_closed = self.state.is_dead() || closed;
-        self.open_unless(is_closed, site);
+        self.check(closed, site);
         self.state.unless_empty(passed);
         passed
+    }
+
+    /// A test at a site, of which nothing more is known behind it: closed where it surely passes.
+    pub(crate) fn check(&mut self, closed: bool, site: u32)
+        ensures { Goes (checked closed site) self.old self.new tt }
+    {
+        let is_closed = self.state.is_dead() || closed;
+        self.open_unless(is_closed, site);
     }
 }
 

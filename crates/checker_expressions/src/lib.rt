@@ -5,9 +5,11 @@
 mod calls;
 pub mod fault;
 pub mod flow;
+mod gathering;
 pub mod grounds;
 mod operations;
 mod results;
 mod uses;
+mod values;
 pub mod visits;
 mod walk;

@@ -1,14 +1,18 @@
 //! Operations and tests, which enter nothing.
 ghost use Rattle.std.specs.Prelude.{◌≡◌};
+ghost use Rattle.checker_state.specs.Values.{known_range, operated_sets};
 ghost use Rattle.checker_expressions.specs.View.{Goes};
-ghost use Rattle.checker_expressions.specs.Walk.{combined, divides, divisor, index_test, operated, positive};
-ghost use Rattle.checker_expressions.specs.Walk.{unless_overflow, width_test};
+ghost use Rattle.checker_expressions.specs.Walk.{calculated_both, combined, divides, divisor, hull_known, index_test};
+ghost use Rattle.checker_expressions.specs.Walk.{operated, positive, unless_overflow, width_test};
 
 use crate::flow::Flow;
 use crate::results::{calculated, of_both, overflow_of, overflow_of_both, shifted};
+use crate::values::hull;
 use checker_rows::limits;
-use checker_state::Known;
+use checker_state::{Known, operated_sets};
+use domain::hull::Hull;
 use domain::interval::Interval;
+use members::sets::Operator;
 use typed_tree::tree::{Dyadic, Monadic, RangeTest};
 
 impl<'a> Flow<'a> {
@@ -39,13 +43,34 @@ impl<'a> Flow<'a> {
         }
     }
 
-    /// What an operation gives for two values.
+    /// What an operation gives for two values: for two sets (ISO 7185:1990, 6.7.2.4), a relation of them or a member
+    /// and a set (6.7.2.5), or else for two numbers.
     pub(crate) fn combined(&mut self, operation: Dyadic, left: Known, right: Known) -> Known
         ensures { Goes (combined operation left right) self.old self.new result }
     {
+        match operation {
+            Dyadic::Plus { .. } => self.calculated_both(operation, left, right),
+            Dyadic::Minus { .. } => self.calculated_both(operation, left, right),
+            Dyadic::Times { .. } => self.calculated_both(operation, left, right),
+            Dyadic::Div { .. } => self.calculated_both(operation, left, right),
+            Dyadic::Mod { .. } => self.calculated_both(operation, left, right),
+            Dyadic::And => self.calculated_both(operation, left, right),
+            Dyadic::Or => self.calculated_both(operation, left, right),
+            Dyadic::Relation(_) => self.calculated_both(operation, left, right),
+            Dyadic::Union => Known::Set(of_sets(Operator::Union, left, right)),
+            Dyadic::Difference => Known::Set(of_sets(Operator::Difference, left, right)),
+            Dyadic::Intersection => Known::Set(of_sets(Operator::Intersection, left, right)),
+            Dyadic::SetRelation(_) => Known::Ordinal(Interval::TRUTH_VALUES),
+            Dyadic::In => Known::Ordinal(Interval::TRUTH_VALUES),
+        }
+    }
+
+    /// What an operation gives for two numbers.
+    fn calculated_both(&mut self, operation: Dyadic, left: Known, right: Known) -> Known
+        ensures { Goes (calculated_both operation (known_range left) (known_range right)) self.old self.new result }
+    {
         let left = left.range();
-        let right = right.range();
-        let passed = self.divides(operation, right);
+        let passed = self.divides(operation, right.range());
         self.unless_overflow(
             overflow_of_both(operation),
             of_both(operation, left, passed),
@@ -65,6 +90,11 @@ impl<'a> Flow<'a> {
             Dyadic::And => range,
             Dyadic::Or => range,
             Dyadic::Relation(_) => range,
+            Dyadic::Union => range,
+            Dyadic::Difference => range,
+            Dyadic::Intersection => range,
+            Dyadic::SetRelation(_) => range,
+            Dyadic::In => range,
         }
     }
 
@@ -99,4 +129,11 @@ impl<'a> Flow<'a> {
     {
         self.test(!range.has(0), site, range.without_zero_end())
     }
+}
+
+/// The hull of what an operator gives for two sets.
+fn of_sets(operator: Operator, left: Known, right: Known) -> Hull
+    ensures { result ≡ operated_sets operator (hull_known left) (hull_known right) }
+{
+    operated_sets(operator, &hull(left), &hull(right))
 }

@@ -48,7 +48,7 @@ pub(crate) fn shifted(does: Shift, range: Interval) -> Interval
     }
 }
 
-/// The range of what is calculated from a number of each range (6.7.2).
+/// The range of what is calculated from a number of each range (6.7.2); the operations of sets calculate none.
 pub(crate) fn of_both(operation: Dyadic, left: Interval, right: Interval) -> Interval
     ensures { IsRangeOf (overflow_of_both operation) result (of_both operation left right) }
 {
@@ -61,6 +61,11 @@ pub(crate) fn of_both(operation: Dyadic, left: Interval, right: Interval) -> Int
         Dyadic::And => left.both(&right),
         Dyadic::Or => left.either(&right),
         Dyadic::Relation(_) => Interval::TRUTH_VALUES,
+        Dyadic::Union => Interval::TRUTH_VALUES,
+        Dyadic::Difference => Interval::TRUTH_VALUES,
+        Dyadic::Intersection => Interval::TRUTH_VALUES,
+        Dyadic::SetRelation(_) => Interval::TRUTH_VALUES,
+        Dyadic::In => Interval::TRUTH_VALUES,
     }
 }
 
@@ -77,5 +82,10 @@ pub(crate) fn overflow_of_both(operation: Dyadic) -> Option<u32>
         Dyadic::And => None,
         Dyadic::Or => None,
         Dyadic::Relation(_) => None,
+        Dyadic::Union => None,
+        Dyadic::Difference => None,
+        Dyadic::Intersection => None,
+        Dyadic::SetRelation(_) => None,
+        Dyadic::In => None,
     }
 }

@@ -2,7 +2,8 @@
 ghost use Rattle.std.specs.Prelude.{◌≡◌, ◌||◌, ◌&&◌, [], ◌∷◌, IfOk, true};
 ghost use Rattle.types.specs.Types.{is_structured};
 ghost use Rattle.checker_rows.specs.View.{numbers};
-ghost use Rattle.checker_state.specs.State.{is_dead, unless_empty};
+ghost use Rattle.typed_tree.specs.Accesses.{origin_of};
+ghost use Rattle.checker_state.specs.State.{is_dead};
 ghost use Rattle.checker_state.specs.View.{said_reach};
 ghost use Rattle.checker_trail.specs.Trail.{Moves, seen};
 ghost use Rattle.checker_expressions.specs.View.{Goes, state_of};
@@ -10,6 +11,7 @@ ghost use Rattle.checker_expressions.specs.Walk.{all_defined, all_joined, give, 
 ghost use Rattle.checker_expressions.specs.Walk.{value_use, whole_use, with_used};
 
 use crate::flow::Flow;
+use crate::values::{held_in, unless_none};
 use checker_calls::actuals::is_entire;
 use checker_rows::Span;
 use checker_state::{Known, Reach};
@@ -17,22 +19,28 @@ use checker_trail::State;
 use domain::Domain;
 use domain::interval::Interval;
 use std::alloc::{AllocError, Global};
-use typed_tree::tree::Access;
+use typed_tree::tree::{Access, Scalar};
 use types::TypeId;
 
 impl<'a> Flow<'a> {
-    /// The use of what is accessed, an ordinal.
-    pub(crate) fn used(&mut self, access: &Access, reach: &Reach, defined: u32) -> Known
-        ensures { Goes (value_use access.now.root access.now.selectors.items (said_reach reach.now) defined)
-            self.old self.new result }
+    /// The use of what is accessed, an ordinal or a set.
+    pub(crate) fn used(
+        &mut self,
+        holds: Scalar,
+        access: &Access,
+        reach: &Reach,
+        defined: u32,
+    ) -> Known
+        ensures { Goes (value_use holds (origin_of access.now) access.now.selectors.items
+            (said_reach reach.now) defined) self.old self.new result }
     {
-        let span = self.state.table().accessed(access.root, &access.selectors);
-        let range = joined_ranges(&self.state, span);
+        let span = self.state.table().accessed(access);
+        let known = held_in(holds, joined_ranges(&self.state, span));
         let is_closed = self.covers(reach, span);
         self.open_unless(is_closed, defined);
         define_used(&mut self.state, reach, span);
-        self.state.unless_empty(range);
-        Known::Ordinal(range)
+        unless_none(&mut self.state, &known);
+        known
     }
 
     /// The use of a whole value: the ranges of its components, row by row.
@@ -43,10 +51,10 @@ impl<'a> Flow<'a> {
         reach: &Reach,
         defined: u32,
     ) -> Vec<Interval>
-        ensures { Goes (whole_use type_id access.now.root access.now.selectors.items (said_reach reach.now) defined)
-            self.old self.new result.items }
+        ensures { Goes (whole_use type_id (origin_of access.now) access.now.selectors.items
+            (said_reach reach.now) defined) self.old self.new result.items }
     {
-        let span = self.state.table().accessed(access.root, &access.selectors);
+        let span = self.state.table().accessed(access);
         let ranges = self.ranges(span);
         let is_closed = self.covers_whole(type_id, reach, span);
         self.open_unless(is_closed, defined);

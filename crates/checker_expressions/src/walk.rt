@@ -1,27 +1,36 @@
 //! The walk over an expression, form by form.
-ghost use Rattle.std.specs.Prelude.{◌≡◌, ◌++◌, ◌∷◌, [], map};
+ghost use Rattle.std.specs.Prelude.{◌≡◌, ◌++◌, ◌∷◌, ℕ, [], map};
+ghost use Rattle.typed_tree.specs.Accesses.{origin_by};
 ghost use Rattle.typed_tree.specs.Entries.{access_entries, call_entries, entries_of_expression, entries_of_parameter};
 ghost use Rattle.typed_tree.specs.Entries.{entries_of_passed, entries_of_width, entries_of_written, index_entries};
 ghost use Rattle.typed_tree.specs.Entries.{joined, whole_entries};
+ghost use Rattle.checker_calls.specs.Actuals.{unknown_index};
 ghost use Rattle.checker_calls.specs.View.{said_actual};
 ghost use Rattle.checker_state.specs.Stores.{entire};
 ghost use Rattle.checker_state.specs.View.{said_form, said_index, said_reach};
 ghost use Rattle.checker_expressions.specs.View.{Goes, entries_of_link};
 ghost use Rattle.checker_expressions.specs.Visits.{all_counted};
-ghost use Rattle.checker_expressions.specs.Walk.{access_walk, actuals_walk, behind_next, call_walk, deeper};
-ghost use Rattle.checker_expressions.specs.Walk.{form_before, give};
+ghost use Rattle.checker_expressions.specs.Walk.{access_walk, actuals_walk, behind_next, behind_steps, call_walk};
+ghost use Rattle.checker_expressions.specs.Walk.{deeper};
+ghost use Rattle.checker_expressions.specs.Walk.{form_before_by, give};
 ghost use Rattle.checker_expressions.specs.Walk.{function_walk, in_turn, index_pieces, indexes_walk, link_walk};
-ghost use Rattle.checker_expressions.specs.Walk.{next_test, parameter_walk, passed_piece_of, piece_of, related_walk};
+ghost use Rattle.checker_expressions.specs.Walk.{members_walk, next_test, none_gathered, parameter_walk};
+ghost use Rattle.checker_expressions.specs.Walk.{passed_piece_of, piece_of, reach_at, related_walk};
 ghost use Rattle.checker_expressions.specs.Walk.{value_walk, variable_walk, whole_walk, width_walk, written_walk};
+ghost use Rattle.checker_rows.specs.Rows.{is_ordinal_variable};
 
 use crate::flow::Flow;
+use crate::gathering::Gathering;
 use crate::visits::Visits;
 use checker_calls::actuals::Actual;
+use checker_rows::Rows;
 use checker_state::{Bound, Index, Indexes, Known, Reach, bound_form};
+use domain::hull::Hull;
 use domain::interval::Interval;
 use typed_tree::calls::{actuals_hold_call, hold_call};
 use typed_tree::tree::{
-    Access, Call, Expr, Link, Passed, RangeTest, Selector, Whole, Width, WriteParameter, Written,
+    Access, Base, Call, Designator, Expr, Link, Passed, PathStep, RangeTest, Scalar, Selector,
+    Whole, Width, WriteParameter, Written,
 };
 
 impl<'a> Flow<'a> {
@@ -39,8 +48,17 @@ impl<'a> Flow<'a> {
             Expr::Variable {
                 access,
                 indexes,
+                holds,
                 defined,
-            } => self.variable(access, indexes, *defined, visits),
+            } => self.variable(*holds, access, indexes, *defined, visits),
+            Expr::Set {
+                number,
+                designators,
+                members,
+            } => {
+                visits.tick(*number);
+                Known::Set(self.members(designators, members, visits))
+            }
             Expr::Monadic {
                 number,
                 operation,
@@ -97,16 +115,33 @@ impl<'a> Flow<'a> {
     #[cycle(expression)]
     fn variable(
         &mut self,
+        holds: Scalar,
         access: &Access,
         indexes: &[Expr],
         defined: u32,
         visits: &mut Visits,
     ) -> Known
-        ensures goes { Goes (variable_walk access.now (index_pieces indexes.now) defined) self.old self.new result }
+        ensures goes { Goes (variable_walk holds access.now (index_pieces indexes.now) defined)
+            self.old self.new result }
         ensures counts { visits.new ≡ all_counted (access_entries access.now (index_entries indexes.now)) visits.old }
     {
         let reach = self.access(access, indexes, visits);
-        self.used(access, &reach, defined)
+        self.used(holds, access, &reach, defined)
+    }
+
+    /// The member expressions of a set constructor (6.7.1): the hull of the set.
+    #[cycle(expression)]
+    fn members(&mut self, designators: &[Designator], members: &[Expr], visits: &mut Visits) -> Hull
+        ensures goes { Goes (members_walk (index_pieces members.now) (none_gathered designators.now))
+            self.old self.new result }
+        ensures counts { visits.new ≡ all_counted (joined (index_entries members.now)) visits.old }
+    {
+        let mut gathering = Gathering::of(designators);
+        for member in members {
+            let known = self.expression(member, visits);
+            gathering = self.gathered(gathering, known.range());
+        }
+        gathering.hull
     }
 
     /// A relation of two whole values behind the left one: the operator is entered between them.
@@ -163,26 +198,30 @@ impl<'a> Flow<'a> {
         ensures counts { visits.new ≡ all_counted (access_entries access.now (index_entries indexes.now)) visits.old }
     {
         visits.tick(access.number);
-        self.indexes(&access.selectors, indexes, visits)
+        let reach = begun(&access.base);
+        self.indexes(&access.selectors, indexes, reach, visits)
     }
 
-    /// Index expressions, each of which is tested at once: what is reached by them.
+    /// Index expressions, each of which is tested at once: what is reached by them, from where an access begins on.
     #[cycle(expression)]
-    fn indexes(&mut self, selectors: &[Selector], indexes: &[Expr], visits: &mut Visits) -> Reach
-        ensures goes { Goes (indexes_walk selectors.now (index_pieces indexes.now) entire)
+    fn indexes(
+        &mut self,
+        selectors: &[Selector],
+        indexes: &[Expr],
+        begun: Reach,
+        visits: &mut Visits,
+    ) -> Reach
+        ensures goes { Goes (indexes_walk selectors.now (index_pieces indexes.now) (said_reach begun))
             self.old self.new (said_reach result) }
         ensures counts { visits.new ≡ all_counted (joined (index_entries indexes.now)) visits.old }
     {
         let mut left = selectors;
-        let mut reach = Reach {
-            indexes: Indexes::Entire,
-            is_all: true,
-        };
+        let mut reach = begun;
         for i in 0..indexes.len() {
             let index = &indexes[i];
             let known = self.expression(index, visits);
             let range = self.index(next_test(left), known);
-            let form = form_before(index, &indexes[i + 1..]);
+            let form = form_before(self.state.table(), index, &indexes[i + 1..]);
             reach = deeper(Index { form, range }, reach);
             left = behind_next(left);
         }
@@ -244,9 +283,10 @@ impl<'a> Flow<'a> {
         match actual {
             Passed::Value { value, fits } => {
                 let known = self.expression(value, visits);
+                let range = self.fitting(*fits, known).range();
                 Actual::Value {
-                    range: self.fitting(*fits, known).range(),
-                    form: bound_form(value),
+                    range,
+                    form: bound_form(self.state.table(), value),
                 }
             }
             Passed::Whole { value, indexes, .. } => {
@@ -257,8 +297,7 @@ impl<'a> Flow<'a> {
                 indexes,
                 ..
             } => Actual::Variable {
-                root: access.root,
-                selectors: &access.selectors,
+                access,
                 reach: self.access(access, indexes, visits),
             },
         }
@@ -301,13 +340,52 @@ impl<'a> Flow<'a> {
 }
 
 /// The bound form of an index expression behind which others are evaluated: none, where one of these holds a call.
-fn form_before(index: &Expr, later: &[Expr]) -> Option<Bound>
-    ensures { said_form result ≡ form_before (piece_of index.now).form (index_pieces later.now) }
+fn form_before(rows: &Rows, index: &Expr, later: &[Expr]) -> Option<Bound>
+    ensures { said_form result
+        ≡ form_before_by (is_ordinal_variable rows.now) (piece_of index.now) (index_pieces later.now) }
 {
     if hold_call(later) {
         None
     } else {
-        bound_form(index)
+        bound_form(rows, index)
+    }
+}
+
+/// What is reached of the rows where an access begins: at a variable, or at a record of a with statement (6.8.3.10), to
+/// which the indexes aren't known.
+fn begun(base: &Base) -> Reach
+    ensures { (root : ℕ) → said_reach result ≡ reach_at (origin_by root base.now) }
+{
+    match base {
+        Base::Variable => behind(&[]),
+        Base::Record { path, .. } => behind(path),
+    }
+}
+
+/// What is reached of the rows behind steps from a variable.
+fn behind(steps: &[PathStep]) -> Reach
+    ensures { said_reach result ≡ behind_steps steps.now entire }
+{
+    let mut reach = Reach {
+        indexes: Indexes::Entire,
+        is_all: true,
+    };
+    for step in steps {
+        match step {
+            PathStep::Element => reach = deeper(unknown_index(), reach),
+            PathStep::Field(_) => {}
+        }
+    }
+    reach
+}
+
+/// An index of which nothing is known.
+fn unknown_index() -> Index
+    ensures { said_index result ≡ unknown_index }
+{
+    Index {
+        form: None,
+        range: Interval::INTEGER,
     }
 }
 

@@ -167,12 +167,12 @@ impl Known {
         self.row(row).is_defined || self.is_spanned(row, table.index(row))
     }
 
-    /// Whether a variable that is there is known to be defined.
+    /// Whether an ordinal variable that is there is known to be defined.
     pub(crate) fn has_number(&self, table: &Rows, root: u32) -> bool
         ensures { result ≡ has_number (table_of table.now) (Live (viewed (core self.now))) root }
     {
         let row = root as usize;
-        row < table.variables() && self.row(row).is_defined
+        row < table.variables() && (table.is_ordinal_variable(root) && self.row(row).is_defined)
     }
 
     /// Whether the variable of a bound, if it has one, is.

@@ -137,7 +137,7 @@ module _ (rows : List Parts) (table : Table) (are : AreRows rows table) (env : E
       let values = way.first.values in
       record {
         shows = known.shows;
-        holds = nonempty-holds rows table are env known.shows store (on_way way.direction values way.last.values values) state (value.Number x)
+        holds = nonempty-holds rows table are env known.shows store (on_way way.direction values way.last.values values) state x
             (on-way_in way.direction values way.last.values values x y x one other
             (ordered-itself way.direction x, counts-ordered way.direction x y counts) one) known.holds;
       }
@@ -201,7 +201,7 @@ ended-known rows table are env way state before after x y n within changes has o
     (none-loose rows env state after) inside (next-of_form env before way.control way.direction n has) (λ bound is. refl) in
     let moved : Knows rows table.variables env (moved_on way range state) after = record {
       shows = known.shows;
-      holds = nonempty-holds rows table are env known.shows after range _ (value.Number m) inside assigned.holds;
+      holds = nonempty-holds rows table are env known.shows after range _ m inside assigned.holds;
     }
     in
     in-order_known rows table are env after way.direction (own way) way.last.form m y (moved_on way range state)

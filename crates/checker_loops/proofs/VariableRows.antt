@@ -8,18 +8,21 @@ use Rattle.std.proofs.lemmas.Bool.{false≢true}
 use Rattle.std.proofs.lemmas.Option.{none-some}
 use Rattle.types.specs.Components.{components_of}
 use Rattle.types.specs.Forms.{Array, Form, Record}
-use Rattle.types.specs.Types.{form_at, form_kind, form_range, is_ordinal, is_structured, is_structured_kind}
+use Rattle.types.specs.Types.{form_at, form_kind, form_range, is_ordinal, is_scalar, is_structured, is_structured_kind, kind_of, scalar_range}
+use Rattle.types.specs.declared.form.TypeKind.{TypeKind}
+use Rattle.types.specs.declared.form.TypeKind.TheVariants.{Structured}
 use Rattle.types.specs.declared.form.Step.{Step}
 use Rattle.types.specs.declared.form.Step.TheVariants as step
 use Rattle.types.specs.declared.form.TypeId.{TypeId}
-use Rattle.typed_tree.specs.Accesses.{accessed, index_count, led}
+use Rattle.typed_tree.specs.Accesses.{Origin, AtVariable, accessed, index_count, led, root_of, steps_of}
+use Rattle.typed_tree.specs.declared.tree.PathStep.{PathStep}
 use Rattle.typed_tree.specs.declared.tree.Selector.{Selector}
 use Rattle.typed_tree.specs.declared.tree.Selector.TheVariants.{Element, Field}
 use Rattle.typed_tree.specs.declared.tree.Tree.{Tree}
 use Rattle.typed_tree.specs.declared.tree.Variable.{Variable}
 use Rattle.checker_rows.specs.Leaves.{LeafStep}
 use Rattle.checker_rows.specs.Rows.{all_parts, first_index, is_structured_variable, is_under, leaf_rows, no_parts, numbers_where, own_row, rows_accessed}
-use Rattle.checker_rows.specs.Rows.{rows_under, leaf_step}
+use Rattle.checker_rows.specs.Rows.{leaf_step, path_step, rows_under, steps_accessed}
 use Rattle.checker_rows.proofs.Accessed.{IsOf, row-is, rows-are}
 use Rattle.checker_rows.proofs.Numbered.{contains-has, in-numbers, number-under, root-of_row, row-at}
 use Rattle.checker_rows.proofs.Selected.{Matches}
@@ -82,6 +85,14 @@ ordinal-plain (Some (Array packed index element)) ordinal structured = false≢t
 ordinal-plain (Some (Record packed fields)) ordinal structured = false≢true ordinal
 ordinal-plain form ordinal structured = false≢true structured
 
+scalar-plain : (kind : Option TypeKind) → is_some (option_and_then scalar_range kind) ≡ true → is_structured_kind kind ≡ true → ⊥
+scalar-plain (Some Structured) scalar structured = false≢true scalar
+scalar-plain kind scalar structured = false≢true structured
+
+-- no type is both scalar and structured
+pub scalar-unstructured : (types : List Form) (id : TypeId) → is_scalar types id ≡ true → is_structured types id ≡ true → ⊥
+scalar-unstructured types id scalar structured = scalar-plain (kind_of types id) scalar structured
+
 -- no type is both ordinal and structured
 pub not-both : (types : List Form) (id : TypeId) → is_ordinal types id ≡ true → is_structured types id ≡ true → ⊥
 not-both types id ordinal structured = ordinal-plain (form_at types id) ordinal structured
@@ -94,7 +105,7 @@ some-type types id selectors (Some variable) is = (variable, refl, is)
 
 -- what is accessed is a variable of a type from which selectors lead on
 pub variable-accessed : (tree : Tree) (root : ℕ) (selectors : List Selector) (id : TypeId)
-    → accessed tree.variables.items tree.types root selectors ≡ Some id
+    → accessed tree.variables.items tree.types (AtVariable root) selectors ≡ Some id
     → (variable : Variable) × (slice_get tree.variables.items root ≡ Some variable) × (led tree.types selectors variable.type_id ≡ Some id)
 variable-accessed tree root selectors id is = some-type tree.types id selectors (slice_get tree.variables.items root) is
 
@@ -133,29 +144,31 @@ under-plain tree root steps row inside within = by (is_structured_variable tree 
     by false is inside = subst (λ (r : ℕ). is_structured_variable tree r ≡ false) (own steps inside) is
 
 -- an access has a variable's own row only where it is the entire variable
-pub variable-row : (tree : Tree) (root : ℕ) (selectors : List Selector) (row : ℕ) → Contains (rows_accessed tree root selectors) row
-    → row < length tree.variables.items → (root ≡ row) × (selectors ≡ [])
-variable-row tree root selectors row inside within = by (is_structured_variable tree root) inside
+pub variable-row : (tree : Tree) (origin : Origin) (selectors : List Selector) (row : ℕ) → Contains (rows_accessed tree origin selectors) row
+    → row < length tree.variables.items → (root_of origin ≡ row) × (selectors ≡ []) × (steps_of origin ≡ [])
+variable-row tree origin selectors row inside within = by (is_structured_variable tree (root_of origin)) inside
   where
-    own : (selectors : List Selector) → Contains (own_row root (map leaf_step selectors)) row → (root ≡ row) × (selectors ≡ [])
-    own [] inside = (in-one root row inside, refl)
-    own (s ∷ selectors) inside = absurd (omega (arith, inside.1))
+    own : (steps : List PathStep) (selectors : List Selector) → Contains (own_row (root_of origin) (map path_step steps ++ map leaf_step selectors)) row
+        → (root_of origin ≡ row) × (selectors ≡ []) × (steps ≡ [])
+    own [] [] inside = (in-one (root_of origin) row inside, refl, refl)
+    own [] (s ∷ selectors) inside = absurd (omega (arith, inside.1))
+    own (s ∷ steps) selectors inside = absurd (omega (arith, inside.1))
 
     by : (b : Bool)
-        → Contains (cond b (numbers_where (is_under root (map leaf_step selectors)) (length tree.variables.items) (leaf_rows tree))
-        (own_row root (map leaf_step selectors))) row
-        → (root ≡ row) × (selectors ≡ [])
+        → Contains (cond b (numbers_where (is_under (root_of origin) (steps_accessed origin selectors)) (length tree.variables.items) (leaf_rows tree))
+        (own_row (root_of origin) (steps_accessed origin selectors))) row
+        → (root_of origin ≡ row) × (selectors ≡ []) × (steps_of origin ≡ [])
     by true inside =
-        let test = is_under root (map leaf_step selectors) in
+        let test = is_under (root_of origin) (steps_accessed origin selectors) in
         let rows = numbers_where test (length tree.variables.items) (leaf_rows tree) in
         let found = in-numbers test (length tree.variables.items) (leaf_rows tree) row (contains-has rows row inside) in
         let behind = found.2 in
         absurd (omega (arith, within, behind))
-    by false inside = own selectors inside
+    by false inside = own (steps_of origin) selectors inside
 
 -- the type of an entire variable
 pub own-type : (tree : Tree) (root : ℕ) (variable : Variable) → slice_get tree.variables.items root ≡ Some variable
-    → accessed tree.variables.items tree.types root [] ≡ Some variable.type_id
+    → accessed tree.variables.items tree.types (AtVariable root) [] ≡ Some variable.type_id
 own-type tree root variable is = ap (option_and_then (λ (v : Variable). led tree.types [] v.type_id)) is
 
 pub empty-way : (way : List Step) → Matches [] way → way ≡ []
@@ -163,9 +176,9 @@ empty-way [] matches = refl
 empty-way (s ∷ way) matches = absurd matches
 
 -- a component of a row under a variable is one of the variable's type
-pub row-component : (tree : Tree) (root row : ℕ) (steps : List Step) (id : TypeId) → accessed tree.variables.items tree.types root [] ≡ Some id
+pub row-component : (tree : Tree) (root row : ℕ) (steps : List Step) (id : TypeId) → accessed tree.variables.items tree.types (AtVariable root) [] ≡ Some id
     → Contains (rows_under tree root []) row → IsOf tree row steps → Contains (components_of tree.types id) steps
 row-component tree root row steps id typed inside of_row =
-    let lies = (rows-are tree root [] id typed).lies row steps inside of_row in
+    let lies = (rows-are tree (AtVariable root) [] id typed).lies row steps inside of_row in
     let same : steps ≡ lies.1 = lies.2 ∙ ap (λ (way : List Step). way ++ lies.1) (empty-way lies.0 lies.3) in
     subst (Contains (components_of tree.types id)) (sym same) lies.4

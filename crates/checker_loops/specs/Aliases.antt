@@ -12,7 +12,7 @@ use Rattle.checker_state.specs.State.{State}
 use Rattle.checker_state.specs.Changes.{all_changed, bound_rests_on}
 use Rattle.checker_state.specs.Stores.{Index, Reach, with_joined}
 
--- an ordinal that is stored: the type of its place, if that is there, and where it lies
+-- an ordinal or a set that is stored: the type of its place, if that is there, and where it lies, or its members do
 pub record Stored : Type 0 where
   pub type_id : Option TypeId
   pub range : Interval
@@ -42,7 +42,7 @@ aliases_joined tree stored [] state = state
 aliases_joined tree stored (alias ∷ aliases) state =
     aliases_joined tree stored aliases (alias_joined tree stored alias state)
 
--- aliases may have each of several ordinals that are stored
+-- aliases may have each of several that are stored
 abbrev pub all_joined_to : Tree → List Stored → List ℕ → State → State
 all_joined_to tree [] aliases state = state
 all_joined_to tree (stored ∷ more) aliases state =

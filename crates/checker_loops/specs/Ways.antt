@@ -14,11 +14,11 @@ use Rattle.typed_tree.specs.declared.tree.Relation.TheVariants as relation
 use Rattle.domain.specs.Interval.{Interval, at_least, at_most, difference, sum}
 use Rattle.checker_state.specs.Bounds.{Bound, plus}
 use Rattle.checker_state.specs.declared.value.Known.{Known}
-use Rattle.checker_state.specs.declared.value.Known.TheVariants.{Ordinal}
 use Rattle.checker_state.specs.State.{State, bound_range, range_of, unless_empty, with_defined}
 use Rattle.checker_state.specs.Changes.{assigned, bound_rests_on}
 use Rattle.checker_state.specs.Conditions.{bound_form, narrowed, related_forms, with_order}
 use Rattle.checker_state.specs.Loops.{replaced}
+use Rattle.checker_state.specs.Values.{known_range}
 
 -- a bound of a for statement: its form, the test of its value, and where that lies
 pub record End : Type 0 where
@@ -33,22 +33,25 @@ pub record Way : Type 0 where
   pub first : End
   pub last : End
 
--- a bound with what is known of its value
-abbrev pub end_of : Fitted → Known → End
-end_of bound (Ordinal values) = record { form = bound_form bound.value; fits = bound.fits; values = values }
+-- by what is told of variables, which of them are ordinals
+module _ (ordinal : ℕ → Bool) where
+  -- a bound with what is known of its value
+  abbrev pub end_of : Fitted → Known → End
+  end_of bound known =
+      record { form = bound_form ordinal bound.value; fits = bound.fits; values = known_range known }
 
--- the form of an expression behind which another was evaluated
-abbrev pub form_before : Expr → (later : Expr) → Option Bound
-form_before expression later = if holds_call later then None else bound_form expression
+  -- the form of an expression behind which another was evaluated
+  abbrev pub form_before : Expr → (later : Expr) → Option Bound
+  form_before expression later = if holds_call later then None else bound_form ordinal expression
 
--- the way of a for statement, from what is known of the values of its bounds
-abbrev pub way_of : ForHead → (from to : Known) → Way
-way_of head from to = record {
-  control = head.control;
-  direction = head.direction;
-  first = record (end_of head.first from) { form = form_before head.first.value head.last.value };
-  last = end_of head.last to;
-}
+  -- the way of a for statement, from what is known of the values of its bounds
+  abbrev pub way_of : ForHead → (from to : Known) → Way
+  way_of head from to = record {
+    control = head.control;
+    direction = head.direction;
+    first = record (end_of head.first from) { form = form_before head.first.value head.last.value };
+    last = end_of head.last to;
+  }
 
 -- ---- whether there are values
 

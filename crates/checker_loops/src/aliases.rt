@@ -13,12 +13,12 @@ use domain::Domain;
 use domain::interval::Interval;
 use types::TypeId;
 
-/// An ordinal that is stored.
+/// An ordinal or a set that is stored.
 #[derive(Clone, Copy)]
 pub struct Stored {
     /// The type of its place, if that is there.
     pub type_id: Option<TypeId>,
-    /// Where it lies.
+    /// Where it lies, or its members do.
     pub range: Interval,
 }
 

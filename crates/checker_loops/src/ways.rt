@@ -1,6 +1,7 @@
 ghost use Rattle.std.specs.Prelude.{◌≡◌};
 ghost use Rattle.std.specs.List.{list_any};
 ghost use Rattle.domain.specs.Interval.{at_least, at_most};
+ghost use Rattle.checker_rows.specs.Rows.{is_ordinal_variable};
 ghost use Rattle.checker_state.specs.Changes.{bound_rests_on};
 ghost use Rattle.checker_state.specs.State.{bound_range};
 ghost use Rattle.checker_state.specs.View.{said_bound, said_form};
@@ -12,6 +13,7 @@ ghost use Rattle.checker_loops.specs.Ways.{relation_of, steady, turn_begun, turn
 ghost use Rattle.checker_loops.specs.Ways.{values_behind, way_of, way_out, where_counts, with_values};
 
 use crate::rounds::Round;
+use checker_rows::Rows;
 use checker_state::{Bound, Known, bound_form};
 use checker_trail::State;
 use domain::interval::Interval;
@@ -29,24 +31,25 @@ pub struct End {
 
 impl End {
     /// A bound with what is known of its value.
-    fn new(bound: &Fitted, known: Known) -> End
-        ensures { said_end result ≡ end_of bound.now known }
+    fn new(rows: &Rows, bound: &Fitted, known: Known) -> End
+        ensures { said_end result ≡ end_of (is_ordinal_variable rows.now) bound.now known }
     {
         End {
-            form: bound_form(&bound.value),
+            form: bound_form(rows, &bound.value),
             fits: bound.fits,
             values: known.range(),
         }
     }
 
     /// A bound behind which another was evaluated.
-    fn before(bound: &Fitted, later: &Expr, known: Known) -> End
-        ensures { said_end result
-            ≡ record (end_of bound.now known) { form = form_before bound.now.value later.now } }
+    fn before(rows: &Rows, bound: &Fitted, later: &Expr, known: Known) -> End
+        ensures { said_end result ≡ record (end_of (is_ordinal_variable rows.now) bound.now known) {
+          form = form_before (is_ordinal_variable rows.now) bound.now.value later.now;
+        } }
     {
         End {
-            form: form_before(&bound.value, later),
-            ..End::new(bound, known)
+            form: form_before(rows, &bound.value, later),
+            ..End::new(rows, bound, known)
         }
     }
 
@@ -62,13 +65,13 @@ impl End {
 }
 
 /// The form of an expression behind which another was evaluated: one that holds a call may have changed what it says.
-fn form_before(expression: &Expr, later: &Expr) -> Option<Bound>
-    ensures { said_form result ≡ form_before expression.now later.now }
+fn form_before(rows: &Rows, expression: &Expr, later: &Expr) -> Option<Bound>
+    ensures { said_form result ≡ form_before (is_ordinal_variable rows.now) expression.now later.now }
 {
     if holds_call(later) {
         return None;
     }
-    bound_form(expression)
+    bound_form(rows, expression)
 }
 
 /// The numbers of a range that a bound may be.
@@ -91,14 +94,14 @@ pub struct Way {
 
 impl Way {
     /// The way of a for statement, from what is known of the values of its bounds.
-    pub fn of(head: &ForHead, from: Known, to: Known) -> Way
-        ensures { said_way result ≡ way_of head.now from to }
+    pub fn of(rows: &Rows, head: &ForHead, from: Known, to: Known) -> Way
+        ensures { said_way result ≡ way_of (is_ordinal_variable rows.now) head.now from to }
     {
         Way {
             control: head.control,
             direction: head.direction,
-            first: End::before(&head.first, &head.last.value, from),
-            last: End::new(&head.last, to),
+            first: End::before(rows, &head.first, &head.last.value, from),
+            last: End::new(rows, &head.last, to),
         }
     }
 

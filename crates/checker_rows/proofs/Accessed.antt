@@ -2,7 +2,11 @@
 -- there.
 use Rattle.std.proofs.Common.{arith, ◌≡◌, ⊎_elim, ◌⊎◌, inl, inr, ◌∙◌, sym, ap, refl, subst, ℕ, ◌+◌, ◌<◌, ◌≤◌, ℤ, ◌≤ℤ◌, Bool, true, false, cond}
 use Rattle.std.proofs.Common.{List, [], ◌∷◌, ◌++◌, append-nil, length, map, filter, Option, Some, None}
-use Rattle.std.proofs.lemmas.Bool.{cases_lt, false≢true}
+use Rattle.std.proofs.lemmas.Bool.{and_from, cases_lt, eq-eqb, false≢true}
+use Rattle.std.proofs.lemmas.Bool.Decides.{Decides-int_eq}
+use Rattle.std.proofs.lemmas.List.{map-append}
+use Rattle.std.specs.Ordering.{int_eq}
+use Rattle.std.specs.Prelude.{nat_eq, pos}
 use Rattle.std.proofs.lemmas.List.{get_or_past}
 use Rattle.std.proofs.lemmas.List.FromFn.{get_or-range_with_len, length-range_with_len}
 use Rattle.std.proofs.lemmas.Option.{get_or_from_slice_get, none-some, same_Some, slice_get-get_or, slice_get_within}
@@ -14,12 +18,21 @@ use Rattle.types.specs.Forms.{Array, Form, Record}
 use Rattle.types.specs.Types.{form_at, form_kind, is_structured, is_structured_kind}
 use Rattle.types.specs.declared.form.OrdinalRange.{OrdinalRange}
 use Rattle.types.specs.declared.form.TypeId.{TypeId}
-use Rattle.typed_tree.specs.Accesses.{accessed, led}
+use Rattle.types.specs.Types.{element_of, field_at}
+use Rattle.types.specs.declared.form.ArrayElement.{ArrayElement}
+use Rattle.types.specs.declared.form.RecordField.{RecordField}
+use Rattle.typed_tree.specs.declared.tree.Scalar.TheVariants as scalar
+use Rattle.typed_tree.specs.declared.tree.PathStep.{PathStep}
+use Rattle.typed_tree.specs.declared.tree.PathStep.TheVariants as path
+use Rattle.typed_tree.specs.declared.tree.Selector.TheVariants.{Element, Field}
+use Rattle.typed_tree.specs.Accesses.{Origin, AtVariable, AtRecord, accessed, are_values_of, element_type, field_type, led, lying, root_of}
+use Rattle.typed_tree.specs.Accesses.{selected, stepped}
 use Rattle.typed_tree.specs.declared.tree.Selector.{Selector}
 use Rattle.typed_tree.specs.declared.tree.Tree.{Tree}
 use Rattle.typed_tree.specs.declared.tree.Variable.{Variable}
-use Rattle.checker_rows.specs.Leaves.{Leaf, LeafStep, begins, behind_elements, is_named, leaves_at, leaves_of, range_at, scalar}
-use Rattle.checker_rows.specs.Rows.{Parts, Row, all_parts, components_in, first_index, index_at, leaf_rows, no_parts, parts_of, rows_accessed, rows_of}
+use Rattle.checker_rows.specs.Leaves.{Leaf, LeafStep, Elements, FieldAt, begins, behind_elements, is_named, leaves_at, leaves_of, range_at, scalar}
+use Rattle.checker_rows.specs.Rows.{Parts, Row, all_parts, components_in, first_index, index_at, leaf_rows, leaf_step, no_parts, parts_of, path_step}
+use Rattle.checker_rows.specs.Rows.{rows_accessed, rows_of, rows_under}
 use Rattle.checker_rows.proofs.Components.{Has, components_of_scalar, each-alone, each-indexed, each-named, in-field_leaf, mapped-at, only}
 use Rattle.checker_rows.proofs.Leafed.{leafed_before, leaves_of_form, leaves_of_scalar}
 use Rattle.checker_rows.proofs.Numbered.{IsLeafOf, below-or, contains-has, has-contains, in-filter, leaf-of, leaf-parts, leaf-row}
@@ -196,20 +209,20 @@ under-parts tree root m variable own is at = by (is_structured tree.types variab
         ∙ ap (λ (l : List Steps). record { root = root; components = filter (is_named []) l }) (sym components)
         ∙ ap (λ (l : Leaf). parts_of tree (row_of root l)) (only leaf own (m, here))
 
--- what an access of a type has of the rows under it
-pub record RowsAre (tree : Tree) (root : ℕ) (selectors : List Selector) (id : TypeId) : Type 0 where
+-- what an access of a type, by all selectors from its variable, has of the rows under it
+pub record RowsAre (tree : Tree) (root : ℕ) (under : List ℕ) (selectors : List Selector) (id : TypeId) : Type 0 where
   -- each of them is one of the variable
-  pub root_is : (row : ℕ) → Contains (rows_accessed tree root selectors) row → (slice_index_or (all_parts tree) row no_parts).root ≡ root
+  pub root_is : (row : ℕ) → Contains under row → (slice_index_or (all_parts tree) row no_parts).root ≡ root
   -- each component of one lies on a way of the selectors, at a component of the type
-  pub lies : (row : ℕ) (steps : Steps) → Contains (rows_accessed tree root selectors) row → IsOf tree row steps
+  pub lies : (row : ℕ) (steps : Steps) → Contains under row → IsOf tree row steps
       → (way rest : Steps) × (steps ≡ way ++ rest) × Matches selectors way × Contains (components_of tree.types id) rest
   -- each component of the type on such a way is one of a row
   pub covers : (way rest : Steps) → Matches selectors way → Contains (components_of tree.types id) rest
-      → (row : ℕ) × Contains (rows_accessed tree root selectors) row × IsOf tree row (way ++ rest)
+      → (row : ℕ) × Contains under row × IsOf tree row (way ++ rest)
   -- and the row is that of the leaf which names it
   pub placed : (way rest : Steps) (j row : ℕ) (leaf : Leaf) → Matches selectors way → Contains (components_of tree.types id) rest
       → slice_get (leaves_of tree.types id) j ≡ Some leaf → is_named leaf.steps rest ≡ true
-      → slice_get (rows_accessed tree root selectors) j ≡ Some row → IsOf tree row (way ++ rest)
+      → slice_get under j ≡ Some row → IsOf tree row (way ++ rest)
 
 range-at : (a n j number : ℕ) → slice_get (range_with_len a n) j ≡ Some number → (number ≡ a + j) × (j < n)
 range-at a n j number is =
@@ -225,21 +238,12 @@ at-range a n j within =
     let many = length-range_with_len a n in
     slice_get-get_or (range_with_len a n) j 0 (omega (arith, within, many)) ∙ ap Some (get_or-range_with_len a n j 0 within)
 
-variable-found : (types : List Form) (selectors : List Selector) (id : TypeId) (variables : List Variable) (root : ℕ) (found : Option Variable)
-    → slice_get variables root ≡ found → option_and_then (λ (variable : Variable). led types selectors variable.type_id) found ≡ Some id
-    → (variable : Variable) × (slice_get variables root ≡ Some variable) × (led types selectors variable.type_id ≡ Some id)
-variable-found types selectors id variables root None is leads = absurd (none-some id leads)
-variable-found types selectors id variables root (Some variable) is leads = (variable, is, leads)
-
-module _ (tree : Tree) (root : ℕ) (selectors : List Selector) (id : TypeId) (leads : accessed tree.variables.items tree.types root selectors ≡ Some id) where
+module _ (tree : Tree) (root : ℕ) (selectors : List Selector) (id : TypeId) where
   abbrev variables : List Variable
   variables = tree.variables.items
 
-  found : (variable : Variable) × (slice_get variables root ≡ Some variable) × (led tree.types selectors variable.type_id ≡ Some id)
-  found = variable-found tree.types selectors id variables root (slice_get variables root) refl leads
-
   abbrev under : List ℕ
-  under = rows_accessed tree root selectors
+  under = rows_under tree root (path_of selectors)
 
   module _ (variable : Variable) (variable_is : slice_get variables root ≡ Some variable)
       (led_there : led tree.types selectors variable.type_id ≡ Some id) where
@@ -320,7 +324,7 @@ module _ (tree : Tree) (root : ℕ) (selectors : List Selector) (id : TypeId) (l
         subst (λ (p : Parts). Contains p.components steps) (sym placed.parts_are)
         (has-contains (filter (is_named placed.own.steps) all) steps (in-filter (is_named placed.own.steps) all steps inside names))
 
-    rows-found : RowsAre tree root selectors id
+    rows-found : RowsAre tree root under selectors id
     rows-found = record {
       root_is = λ row inside. ap (λ (p : Parts). p.root) (row-placed row (contains-has under row inside)).1.parts_are;
       lies = λ row steps inside of_row.
@@ -354,15 +358,160 @@ module _ (tree : Tree) (root : ℕ) (selectors : List Selector) (id : TypeId) (l
               (sym (ap (λ (path : List LeafStep). is_named path (way ++ rest)) placed.steps_are) ∙ own.1),
         )
 
-  pub rows-are : RowsAre tree root selectors id
-  rows-are = rows-found found.0 found.1 found.2
+-- ---- from where an access begins
+
+-- selectors that go the way of steps from a value of a type: each index is any of its array
+element_selector : Option ArrayElement → Selector
+element_selector None = Element (record { site = 0; tests = scalar.Ordinal; range = record { first = pos 0; last = pos 0 } }) 0
+element_selector (Some element) = Element (record { site = 0; tests = scalar.Ordinal; range = element.range }) element.cells
+
+field_selector : ℕ → Option RecordField → Selector
+field_selector position None = Field position 0
+field_selector position (Some field) = Field position field.offset
+
+selector_of : List Form → PathStep → TypeId → Selector
+selector_of types path.Element id = element_selector (element_of types id)
+selector_of types (path.Field position) id = field_selector position (field_at types id position)
+
+pub path_selectors : List Form → List PathStep → Option TypeId → List Selector
+path_selectors types [] id = []
+path_selectors types (step ∷ steps) None = selector_of types step (record { index = 0 }) ∷ path_selectors types steps None
+path_selectors types (step ∷ steps) (Some id) = selector_of types step id ∷ path_selectors types steps (stepped types step id)
+
+-- all selectors from the variable of an access: those of the way to where it begins, and its own
+abbrev pub selectors_from : Tree → Origin → List Selector → List Selector
+selectors_from tree (AtVariable root) selectors = selectors
+selectors_from tree (AtRecord root slot steps) selectors =
+    path_selectors tree.types steps (option_map (λ (variable : Variable). variable.type_id) (slice_get tree.variables.items root)) ++ selectors
+
+module _ (types : List Form) where
+  element-step : (found : Option ArrayElement) → leaf_step (element_selector found) ≡ Elements
+  unfolding element_selector
+  element-step None = refl
+  element-step (Some element) = refl
+
+  field-step : (position : ℕ) (found : Option RecordField) → leaf_step (field_selector position found) ≡ FieldAt position
+  unfolding field_selector
+  field-step position None = refl
+  field-step position (Some field) = refl
+
+  own-step : (step : PathStep) (id : TypeId) → leaf_step (selector_of types step id) ≡ path_step step
+  unfolding selector_of
+  own-step path.Element id = element-step (element_of types id)
+  own-step (path.Field position) id = field-step position (field_at types id position)
+
+  -- they go these steps
+  path-steps : (steps : List PathStep) (id : Option TypeId) → map leaf_step (path_selectors types steps id) ≡ map path_step steps
+  unfolding path_selectors
+  path-steps [] id = refl
+  path-steps (step ∷ steps) None =
+      (λ i. own-step step (record { index = 0 }) i ∷ path-steps steps None i)
+  path-steps (step ∷ steps) (Some id) = (λ i. own-step step id i ∷ path-steps steps (stepped types step id) i)
+
+  -- and lead to what lies there
+  element-selected : (id next : TypeId) (found : Option ArrayElement) → element_of types id ≡ found
+      → option_map (λ (element : ArrayElement). element.type_id) found ≡ Some next → selected types (element_selector found) id ≡ Some next
+  unfolding element_selector
+  element-selected id next None is leads = absurd (none-some next leads)
+  element-selected id next (Some element) is leads =
+      ap (element_type element.range element.cells) is
+      ∙ ap (λ (b : Bool). cond b (Some element.type_id) None)
+      (and_from (are_values_of element.range element.range) (nat_eq element.cells element.cells)
+      (and_from (int_eq element.range.first element.range.first) (int_eq element.range.last element.range.last)
+      ((Decides-int_eq element.range.first element.range.first).1 refl) ((Decides-int_eq element.range.last element.range.last).1 refl))
+      (eq-eqb element.cells element.cells refl)) ∙ leads
+
+  field-selected : (id next : TypeId) (position : ℕ) (found : Option RecordField) → field_at types id position ≡ found
+      → option_map (λ (field : RecordField). field.type_id) found ≡ Some next → selected types (field_selector position found) id ≡ Some next
+  unfolding field_selector
+  field-selected id next position None is leads = absurd (none-some next leads)
+  field-selected id next position (Some field) is leads =
+      ap (field_type field.offset) is
+      ∙ ap (λ (b : Bool). cond b (Some field.type_id) None) (eq-eqb field.offset field.offset refl) ∙ leads
+
+  step-selected : (step : PathStep) (id next : TypeId) → stepped types step id ≡ Some next → selected types (selector_of types step id) id ≡ Some next
+  unfolding selector_of
+  step-selected path.Element id next leads = element-selected id next (element_of types id) refl leads
+  step-selected (path.Field position) id next leads = field-selected id next position (field_at types id position) refl leads
+
+  path-led_on : (step : PathStep) (steps : List PathStep) (selectors : List Selector) (from id : TypeId)
+      → ((next : TypeId) → option_and_then (led types selectors) (lying types steps next) ≡ Some id
+      → led types (path_selectors types steps (Some next) ++ selectors) next ≡ Some id)
+      → (found : Option TypeId) → stepped types step from ≡ found
+      → option_and_then (led types selectors) (option_and_then (lying types steps) found) ≡ Some id
+      → option_and_then (led types (path_selectors types steps found ++ selectors)) (selected types (selector_of types step from) from) ≡ Some id
+  path-led_on step steps selectors from id more None is leads = absurd (none-some id leads)
+  path-led_on step steps selectors from id more (Some next) is leads =
+      ap (option_and_then (led types (path_selectors types steps (Some next) ++ selectors))) (step-selected step from next is) ∙ more next leads
+
+  path-led : (steps : List PathStep) (selectors : List Selector) (from id : TypeId)
+      → option_and_then (led types selectors) (lying types steps from) ≡ Some id
+      → led types (path_selectors types steps (Some from) ++ selectors) from ≡ Some id
+  unfolding path_selectors
+  path-led [] selectors from id leads = leads
+  path-led (step ∷ steps) selectors from id leads =
+      path-led_on step steps selectors from id (λ next. path-led steps selectors next id) (stepped types step from) refl leads
+
+-- a variable that is accessed is there, and all selectors lead from it
+pub record IsFound (tree : Tree) (origin : Origin) (selectors : List Selector) (id : TypeId) : Type 0 where
+  pub variable : Variable
+  pub variable_is : slice_get tree.variables.items (root_of origin) ≡ Some variable
+  pub leads : led tree.types (selectors_from tree origin selectors) variable.type_id ≡ Some id
+  pub rows_are : rows_under tree (root_of origin) (path_of (selectors_from tree origin selectors)) ≡ rows_accessed tree origin selectors
+
+variable-found : (tree : Tree) (root : ℕ) (selectors : List Selector) (id : TypeId) (found : Option Variable) → slice_get tree.variables.items root ≡ found
+    → option_and_then (λ (variable : Variable). led tree.types selectors variable.type_id) found ≡ Some id → IsFound tree (AtVariable root) selectors id
+variable-found tree root selectors id None is leads = absurd (none-some id leads)
+variable-found tree root selectors id (Some variable) is leads =
+    record { variable = variable; variable_is = is; leads = leads; rows_are = refl }
+
+record-found : (tree : Tree) (root slot : ℕ) (steps : List PathStep) (selectors : List Selector) (id : TypeId) (found : Option Variable)
+    → slice_get tree.variables.items root ≡ found
+    → option_and_then (λ (variable : Variable). option_and_then (led tree.types selectors) (lying tree.types steps variable.type_id)) found ≡ Some id
+    → IsFound tree (AtRecord root slot steps) selectors id
+record-found tree root slot steps selectors id None is leads = absurd (none-some id leads)
+record-found tree root slot steps selectors id (Some variable) is leads =
+    let from : option_map (λ (v : Variable). v.type_id) (slice_get tree.variables.items root) ≡ Some variable.type_id =
+    ap (option_map (λ (v : Variable). v.type_id)) is in
+    let type_id = option_map (λ (v : Variable). v.type_id) (slice_get tree.variables.items root) in
+    record {
+      variable = variable;
+      variable_is = is;
+      leads = ap (λ (o : Option TypeId). led tree.types (path_selectors tree.types steps o ++ selectors) variable.type_id) from
+          ∙ path-led tree.types steps selectors variable.type_id id leads;
+      rows_are = ap (rows_under tree root)
+          (map-append leaf_step (path_selectors tree.types steps type_id) selectors
+          ∙ ap (λ (l : List LeafStep). l ++ map leaf_step selectors) (path-steps tree.types steps type_id));
+    }
+
+pub is-found : (tree : Tree) (origin : Origin) (selectors : List Selector) (id : TypeId)
+    → accessed tree.variables.items tree.types origin selectors ≡ Some id → IsFound tree origin selectors id
+is-found tree (AtVariable root) selectors id leads = variable-found tree root selectors id (slice_get tree.variables.items root) refl leads
+is-found tree (AtRecord root slot steps) selectors id leads =
+    record-found tree root slot steps selectors id (slice_get tree.variables.items root) refl leads
+
+module _ (tree : Tree) (origin : Origin) (own : List Selector) (id : TypeId)
+    (leads : accessed tree.variables.items tree.types origin own ≡ Some id) where
+  abbrev all : List Selector
+  all = selectors_from tree origin own
+
+  abbrev there : IsFound tree origin own id
+  there = is-found tree origin own id leads
+
+  pub rows-are : RowsAre tree (root_of origin) (rows_accessed tree origin own) (selectors_from tree origin own) id
+  rows-are =
+      subst (λ (under : List ℕ). RowsAre tree (root_of origin) under all id) there.rows_are
+      (rows-found tree (root_of origin) all id there.variable there.variable_is there.leads)
 
   -- under an access lie as many rows as its type has leaves
-  pub rows-count : length under ≡ length (leaves_of tree.types id)
+  pub rows-count : length (rows_accessed tree origin own) ≡ length (leaves_of tree.types id)
   rows-count =
-      ap length (under-range found.0 found.1 found.2) ∙ length-range_with_len (first found.0 found.1 found.2) (length (leaves_of tree.types id))
+      ap length (sym there.rows_are ∙ under-range tree (root_of origin) all id there.variable there.variable_is there.leads)
+      ∙ length-range_with_len (first tree (root_of origin) all id there.variable there.variable_is there.leads) (length (leaves_of tree.types id))
 
   -- and the components of each are those of the leaf at its place
-  pub row-leaf : (way rest : Steps) (j row : ℕ) → Matches selectors way → slice_get under j ≡ Some row → IsOf tree row (way ++ rest)
-      → (leaf : Leaf) × (slice_get (leaves_of tree.types id) j ≡ Some leaf) × (is_named leaf.steps rest ≡ true)
-  row-leaf = leaf-found found.0 found.1 found.2
+  pub row-leaf : (way rest : Steps) (j row : ℕ) → Matches (selectors_from tree origin own) way → slice_get (rows_accessed tree origin own) j ≡ Some row
+      → IsOf tree row (way ++ rest) → (leaf : Leaf) × (slice_get (leaves_of tree.types id) j ≡ Some leaf) × (is_named leaf.steps rest ≡ true)
+  row-leaf way rest j row matches at =
+      leaf-found tree (root_of origin) all id there.variable there.variable_is there.leads way rest j row matches
+      (ap (λ (l : List ℕ). slice_get l j) there.rows_are ∙ at)

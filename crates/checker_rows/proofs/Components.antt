@@ -9,8 +9,8 @@ use Rattle.std.specs.Prelude.{slice_get}
 use Rattle.types.specs.Components.{LaidOut, Steps, behind_step, components_at, components_of, fields_components, form_components, range_values, values_at}
 use Rattle.types.specs.Components.{values_from}
 use Rattle.types.specs.Forms.{FieldForm, Form}
-use Rattle.types.specs.Forms.{Integer, Boolean, Char, Enumeration, Subrange, Array, Record}
-use Rattle.types.specs.Types.{form_at, form_kind, form_range, is_structured, is_structured_kind, natural, range_of, values_in}
+use Rattle.types.specs.Forms.{Integer, Boolean, Char, Enumeration, Subrange, Array, Record, Set}
+use Rattle.types.specs.Types.{form_at, form_kind, form_range, is_structured, is_structured_kind, natural, range_of, scalar_range, values_in}
 use Rattle.types.specs.declared.form.OrdinalRange.{OrdinalRange}
 use Rattle.types.specs.declared.form.Step.TheVariants as step
 use Rattle.types.specs.declared.form.TypeId.{TypeId}
@@ -148,6 +148,7 @@ module _ (types : List Form) (id : TypeId) where
   scalar-form (Some Char) is plain = components_of_form types id Char is
   scalar-form (Some (Enumeration last)) is plain = components_of_form types id (Enumeration last) is
   scalar-form (Some (Subrange host first last)) is plain = components_of_form types id (Subrange host first last) is
+  scalar-form (Some (Set packed host first last)) is plain = components_of_form types id (Set packed host first last) is
   scalar-form (Some (Array packed index element)) is plain = absurd (false≢true (sym plain))
   scalar-form (Some (Record packed fields)) is plain = absurd (false≢true (sym plain))
 
@@ -176,6 +177,7 @@ module _ (types : List Form) (Q : List Steps → List Leaf → Type 0)
   of_form id each (Subrange host first last) = of_scalar (own-type id) (form_range (Subrange host first last))
   of_form id each (Array packed index element) =
       of_array id index (components_at (laid_before types id) element) (leaves_at (leafed_before types id) element) (each element)
+  of_form id each (Set packed host first last) = of_scalar (own-type id) (scalar_range (form_kind (Set packed host first last)))
   of_form id each (Record packed fields) = of_record (laid_before types id) (leafed_before types id) fields (λ field. each field.type_id)
 
   as-both : (rows same : List Steps) (leaves alike : List Leaf) → rows ≡ same → leaves ≡ alike → Q same alike → Q rows leaves

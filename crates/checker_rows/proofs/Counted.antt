@@ -11,8 +11,8 @@ use Rattle.std.proofs.lemmas.Option.{none-some, same_Some, slice_get-map}
 use Rattle.std.specs.Option.{option_map, option_and_then}
 use Rattle.std.specs.Prelude.{flat_map, slice_get}
 use Rattle.types.specs.Forms.{FieldForm, Form, field_form, form_of}
-use Rattle.types.specs.Forms.{Integer, Boolean, Char, Enumeration, Subrange, Array, Record}
-use Rattle.types.specs.Types.{form_at, form_range, range_of}
+use Rattle.types.specs.Forms.{Integer, Boolean, Char, Enumeration, Subrange, Array, Record, Set}
+use Rattle.types.specs.Types.{form_at, form_kind, range_of, scalar_range}
 use Rattle.types.specs.declared.form.Field.{Field}
 use Rattle.types.specs.declared.form.OrdinalRange.{OrdinalRange}
 use Rattle.types.specs.declared.form.TypeForm.{TypeForm}
@@ -56,6 +56,7 @@ form_counted types Boolean = refl
 form_counted types Char = refl
 form_counted types (Enumeration last) = refl
 form_counted types (Subrange host first last) = refl
+form_counted types (Set packed host first last) = refl
 form_counted types (Array packed index element) =
     type_counted types element ∙ sym (length-map (leaves_at (leafed types) element) (behind_elements (range_at (leafed types) index)))
 form_counted types (Record packed fields) = fields_counted types 0 fields
@@ -94,6 +95,7 @@ capped_form counts Boolean = refl
 capped_form counts Char = refl
 capped_form counts (Enumeration last) = refl
 capped_form counts (Subrange host first last) = refl
+capped_form counts (Set packed host first last) = refl
 capped_form counts (Array packed index element) = let own = capped_at counts element in omega (arith, clamps, own)
 capped_form counts (Record packed fields) = capped_fields counts fields
 
@@ -287,10 +289,11 @@ module _ (types : List Form) (way : Way) (id : TypeId) where
   pub scalar_ranges : (form : TypeForm) → form_at types id ≡ Some (form_of form)
       → ((packed : Bool) (index element : TypeId) → form ≡ kept.Array packed index element → ⊥)
       → ((packed : Bool) (fields : Vec Field Global) → form ≡ kept.Record packed fields → ⊥)
-      → map (ranges_on way) (leaves_of types id) ≡ ranges_on way (scalar (Some id) (form_range (form_of form))) ∷ []
+      → map (ranges_on way) (leaves_of types id) ≡ ranges_on way (scalar (Some id) (scalar_range (form_kind (form_of form)))) ∷ []
   scalar_ranges form is no_array no_record =
       ap (map (ranges_on way)) (leaves_of_form types id (form_of form) is ∙ by form no_array no_record)
-      ∙ ap (λ (n : ℕ). ranges_on way (scalar (Some (record { index = n })) (form_range (form_of form))) ∷ []) (leafed_many types id (form_of form) is)
+      ∙ ap (λ (n : ℕ). ranges_on way (scalar (Some (record { index = n })) (scalar_range (form_kind (form_of form)))) ∷ [])
+      (leafed_many types id (form_of form) is)
     where
       by : (form : TypeForm) → ((packed : Bool) (index element : TypeId) → form ≡ kept.Array packed index element → ⊥)
           → ((packed : Bool) (fields : Vec Field Global) → form ≡ kept.Record packed fields → ⊥)
@@ -300,5 +303,6 @@ module _ (types : List Form) (way : Way) (id : TypeId) where
       by kept.Char no_array no_record = refl
       by (kept.Enumeration last) no_array no_record = refl
       by (kept.Subrange host first last) no_array no_record = refl
+      by (kept.Set packed host first last) no_array no_record = refl
       by (kept.Array packed index element) no_array no_record = absurd (no_array packed index element refl)
       by (kept.Record packed fields) no_array no_record = absurd (no_record packed fields refl)

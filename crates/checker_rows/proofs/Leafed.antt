@@ -5,8 +5,8 @@ use Rattle.std.proofs.lemmas.List.{length-take}
 use Rattle.std.proofs.lemmas.Option.{slice_get_past, slice_get_within}
 use Rattle.std.specs.Option.{option_map, option_and_then}
 use Rattle.std.specs.Prelude.{slice_get}
-use Rattle.types.specs.Forms.{Form, Integer, Boolean, Char, Enumeration, Subrange, Array, Record}
-use Rattle.types.specs.Types.{form_at, form_kind, form_range, is_structured, is_structured_kind, range_of}
+use Rattle.types.specs.Forms.{Form, Integer, Boolean, Char, Enumeration, Subrange, Array, Record, Set}
+use Rattle.types.specs.Types.{form_at, form_kind, form_range, is_structured, is_structured_kind, range_of, scalar_range}
 use Rattle.types.specs.declared.form.OrdinalRange.{OrdinalRange}
 use Rattle.types.specs.declared.form.TypeId.{TypeId}
 use Rattle.types.proofs.Growing.{grown_before, made_at, slice_get-take}
@@ -58,6 +58,8 @@ module _ (types : List Form) (id : TypeId) where
   scalar-form (Some (Enumeration last)) is plain = (own-id, form_range (Enumeration last), leaves_of_form types id (Enumeration last) is)
   scalar-form (Some (Subrange host first last)) is plain =
       (own-id, form_range (Subrange host first last), leaves_of_form types id (Subrange host first last) is)
+  scalar-form (Some (Set packed host first last)) is plain =
+      (own-id, scalar_range (form_kind (Set packed host first last)), leaves_of_form types id (Set packed host first last) is)
   scalar-form (Some (Array packed index element)) is plain = absurd (false≢true (sym plain))
   scalar-form (Some (Record packed fields)) is plain = absurd (false≢true (sym plain))
 

@@ -9,7 +9,7 @@ use Rattle.std.specs.List.{Contains}
 use Rattle.std.specs.Option.{option_and_then, option_map}
 use Rattle.std.specs.Prelude.{slice_get, slice_index_or}
 use Rattle.types.specs.Forms.{Form}
-use Rattle.types.specs.Types.{is_structured, range_of}
+use Rattle.types.specs.Types.{is_structured, scalar_range_of}
 use Rattle.types.proofs.Growing.{slice_get-left, slice_get-right}
 use Rattle.types.proofs.Once.{in_either}
 use Rattle.typed_tree.specs.declared.tree.Tree.{Tree}
@@ -99,7 +99,7 @@ numbers-where test number (first ∷ rows) (suc k) row is passes =
 module _ (types : List Form) where
   -- a variable's own row
   abbrev pub own_of : ℕ → Variable → Row
-  own_of root variable = row_of root (scalar (Some variable.type_id) (range_of types variable.type_id))
+  own_of root variable = row_of root (scalar (Some variable.type_id) (scalar_range_of types variable.type_id))
 
   own-at : (from n : ℕ) (variables : List Variable) (variable : Variable) → slice_get variables n ≡ Some variable
       → slice_get (own_rows types from variables) n ≡ Some (own_of (from + n) variable)
@@ -212,7 +212,7 @@ module _ (tree : Tree) where
 
   -- its values are those of the variable's type, and no index is on the way
   pub own-values : (root : ℕ) (variable : Variable) → slice_get tree.variables.items root ≡ Some variable
-      → values_at (rows_of tree) root ≡ range_of tree.types variable.type_id
+      → values_at (rows_of tree) root ≡ scalar_range_of tree.types variable.type_id
   own-values root variable is = ap (option_and_then (λ (row : Row). row.leaf.values)) (own-row root variable is)
 
   pub own-index : (root : ℕ) → root < length tree.variables.items → index_at (rows_of tree) root ≡ None

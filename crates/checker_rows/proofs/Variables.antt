@@ -10,7 +10,7 @@ use Rattle.std.specs.List.{range_with_len}
 use Rattle.std.specs.Option.{option_map, unwrap_or}
 use Rattle.std.specs.Prelude.{flat_map, slice_get, slice_index_or}
 use Rattle.types.specs.Forms.{FieldForm, Form}
-use Rattle.types.specs.Forms.{Integer, Boolean, Char, Enumeration, Subrange, Array, Record}
+use Rattle.types.specs.Forms.{Integer, Boolean, Char, Enumeration, Subrange, Array, Record, Set}
 use Rattle.types.specs.Types.{form_at, is_structured}
 use Rattle.types.specs.declared.form.OrdinalRange.{OrdinalRange}
 use Rattle.types.specs.declared.form.TypeId.{TypeId}
@@ -22,7 +22,7 @@ use Rattle.checker_rows.specs.declared.leaf.RowRanges.{RowRanges}
 use Rattle.checker_rows.specs.Leaves.{Leaf, LeafStep, Elements, FieldAt, begins, leaves_at, leaves_of, range_at, scalar}
 use Rattle.checker_rows.specs.Rows.{Row, is_under, leaf_rows, numbers_where, own_row, own_rows, rows_from, rows_of, rows_under, variable_rows}
 use Rattle.checker_rows.specs.View.{AreKept, count_at, end_of, field_part, first_under, firsts_from, firsts_of, form_part, leaf_counts, next_part, own_ranges}
-use Rattle.checker_rows.specs.View.{own_type, part_count, part_leaves, part_rows, ranges_of, rows_count, typed_part, variable_part, variable_ranges}
+use Rattle.checker_rows.specs.View.{own_type, part_along, part_count, part_leaves, part_rows, ranges_of, rows_count, typed_part, variable_part, variable_ranges}
 use Rattle.checker_rows.proofs.Leafed.{leafed_before, leaves_of_form, leaves_of_none, leaves_of_scalar}
 use Rattle.checker_rows.proofs.Counted.{array_counted, part_before, part_counted, record_counted, type_counted}
 use Rattle.checker_rows.proofs.Under.{all_under, elements_part, field_part as field_leaves, leaves_under, no_elements, no_field, no_field_of_elements, skipped}
@@ -242,6 +242,7 @@ module _ (types : List Form) where
     form_under (Some Char) is step = ap (leaves_under (step ∷ rest) first) (leaves_of_form types id Char is)
     form_under (Some (Enumeration last)) is step = ap (leaves_under (step ∷ rest) first) (leaves_of_form types id (Enumeration last) is)
     form_under (Some (Subrange host low high)) is step = ap (leaves_under (step ∷ rest) first) (leaves_of_form types id (Subrange host low high) is)
+    form_under (Some (Set packed host low high)) is step = ap (leaves_under (step ∷ rest) first) (leaves_of_form types id (Set packed host low high) is)
     form_under (Some (Array packed index element)) is Elements = elements_under packed index element is
     form_under (Some (Array packed index element)) is (FieldAt position) =
         ap (leaves_under (FieldAt position ∷ rest) first) (leaves_of_form types id (Array packed index element) is)
@@ -486,3 +487,9 @@ pub found_kept : (tree : Tree) (counts firsts : List ℕ) (rows : List RowRanges
 found_kept tree counts firsts rows kept root part first type_id =
     ap (λ (n : ℕ). record part { first = n }) (first ∙ ap (λ (l : List ℕ). slice_index_or l root root) kept.firsts_are)
     ∙ ap (λ (t : Option TypeId). record { first = slice_index_or (firsts_of tree) root root; type_id = t }) type_id
+
+-- those under steps and more are those under these in the part to which the steps lead
+pub under_along : (types : List Form) (steps rest : List LeafStep) (part : Option Part)
+    → part_under types (steps ++ rest) part ≡ part_under types rest (part_along types steps part)
+under_along types [] rest part = refl
+under_along types (step ∷ steps) rest part = under_step types part step (steps ++ rest) ∙ under_along types steps rest (next_part types part step)

@@ -1,10 +1,10 @@
--- The leaves of a type: its scalar components, of which those that differ in indexes alone are one (ISO 7185:1990,
--- 6.4.3.2, 6.4.3.3), in the order of the text. It says nothing of what they hold.
+-- The leaves of a type: its scalar components, ordinals and sets, of which those that differ in indexes alone are one
+-- (ISO 7185:1990, 6.4.3.2, 6.4.3.3), in the order of the text. It says nothing of what they hold.
 use Rattle.std.specs.Prelude.{ℕ, ◌+◌, Bool, true, false, ◌&&◌, List, [], ◌∷◌, ◌++◌, Option, Some, None, fold, map}
 use Rattle.std.specs.Prelude.{length, nat_eq, slice_get}
 use Rattle.types.specs.Forms.{FieldForm, Form}
-use Rattle.types.specs.Forms.{Integer, Boolean, Char, Enumeration, Subrange, Array, Record}
-use Rattle.types.specs.Types.{form_range}
+use Rattle.types.specs.Forms.{Integer, Boolean, Char, Enumeration, Subrange, Array, Record, Set}
+use Rattle.types.specs.Types.{form_kind, form_range, scalar_range}
 use Rattle.types.specs.declared.form.OrdinalRange.{OrdinalRange}
 use Rattle.types.specs.declared.form.TypeId.{TypeId}
 use Rattle.types.specs.declared.form.Step.{Step}
@@ -15,8 +15,8 @@ pub data LeafStep : Type 0 where
   Elements : LeafStep
   FieldAt : (position : ℕ) → LeafStep
 
--- a leaf: the steps to it, its type, if that is there, the values of its type, and those of the first index on the way
--- to it, where there is one
+-- a leaf: the steps to it, its type, if that is there, the values of its type, or those that the members of its sets
+-- may have, and the values of the first index on the way to it, where there is one
 pub record Leaf : Type 0 where
   pub steps : List LeafStep
   pub type_id : Option TypeId
@@ -62,7 +62,7 @@ fields_leaves before position (field ∷ fields) =
 
 -- that of a scalar form, whose number is that of the types before it
 abbrev pub scalar_leaves : List Leafed → Form → List Leaf
-scalar_leaves before form = scalar (Some (record { index = length before })) (form_range form) ∷ []
+scalar_leaves before form = scalar (Some (record { index = length before })) (scalar_range (form_kind form)) ∷ []
 
 -- those of a form over types that have theirs
 abbrev pub form_leaves : List Leafed → Form → List Leaf
@@ -74,6 +74,7 @@ form_leaves before (Subrange host first last) = scalar_leaves before (Subrange h
 form_leaves before (Array packed index element) =
     map (behind_elements (range_at before index)) (leaves_at before element)
 form_leaves before (Record packed fields) = fields_leaves before 0 fields
+form_leaves before (Set packed host first last) = scalar_leaves before (Set packed host first last)
 
 abbrev pub leaf_next : List Leafed → Form → List Leafed
 leaf_next before form = before ++ record { form = form; leaves = form_leaves before form } ∷ []

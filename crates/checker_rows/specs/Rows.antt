@@ -1,22 +1,25 @@
 -- The rows of a program (ISO 7185:1990, 6.4.3, 6.5.3): one for each variable, by its root number, and behind them one
 -- for each leaf of each structured variable, one variable after another. A row is told by its number from 0. It says
 -- nothing of what the components of a row hold.
-use Rattle.std.specs.Prelude.{ℕ, suc, ℤ, Bool, not, ◌&&◌, List, [], ◌∷◌, ◌++◌, Option, Some, None}
-use Rattle.std.specs.Prelude.{if◌then◌else◌, filter, map, flat_map, length, nat_eq, slice_get}
+use Rattle.std.specs.Prelude.{ℕ, suc, ℤ, Bool, false, not, ◌&&◌, List, [], ◌∷◌, ◌++◌, Option, Some, None}
+use Rattle.std.specs.Prelude.{if◌then◌else◌, filter, is_some, map, flat_map, length, nat_eq, slice_get}
 use Rattle.std.specs.Option.{option_and_then}
 use Rattle.types.specs.Components.{components_of}
 use Rattle.types.specs.Forms.{Form}
-use Rattle.types.specs.Types.{element_of, field_of, is_structured, range_of}
+use Rattle.types.specs.Types.{element_of, field_of, is_ordinal, is_structured, scalar_range_of, set_base}
 use Rattle.types.specs.declared.form.ArrayElement.{ArrayElement}
 use Rattle.types.specs.declared.form.OrdinalRange.{OrdinalRange}
 use Rattle.types.specs.declared.form.RecordField.{RecordField}
 use Rattle.types.specs.declared.form.Step.{Step}
 use Rattle.types.specs.declared.form.Step.TheVariants as step
 use Rattle.types.specs.declared.form.TypeId.{TypeId}
+use Rattle.typed_tree.specs.declared.tree.PathStep.{PathStep}
+use Rattle.typed_tree.specs.declared.tree.PathStep.TheVariants as path
 use Rattle.typed_tree.specs.declared.tree.Selector.{Selector}
 use Rattle.typed_tree.specs.declared.tree.Selector.TheVariants as selector
 use Rattle.typed_tree.specs.declared.tree.Tree.{Tree}
 use Rattle.typed_tree.specs.declared.tree.Variable.{Variable}
+use Rattle.typed_tree.specs.Accesses.{Origin, root_of, steps_of}
 use Rattle.typed_tree.specs.WellFormed.{of_one}
 use Rattle.domain.specs.Facts as fact
 use Rattle.domain.specs.Facts.{Path}
@@ -33,7 +36,7 @@ pub record Row : Type 0 where
 abbrev pub own_rows : List Form → ℕ → List Variable → List Row
 own_rows types root [] = []
 own_rows types root (variable ∷ variables) =
-    record { root = root; leaf = scalar (Some variable.type_id) (range_of types variable.type_id) }
+    record { root = root; leaf = scalar (Some variable.type_id) (scalar_range_of types variable.type_id) }
     ∷ own_rows types (suc root) variables
 
 abbrev pub variable_rows : List Form → ℕ → Variable → List Row
@@ -70,6 +73,11 @@ abbrev pub is_structured_variable : Tree → ℕ → Bool
 is_structured_variable tree root =
     of_one (λ variable. is_structured tree.types variable.type_id) (slice_get tree.variables.items root)
 
+-- a variable that is there is an ordinal
+abbrev pub is_ordinal_variable : Tree → ℕ → Bool
+is_ordinal_variable tree root =
+    of_one (λ variable. is_ordinal tree.types variable.type_id) (slice_get tree.variables.items root)
+
 -- the row of a variable that is there and no structured one is its own
 abbrev pub is_variable_row : Tree → ℕ → Bool
 is_variable_row tree row =
@@ -95,9 +103,18 @@ abbrev pub leaf_step : Selector → LeafStep
 leaf_step (selector.Element fits cells) = Elements
 leaf_step (selector.Field position offset) = FieldAt position
 
--- those under what is accessed, its indexes aside
-abbrev pub rows_accessed : Tree → ℕ → List Selector → List ℕ
-rows_accessed tree root selectors = rows_under tree root (map leaf_step selectors)
+abbrev pub path_step : PathStep → LeafStep
+path_step path.Element = Elements
+path_step (path.Field position) = FieldAt position
+
+-- the steps from a variable to what is accessed in it, its indexes aside: those to where the access begins, which may
+-- be at a record of a with statement (6.8.3.10), and then its own
+abbrev pub steps_accessed : Origin → List Selector → List LeafStep
+steps_accessed origin selectors = map path_step (steps_of origin) ++ map leaf_step selectors
+
+-- those under what is accessed
+abbrev pub rows_accessed : Tree → Origin → List Selector → List ℕ
+rows_accessed tree origin selectors = rows_under tree (root_of origin) (steps_accessed origin selectors)
 
 -- those of several variables
 abbrev pub rows_touched : Tree → List ℕ → List ℕ
@@ -112,6 +129,15 @@ values_at rows number = option_and_then (λ row. row.leaf.values) (slice_get row
 
 abbrev pub index_at : List Row → ℕ → Option OrdinalRange
 index_at rows number = option_and_then (λ row. row.leaf.index) (slice_get rows number)
+
+-- a type is one of sets (6.4.3.4)
+abbrev pub is_of_sets : List Form → Option TypeId → Bool
+is_of_sets types None = false
+is_of_sets types (Some id) = is_some (set_base types id)
+
+-- the components of a row are sets
+abbrev pub holds_sets : Tree → ℕ → Bool
+holds_sets tree row = is_of_sets tree.types (type_at (rows_of tree) row)
 
 -- ---- paths of certificates
 

@@ -7,7 +7,7 @@ use Rattle.std.specs.Option.{option_map}
 use Rattle.types.specs.Forms.{FieldForm, Form, Array, Record}
 use Rattle.types.specs.declared.form.OrdinalRange.{OrdinalRange}
 use Rattle.types.specs.declared.form.TypeId.{TypeId}
-use Rattle.types.specs.Types.{is_structured, range_of}
+use Rattle.types.specs.Types.{is_structured, scalar_range_of}
 use Rattle.typed_tree.specs.declared.tree.Tree.{Tree}
 use Rattle.typed_tree.specs.declared.tree.Variable.{Variable}
 use Rattle.checker_rows.specs.declared.leaf.RowRanges.{RowRanges}
@@ -43,7 +43,7 @@ ranges_on (Indexed index) leaf = record { type_id = leaf.type_id; values = leaf.
 
 -- those of a variable's own row
 abbrev pub own_ranges : List Form → Variable → RowRanges
-own_ranges types variable = ranges_of (scalar (Some variable.type_id) (range_of types variable.type_id))
+own_ranges types variable = ranges_of (scalar (Some variable.type_id) (scalar_range_of types variable.type_id))
 
 -- those of the rows of its leaves, if it is structured
 abbrev pub variable_ranges : List Form → Variable → List RowRanges
@@ -149,6 +149,11 @@ typed_part types first (Some id) step =
 abbrev pub next_part : List Form → Option Part → LeafStep → Option Part
 next_part types None step = None
 next_part types (Some part) step = typed_part types part.first part.type_id step
+
+-- the part to which steps lead, one after another
+abbrev pub part_along : List Form → List LeafStep → Option Part → Option Part
+part_along types [] part = part
+part_along types (step ∷ steps) part = part_along types steps (next_part types part step)
 
 -- the numbers of its rows
 abbrev pub part_rows : List Form → Option Part → List ℕ

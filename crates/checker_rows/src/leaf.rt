@@ -14,7 +14,7 @@ use types::{Field, OrdinalRange, TypeForm, TypeId, TypeTable};
 pub(crate) struct RowRanges {
     /// The type of its components, if that is there.
     pub type_id: Option<TypeId>,
-    /// The values of its components.
+    /// The values of its components, or those that the members of these may have.
     pub values: Option<OrdinalRange>,
     /// The values of the first index on the way to them.
     pub index: Option<OrdinalRange>,
@@ -85,7 +85,7 @@ pub(crate) fn add_leaves(
             }
             Ok(())
         }
-        _ => add_row(way.scalar(part, form.range()), rows),
+        _ => add_row(way.scalar(part, form.kind().scalar_range()), rows),
     }
 }
 

@@ -2,13 +2,15 @@ ghost use Rattle.std.specs.Prelude.{◌≡◌, ◌<◌, ◌^◌, ◌++◌, [], I
 ghost use Rattle.std.specs.Option.{option_map};
 ghost use Rattle.types.specs.Types.{is_structured};
 ghost use Rattle.typed_tree.specs.declared.tree.Tree.{Tree};
+ghost use Rattle.typed_tree.specs.Accesses.{origin_of, steps_of};
 ghost use Rattle.certificate.specs.Contents.{said_path};
 ghost use Rattle.checker_rows.specs.Leaves.{Elements, FieldAt};
 ghost use Rattle.checker_rows.specs.Limits.{row_limits};
-ghost use Rattle.checker_rows.specs.Rows.{index_at, is_structured_variable, leaf_step, part_named, rows_accessed};
-ghost use Rattle.checker_rows.specs.Rows.{rows_of, rows_under, type_at, values_at};
+ghost use Rattle.checker_rows.specs.Rows.{holds_sets, index_at, is_ordinal_variable, is_structured_variable};
+ghost use Rattle.checker_rows.specs.Rows.{leaf_step, part_named, path_step, rows_accessed, rows_of, rows_under};
+ghost use Rattle.checker_rows.specs.Rows.{type_at, values_at};
 ghost use Rattle.checker_rows.specs.View.{AreKept, IsAnswerOf, end_of, first_under, next_part, numbers, own_ranges};
-ghost use Rattle.checker_rows.specs.View.{part_rows, variable_part, variable_ranges};
+ghost use Rattle.checker_rows.specs.View.{part_along, part_rows, variable_part, variable_ranges};
 
 use crate::leaf::{RowRanges, Way, add_leaves, leaf_counts, own_type};
 use crate::part::{Part, field_part, part_count};
@@ -18,7 +20,7 @@ use certificate::{Path, Step};
 use domain::interval::Interval;
 use std::alloc::{AllocError, Global};
 use std::marker::Model;
-use typed_tree::tree::{Selector, Tree, Variable};
+use typed_tree::tree::{Access, Base, PathStep, Selector, Tree, Variable};
 use types::{OrdinalRange, TypeForm, TypeId, TypeTable};
 
 /// The rows of a program by number: its variables, and behind them the leaves of those that are structured.
@@ -106,7 +108,7 @@ impl<'a> Rows<'a> {
         self.rows.get(row)?.type_id
     }
 
-    /// The values of the components of a row, if they are ordinal.
+    /// The values of the components of a row, or those that the members of these may have.
     pub fn values(&self, row: usize) -> Option<OrdinalRange>
         ensures { result ≡ values_at (rows_of self.now) row }
     {
@@ -120,19 +122,29 @@ impl<'a> Rows<'a> {
         self.rows.get(row)?.index
     }
 
-    /// The values of the type of a row's components.
+    /// The values of the type of a row's components, or those of the members of its sets.
     pub fn row_limits(&self, row: usize) -> Interval
         ensures { result ≡ row_limits (rows_of self.now) row }
     {
         limits_or_integer(self.values(row))
     }
 
-    /// The rows under what is accessed, its indexes aside.
-    pub fn accessed(&self, root: u32, selectors: &[Selector]) -> Span
-        ensures { numbers result ≡ rows_accessed self.now root selectors.now }
+    /// Whether the components of a row are sets (6.4.3.4).
+    pub fn holds_sets(&self, row: usize) -> bool
+        ensures { result ≡ holds_sets self.now row }
     {
-        let mut part = Some(self.variable(root));
-        for selector in selectors {
+        match self.type_id(row) {
+            None => false,
+            Some(id) => self.tree.types.set_base(id).is_some(),
+        }
+    }
+
+    /// The rows under what is accessed, its indexes aside.
+    pub fn accessed(&self, access: &Access) -> Span
+        ensures { numbers result ≡ rows_accessed self.now (origin_of access.now) access.now.selectors.items }
+    {
+        let mut part = self.begun(access);
+        for selector in &access.selectors {
             part = self.selected(part, selector);
         }
         self.span(part)
@@ -178,6 +190,16 @@ impl<'a> Rows<'a> {
         self.tree.types.is_structured(id)
     }
 
+    /// Whether a variable is an ordinal.
+    pub fn is_ordinal_variable(&self, root: u32) -> bool
+        ensures { result ≡ is_ordinal_variable self.now root }
+    {
+        match variable_at(&self.tree.variables, root) {
+            None => false,
+            Some(variable) => self.tree.types.is_ordinal(variable.type_id),
+        }
+    }
+
     /// Whether a variable is an array or a record.
     pub fn is_structured_variable(&self, root: u32) -> bool
         ensures { result ≡ is_structured_variable self.now root }
@@ -198,6 +220,44 @@ impl<'a> Rows<'a> {
         Part {
             first: first_at(&self.firsts, root),
             type_id: type_of(&self.tree.variables, root),
+        }
+    }
+
+    // Where an access begins: at its variable, or at a record in it.
+    fn begun(&self, access: &Access) -> Option<Part>
+        ensures part { result ≡ part_along self.now.types (map path_step (steps_of (origin_of access.now)))
+            (Some (variable_part self.now access.now.root)) }
+        ensures fits { end_of self.now.types result < 2 ^ 64 }
+    {
+        let variable = Some(self.variable(access.root));
+        match &access.base {
+            Base::Variable => variable,
+            Base::Record { path, .. } => self.along(variable, path),
+        }
+    }
+
+    // What lies on a way in a part.
+    fn along(&self, whole: Option<Part>, path: &[PathStep]) -> Option<Part>
+        requires { end_of self.now.types whole < 2 ^ 64 }
+        ensures part { result ≡ part_along self.now.types (map path_step path.now) whole }
+        ensures fits { end_of self.now.types result < 2 ^ 64 }
+    {
+        let mut part = whole;
+        for step in path {
+            part = self.stepped(part, *step);
+        }
+        part
+    }
+
+    // Where a step leads.
+    fn stepped(&self, part: Option<Part>, step: PathStep) -> Option<Part>
+        requires { end_of self.now.types part < 2 ^ 64 }
+        ensures part { result ≡ next_part self.now.types part (path_step step) }
+        ensures fits { end_of self.now.types result < 2 ^ 64 }
+    {
+        match step {
+            PathStep::Element => self.elements(part),
+            PathStep::Field(position) => self.field(part, position),
         }
     }
 
@@ -307,7 +367,7 @@ fn own_ranges(types: &TypeTable, variable: Variable) -> RowRanges
 {
     RowRanges {
         type_id: Some(variable.type_id),
-        values: types.range(variable.type_id),
+        values: types.scalar_range(variable.type_id),
         index: None,
     }
 }

@@ -9,7 +9,6 @@ use Rattle.typed_tree.specs.declared.tree.Relation.{Relation}
 use Rattle.typed_tree.specs.declared.tree.Relation.TheVariants as relation
 use Rattle.domain.specs.Interval.{Interval, HasMember, at_least, at_most}
 use Rattle.domain.specs.Ranges.{at_least-has, at_most-has}
-use Rattle.meaning.specs.declared.store.Value.{Value}
 use Rattle.meaning.specs.declared.store.Value.TheVariants.{Number}
 use Rattle.meaning.specs.Meaning.{relates}
 use Rattle.meaning.specs.Store.{Environment, Store}
@@ -75,13 +74,13 @@ module _ (rows : List Parts) (table : Table) (are : AreRows rows table) (env : E
   -- ---- a bound and a number
 
   -- no run goes on from an empty range
-  pub nonempty-holds : (range : Interval) (state : State) (v : Value) → IsIn range v → Here state → Here (unless_empty range state)
-  nonempty-holds range state v inside holds = subst (λ (t : Bool). Here (cond t Dead state)) (sym (in-present range v inside)) holds
+  pub nonempty-holds : (range : Interval) (state : State) (n : ℤ) → HasMember range n → Here state → Here (unless_empty range state)
+  nonempty-holds range state n inside holds = subst (λ (t : Bool). Here (cond t Dead state)) (sym (in-present range n inside)) holds
 
   pub narrowed-holds : (state : State) (root : ℕ) (range : Interval) (n : ℤ) → HasNumber m root n → HasMember range n → Here state
       → Here (narrowed root range state)
   narrowed-holds state root range n has inside holds =
-      nonempty-holds range (with_range root range state) (Number n) inside
+      nonempty-holds range (with_range root range state) n inside
       (range-holds rows m state root range
       (own-lies rows table are m root (shown table.variables env shows store root [] (Number n) has) range
       (λ v is. subst (IsIn range) (same_Some (Number n) v (sym has ∙ is)) inside)) holds)

@@ -19,7 +19,13 @@ use Rattle.types.specs.declared.form.Step.{Step}
 use Rattle.types.specs.declared.form.Step.TheVariants as step
 use Rattle.types.specs.Components.{components_of}
 use Rattle.meaning.specs.declared.store.Value.{Value}
-use Rattle.meaning.specs.declared.store.Value.TheVariants.{Number}
+use Rattle.meaning.specs.declared.store.Value.TheVariants.{Members, Number}
+use Rattle.members.specs.Members as sets
+use Rattle.members.specs.declared.sets.Operator.TheVariants as operator
+use Rattle.typed_tree.specs.Accesses.{origin_of}
+use Rattle.typed_tree.specs.declared.tree.Designator.{Designator}
+use Rattle.typed_tree.specs.declared.tree.Designator.TheVariants as designator
+use Rattle.std.proofs.lemmas.Bool.{false≢true}
 use Rattle.meaning.specs.Integers.{is_integer_number, is_true, truth}
 use Rattle.meaning.specs.Store.{Environment, Place, held, part}
 use Rattle.meaning.specs.Effect as effect
@@ -84,9 +90,46 @@ pub number-gives : (reply : Reply ℤ) (w : Value) (t : effect.State) → and_th
 number-gives (Gives n u) w t is = let same = given-same (Number n) w u t is in (n, ap (Gives n) same.1, sym same.0)
 number-gives (Stops ending u) w t is = absurd (cc)
 
--- a value is its number
-pub number-is : (v : Value) → v ≡ Number (number_of v)
-number-is (Number n) = refl
+-- an operation of numbers
+abbrev pub is_of_numbers : Dyadic → Bool
+is_of_numbers dyadic.Union = false
+is_of_numbers dyadic.Difference = false
+is_of_numbers dyadic.Intersection = false
+is_of_numbers (dyadic.SetRelation r) = false
+is_of_numbers dyadic.In = false
+is_of_numbers operation = true
+
+-- what an operation on two operands gives, if it is one of numbers; it changes no variable
+abbrev pub GivesBoth : Dyadic → Value → Value → Value → (s t : effect.State) → Type 0
+GivesBoth operation a b w s t =
+    (is_of_numbers operation ≡ true → w ≡ Number (meaning.of_both operation (number_of a) (number_of b))) × (t ≡ s)
+
+numbers-give : (operation : Dyadic) (a b w : Value) (s t : effect.State)
+    → and_then (meaning.combined operation (number_of a) (number_of b) s) (λ n. effect.give (Number n)) ≡ Gives w t → GivesBoth operation a b w s t
+numbers-give operation a b w s t is =
+    let (m, combined, w_is) = number-gives (meaning.combined operation (number_of a) (number_of b) s) w t is in
+    let gives = combined-gives operation (number_of a) (number_of b) m s t combined in
+    (λ numbers. w_is ∙ ap Number gives.0, gives.1)
+
+set-gives : (operation : Dyadic) (a b v w : Value) (s t : effect.State) → is_of_numbers operation ≡ false → effect.give v s ≡ Gives w t
+    → GivesBoth operation a b w s t
+set-gives operation a b v w s t none is = (λ numbers. absurd (false≢true (sym none ∙ numbers)), sym (given-same v w s t is).1)
+
+pub both-gives : (operation : Dyadic) (a b w : Value) (s t : effect.State) → meaning.operated_both operation a b s ≡ Gives w t
+    → GivesBoth operation a b w s t
+both-gives dyadic.Union a b w s t is = set-gives dyadic.Union a b _ w s t refl is
+both-gives dyadic.Difference a b w s t is = set-gives dyadic.Difference a b _ w s t refl is
+both-gives dyadic.Intersection a b w s t is = set-gives dyadic.Intersection a b _ w s t refl is
+both-gives (dyadic.SetRelation r) a b w s t is = set-gives (dyadic.SetRelation r) a b _ w s t refl is
+both-gives dyadic.In a b w s t is = set-gives dyadic.In a b _ w s t refl is
+both-gives (dyadic.Plus overflow) a b w s t is = numbers-give (dyadic.Plus overflow) a b w s t is
+both-gives (dyadic.Minus overflow) a b w s t is = numbers-give (dyadic.Minus overflow) a b w s t is
+both-gives (dyadic.Times overflow) a b w s t is = numbers-give (dyadic.Times overflow) a b w s t is
+both-gives (dyadic.Div by_zero) a b w s t is = numbers-give (dyadic.Div by_zero) a b w s t is
+both-gives (dyadic.Mod by_zero_or_less) a b w s t is = numbers-give (dyadic.Mod by_zero_or_less) a b w s t is
+both-gives dyadic.And a b w s t is = numbers-give dyadic.And a b w s t is
+both-gives dyadic.Or a b w s t is = numbers-give dyadic.Or a b w s t is
+both-gives (dyadic.Relation r) a b w s t is = numbers-give (dyadic.Relation r) a b w s t is
 
 pub truth-is : (b : Bool) → is_true (truth b) ≡ b
 truth-is true = refl
@@ -135,7 +178,45 @@ selected-keeps (Element fits cells ∷ selectors) (index ∷ indexes) all env pl
 
 pub accessed-keeps : (access : Access) (indexes : List Evaluation) → All KeepsStore indexes → (env : Surroundings) → Keeps (accessed access indexes env)
 accessed-keeps access indexes all env s t found is =
-    selected-keeps access.selectors.items indexes all env (env.visible.variables access.root) (entered access.number env.visible s) t found is
+    selected-keeps access.selectors.items indexes all env (meaning.begun (origin_of access) env) (entered access.number env.visible s) t found is
+
+-- what a set constructor gathers
+gathered-keeps : (designators : List Designator) (members : List Evaluation) → All KeepsStore members → (env : Surroundings) (set : ℕ)
+    → Keeps (meaning.gathered designators members env set)
+gathered-keeps [] members all env set = give-keeps set
+gathered-keeps (designator.Single site ∷ designators) [] all env set = give-keeps set
+gathered-keeps (designator.Single site ∷ designators) (member ∷ members) all env set =
+    then-keeps (member env) (λ v. effect.◌>>=◌ (meaning.with_one site v set) (λ more. meaning.gathered designators members env more))
+    (All-head KeepsStore member members all env)
+    (λ v.
+    then-keeps (meaning.with_one site v set) (λ more. meaning.gathered designators members env more)
+    (then-keeps (effect.require (sets.can_be_member (number_of v)) site)
+    (λ done. effect.give (sets.of_two operator.Union set (sets.of_one (number_of v)))) (require-keeps (sets.can_be_member (number_of v)) site)
+    (λ done. give-keeps (sets.of_two operator.Union set (sets.of_one (number_of v)))))
+    (λ more. gathered-keeps designators members (All-tail KeepsStore member members all) env more))
+gathered-keeps (designator.Range site ∷ designators) [] all env set = give-keeps set
+gathered-keeps (designator.Range site ∷ designators) (first ∷ []) all env set = give-keeps set
+gathered-keeps (designator.Range site ∷ designators) (first ∷ last ∷ members) all env set =
+    let next = λ (a b : Value) (more : ℕ). meaning.gathered designators members env more in
+    let rest = All-tail KeepsStore first (last ∷ members) all in
+    then-keeps (first env)
+    (λ a. effect.◌>>=◌ (last env) (λ b. effect.◌>>=◌ (meaning.with_range site a b set) (next a b)))
+    (All-head KeepsStore first (last ∷ members) all env)
+    (λ a.
+    then-keeps (last env) (λ b. effect.◌>>=◌ (meaning.with_range site a b set) (next a b)) (All-head KeepsStore last members rest env)
+    (λ b.
+    then-keeps (meaning.with_range site a b set) (next a b)
+    (then-keeps (effect.require (sets.range_fits (number_of a) (number_of b)) site)
+    (λ done. effect.give (sets.of_two operator.Union set (sets.of_range (number_of a) (number_of b))))
+    (require-keeps (sets.range_fits (number_of a) (number_of b)) site)
+    (λ done. give-keeps (sets.of_two operator.Union set (sets.of_range (number_of a) (number_of b)))))
+    (λ more. gathered-keeps designators members (All-tail KeepsStore last members rest) env more)))
+
+pub set-keeps : (designators : List Designator) (members : List Evaluation) → All KeepsStore members → (env : Surroundings)
+    → Keeps (effect.◌>>=◌ (meaning.gathered designators members env sets.empty) (λ set. effect.give (Members set)))
+set-keeps designators members all env =
+    then-keeps (meaning.gathered designators members env sets.empty) (λ set. effect.give (Members set))
+    (gathered-keeps designators members all env sets.empty) (λ set. give-keeps (Members set))
 
 pub fetch-keeps : (place : Option Place) (site : ℕ) → Keeps (fetch place site)
 fetch-keeps place site s t v is = ap (λ (x : effect.State). x.store) (sym (fetch-gives (held s.store place) site s t v is).1)

@@ -7,7 +7,6 @@ use Rattle.std.proofs.lemmas.Bool.{and_parts, eqb-true, ltb-true, or_cases}
 use Rattle.types.specs.declared.form.OrdinalRange.{OrdinalRange}
 use Rattle.types.specs.declared.form.Step.{Step}
 use Rattle.types.specs.declared.form.Step.TheVariants as step
-use Rattle.meaning.specs.declared.store.Value.TheVariants.{Number}
 use Rattle.meaning.specs.Store.{Environment, Store}
 use Rattle.checker_rows.specs.Rows.{Parts, first_index}
 use Rattle.checker_state.specs.Bounds.{Bound, plus}
@@ -15,7 +14,7 @@ use Rattle.checker_state.specs.State.{Claim, Dead, Defined, Facts, Held, Holds a
 use Rattle.checker_state.specs.State.{covers, gives, gives_claim, gives_stretch, has_number, has_span, has_value, has_values, have_spans, have_values, is_empty}
 use Rattle.checker_state.specs.State.{is_spanned, is_whole, le, row_at, state_gives}
 use Rattle.checker_state.specs.Holds.{AreBounds, AreDefined, FactsHold, HasNumber, HasValue, HeldHolds, Holds, IsBound, IsBoundBy, IsWhole, LieBetween, Moment}
-use Rattle.checker_state.specs.Holds.{Numbers, StateHolds, StretchHolds, indexes_of, moment}
+use Rattle.checker_state.specs.Holds.{HoldNumbers, Numbers, StateHolds, StretchHolds, indexes_of, moment}
 use Rattle.checker_state.specs.Knows.{AreRows, Shows}
 use Rattle.checker_state.specs.Laws.{GivenHolds}
 use Rattle.checker_state.proofs.Bounds.{IsTold, le-is, lies_below-is, told-of}
@@ -83,7 +82,8 @@ module _ (rows : List Parts) (m : Moment) (known : Facts) (told : IsTold rows m 
 
 -- ---- what is given
 
-module _ (rows : List Parts) (table : Table) (are : AreRows rows table) (env : Environment) (shows : Shows table.variables env) (store : Store) (known : Facts)
+module _ (rows : List Parts) (table : Table) (are : AreRows rows table) (env : Environment) (shows : Shows table.variables env) (store : Store)
+    (numbers : HoldNumbers table.ordinal (moment env store)) (known : Facts)
     (holds : FactsHold rows known (moment env store)) where
   abbrev m : Moment
   m = moment env store
@@ -91,14 +91,16 @@ module _ (rows : List Parts) (table : Table) (are : AreRows rows table) (env : E
   told : IsTold rows m known
   told = told-of rows table are env shows store known holds
 
-  number-of : (root : ℕ) → HasValue m root [] → (n : ℤ) × HasNumber m root n
-  number-of root (Number n, is) = (n, is)
+  -- an ordinal variable that has a value has a number
+  number-of : (root : ℕ) → table.ordinal root ≡ true → HasValue m root [] → (n : ℤ) × HasNumber m root n
+  number-of root told (v, is) = let number = numbers root v told is in (number.0, is ∙ ap Some number.1)
 
   -- a variable that has a number
   pub number-is : (root : ℕ) → has_number table (Live known) root ≡ true → (n : ℤ) × HasNumber m root n
   number-is root is =
-      let parts = and_parts (nat_lt root table.variables) (row_at known root).is_defined is in
-      number-of root (whole-own rows table are m root (ltb-true root table.variables parts.0) (holds.defined root parts.1))
+      let parts = and_parts (nat_lt root table.variables) (table.ordinal root && (row_at known root).is_defined) is in
+      let both = and_parts (table.ordinal root) (row_at known root).is_defined parts.1 in
+      number-of root both.0 (whole-own rows table are m root (ltb-true root table.variables parts.0) (holds.defined root both.1))
 
   value-by : (root : Option ℕ) (k : ℤ) → (bound : Bound) → bound.root ≡ root → has_value table (Live known) bound ≡ true → (n : ℤ) × IsBoundBy m root k n
   value-by None k bound root_is is = (k, refl)
@@ -166,10 +168,13 @@ module _ (rows : List Parts) (table : Table) (are : AreRows rows table) (env : E
   claim-given (Defined row) is = whole-holds row is
   claim-given (Holding one) is = held-given one is
 
-state-given : (rows : List Parts) (table : Table) → AreRows rows table → (env : Environment) → Shows table.variables env → (store : Store) (state : State)
-    (claim : Claim) → StateHolds rows state (moment env store) → state_gives table state claim ≡ true → Holds rows claim (moment env store)
-state-given rows table are env shows store Dead claim holds is = absurd holds
-state-given rows table are env shows store (Live known) claim holds is = claim-given rows table are env shows store known holds claim is
+state-given : (rows : List Parts) (table : Table) → AreRows rows table → (env : Environment) → Shows table.variables env → (store : Store)
+    → HoldNumbers table.ordinal (moment env store) → (state : State) (claim : Claim)
+    → StateHolds rows state (moment env store) → state_gives table state claim ≡ true → Holds rows claim (moment env store)
+state-given rows table are env shows store numbers Dead claim holds is = absurd holds
+state-given rows table are env shows store numbers (Live known) claim holds is =
+    claim-given rows table are env shows store numbers known holds claim is
 
 pub given-holds : GivenHolds
-given-holds rows table are env state store claim known is = state-given rows table are env known.shows store state claim known.holds is
+given-holds rows table are env state store claim numbers known is =
+    state-given rows table are env known.shows store numbers state claim known.holds is

@@ -7,7 +7,7 @@ use Rattle.meaning.specs.Store.{Environment, Store}
 use Rattle.checker_rows.specs.Rows.{Parts}
 use Rattle.checker_state.specs.State.{Dead, Facts, Held, Live, RowState, State, Table, gives, is_whole, no_row, row_at}
 use Rattle.checker_state.specs.Joins.{joined_facts, joined_row, joined_states}
-use Rattle.checker_state.specs.Holds.{FactsHold, HeldHolds, Moment, StateHolds, moment}
+use Rattle.checker_state.specs.Holds.{FactsHold, HeldHolds, HoldNumbers, Moment, StateHolds, moment}
 use Rattle.checker_state.specs.Knows.{AreRows, Shows}
 use Rattle.checker_state.specs.Laws.{JoinHolds}
 use Rattle.checker_state.proofs.Given.{held-given, whole-holds}
@@ -16,7 +16,7 @@ use Rattle.checker_state.proofs.Ranged.{in-left, in-right}
 use Rattle.checker_state.proofs.Rows.{RowWhere, Any_value, of_row-within}
 
 module _ (rows : List Parts) (table : Table) (are : AreRows rows table) (env : Environment) (shows : Shows table.variables env) (store : Store)
-    (one other : Facts) where
+    (numbers : HoldNumbers table.ordinal (moment env store)) (one other : Facts) where
   abbrev m : Moment
   m = moment env store
 
@@ -54,11 +54,11 @@ module _ (rows : List Parts) (table : Table) (are : AreRows rows table) (env : E
         range = λ steps v of_row there any. in-left first.range second.range v (holds.ranges row steps v of_row there);
         defined = λ kept is.
             ⊎_elim (λ held. holds.defined row (and_parts first.is_defined whole_other held).0)
-            (λ given. whole-holds rows table are env shows store one holds row (and_parts second.is_defined whole given).1)
+            (λ given. whole-holds rows table are env shows store numbers one holds row (and_parts second.is_defined whole given).1)
             (or_cases (first.is_defined && whole_other) (second.is_defined && whole) is);
       })
       (with_more-each (λ held. HeldHolds rows held m) (filter (gives table one) other.held) (filter (gives table other) one.held)
-      (λ held inside. held-given rows table are env shows store one holds held (in-filter (gives table one) other.held held inside).1)
+      (λ held inside. held-given rows table are env shows store numbers one holds held (in-filter (gives table one) other.held held inside).1)
       (λ held inside. holds.held held (in-filter (gives table other) one.held held inside).0))
 
   from-other : FactsHold rows other m → FactsHold rows both m
@@ -72,35 +72,35 @@ module _ (rows : List Parts) (table : Table) (are : AreRows rows table) (env : E
       record {
         range = λ steps v of_row there any. in-right first.range second.range v (holds.ranges row steps v of_row there);
         defined = λ kept is.
-            ⊎_elim (λ given. whole-holds rows table are env shows store other holds row (and_parts first.is_defined whole_other given).1)
+            ⊎_elim (λ given. whole-holds rows table are env shows store numbers other holds row (and_parts first.is_defined whole_other given).1)
             (λ held. holds.defined row (and_parts second.is_defined whole held).0)
             (or_cases (first.is_defined && whole_other) (second.is_defined && whole) is);
       })
       (with_more-each (λ held. HeldHolds rows held m) (filter (gives table one) other.held) (filter (gives table other) one.held)
       (λ held inside. holds.held held (in-filter (gives table one) other.held held inside).0)
-      (λ held inside. held-given rows table are env shows store other holds held (in-filter (gives table other) one.held held inside).1))
+      (λ held inside. held-given rows table are env shows store numbers other holds held (in-filter (gives table other) one.held held inside).1))
 
 module _ (rows : List Parts) (table : Table) (are : AreRows rows table) (env : Environment) (shows : Shows table.variables env) where
-  state-one : (one other : State) (store : Store) → StateHolds rows one (moment env store)
+  state-one : (one other : State) (store : Store) → HoldNumbers table.ordinal (moment env store) → StateHolds rows one (moment env store)
       → StateHolds rows (joined_states table one other) (moment env store)
-  state-one Dead other store holds = absurd holds
-  state-one (Live one) Dead store holds = holds
-  state-one (Live one) (Live other) store holds = from-one rows table are env shows store one other holds
+  state-one Dead other store numbers holds = absurd holds
+  state-one (Live one) Dead store numbers holds = holds
+  state-one (Live one) (Live other) store numbers holds = from-one rows table are env shows store numbers one other holds
 
-  state-other : (one other : State) (store : Store) → StateHolds rows other (moment env store)
+  state-other : (one other : State) (store : Store) → HoldNumbers table.ordinal (moment env store) → StateHolds rows other (moment env store)
       → StateHolds rows (joined_states table one other) (moment env store)
-  state-other Dead other store holds = holds
-  state-other (Live one) Dead store holds = absurd holds
-  state-other (Live one) (Live other) store holds = from-other rows table are env shows store one other holds
+  state-other Dead other store numbers holds = holds
+  state-other (Live one) Dead store numbers holds = absurd holds
+  state-other (Live one) (Live other) store numbers holds = from-other rows table are env shows store numbers one other holds
 
 pub join-holds : JoinHolds
 join-holds = record {
-  from_one = λ rows table are env one other store known. record {
+  from_one = λ rows table are env one other store numbers known. record {
     shows = known.shows;
-    holds = state-one rows table are env known.shows one other store known.holds;
+    holds = state-one rows table are env known.shows one other store numbers known.holds;
   };
-  from_other = λ rows table are env one other store known. record {
+  from_other = λ rows table are env one other store numbers known. record {
     shows = known.shows;
-    holds = state-other rows table are env known.shows one other store known.holds;
+    holds = state-other rows table are env known.shows one other store numbers known.holds;
   };
 }

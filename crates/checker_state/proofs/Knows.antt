@@ -1,9 +1,9 @@
 -- What the walk of a run uses of what is known: that variables at their places lie in their ranges and are defined, and
 -- that what is kept stays so.
-use Rattle.std.proofs.Common.{◌≡◌, ⊎_elim, ◌∙◌, sym, ap, ℕ, ◌<◌, true, List, [], Option, Some, refl}
+use Rattle.std.proofs.Common.{◌≡◌, ⊎_elim, ◌∙◌, sym, ap, ℕ, ℤ, ◌<◌, true, List, [], Option, Some, refl}
 use Rattle.std.proofs.lemmas.Bool.{cases_lt}
 use Rattle.std.proofs.lemmas.Option.{none-some}
-use Rattle.domain.specs.Interval.{Interval}
+use Rattle.domain.specs.Interval.{HasMember, Interval}
 use Rattle.meaning.specs.declared.store.Value.{Value}
 use Rattle.meaning.specs.Store.{Environment, Place, Store, stored}
 use Rattle.checker_rows.specs.Rows.{Parts}
@@ -39,10 +39,10 @@ kept-then env touched controls first second third one two = record {
 module _ (rows : List Parts) (table : Table) (are : AreRows rows table) (env : Environment) (state : State) (store : Store)
     (known : Knows rows table.variables env state store) where
   -- no run goes on from an empty range
-  pub nonempty-known : (range : Interval) (v : Value) → IsIn range v → Knows rows table.variables env (unless_empty range state) store
-  nonempty-known range v inside = record {
+  pub nonempty-known : (range : Interval) (n : ℤ) → HasMember range n → Knows rows table.variables env (unless_empty range state) store
+  nonempty-known range n inside = record {
     shows = known.shows;
-    holds = nonempty-holds rows table are env known.shows store range state v inside known.holds;
+    holds = nonempty-holds rows table are env known.shows store range state n inside known.holds;
   }
 
   module _ (root : ℕ) (within : root < table.variables) where

@@ -16,3 +16,4 @@ pub mod Knows
 pub mod OfTree
 pub mod FormsOf
 pub mod HeldOrders
+pub mod Valued

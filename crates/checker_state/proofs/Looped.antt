@@ -17,7 +17,7 @@ use Rattle.checker_state.specs.State.{state_gives, with_range}
 use Rattle.checker_state.specs.Changes.{all_changed, all_with_bounds, bound_rests_on, changed, changed_bound, in_place, rests_on, span_rests_on}
 use Rattle.checker_state.specs.Changes.{with_bounds}
 use Rattle.checker_state.specs.Loops.{after_turns, all_forgotten, gives_all, is_among, replaced, with_claim, with_claims, with_forgotten, with_limits}
-use Rattle.checker_state.specs.Holds.{HasNumber, HeldHolds, Holds, IsBound, IsOfRow, Moment, StateHolds, ValuesLie, moment}
+use Rattle.checker_state.specs.Holds.{HasNumber, HeldHolds, HoldNumbers, Holds, IsBound, IsOfRow, Moment, StateHolds, ValuesLie, moment}
 use Rattle.checker_state.specs.Knows.{AreEntire, AreRows, AreUntouched, InLimits, IsKept, Knows, rests_on_any}
 use Rattle.checker_state.specs.Laws.{HeadsHold}
 use Rattle.checker_state.proofs.Changed.{StaysDefined, between-some, both-some, held-stays, placed-holds, stretch-some, unless-some}
@@ -119,12 +119,13 @@ module _ (rows : List Parts) (m : Moment) where
 
 -- claims that a state gives hold
 pub given-all : (rows : List Parts) (table : Table) → AreRows rows table → (env : Environment) (state : State) (store : Store) (claims : List Claim)
-    → Knows rows table.variables env state store → gives_all table state claims ≡ true → All (λ claim. Holds rows claim (moment env store)) claims
-given-all rows table are env state store [] known is = All-nil (λ claim. Holds rows claim (moment env store))
-given-all rows table are env state store (claim ∷ claims) known is =
+    → HoldNumbers table.ordinal (moment env store) → Knows rows table.variables env state store → gives_all table state claims ≡ true
+    → All (λ claim. Holds rows claim (moment env store)) claims
+given-all rows table are env state store [] numbers known is = All-nil (λ claim. Holds rows claim (moment env store))
+given-all rows table are env state store (claim ∷ claims) numbers known is =
     let parts = and_parts (state_gives table state claim) (gives_all table state claims) is in
-    All-cons (λ claim. Holds rows claim (moment env store)) claim claims (given-holds rows table are env state store claim known parts.0)
-    (given-all rows table are env state store claims known parts.1)
+    All-cons (λ claim. Holds rows claim (moment env store)) claim claims (given-holds rows table are env state store claim numbers known parts.0)
+    (given-all rows table are env state store claims numbers known parts.1)
 
 -- ---- the head
 

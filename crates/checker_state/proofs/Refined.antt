@@ -1,7 +1,7 @@
 -- Where a condition had a truth value, what is known of its branch holds: an induction over expressions, which change
 -- no variable unless they hold a call. Of these none has a bound form.
 use Rattle.std.proofs.Common.{arith, ◌≡◌, ◌∙◌, sym, ap, ap₂, refl, subst, ℕ, ℤ, pos, ◌+ℤ◌, ◌-ℤ◌, neg_ℤ, Bool, true, false, not}
-use Rattle.std.proofs.Common.{◌&&◌, ◌||◌, List, [], ◌∷◌, map, Option, Some, None}
+use Rattle.std.proofs.Common.{◌&&◌, ◌||◌, cond, List, [], ◌∷◌, map, Option, Some, None}
 use Rattle.std.specs.List.{All, list_all}
 use Rattle.std.specs.Ordering.{int_eq}
 use Rattle.std.proofs.lemmas.Int.{ints}
@@ -27,7 +27,8 @@ use Rattle.typed_tree.specs.declared.tree.Expr.TheViews.{roll-Expr, roll-Link}
 use Rattle.typed_tree.specs.WellFormed.{whole_indexes}
 use Rattle.typed_tree.specs.Calls.{any_holds, expression_holds_call, hold_call, holds_call, link_holds_call, link_holds_call_of, passed_holds_call}
 use Rattle.typed_tree.specs.Calls.{passed_step_holds_call, whole_holds_call}
-use Rattle.typed_tree.specs.declared.tree.Expr.TheOpen.Expr-F.{Constant, Variable, Monadic as MonadicOf, Chain, Compare, Call}
+use Rattle.typed_tree.specs.declared.tree.Expr.TheOpen.Expr-F.{Constant, Variable, Monadic as MonadicOf, Chain, Compare, Call, Set}
+use Rattle.typed_tree.specs.Accesses.{Origin, AtVariable, AtRecord, origin_of}
 use Rattle.typed_tree.specs.declared.tree.Expr.TheFolds.{map-Expr, map-Link, fold-roll-Expr, fold-roll-Link, ind-Expr}
 use Rattle.domain.specs.Interval.{Interval, HasMember, always_true, never_true, has_number}
 use Rattle.meaning.specs.declared.store.Value.{Value}
@@ -47,14 +48,14 @@ use Rattle.checker_state.specs.Conditions.{Condition, Conjunct, all_refined, bou
 use Rattle.checker_state.specs.Conditions.{link_condition}
 use Rattle.checker_state.specs.Conditions.{monadic_refined, operand_of, operation_refined, passed_condition, related_forms, single_refined, takes_both, told}
 use Rattle.checker_state.specs.Conditions.{unless_excluded}
-use Rattle.checker_state.specs.Holds.{Moment, HasNumber, moment, part_of, value_at}
+use Rattle.checker_state.specs.Holds.{Moment, HasNumber, HoldNumbers, moment, part_of, value_at}
 use Rattle.checker_state.specs.Knows.{IsOfForm, Knows}
 use Rattle.checker_state.specs.Laws.{ConditionsTell, FormsTell}
 use Rattle.checker_state.proofs.Apart.{entire-stored}
 use Rattle.checker_state.proofs.Bounded.{Preserves, opposite-relates, related-preserves}
-use Rattle.checker_state.proofs.Evaluated.{Keeps, KeepsStore, accessed-keeps, combined-gives, compare-keeps, entered, fetch-gives, fetch-keeps, given-same}
+use Rattle.checker_state.proofs.Evaluated.{Keeps, KeepsStore, accessed-keeps, compare-keeps, entered, fetch-gives, fetch-keeps, given-same}
 use Rattle.checker_state.proofs.Evaluated.{number-gives}
-use Rattle.checker_state.proofs.Evaluated.{number-is, operated-gives, result_of, then-gives, then-keeps, truth-is, whole-keeps}
+use Rattle.checker_state.proofs.Evaluated.{both-gives, is_of_numbers, operated-gives, set-keeps, result_of, then-gives, then-keeps, truth-is, whole-keeps}
 
 -- ---- forms and values
 
@@ -62,14 +63,14 @@ use Rattle.checker_state.proofs.Evaluated.{number-is, operated-gives, result_of,
 abbrev pub IsForm : Form → Moment → Value → Type 0
 IsForm (Literal n) moment v = v ≡ Number n
 IsForm (Signed n) moment v = v ≡ Number n
-IsForm (Entire root) moment v = value_at moment root [] ≡ Some v
+IsForm (Entire root) moment v = (n : ℤ) × (v ≡ Number n) × HasNumber moment root n
 IsForm (Moved root k) moment v = (old : ℤ) × HasNumber moment root old × (v ≡ Number (old +ℤ k))
 IsForm Other moment v = Unit {0}
 
 form-bound : (form : Form) (moment : Moment) (v : Value) → IsForm form moment v → IsOfForm moment (bound_of form) v
 form-bound (Literal n) moment v is = (n, is, refl)
 form-bound (Signed n) moment v is = (n, is, refl)
-form-bound (Entire root) moment (Number n) is = (n, refl, (n, is, omega (arith, ints)))
+form-bound (Entire root) moment v (n, is, has) = (n, is, (n, has, omega (arith, ints)))
 form-bound (Moved root k) moment v (old, has, is) = (old +ℤ k, is, (old, has, refl))
 form-bound Other moment v is = tt
 
@@ -126,6 +127,19 @@ offset-form root (dyadic.Minus overflow) form moment a w has is =
     (has n own, omega (arith, ints, negated, number)))
 offset-form root operation form moment a w has is = tt
 
+-- the same, where the operation gave a value
+offset-result : (root : ℕ) (operation : Dyadic) (form : Form) (moment : Moment) (a : ℤ) (w v : Value)
+    → (is_of_numbers operation ≡ true → v ≡ Number (meaning.of_both operation a (number_of w)))
+    → ((k : ℤ) → constant_of form ≡ Some k → HasNumber moment root a) → IsForm form moment w
+    → IsForm (offset_form root operation (constant_of form)) moment v
+offset-result root (dyadic.Plus overflow) form moment a w v result has is =
+    subst (IsForm (offset_form root (dyadic.Plus overflow) (constant_of form)) moment) (sym (result refl))
+    (offset-form root (dyadic.Plus overflow) form moment a w has is)
+offset-result root (dyadic.Minus overflow) form moment a w v result has is =
+    subst (IsForm (offset_form root (dyadic.Minus overflow) (constant_of form)) moment) (sym (result refl))
+    (offset-form root (dyadic.Minus overflow) form moment a w has is)
+offset-result root operation form moment a w v result has is = tt
+
 -- ---- what an expression tells
 
 -- an expression of a form that is a bound form changes no variable
@@ -152,393 +166,437 @@ offset-constant : (root : ℕ) (operation : Dyadic) (found : Option ℤ) (bound 
 offset-constant root operation None bound is = absurd (none-some bound (sym (offset-none root operation) ∙ is))
 offset-constant root operation (Some k) bound is = (k, refl)
 
--- an expression was evaluated over a store, with a value: the form tells of the value; and if it holds no call, the
--- store stays, and what is known where the value was true, or false, holds
-pub record Evaluates (env : Environment) (condition : Condition) (holds : Bool) (before after : Store) (v : Value) : Type 0 where
-  pub form_is : IsForm condition.form (moment env after) v
-  pub still : Still condition.form before after
-  pub store_is : holds ≡ false → after ≡ before
-  pub refines : holds ≡ false → Preserves env before (condition.refined (is_so v))
+-- by what is told of variables, which of them are ordinals
+module _ (ordinal : ℕ → Bool) where
+  -- an expression was evaluated over a store, with a value: the form tells of the value; and if it holds no call, the
+  -- store stays, and what is known where the value was true, or false, holds
+  pub record Evaluates (env : Environment) (condition : Condition) (holds : Bool) (before after : Store) (v : Value) : Type 0 where
+    pub form_is : HoldNumbers ordinal (moment env after) → IsForm condition.form (moment env after) v
+    pub still : Still condition.form before after
+    pub store_is : holds ≡ false → after ≡ before
+    pub refines : holds ≡ false → HoldNumbers ordinal (moment env before) → Preserves env before (condition.refined (is_so v))
 
--- an operator and its right operand were evaluated
-pub record Combines (env : Environment) (conjunct : Conjunct) (holds : Bool) (before after : Store) (left result : Value) : Type 0 where
-  pub right : Value
-  pub right_is : Evaluates env conjunct.right holds before after right
-  pub result_is : result ≡ Number (meaning.of_both conjunct.operation (number_of left) (number_of right))
+  -- an operator and its right operand were evaluated
+  pub record Combines (env : Environment) (conjunct : Conjunct) (holds : Bool) (before after : Store) (left result : Value) : Type 0 where
+    pub right : Value
+    pub right_is : Evaluates env conjunct.right holds before after right
+    pub result_is : is_of_numbers conjunct.operation ≡ true
+        → result ≡ Number (meaning.of_both conjunct.operation (number_of left) (number_of right))
 
-abbrev pub EvaluatesAs : Evaluation → Condition → Bool → Type 0
-EvaluatesAs evaluation condition holds = (env : Surroundings) (s t : effect.State) (v : Value) → evaluation env s ≡ Gives v t
-    → Evaluates env.visible condition holds s.store t.store v
+  abbrev pub EvaluatesAs : Evaluation → Condition → Bool → Type 0
+  EvaluatesAs evaluation condition holds = (env : Surroundings) (s t : effect.State) (v : Value) → evaluation env s ≡ Gives v t
+      → Evaluates env.visible condition holds s.store t.store v
 
-abbrev pub CombinesAs : meaning.Combination → Conjunct → Bool → Type 0
-CombinesAs combination conjunct holds = (env : Surroundings) (s t : effect.State) (left result : Value) → combination env left s ≡ Gives result t
-    → Combines env.visible conjunct holds s.store t.store left result
+  abbrev pub CombinesAs : meaning.Combination → Conjunct → Bool → Type 0
+  CombinesAs combination conjunct holds = (env : Surroundings) (s t : effect.State) (left result : Value) → combination env left s ≡ Gives result t
+      → Combines env.visible conjunct holds s.store t.store left result
 
--- ---- operators from left to right
+  -- ---- operators from left to right
 
--- a relation of two operands
-forms-preserve : (env : Environment) (store : Store) (r : Relation) (left right : Option Bound) (v w : Value) → IsOfForm (moment env store) left v
-    → IsOfForm (moment env store) right w → relates r (number_of v) (number_of w) ≡ true → Preserves env store (related_forms r left right)
-forms-preserve env store r (Some left) (Some right) v w (m, m_is, left_is) (n, n_is, right_is) is =
-    related-preserves env store r left right m n left_is right_is (ap₂ (relates r) (sym (ap number_of m_is)) (sym (ap number_of n_is)) ∙ is)
-forms-preserve env store r None right v w left_is right_is is = λ rows table are state known. known
-forms-preserve env store r (Some left) None v w left_is right_is is = λ rows table are state known. known
+  -- a relation of two operands
+  forms-preserve : (env : Environment) (store : Store) (r : Relation) (left right : Option Bound) (v w : Value) → IsOfForm (moment env store) left v
+      → IsOfForm (moment env store) right w → relates r (number_of v) (number_of w) ≡ true → Preserves env store (related_forms r left right)
+  forms-preserve env store r (Some left) (Some right) v w (m, m_is, left_is) (n, n_is, right_is) is =
+      related-preserves env store r left right m n left_is right_is (ap₂ (relates r) (sym (ap number_of m_is)) (sym (ap number_of n_is)) ∙ is)
+  forms-preserve env store r None right v w left_is right_is is = λ rows table are state known. known
+  forms-preserve env store r (Some left) None v w left_is right_is is = λ rows table are state known. known
 
-told-relates : (r : Relation) (a b : ℤ) (truth : Bool) → relates r a b ≡ truth → relates (told r truth) a b ≡ true
-told-relates r a b true is = is
-told-relates r a b false is = opposite-relates r a b is
+  told-relates : (r : Relation) (a b : ℤ) (truth : Bool) → relates r a b ≡ truth → relates (told r truth) a b ≡ true
+  told-relates r a b true is = is
+  told-relates r a b false is = opposite-relates r a b is
 
-operation-preserves : (env : Environment) (store : Store) (operation : Dyadic) (left right : Form) (v w : Value) (so : Bool)
-    → IsForm left (moment env store) v → IsForm right (moment env store) w → is_true (meaning.of_both operation (number_of v) (number_of w)) ≡ so
-    → Preserves env store (operation_refined operation so (bound_of left) (bound_of right))
-operation-preserves env store (dyadic.Relation r) left right v w so left_is right_is is =
-    forms-preserve env store (told r so) (bound_of left) (bound_of right) v w (form-bound left (moment env store) v left_is)
-    (form-bound right (moment env store) w right_is)
-    (told-relates r (number_of v) (number_of w) so (sym (truth-is (relates r (number_of v) (number_of w))) ∙ is))
-operation-preserves env store operation left right v w so left_is right_is is = λ rows table are state known. known
+  operation-preserves : (env : Environment) (store : Store) (operation : Dyadic) (left right : Form) (v w : Value) (so : Bool)
+      → IsForm left (moment env store) v → IsForm right (moment env store) w
+      → (is_of_numbers operation ≡ true → is_true (meaning.of_both operation (number_of v) (number_of w)) ≡ so)
+      → Preserves env store (operation_refined operation so (bound_of left) (bound_of right))
+  operation-preserves env store (dyadic.Relation r) left right v w so left_is right_is is =
+      forms-preserve env store (told r so) (bound_of left) (bound_of right) v w (form-bound left (moment env store) v left_is)
+      (form-bound right (moment env store) w right_is)
+      (told-relates r (number_of v) (number_of w) so (sym (truth-is (relates r (number_of v) (number_of w))) ∙ is refl))
+  operation-preserves env store operation left right v w so left_is right_is is = λ rows table are state known. known
 
--- both operands have the truth value that the whole takes from both
-both-so : (operation : Dyadic) (a b : ℤ) (so : Bool) → takes_both so operation ≡ true → is_true (meaning.of_both operation a b) ≡ so
-    → (is_true a ≡ so) × (is_true b ≡ so)
-both-so dyadic.And a b true takes is = and_parts (is_true a) (is_true b) (sym (truth-is (is_true a && is_true b)) ∙ is)
-both-so dyadic.Or a b false takes is = or_parts (is_true a) (is_true b) (sym (truth-is (is_true a || is_true b)) ∙ is)
-both-so operation a b true takes is = absurd (cc)
-both-so operation a b false takes is = absurd (cc)
+  -- both operands have the truth value that the whole takes from both
+  both-so : (operation : Dyadic) (a b : ℤ) (so : Bool) → takes_both so operation ≡ true → is_true (meaning.of_both operation a b) ≡ so
+      → (is_true a ≡ so) × (is_true b ≡ so)
+  both-so dyadic.And a b true takes is = and_parts (is_true a) (is_true b) (sym (truth-is (is_true a && is_true b)) ∙ is)
+  both-so dyadic.Or a b false takes is = or_parts (is_true a) (is_true b) (sym (truth-is (is_true a || is_true b)) ∙ is)
+  both-so operation a b true takes is = absurd (cc)
+  both-so operation a b false takes is = absurd (cc)
 
-abbrev ProvedExpr : Type 0
-ProvedExpr = (e : Expr) × EvaluatesAs (value_of e) (condition_of e) (holds_call e)
+  -- these are operations of numbers
+  takes-numbers : (so : Bool) (operation : Dyadic) → takes_both so operation ≡ true → is_of_numbers operation ≡ true
+  takes-numbers true dyadic.And takes = refl
+  takes-numbers false dyadic.Or takes = refl
+  takes-numbers true operation takes = absurd (cc)
+  takes-numbers false operation takes = absurd (cc)
 
-abbrev ProvedPassed : Type 0
-ProvedPassed = (p : Passed) × Unit {0}
+  abbrev ProvedExpr : Type 0
+  ProvedExpr = (e : Expr) × EvaluatesAs (value_of e) (condition_of ordinal e) (holds_call e)
 
-abbrev ProvedLink : Type 0
-ProvedLink = (l : Link) × CombinesAs (link_of l) (conjunct_of l) (link_holds_call_of l)
+  abbrev ProvedPassed : Type 0
+  ProvedPassed = (p : Passed) × Unit {0}
 
-abbrev links_of : List ProvedLink → List Link
-links_of = map (λ (l : ProvedLink). l.0)
+  abbrev ProvedLink : Type 0
+  ProvedLink = (l : Link) × CombinesAs (link_of l) (conjunct_of ordinal l) (link_holds_call_of l)
 
-abbrev conjuncts_of : List ProvedLink → List Conjunct
-conjuncts_of links = map conjunct_of (links_of links)
+  abbrev links_of : List ProvedLink → List Link
+  links_of = map (λ (l : ProvedLink). l.0)
 
-abbrev turns : List ProvedLink → meaning.Combination
-turns links = meaning.in_turn (map link_of (links_of links))
+  abbrev conjuncts_of : List ProvedLink → List Conjunct
+  conjuncts_of links = map (conjunct_of ordinal) (links_of links)
 
--- one of the operators holds a call
-abbrev calls_in : List ProvedLink → Bool
-calls_in links = any_holds (map link_holds_call_of (links_of links))
+  abbrev turns : List ProvedLink → meaning.Combination
+  turns links = meaning.in_turn (map link_of (links_of links))
 
--- the operators of a chain change no variable, if they hold no call
-turns-kept : (links : List ProvedLink) → calls_in links ≡ false → (env : Surroundings) (s t : effect.State) (left result : Value)
-    → turns links env left s ≡ Gives result t → t.store ≡ s.store
-turns-kept [] quiet env s t left result is = ap (λ (u : effect.State). u.store) (sym (given-same left result s t is).1)
-turns-kept (link ∷ links) quiet env s t left result is =
-    let none = or_parts (link_holds_call_of link.0) (calls_in links) quiet in
-    let step = then-gives (link_of link.0 env left s) (turns links env) result t is in
-    turns-kept links none.1 env step.1 t step.0 result step.3 ∙ (link.1 env s step.1 left step.0 step.2).right_is.store_is none.0
+  -- one of the operators holds a call
+  abbrev calls_in : List ProvedLink → Bool
+  calls_in links = any_holds (map link_holds_call_of (links_of links))
 
--- where the whole takes its truth value from both operands at each operator, each operand has it
-turns-refine : (links : List ProvedLink) → calls_in links ≡ false → (env : Surroundings) (s t : effect.State) (left result : Value) (truth : Bool)
-    → list_all (λ conjunct. takes_both truth conjunct.operation) (conjuncts_of links) ≡ true → turns links env left s ≡ Gives result t → is_so result ≡ truth
-    → (is_so left ≡ truth) × Preserves env.visible s.store (all_refined truth (conjuncts_of links))
-turns-refine [] quiet env s t left result truth takes is so =
-    (ap is_so (given-same left result s t is).0 ∙ so, λ rows table are state known. known)
-turns-refine (link ∷ links) quiet env s t left result truth takes is so =
-    let none = or_parts (link_holds_call_of link.0) (calls_in links) quiet in
-    let conjunct = conjunct_of link.0 in
-    let parts = and_parts (takes_both truth conjunct.operation) (list_all (λ c. takes_both truth c.operation) (conjuncts_of links)) takes in
-    let step = then-gives (link_of link.0 env left s) (turns links env) result t is in
-    let combines = link.1 env s step.1 left step.0 step.2 in
-    let rest = turns-refine links none.1 env step.1 t step.0 result truth parts.1 step.3 so in
-    let both = both-so conjunct.operation (number_of left) (number_of combines.right) truth parts.0 (sym (ap is_so combines.result_is) ∙ rest.0) in
-    let one = subst (λ (b : Bool). Preserves env.visible s.store (conjunct.right.refined b)) both.1 (combines.right_is.refines none.0) in
-    let more = subst (λ (store : Store). Preserves env.visible store (all_refined truth (conjuncts_of links))) (combines.right_is.store_is none.0) rest.1 in
-    (both.0, λ rows table are state known. more rows table are (conjunct.right.refined truth state) (one rows table are state known))
+  -- the operators of a chain change no variable, if they hold no call
+  turns-kept : (links : List ProvedLink) → calls_in links ≡ false → (env : Surroundings) (s t : effect.State) (left result : Value)
+      → turns links env left s ≡ Gives result t → t.store ≡ s.store
+  turns-kept [] quiet env s t left result is = ap (λ (u : effect.State). u.store) (sym (given-same left result s t is).1)
+  turns-kept (link ∷ links) quiet env s t left result is =
+      let none = or_parts (link_holds_call_of link.0) (calls_in links) quiet in
+      let step = then-gives (link_of link.0 env left s) (turns links env) result t is in
+      turns-kept links none.1 env step.1 t step.0 result step.3 ∙ (link.1 env s step.1 left step.0 step.2).right_is.store_is none.0
 
--- a single operator
-single-preserves : (links : List ProvedLink) → calls_in links ≡ false → (env : Surroundings) (s t : effect.State) (left result : Value) (form : Form)
-    → turns links env left s ≡ Gives result t → IsForm form (moment env.visible s.store) left
-    → Preserves env.visible s.store (single_refined (is_so result) form (conjuncts_of links))
-single-preserves [] quiet env s t left result form is form_is = λ rows table are state known. known
-single-preserves (link ∷ next ∷ links) quiet env s t left result form is form_is = λ rows table are state known. known
-single-preserves (link ∷ []) quiet env s t left result form is form_is =
-    let none = or_parts (link_holds_call_of link.0) (calls_in []) quiet in
-    let step = then-gives (link_of link.0 env left s) (turns [] env) result t is in
-    let combines = link.1 env s step.1 left step.0 step.2 in
-    let conjunct = conjunct_of link.0 in
-    let same : step.0 ≡ result = (given-same step.0 result step.1 t step.3).0 in
-    let right_is : IsForm conjunct.right.form (moment env.visible s.store) combines.right =
-    subst (λ (store : Store). IsForm conjunct.right.form (moment env.visible store) combines.right) (combines.right_is.store_is none.0)
-    combines.right_is.form_is in
-    operation-preserves env.visible s.store conjunct.operation form conjunct.right.form left combines.right (is_so result) form_is right_is
-    (sym (ap is_so combines.result_is) ∙ ap is_so same)
+  -- where the whole takes its truth value from both operands at each operator, each operand has it
+  turns-refine : (links : List ProvedLink) → calls_in links ≡ false → (env : Surroundings) (s t : effect.State) (left result : Value) (truth : Bool)
+      → list_all (λ conjunct. takes_both truth conjunct.operation) (conjuncts_of links) ≡ true → turns links env left s ≡ Gives result t → is_so result ≡ truth
+      → HoldNumbers ordinal (moment env.visible s.store) → (is_so left ≡ truth) × Preserves env.visible s.store (all_refined truth (conjuncts_of links))
+  turns-refine [] quiet env s t left result truth takes is so numbers =
+      (ap is_so (given-same left result s t is).0 ∙ so, λ rows table are state known. known)
+  turns-refine (link ∷ links) quiet env s t left result truth takes is so numbers =
+      let none = or_parts (link_holds_call_of link.0) (calls_in links) quiet in
+      let conjunct = conjunct_of ordinal link.0 in
+      let parts = and_parts (takes_both truth conjunct.operation) (list_all (λ c. takes_both truth c.operation) (conjuncts_of links)) takes in
+      let step = then-gives (link_of link.0 env left s) (turns links env) result t is in
+      let combines = link.1 env s step.1 left step.0 step.2 in
+      let kept = combines.right_is.store_is none.0 in
+      let rest = turns-refine links none.1 env step.1 t step.0 result truth parts.1 step.3 so
+      (subst (λ (store : Store). HoldNumbers ordinal (moment env.visible store)) (sym kept) numbers) in
+      let both = both-so conjunct.operation (number_of left) (number_of combines.right) truth parts.0
+      (sym (ap is_so (combines.result_is (takes-numbers truth conjunct.operation parts.0))) ∙ rest.0) in
+      let one = subst (λ (b : Bool). Preserves env.visible s.store (conjunct.right.refined b)) both.1 (combines.right_is.refines none.0 numbers) in
+      let more = subst (λ (store : Store). Preserves env.visible store (all_refined truth (conjuncts_of links))) (combines.right_is.store_is none.0) rest.1 in
+      (both.0, λ rows table are state known. more rows table are (conjunct.right.refined truth state) (one rows table are state known))
 
--- ---- forms of chains
+  -- a single operator
+  single-preserves : (links : List ProvedLink) → calls_in links ≡ false → (env : Surroundings) (s t : effect.State) (left result : Value) (form : Form)
+      → turns links env left s ≡ Gives result t → IsForm form (moment env.visible s.store) left → HoldNumbers ordinal (moment env.visible s.store)
+      → Preserves env.visible s.store (single_refined (is_so result) form (conjuncts_of links))
+  single-preserves [] quiet env s t left result form is form_is numbers = λ rows table are state known. known
+  single-preserves (link ∷ next ∷ links) quiet env s t left result form is form_is numbers = λ rows table are state known. known
+  single-preserves (link ∷ []) quiet env s t left result form is form_is numbers =
+      let none = or_parts (link_holds_call_of link.0) (calls_in []) quiet in
+      let step = then-gives (link_of link.0 env left s) (turns [] env) result t is in
+      let combines = link.1 env s step.1 left step.0 step.2 in
+      let conjunct = conjunct_of ordinal link.0 in
+      let same : step.0 ≡ result = (given-same step.0 result step.1 t step.3).0 in
+      let right_is : IsForm conjunct.right.form (moment env.visible s.store) combines.right =
+      subst (λ (store : Store). IsForm conjunct.right.form (moment env.visible store) combines.right) (combines.right_is.store_is none.0)
+      (combines.right_is.form_is
+      (subst (λ (store : Store). HoldNumbers ordinal (moment env.visible store)) (sym (combines.right_is.store_is none.0)) numbers)) in
+      operation-preserves env.visible s.store conjunct.operation form conjunct.right.form left combines.right (is_so result) form_is right_is
+      (λ of_numbers. sym (ap is_so (combines.result_is of_numbers)) ∙ ap is_so same)
 
--- a form tells of the value behind it, and what comes between changes no variable, if it is a bound form
-abbrev Tells : Form → Environment → Store → Store → Value → Type 0
-Tells form env before after v = IsForm form (moment env after) v × Still form before after
+  -- ---- forms of chains
 
-abbrev chain_of : Form → List ProvedLink → Form
-chain_of form links = chain_form form (map operand_of (conjuncts_of links))
+  -- a form tells of the value behind it, and what comes between changes no variable, if it is a bound form
+  abbrev Tells : Form → Environment → Store → Store → Value → Type 0
+  Tells form env before after v = (HoldNumbers ordinal (moment env after) → IsForm form (moment env after) v) × Still form before after
 
-chain-tells : (links : List ProvedLink) (form : Form) (env : Surroundings) (s t : effect.State) (left result : Value) → turns links env left s ≡ Gives result t
-    → IsForm form (moment env.visible s.store) left → Tells (chain_of form links) env.visible s.store t.store result
-chain-tells (link ∷ []) (Entire root) env s t left result is form_is =
-    let step = then-gives (link_of link.0 env left s) (turns [] env) result t is in
-    let combines = link.1 env s step.1 left step.0 step.2 in
-    let conjunct = conjunct_of link.0 in
-    let right = conjunct.right.form in
-    let stays : (k : ℤ) → constant_of right ≡ Some k → step.1.store ≡ s.store =
-    λ k found. let own = constant-bound right k found in combines.right_is.still own.0 own.1 in
-    let last = given-same step.0 result step.1 t step.3 in
-    let whole = offset_form root conjunct.operation (constant_of right) in
-    let here : IsForm whole (moment env.visible step.1.store) step.0 =
-    subst (IsForm whole (moment env.visible step.1.store)) (sym combines.result_is)
-    (offset-form root conjunct.operation right (moment env.visible step.1.store) (number_of left) combines.right
-    (λ k found.
-    subst (λ (store : Store). HasNumber (moment env.visible store) root (number_of left)) (sym (stays k found)) (form_is ∙ ap Some (number-is left)))
-    combines.right_is.form_is) in
-    let there : Tells whole env.visible s.store step.1.store step.0 =
-    (here, λ bound is. let own = offset-constant root conjunct.operation (constant_of right) bound is in stays own.0 own.1) in
-    subst (λ (v : Value). Tells whole env.visible s.store t.store v) last.0
-    (subst (λ (u : effect.State). Tells whole env.visible s.store u.store step.0) last.1 there)
-chain-tells [] (Entire root) env s t left result is form_is = (tt, λ bound none. absurd (none-some bound none))
-chain-tells (link ∷ next ∷ links) (Entire root) env s t left result is form_is = (tt, λ bound none. absurd (none-some bound none))
-chain-tells links form env s t left result is form_is = (tt, λ bound none. absurd (none-some bound none))
+  abbrev chain_of : Form → List ProvedLink → Form
+  chain_of form links = chain_form form (map operand_of (conjuncts_of links))
 
-chain-still : (form : Form) (links : List ProvedLink) (before between after : Store) → Still form before between → Still (chain_of form links) between after
-    → Still (chain_of form links) before after
-chain-still (Entire root) links before between after first rest bound is = rest bound is ∙ first (plus root (pos 0)) refl
-chain-still form links before between after first rest bound is = absurd (none-some bound is)
+  chain-tells : (links : List ProvedLink) (form : Form) (env : Surroundings) (s t : effect.State) (left result : Value)
+      → turns links env left s ≡ Gives result t
+      → (HoldNumbers ordinal (moment env.visible s.store) → IsForm form (moment env.visible s.store) left)
+      → Tells (chain_of form links) env.visible s.store t.store result
+  chain-tells (link ∷ []) (Entire root) env s t left result is form_is =
+      let step = then-gives (link_of link.0 env left s) (turns [] env) result t is in
+      let combines = link.1 env s step.1 left step.0 step.2 in
+      let conjunct = conjunct_of ordinal link.0 in
+      let right = conjunct.right.form in
+      let stays : (k : ℤ) → constant_of right ≡ Some k → step.1.store ≡ s.store =
+      λ k found. let own = constant-bound right k found in combines.right_is.still own.0 own.1 in
+      let last = given-same step.0 result step.1 t step.3 in
+      let whole = offset_form root conjunct.operation (constant_of right) in
+      let here : HoldNumbers ordinal (moment env.visible step.1.store) → IsForm whole (moment env.visible step.1.store) step.0 =
+      λ numbers.
+      offset-result root conjunct.operation right (moment env.visible step.1.store) (number_of left) combines.right step.0 combines.result_is
+      (λ k found.
+      let at_start = subst (λ (store : Store). HoldNumbers ordinal (moment env.visible store)) (stays k found) numbers in
+      let own = form_is at_start in
+      subst (λ (store : Store). HasNumber (moment env.visible store) root (number_of left)) (sym (stays k found))
+      (subst (HasNumber (moment env.visible s.store) root) (sym (ap number_of own.1)) own.2))
+      (combines.right_is.form_is numbers) in
+      let there : Tells whole env.visible s.store step.1.store step.0 =
+      (here, λ bound is. let own = offset-constant root conjunct.operation (constant_of right) bound is in stays own.0 own.1) in
+      subst (λ (v : Value). Tells whole env.visible s.store t.store v) last.0
+      (subst (λ (u : effect.State). Tells whole env.visible s.store u.store step.0) last.1 there)
+  chain-tells [] (Entire root) env s t left result is form_is = (λ numbers. tt, λ bound none. absurd (none-some bound none))
+  chain-tells (link ∷ next ∷ links) (Entire root) env s t left result is form_is = (λ numbers. tt, λ bound none. absurd (none-some bound none))
+  chain-tells links form env s t left result is form_is = (λ numbers. tt, λ bound none. absurd (none-some bound none))
 
-sign-still : (form : Form) (operation : Monadic) (before after : Store) → Still form before after → Still (sign_form form operation) before after
-sign-still (Literal n) operation before after still bound is = still (constant n) refl
-sign-still form operation before after still bound is = absurd (none-some bound is)
+  chain-still : (form : Form) (links : List ProvedLink) (before between after : Store) → Still form before between → Still (chain_of form links) between after
+      → Still (chain_of form links) before after
+  chain-still (Entire root) links before between after first rest bound is = rest bound is ∙ first (plus root (pos 0)) refl
+  chain-still form links before between after first rest bound is = absurd (none-some bound is)
 
--- ---- the forms of expressions
+  sign-still : (form : Form) (operation : Monadic) (before after : Store) → Still form before after → Still (sign_form form operation) before after
+  sign-still (Literal n) operation before after still bound is = still (constant n) refl
+  sign-still form operation before after still bound is = absurd (none-some bound is)
 
-held-part : (store : Store) (found : Option Place) → part_of store found [] ≡ held store found
-held-part store None = refl
-held-part store (Some p) = entire-stored store p
+  -- ---- the forms of expressions
 
-not-not : (b : Bool) → not (not b) ≡ b
-not-not true = refl
-not-not false = refl
+  held-part : (store : Store) (found : Option Place) → part_of store found [] ≡ held store found
+  held-part store None = refl
+  held-part store (Some p) = entire-stored store p
 
-monadic-preserves : (operation : Monadic) (condition : Condition) (env : Environment) (store : Store) (n : ℤ)
-    → Preserves env store (condition.refined (is_true n)) → Preserves env store (monadic_refined operation condition (is_true (result_of operation n)))
-monadic-preserves (monadic.Plain calculation.Complement) condition env store n refines =
-    let swapped : is_true n ≡ not (is_true (truth (not (is_true n)))) = sym (not-not (is_true n)) ∙ ap not (sym (truth-is (not (is_true n)))) in
-    subst (λ (b : Bool). Preserves env store (condition.refined b)) swapped refines
-monadic-preserves operation condition env store n refines = λ rows table are state known. known
+  not-not : (b : Bool) → not (not b) ≡ b
+  not-not true = refl
+  not-not false = refl
 
-monadic-evaluates : (operation : Monadic) (condition : Condition) (holds : Bool) (env : Environment) (s u t : effect.State) (a w : Value)
-    → Evaluates env condition holds s.store u.store a
-    → and_then (meaning.operated operation (number_of a) u) (λ n. effect.give (Number n)) ≡ Gives w t
-    → Evaluates env (record { form = sign_form condition.form operation; refined = monadic_refined operation condition }) holds s.store t.store w
-monadic-evaluates operation condition holds env s u t a w one is =
-    let (m, operated, w_is) = number-gives (meaning.operated operation (number_of a) u) w t is in
-    let gives = operated-gives operation (number_of a) m u t operated in
-    let result : w ≡ Number (result_of operation (number_of a)) = w_is ∙ ap Number gives.0 in
-    let kept : t.store ≡ u.store = ap (λ (x : effect.State). x.store) gives.1 in
-    record {
-      form_is =
-          subst (λ (store : Store). IsForm (sign_form condition.form operation) (moment env store) w) (sym kept)
-          (subst (IsForm (sign_form condition.form operation) (moment env u.store)) (sym result)
-          (sign-form condition.form operation (moment env u.store) a one.form_is));
-      still = λ bound is. kept ∙ sign-still condition.form operation s.store u.store one.still bound is;
-      store_is = λ quiet. kept ∙ one.store_is quiet;
-      refines = λ quiet.
-          subst (λ (v : Value). Preserves env s.store (monadic_refined operation condition (is_so v))) (sym result)
-          (monadic-preserves operation condition env s.store (number_of a) (one.refines quiet));
-    }
+  monadic-preserves : (operation : Monadic) (condition : Condition) (env : Environment) (store : Store) (n : ℤ)
+      → Preserves env store (condition.refined (is_true n)) → Preserves env store (monadic_refined operation condition (is_true (result_of operation n)))
+  monadic-preserves (monadic.Plain calculation.Complement) condition env store n refines =
+      let swapped : is_true n ≡ not (is_true (truth (not (is_true n)))) = sym (not-not (is_true n)) ∙ ap not (sym (truth-is (not (is_true n)))) in
+      subst (λ (b : Bool). Preserves env store (condition.refined b)) swapped refines
+  monadic-preserves operation condition env store n refines = λ rows table are state known. known
 
-chain-evaluates : (first : Condition) (holds : Bool) (links : List ProvedLink) (env : Surroundings) (s u t : effect.State) (left result : Value)
-    → Evaluates env.visible first holds s.store u.store left → turns links env left u ≡ Gives result t
-    → Evaluates env.visible (record { form = chain_of first.form links; refined = chain_refined first (conjuncts_of links) }) (holds || calls_in links)
-    s.store t.store result
-chain-evaluates first holds links env s u t left result one is =
-    let conjuncts = conjuncts_of links in
-    let truth = is_so result in
-    let tells = chain-tells links first.form env u t left result is one.form_is in
-    record {
-      form_is = tells.0;
-      still = chain-still first.form links s.store u.store t.store one.still tells.1;
-      store_is = λ quiet.
-          let none = or_parts holds (calls_in links) quiet in
-          turns-kept links none.1 env u t left result is ∙ one.store_is none.0;
-      refines = λ quiet rows table are state known.
-          let none = or_parts holds (calls_in links) quiet in
-          let Here = λ (state : State). Knows rows table.variables env.visible state s.store in
-          cond_both (list_all (λ conjunct. takes_both truth conjunct.operation) conjuncts) (all_refined truth conjuncts (first.refined truth state))
-          (single_refined truth first.form conjuncts state) Here
-          (λ takes.
-          let rest = turns-refine links none.1 env u t left result truth takes is refl in
-          let after_first : Here (first.refined truth state) =
-          subst (λ (b : Bool). Here (first.refined b state)) rest.0 (one.refines none.0 rows table are state known) in
-          subst (λ (store : Store). Preserves env.visible store (all_refined truth conjuncts)) (one.store_is none.0) rest.1 rows table are
-          (first.refined truth state) after_first)
-          (λ single.
-          subst (λ (store : Store). Preserves env.visible store (single_refined truth first.form conjuncts)) (one.store_is none.0)
-          (single-preserves links none.1 env u t left result first.form is one.form_is) rows table are state known);
-    }
+  monadic-evaluates : (operation : Monadic) (condition : Condition) (holds : Bool) (env : Environment) (s u t : effect.State) (a w : Value)
+      → Evaluates env condition holds s.store u.store a
+      → and_then (meaning.operated operation (number_of a) u) (λ n. effect.give (Number n)) ≡ Gives w t
+      → Evaluates env (record { form = sign_form condition.form operation; refined = monadic_refined operation condition }) holds s.store t.store w
+  monadic-evaluates operation condition holds env s u t a w one is =
+      let (m, operated, w_is) = number-gives (meaning.operated operation (number_of a) u) w t is in
+      let gives = operated-gives operation (number_of a) m u t operated in
+      let result : w ≡ Number (result_of operation (number_of a)) = w_is ∙ ap Number gives.0 in
+      let kept : t.store ≡ u.store = ap (λ (x : effect.State). x.store) gives.1 in
+      record {
+        form_is = λ numbers.
+            subst (λ (store : Store). IsForm (sign_form condition.form operation) (moment env store) w) (sym kept)
+            (subst (IsForm (sign_form condition.form operation) (moment env u.store)) (sym result)
+            (sign-form condition.form operation (moment env u.store) a
+            (one.form_is (subst (λ (store : Store). HoldNumbers ordinal (moment env store)) kept numbers))));
+        still = λ bound is. kept ∙ sign-still condition.form operation s.store u.store one.still bound is;
+        store_is = λ quiet. kept ∙ one.store_is quiet;
+        refines = λ quiet numbers.
+            subst (λ (v : Value). Preserves env s.store (monadic_refined operation condition (is_so v))) (sym result)
+            (monadic-preserves operation condition env s.store (number_of a) (one.refines quiet numbers));
+      }
 
-link-combines : (operation : Dyadic) (condition : Condition) (holds : Bool) (env : Environment) (s u t : effect.State) (left right result : Value)
-    → Evaluates env condition holds s.store u.store right
-    → and_then (meaning.combined operation (number_of left) (number_of right) u) (λ n. effect.give (Number n)) ≡ Gives result t
-    → Combines env (record { operation = operation; right = condition }) holds s.store t.store left result
-link-combines operation condition holds env s u t left right result one is =
-    let (m, combined, result_is) = number-gives (meaning.combined operation (number_of left) (number_of right) u) result t is in
-    let gives = combined-gives operation (number_of left) (number_of right) m u t combined in
-    record {
-      right = right;
-      right_is = subst (λ (x : effect.State). Evaluates env condition holds s.store x.store right) (sym gives.1) one;
-      result_is = result_is ∙ ap Number gives.0;
-    }
+  chain-evaluates : (first : Condition) (holds : Bool) (links : List ProvedLink) (env : Surroundings) (s u t : effect.State) (left result : Value)
+      → Evaluates env.visible first holds s.store u.store left → turns links env left u ≡ Gives result t
+      → Evaluates env.visible (record { form = chain_of first.form links; refined = chain_refined first (conjuncts_of links) }) (holds || calls_in links)
+      s.store t.store result
+  chain-evaluates first holds links env s u t left result one is =
+      let conjuncts = conjuncts_of links in
+      let truth = is_so result in
+      let tells = chain-tells links first.form env u t left result is one.form_is in
+      record {
+        form_is = tells.0;
+        still = chain-still first.form links s.store u.store t.store one.still tells.1;
+        store_is = λ quiet.
+            let none = or_parts holds (calls_in links) quiet in
+            turns-kept links none.1 env u t left result is ∙ one.store_is none.0;
+        refines = λ quiet numbers rows table are state known.
+            let none = or_parts holds (calls_in links) quiet in
+            let Here = λ (state : State). Knows rows table.variables env.visible state s.store in
+            let later = subst (λ (store : Store). HoldNumbers ordinal (moment env.visible store)) (sym (one.store_is none.0)) numbers in
+            cond_both (list_all (λ conjunct. takes_both truth conjunct.operation) conjuncts) (all_refined truth conjuncts (first.refined truth state))
+            (single_refined truth first.form conjuncts state) Here
+            (λ takes.
+            let rest = turns-refine links none.1 env u t left result truth takes is refl later in
+            let after_first : Here (first.refined truth state) =
+            subst (λ (b : Bool). Here (first.refined b state)) rest.0 (one.refines none.0 numbers rows table are state known) in
+            subst (λ (store : Store). Preserves env.visible store (all_refined truth conjuncts)) (one.store_is none.0) rest.1 rows table are
+            (first.refined truth state) after_first)
+            (λ single.
+            subst (λ (store : Store). Preserves env.visible store (single_refined truth first.form conjuncts)) (one.store_is none.0)
+            (single-preserves links none.1 env u t left result first.form is (one.form_is later) later) rows table are state known);
+      }
 
--- an entire variable has the value that is read
-access-tells : (root : ℕ) (selectors : List Selector) (indexes : List Evaluation) (env : Surroundings) (s u t : effect.State) (found : Option Place) (site : ℕ)
-    (v : Value)
-    → selected selectors indexes env (env.visible.variables root) s ≡ Gives found u → fetch found site u ≡ Gives v t
-    → Tells (access_form root selectors) env.visible s.store t.store v
-access-tells root [] indexes env s u t found site v reached is =
-    let same = given-same (env.visible.variables root) found s u reached in
-    let fetched = fetch-gives (held u.store found) site u t v is in
-    let kept : s.store ≡ t.store = ap (λ (x : effect.State). x.store) (same.1 ∙ fetched.1) in (
-      held-part t.store (env.visible.variables root)
+  link-combines : (operation : Dyadic) (condition : Condition) (holds : Bool) (env : Environment) (s u t : effect.State) (left right result : Value)
+      → Evaluates env condition holds s.store u.store right → meaning.operated_both operation left right u ≡ Gives result t
+      → Combines env (record { operation = operation; right = condition }) holds s.store t.store left result
+  link-combines operation condition holds env s u t left right result one is =
+      let gives = both-gives operation left right result u t is in
+      record {
+        right = right;
+        right_is = subst (λ (x : effect.State). Evaluates env condition holds s.store x.store right) (sym gives.1) one;
+        result_is = gives.0;
+      }
+
+  -- an entire variable has the value that is read
+  access-tells : (origin : Origin) (selectors : List Selector) (indexes : List Evaluation) (env : Surroundings) (s u t : effect.State) (found : Option Place)
+      (site : ℕ) (v : Value)
+      → selected selectors indexes env (meaning.begun origin env) s ≡ Gives found u → fetch found site u ≡ Gives v t
+      → Tells (access_form ordinal origin selectors) env.visible s.store t.store v
+  access-tells (AtVariable root) [] indexes env s u t found site v reached is = by (ordinal root) refl
+    where
+      by : (b : Bool) → ordinal root ≡ b → Tells (cond b (Entire root) Other) env.visible s.store t.store v
+      by false isnt = (λ numbers. tt, λ bound none. absurd (none-some bound none))
+      by true told =
+          let same = given-same (env.visible.variables root) found s u reached in
+          let fetched = fetch-gives (held u.store found) site u t v is in
+          let kept : s.store ≡ t.store = ap (λ (x : effect.State). x.store) (same.1 ∙ fetched.1) in
+          let own : value_at (moment env.visible t.store) root [] ≡ Some v =
+          held-part t.store (env.visible.variables root)
           ∙ ap₂ (λ (store : Store) (place : Option Place). held store place) (sym (ap (λ (x : effect.State). x.store) fetched.1)) same.0
-          ∙ fetched.0,
-      λ bound some. sym kept,
-    )
-access-tells root (selector ∷ selectors) indexes env s u t found site v reached is = (tt, λ bound none. absurd (none-some bound none))
+          ∙ fetched.0 in (
+            λ numbers. let number = numbers root v told own in (number.0, number.1, own ∙ ap Some number.1),
+            λ bound some. sym kept,
+          )
+  access-tells (AtVariable root) (selector ∷ selectors) indexes env s u t found site v reached is =
+      (λ numbers. tt, λ bound none. absurd (none-some bound none))
+  access-tells (AtRecord root slot steps) selectors indexes env s u t found site v reached is =
+      (λ numbers. tt, λ bound none. absurd (none-some bound none))
 
--- a layer of an expression, of which the parts are proved
-abbrev ExprLayer : Expr-F Expr Passed Link → Type 0
-ExprLayer x =
-    EvaluatesAs (meaning.value_step (map-Expr Expr Passed Link Evaluation Passing meaning.Combination value_of passing_of link_of x))
-    (condition_step (map-Expr Expr Passed Link Condition (Unit {0}) Conjunct condition_of (λ p. tt) conjunct_of x))
-    (expression_holds_call (map-Expr Expr Passed Link Bool Bool Bool holds_call passed_holds_call link_holds_call_of x))
+  -- a layer of an expression, of which the parts are proved
+  abbrev ExprLayer : Expr-F Expr Passed Link → Type 0
+  ExprLayer x =
+      EvaluatesAs (meaning.value_step (map-Expr Expr Passed Link Evaluation Passing meaning.Combination value_of passing_of link_of x))
+      (condition_step ordinal (map-Expr Expr Passed Link Condition (Unit {0}) Conjunct (condition_of ordinal) (λ p. tt) (conjunct_of ordinal) x))
+      (expression_holds_call (map-Expr Expr Passed Link Bool Bool Bool holds_call passed_holds_call link_holds_call_of x))
 
-abbrev LinkLayer : Link-F Expr Passed Link → Type 0
-LinkLayer x =
-    CombinesAs (meaning.link_step (map-Link Expr Passed Link Evaluation Passing meaning.Combination value_of passing_of link_of x))
-    (link_condition (map-Link Expr Passed Link Condition (Unit {0}) Conjunct condition_of (λ p. tt) conjunct_of x))
-    (link_holds_call (map-Link Expr Passed Link Bool Bool Bool holds_call passed_holds_call link_holds_call_of x))
+  abbrev LinkLayer : Link-F Expr Passed Link → Type 0
+  LinkLayer x =
+      CombinesAs (meaning.link_step (map-Link Expr Passed Link Evaluation Passing meaning.Combination value_of passing_of link_of x))
+      (link_condition (map-Link Expr Passed Link Condition (Unit {0}) Conjunct (condition_of ordinal) (λ p. tt) (conjunct_of ordinal) x))
+      (link_holds_call (map-Link Expr Passed Link Bool Bool Bool holds_call passed_holds_call link_holds_call_of x))
 
--- index expressions that hold no call keep the store
-all-kept : (parts : List ProvedExpr) → any_holds (map holds_call (map (λ e. e.0) parts)) ≡ false
-    → All KeepsStore (map value_of (map (λ e. e.0) parts))
-all-kept [] quiet = All-nil KeepsStore
-all-kept (one ∷ parts) quiet =
-    let none = or_parts (holds_call one.0) (any_holds (map holds_call (map (λ (e : ProvedExpr). e.0) parts))) quiet in
-    All-cons KeepsStore (value_of one.0) (map value_of (map (λ (e : ProvedExpr). e.0) parts))
-    (λ env s t v is. (one.1 env s t v is).store_is none.0) (all-kept parts none.1)
+  -- index expressions that hold no call keep the store
+  all-kept : (parts : List ProvedExpr) → any_holds (map holds_call (map (λ e. e.0) parts)) ≡ false
+      → All KeepsStore (map value_of (map (λ e. e.0) parts))
+  all-kept [] quiet = All-nil KeepsStore
+  all-kept (one ∷ parts) quiet =
+      let none = or_parts (holds_call one.0) (any_holds (map holds_call (map (λ (e : ProvedExpr). e.0) parts))) quiet in
+      All-cons KeepsStore (value_of one.0) (map value_of (map (λ (e : ProvedExpr). e.0) parts))
+      (λ env s t v is. (one.1 env s t v is).store_is none.0) (all-kept parts none.1)
 
-whole-parts-kept : (value : Whole) (parts : List ProvedExpr) → any_holds (whole_indexes value (map holds_call (map (λ e. e.0) parts))) ≡ false
-    → All KeepsStore (whole_indexes value (map value_of (map (λ e. e.0) parts)))
-whole-parts-kept (Text number characters) parts quiet = All-nil KeepsStore
-whole-parts-kept (VariableOf access type_id cells defined) parts quiet = all-kept parts quiet
+  whole-parts-kept : (value : Whole) (parts : List ProvedExpr) → any_holds (whole_indexes value (map holds_call (map (λ e. e.0) parts))) ≡ false
+      → All KeepsStore (whole_indexes value (map value_of (map (λ e. e.0) parts)))
+  whole-parts-kept (Text number characters) parts quiet = All-nil KeepsStore
+  whole-parts-kept (VariableOf access type_id cells defined) parts quiet = all-kept parts quiet
 
-holds-none : true ≡ false → ⊥
-holds-none is = cc
+  holds-none : true ≡ false → ⊥
+  holds-none is = cc
 
-value-layer : (y : Expr-F ProvedExpr ProvedPassed ProvedLink)
-    → ExprLayer (map-Expr ProvedExpr ProvedPassed ProvedLink Expr Passed Link (λ e. e.0) (λ p. p.0) (λ l. l.0) y)
-value-layer (Constant number value) env s t v is =
-    let same = given-same (Number value) v (entered number env.visible s) t is in
-    let kept : t.store ≡ s.store = ap (λ (x : effect.State). x.store) (sym same.1) in
-    record { form_is = sym same.0; still = λ bound some. kept; store_is = λ quiet. kept; refines = λ quiet rows table are state known. known }
-value-layer (Variable access indexes defined) env s t v is =
-    let evaluations = map value_of (map (λ (e : ProvedExpr). e.0) indexes.items) in
-    let start = entered access.number env.visible s in
-    let reached = then-gives (accessed access evaluations env s) (λ place. fetch place defined) v t is in
-    let tells = access-tells access.root access.selectors.items evaluations env start reached.1 t reached.0 defined v reached.2 reached.3 in
-    record {
-      form_is = tells.0;
-      still = tells.1;
-      store_is = λ quiet.
-          then-keeps (accessed access evaluations env) (λ place. fetch place defined)
-          (accessed-keeps access evaluations (all-kept indexes.items quiet) env) (λ place. fetch-keeps place defined) s t v is;
-      refines = λ quiet rows table are state known. known;
-    }
-value-layer (MonadicOf number operation operand) env s t v is =
-    let start = entered number env.visible s in
-    let behind : Value → effect.Action Value =
-    λ a. effect.◌>>=◌ (meaning.operated operation (number_of a)) (λ n. effect.give (Number n)) in
-    let step = then-gives (value_of operand.value.0 env start) behind v t is in
-    monadic-evaluates operation (condition_of operand.value.0) (holds_call operand.value.0) env.visible start step.1 t step.0 v
-    (operand.value.1 env start step.1 step.0 step.2) step.3
-value-layer (Chain first rest) env s t v is =
-    let step = then-gives (value_of first.value.0 env s) (turns rest.items env) v t is in
-    chain-evaluates (condition_of first.value.0) (holds_call first.value.0) rest.items env s step.1 t step.0 v
-    (first.value.1 env s step.1 step.0 step.2) step.3
-value-layer (Compare number relation left left_indexes right right_indexes) env s t v is = record {
-  form_is = tt;
-  still = λ bound none. absurd (none-some bound none);
-  store_is = λ quiet.
-      let none = or_parts (any_holds (whole_indexes left (map holds_call (map (λ (e : ProvedExpr). e.0) left_indexes.items))))
-      (any_holds (whole_indexes right (map holds_call (map (λ (e : ProvedExpr). e.0) right_indexes.items)))) quiet in
-      compare-keeps number relation left right (map value_of (map (λ (e : ProvedExpr). e.0) left_indexes.items))
-      (map value_of (map (λ (e : ProvedExpr). e.0) right_indexes.items)) (whole-parts-kept left left_indexes.items none.0)
-      (whole-parts-kept right right_indexes.items none.1) env s t v is;
-  refines = λ quiet rows table are state known. known;
-}
-value-layer (Call call actuals) env s t v is = record {
-  form_is = tt;
-  still = λ bound none. absurd (none-some bound none);
-  store_is = λ quiet. absurd (holds-none quiet);
-  refines = λ quiet rows table are state known. known;
-}
+  value-layer : (y : Expr-F ProvedExpr ProvedPassed ProvedLink)
+      → ExprLayer (map-Expr ProvedExpr ProvedPassed ProvedLink Expr Passed Link (λ e. e.0) (λ p. p.0) (λ l. l.0) y)
+  value-layer (Constant number value) env s t v is =
+      let same = given-same (Number value) v (entered number env.visible s) t is in
+      let kept : t.store ≡ s.store = ap (λ (x : effect.State). x.store) (sym same.1) in
+      record {
+        form_is = λ numbers. sym same.0;
+        still = λ bound some. kept;
+        store_is = λ quiet. kept;
+        refines = λ quiet numbers rows table are state known. known;
+      }
+  value-layer (Variable access indexes holds defined) env s t v is =
+      let evaluations = map value_of (map (λ (e : ProvedExpr). e.0) indexes.items) in
+      let start = entered access.number env.visible s in
+      let reached = then-gives (accessed access evaluations env s) (λ place. fetch place defined) v t is in
+      let tells = access-tells (origin_of access) access.selectors.items evaluations env start reached.1 t reached.0 defined v reached.2 reached.3 in
+      record {
+        form_is = tells.0;
+        still = tells.1;
+        store_is = λ quiet.
+            then-keeps (accessed access evaluations env) (λ place. fetch place defined)
+            (accessed-keeps access evaluations (all-kept indexes.items quiet) env) (λ place. fetch-keeps place defined) s t v is;
+        refines = λ quiet numbers rows table are state known. known;
+      }
+  value-layer (MonadicOf number operation operand) env s t v is =
+      let start = entered number env.visible s in
+      let behind : Value → effect.Action Value =
+      λ a. effect.◌>>=◌ (meaning.operated operation (number_of a)) (λ n. effect.give (Number n)) in
+      let step = then-gives (value_of operand.value.0 env start) behind v t is in
+      monadic-evaluates operation (condition_of ordinal operand.value.0) (holds_call operand.value.0) env.visible start step.1 t step.0 v
+      (operand.value.1 env start step.1 step.0 step.2) step.3
+  value-layer (Chain first rest) env s t v is =
+      let step = then-gives (value_of first.value.0 env s) (turns rest.items env) v t is in
+      chain-evaluates (condition_of ordinal first.value.0) (holds_call first.value.0) rest.items env s step.1 t step.0 v
+      (first.value.1 env s step.1 step.0 step.2) step.3
+  value-layer (Compare number relation left left_indexes right right_indexes) env s t v is = record {
+    form_is = λ numbers. tt;
+    still = λ bound none. absurd (none-some bound none);
+    store_is = λ quiet.
+        let none = or_parts (any_holds (whole_indexes left (map holds_call (map (λ (e : ProvedExpr). e.0) left_indexes.items))))
+        (any_holds (whole_indexes right (map holds_call (map (λ (e : ProvedExpr). e.0) right_indexes.items)))) quiet in
+        compare-keeps number relation left right (map value_of (map (λ (e : ProvedExpr). e.0) left_indexes.items))
+        (map value_of (map (λ (e : ProvedExpr). e.0) right_indexes.items)) (whole-parts-kept left left_indexes.items none.0)
+        (whole-parts-kept right right_indexes.items none.1) env s t v is;
+    refines = λ quiet numbers rows table are state known. known;
+  }
+  value-layer (Set number designators members) env s t v is = record {
+    form_is = λ numbers. tt;
+    still = λ bound none. absurd (none-some bound none);
+    store_is = λ quiet.
+        set-keeps designators.items (map value_of (map (λ (e : ProvedExpr). e.0) members.items)) (all-kept members.items quiet) env
+        (entered number env.visible s) t v is;
+    refines = λ quiet numbers rows table are state known. known;
+  }
+  value-layer (Call call actuals) env s t v is = record {
+    form_is = λ numbers. tt;
+    still = λ bound none. absurd (none-some bound none);
+    store_is = λ quiet. absurd (holds-none quiet);
+    refines = λ quiet numbers rows table are state known. known;
+  }
 
-link-layer : (y : Link-F ProvedExpr ProvedPassed ProvedLink)
-    → LinkLayer (map-Link ProvedExpr ProvedPassed ProvedLink Expr Passed Link (λ e. e.0) (λ p. p.0) (λ l. l.0) y)
-link-layer y env s t left result is =
-    let start = entered y.number env.visible s in
-    let behind : Value → effect.Action Value =
-    λ right. effect.◌>>=◌ (meaning.combined y.operation (number_of left) (number_of right)) (λ n. effect.give (Number n)) in
-    let step = then-gives (value_of y.operand.0 env start) behind result t is in
-    link-combines y.operation (condition_of y.operand.0) (holds_call y.operand.0) env.visible start step.1 t left step.0 result
-    (y.operand.1 env start step.1 step.0 step.2) step.3
+  link-layer : (y : Link-F ProvedExpr ProvedPassed ProvedLink)
+      → LinkLayer (map-Link ProvedExpr ProvedPassed ProvedLink Expr Passed Link (λ e. e.0) (λ p. p.0) (λ l. l.0) y)
+  link-layer y env s t left result is =
+      let start = entered y.number env.visible s in
+      let step = then-gives (value_of y.operand.0 env start) (λ right. meaning.operated_both y.operation left right) result t is in
+      link-combines y.operation (condition_of ordinal y.operand.0) (holds_call y.operand.0) env.visible start step.1 t left step.0 result
+      (y.operand.1 env start step.1 step.0 step.2) step.3
 
-abbrev valued : Expr-F Expr Passed Link → Evaluation
-valued x = meaning.value_step (map-Expr Expr Passed Link Evaluation Passing meaning.Combination value_of passing_of link_of x)
+  abbrev valued : Expr-F Expr Passed Link → Evaluation
+  valued x = meaning.value_step (map-Expr Expr Passed Link Evaluation Passing meaning.Combination value_of passing_of link_of x)
 
-abbrev conditioned : Expr-F Expr Passed Link → Condition
-conditioned x = condition_step (map-Expr Expr Passed Link Condition (Unit {0}) Conjunct condition_of (λ p. tt) conjunct_of x)
+  abbrev conditioned : Expr-F Expr Passed Link → Condition
+  conditioned x = condition_step ordinal (map-Expr Expr Passed Link Condition (Unit {0}) Conjunct (condition_of ordinal) (λ p. tt) (conjunct_of ordinal) x)
 
-abbrev linked : Link-F Expr Passed Link → meaning.Combination
-linked x = meaning.link_step (map-Link Expr Passed Link Evaluation Passing meaning.Combination value_of passing_of link_of x)
+  abbrev linked : Link-F Expr Passed Link → meaning.Combination
+  linked x = meaning.link_step (map-Link Expr Passed Link Evaluation Passing meaning.Combination value_of passing_of link_of x)
 
-abbrev conjoined : Link-F Expr Passed Link → Conjunct
-conjoined x = link_condition (map-Link Expr Passed Link Condition (Unit {0}) Conjunct condition_of (λ p. tt) conjunct_of x)
+  abbrev conjoined : Link-F Expr Passed Link → Conjunct
+  conjoined x = link_condition (map-Link Expr Passed Link Condition (Unit {0}) Conjunct (condition_of ordinal) (λ p. tt) (conjunct_of ordinal) x)
 
-rolled-expr : (x : Expr-F Expr Passed Link) → ExprLayer x → EvaluatesAs (value_of (roll-Expr x)) (condition_of (roll-Expr x)) (holds_call (roll-Expr x))
-rolled-expr x layer =
-    subst (λ (e : Evaluation). EvaluatesAs e (condition_of (roll-Expr x)) (holds_call (roll-Expr x)))
-    (sym (fold-roll-Expr Evaluation Passing meaning.Combination meaning.value_step meaning.passed_step meaning.link_step x))
-    (subst (λ (c : Condition). EvaluatesAs (valued x) c (holds_call (roll-Expr x)))
-    (sym (fold-roll-Expr Condition (Unit {0}) Conjunct condition_step passed_condition link_condition x))
-    (subst (λ (b : Bool). EvaluatesAs (valued x) (conditioned x) b)
-    (sym (fold-roll-Expr Bool Bool Bool expression_holds_call passed_step_holds_call link_holds_call x)) layer))
+  rolled-expr : (x : Expr-F Expr Passed Link) → ExprLayer x
+      → EvaluatesAs (value_of (roll-Expr x)) (condition_of ordinal (roll-Expr x)) (holds_call (roll-Expr x))
+  rolled-expr x layer =
+      subst (λ (e : Evaluation). EvaluatesAs e (condition_of ordinal (roll-Expr x)) (holds_call (roll-Expr x)))
+      (sym (fold-roll-Expr Evaluation Passing meaning.Combination meaning.value_step meaning.passed_step meaning.link_step x))
+      (subst (λ (c : Condition). EvaluatesAs (valued x) c (holds_call (roll-Expr x)))
+      (sym (fold-roll-Expr Condition (Unit {0}) Conjunct (condition_step ordinal) passed_condition link_condition x))
+      (subst (λ (b : Bool). EvaluatesAs (valued x) (conditioned x) b)
+      (sym (fold-roll-Expr Bool Bool Bool expression_holds_call passed_step_holds_call link_holds_call x)) layer))
 
-rolled-link : (x : Link-F Expr Passed Link) → LinkLayer x → CombinesAs (link_of (roll-Link x)) (conjunct_of (roll-Link x)) (link_holds_call_of (roll-Link x))
-rolled-link x layer =
-    subst (λ (e : meaning.Combination). CombinesAs e (conjunct_of (roll-Link x)) (link_holds_call_of (roll-Link x)))
-    (sym (fold-roll-Link Evaluation Passing meaning.Combination meaning.value_step meaning.passed_step meaning.link_step x))
-    (subst (λ (c : Conjunct). CombinesAs (linked x) c (link_holds_call_of (roll-Link x)))
-    (sym (fold-roll-Link Condition (Unit {0}) Conjunct condition_step passed_condition link_condition x))
-    (subst (λ (b : Bool). CombinesAs (linked x) (conjoined x) b)
-    (sym (fold-roll-Link Bool Bool Bool expression_holds_call passed_step_holds_call link_holds_call x)) layer))
+  rolled-link : (x : Link-F Expr Passed Link) → LinkLayer x
+      → CombinesAs (link_of (roll-Link x)) (conjunct_of ordinal (roll-Link x)) (link_holds_call_of (roll-Link x))
+  rolled-link x layer =
+      subst (λ (e : meaning.Combination). CombinesAs e (conjunct_of ordinal (roll-Link x)) (link_holds_call_of (roll-Link x)))
+      (sym (fold-roll-Link Evaluation Passing meaning.Combination meaning.value_step meaning.passed_step meaning.link_step x))
+      (subst (λ (c : Conjunct). CombinesAs (linked x) c (link_holds_call_of (roll-Link x)))
+      (sym (fold-roll-Link Condition (Unit {0}) Conjunct (condition_step ordinal) passed_condition link_condition x))
+      (subst (λ (b : Bool). CombinesAs (linked x) (conjoined x) b)
+      (sym (fold-roll-Link Bool Bool Bool expression_holds_call passed_step_holds_call link_holds_call x)) layer))
 
-pub evaluates : (e : Expr) → EvaluatesAs (value_of e) (condition_of e) (holds_call e)
-evaluates =
-    ind-Expr (λ e. EvaluatesAs (value_of e) (condition_of e) (holds_call e)) (λ p. Unit {0})
-    (λ l. CombinesAs (link_of l) (conjunct_of l) (link_holds_call_of l))
-    (λ x y is. subst (λ (z : Expr-F Expr Passed Link). EvaluatesAs (value_of (roll-Expr z)) (condition_of (roll-Expr z)) (holds_call (roll-Expr z))) is
-    (rolled-expr (map-Expr ProvedExpr ProvedPassed ProvedLink Expr Passed Link (λ e. e.0) (λ p. p.0) (λ l. l.0) y) (value-layer y)))
-    (λ x y is. tt)
-    (λ x y is. subst (λ (z : Link-F Expr Passed Link). CombinesAs (link_of (roll-Link z)) (conjunct_of (roll-Link z)) (link_holds_call_of (roll-Link z))) is
-    (rolled-link (map-Link ProvedExpr ProvedPassed ProvedLink Expr Passed Link (λ e. e.0) (λ p. p.0) (λ l. l.0) y) (link-layer y)))
+  pub evaluates : (e : Expr) → EvaluatesAs (value_of e) (condition_of ordinal e) (holds_call e)
+  evaluates =
+      ind-Expr (λ e. EvaluatesAs (value_of e) (condition_of ordinal e) (holds_call e)) (λ p. Unit {0})
+      (λ l. CombinesAs (link_of l) (conjunct_of ordinal l) (link_holds_call_of l))
+      (λ x y is.
+      subst (λ (z : Expr-F Expr Passed Link). EvaluatesAs (value_of (roll-Expr z)) (condition_of ordinal (roll-Expr z)) (holds_call (roll-Expr z))) is
+      (rolled-expr (map-Expr ProvedExpr ProvedPassed ProvedLink Expr Passed Link (λ e. e.0) (λ p. p.0) (λ l. l.0) y) (value-layer y)))
+      (λ x y is. tt)
+      (λ x y is.
+      subst (λ (z : Link-F Expr Passed Link). CombinesAs (link_of (roll-Link z)) (conjunct_of ordinal (roll-Link z)) (link_holds_call_of (roll-Link z))) is
+      (rolled-link (map-Link ProvedExpr ProvedPassed ProvedLink Expr Passed Link (λ e. e.0) (λ p. p.0) (λ l. l.0) y) (link-layer y)))
 
 -- ---- what the walk uses
 
@@ -546,7 +604,7 @@ all-kept_of : (expressions : List Expr) → hold_call expressions ≡ false → 
 all-kept_of [] quiet = All-nil KeepsStore
 all-kept_of (e ∷ expressions) quiet =
     let none = or_parts (holds_call e) (hold_call expressions) quiet in
-    All-cons KeepsStore (value_of e) (values_of expressions) (λ env s t v is. (evaluates e env s t v is).store_is none.0)
+    All-cons KeepsStore (value_of e) (values_of expressions) (λ env s t v is. (evaluates (λ root. false) e env s t v is).store_is none.0)
     (all-kept_of expressions none.1)
 
 whole-kept_of : (value : Whole) (indexes : List Expr) → whole_holds_call value indexes ≡ false → All KeepsStore (whole_indexes value (values_of indexes))
@@ -563,17 +621,18 @@ whole-kept value indexes quiet env = whole-keeps value (values_of indexes) (whol
 
 -- an expression that holds no call changes no variable
 pub expression-kept : (e : Expr) → holds_call e ≡ false → KeepsStore (value_of e)
-expression-kept e quiet env s t v is = (evaluates e env s t v is).store_is quiet
+expression-kept e quiet env s t v is = (evaluates (λ root. false) e env s t v is).store_is quiet
 
 -- the value of an expression of a bound form is its bound
 -- the value of an expression of a bound form is its bound
 pub forms-tell : FormsTell
-forms-tell e env s t v is = form-bound (condition_of e).form (moment env.visible t.store) v (evaluates e env s t v is).form_is
+forms-tell ordinal e env s t v is numbers =
+    form-bound (condition_of ordinal e).form (moment env.visible t.store) v ((evaluates ordinal e env s t v is).form_is numbers)
 
 -- an expression of a bound form changes no variable
-pub form-kept : (e : Expr) (bound : Bound) (env : Surroundings) (s t : effect.State) (v : Value) → value_of e env s ≡ Gives v t
-    → bound_form e ≡ Some bound → t.store ≡ s.store
-form-kept e bound env s t v is found = (evaluates e env s t v is).still bound found
+pub form-kept : (ordinal : ℕ → Bool) (e : Expr) (bound : Bound) (env : Surroundings) (s t : effect.State) (v : Value) → value_of e env s ≡ Gives v t
+    → bound_form ordinal e ≡ Some bound → t.store ≡ s.store
+form-kept ordinal e bound env s t v is found = (evaluates ordinal e env s t v is).still bound found
 
 never-so : (range : Interval) (n : ℤ) → HasMember range n → is_true n ≡ true → never_true range ≡ true → ⊥
 never-so range n inside is never =
@@ -608,12 +667,14 @@ excluded-preserves env store n false range inside is rows table are state known 
 
 -- what is known of the branch that is taken
 pub conditions-tell : ConditionsTell
-conditions-tell rows table are env condition s t (Number n) range state is inside known =
-    let one = evaluates condition env s t (Number n) is in
+conditions-tell rows table are ordinal env condition s t n range state is inside numbers known =
+    let one = evaluates ordinal condition env s t (Number n) is in
     let taken = unless_excluded (is_true n) range state in
     let Here = λ (state : State). Knows rows table.variables env.visible state t.store in
     let here = excluded-preserves env.visible t.store n (is_true n) range inside refl rows table are state known in
-    cond_both (holds_call condition) taken ((condition_of condition).refined (is_true n) taken) Here (λ holds. here)
+    let Numbers = λ (store : Store). HoldNumbers ordinal (moment env.visible store) in
+    cond_both (holds_call condition) taken ((condition_of ordinal condition).refined (is_true n) taken) Here (λ holds. here)
     (λ quiet.
-    subst (λ (store : Store). Preserves env.visible store ((condition_of condition).refined (is_true n))) (sym (one.store_is quiet)) (one.refines quiet) rows
-    table are taken here)
+    let kept = one.store_is quiet in
+    subst (λ (store : Store). Preserves env.visible store ((condition_of ordinal condition).refined (is_true n))) (sym kept)
+    (one.refines quiet (subst Numbers kept numbers)) rows table are taken here)

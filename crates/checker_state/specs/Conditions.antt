@@ -15,8 +15,9 @@ use Rattle.typed_tree.specs.declared.tree.Expr.{Expr}
 use Rattle.typed_tree.specs.declared.tree.Link.{Link}
 use Rattle.typed_tree.specs.declared.tree.Expr.TheOpen.{Expr-F, Passed-F, Link-F}
 use Rattle.typed_tree.specs.declared.tree.Expr.TheOpen.Expr-F.{Constant, Variable, Monadic as MonadicOf, Chain}
-use Rattle.typed_tree.specs.declared.tree.Expr.TheOpen.Expr-F.{Compare, Call}
+use Rattle.typed_tree.specs.declared.tree.Expr.TheOpen.Expr-F.{Compare, Call, Set}
 use Rattle.typed_tree.specs.declared.tree.Expr.TheFolds.{fold-Expr, fold-Link}
+use Rattle.typed_tree.specs.Accesses.{origin_of}
 use Rattle.typed_tree.specs.Calls.{holds_call}
 use Rattle.domain.specs.Interval.{Interval, always_true, at_least, at_most, never_true}
 use Rattle.checker_state.specs.Bounds.{Bound}
@@ -170,43 +171,46 @@ link_condition link = record { operation = link.operation; right = link.operand 
 abbrev pub passed_condition : Passed-F Condition (Unit {0}) Conjunct → Unit {0}
 passed_condition actual = tt
 
-abbrev pub condition_step : Expr-F Condition (Unit {0}) Conjunct → Condition
-condition_step (Constant number value) = record { form = Literal value; refined = λ truth state. state }
-condition_step (Variable access indexes defined) =
-    record { form = access_form access.root access.selectors.items; refined = λ truth state. state }
-condition_step (MonadicOf number operation operand) = record {
-  form = sign_form operand.value.form operation;
-  refined = monadic_refined operation operand.value;
-}
-condition_step (Chain first rest) = record {
-  form = chain_form first.value.form (map operand_of rest.items);
-  refined = chain_refined first.value rest.items;
-}
-condition_step (Compare number relation left left_indexes right right_indexes) =
-    record { form = Other; refined = λ truth state. state }
-condition_step (Call call actuals) = record { form = Other; refined = λ truth state. state }
-
--- an expression as a condition
-abbrev pub condition_of : Expr → Condition
-condition_of = fold-Expr Condition (Unit {0}) Conjunct condition_step passed_condition link_condition
-
--- an operator and its right operand
-abbrev pub conjunct_of : Link → Conjunct
-conjunct_of = fold-Link Condition (Unit {0}) Conjunct condition_step passed_condition link_condition
-
--- the bound that an expression is, if it is a bound form
-abbrev pub bound_form : Expr → Option Bound
-bound_form expression = bound_of (condition_of expression).form
-
--- what is known where a condition had a truth value; a call in it may have changed what it says
-abbrev pub refined : Bool → Expr → State → State
-refined truth condition state =
-    if holds_call condition then state else (condition_of condition).refined truth state
-
 -- no run comes where a condition would have a truth value that its range excludes
 abbrev pub unless_excluded : Bool → Interval → State → State
 unless_excluded truth range state = if (if truth then never_true range else always_true range) then Dead else state
 
--- what is known on the branch of a condition, by its truth value there and the range of its values
-abbrev pub branched : Bool → Expr → Interval → State → State
-branched truth condition range state = refined truth condition (unless_excluded truth range state)
+-- by what is told of variables, which of them are ordinals
+module _ (ordinal : ℕ → Bool) where
+  abbrev pub condition_step : Expr-F Condition (Unit {0}) Conjunct → Condition
+  condition_step (Constant number value) = record { form = Literal value; refined = λ truth state. state }
+  condition_step (Variable access indexes holds defined) =
+      record { form = access_form ordinal (origin_of access) access.selectors.items; refined = λ truth state. state }
+  condition_step (MonadicOf number operation operand) = record {
+    form = sign_form operand.value.form operation;
+    refined = monadic_refined operation operand.value;
+  }
+  condition_step (Chain first rest) = record {
+    form = chain_form first.value.form (map operand_of rest.items);
+    refined = chain_refined first.value rest.items;
+  }
+  condition_step (Compare number relation left left_indexes right right_indexes) =
+      record { form = Other; refined = λ truth state. state }
+  condition_step (Set number designators members) = record { form = Other; refined = λ truth state. state }
+  condition_step (Call call actuals) = record { form = Other; refined = λ truth state. state }
+
+  -- an expression as a condition
+  abbrev pub condition_of : Expr → Condition
+  condition_of = fold-Expr Condition (Unit {0}) Conjunct condition_step passed_condition link_condition
+
+  -- an operator and its right operand
+  abbrev pub conjunct_of : Link → Conjunct
+  conjunct_of = fold-Link Condition (Unit {0}) Conjunct condition_step passed_condition link_condition
+
+  -- the bound that an expression is, if it is a bound form
+  abbrev pub bound_form : Expr → Option Bound
+  bound_form expression = bound_of (condition_of expression).form
+
+  -- what is known where a condition had a truth value; a call in it may have changed what it says
+  abbrev pub refined : Bool → Expr → State → State
+  refined truth condition state =
+      if holds_call condition then state else (condition_of condition).refined truth state
+
+  -- what is known on the branch of a condition, by its truth value there and the range of its values
+  abbrev pub branched : Bool → Expr → Interval → State → State
+  branched truth condition range state = refined truth condition (unless_excluded truth range state)

@@ -1,6 +1,7 @@
--- Bound forms: expressions that are a constant, perhaps with a sign, or a variable, or a variable plus or minus such a
--- constant (ISO 7185:1990, 6.7.1, 6.7.2.2). It says nothing of expressions that have the same value in another form.
-use Rattle.std.specs.Prelude.{ℕ, ℤ, pos, neg_ℤ, List, [], ◌∷◌, Option, Some, None}
+-- Bound forms: expressions that are a constant, perhaps with a sign, or an entire ordinal variable, or such a variable
+-- plus or minus such a constant (ISO 7185:1990, 6.7.1, 6.7.2.2). It says nothing of expressions that have the same
+-- value in another form.
+use Rattle.std.specs.Prelude.{ℕ, ℤ, pos, neg_ℤ, Bool, List, [], ◌∷◌, Option, Some, None, if◌then◌else◌}
 use Rattle.typed_tree.specs.declared.tree.Selector.{Selector}
 use Rattle.typed_tree.specs.declared.tree.Monadic.{Monadic}
 use Rattle.typed_tree.specs.declared.tree.Monadic.TheVariants as monadic
@@ -8,6 +9,7 @@ use Rattle.typed_tree.specs.declared.tree.Calculation.{Calculation}
 use Rattle.typed_tree.specs.declared.tree.Calculation.TheVariants as calculation
 use Rattle.typed_tree.specs.declared.tree.Dyadic.{Dyadic}
 use Rattle.typed_tree.specs.declared.tree.Dyadic.TheVariants as dyadic
+use Rattle.typed_tree.specs.Accesses.{Origin, AtVariable, AtRecord}
 use Rattle.checker_state.specs.Bounds.{Bound, constant, plus}
 use Rattle.meaning.specs.Integers.{integer_or_none}
 
@@ -21,10 +23,11 @@ pub data Form : Type 0 where
   Moved : ℕ → ℤ → Form
   Other : Form
 
--- a variable, or a component of one
-abbrev pub access_form : ℕ → List Selector → Form
-access_form root [] = Entire root
-access_form root (selector ∷ selectors) = Other
+-- an entire variable that is told to be an ordinal; no component of one, and no field of a record of a with statement
+abbrev pub access_form : (ordinal : ℕ → Bool) → Origin → List Selector → Form
+access_form ordinal (AtVariable root) [] = if ordinal root then Entire root else Other
+access_form ordinal (AtVariable root) (selector ∷ selectors) = Other
+access_form ordinal (AtRecord root slot steps) selectors = Other
 
 -- an operator and the form of its right operand
 pub record Operand : Type 0 where

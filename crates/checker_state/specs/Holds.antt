@@ -1,11 +1,13 @@
 -- What states say of a moment of a run, and when variables share no place (ISO 7185:1990, 6.5.1). It does not say that
 -- a run keeps them.
-use Rattle.std.specs.Prelude.{◌≡◌, ◌≢◌, ℕ, ℤ, ◌+ℤ◌, ◌≤◌, ◌≤ℤ◌, true, ◌⊎◌, List, [], ◌∷◌, ◌++◌, Option, Some, None}
+use Rattle.std.specs.Prelude.{◌≡◌, ◌≢◌, ℕ, ℤ, ◌+ℤ◌, ◌≤◌, ◌≤ℤ◌, true, ◌⊎◌, Bool, List, [], ◌∷◌, ◌++◌, Option, Some, None}
 use Rattle.std.specs.Prelude.{length}
 use Rattle.std.specs.Prelude.{Contains, slice_index_or}
+use Rattle.members.specs.Laws.{IsSet}
+use Rattle.domain.specs.Hull.{HasSet}
 use Rattle.domain.specs.Interval.{Interval, HasMember}
 use Rattle.meaning.specs.declared.store.Value.{Value}
-use Rattle.meaning.specs.declared.store.Value.TheVariants.{Number}
+use Rattle.meaning.specs.declared.store.Value.TheVariants.{Members, Number}
 use Rattle.meaning.specs.Store.{Place, Store, Environment, stored, overlap}
 use Rattle.types.specs.declared.form.OrdinalRange.{OrdinalRange}
 use Rattle.types.specs.declared.form.Step.{Step}
@@ -32,9 +34,10 @@ part_of store (Some place) steps = stored store (record place { steps = place.st
 abbrev pub value_at : Moment → ℕ → List Step → Option Value
 value_at moment root steps = part_of moment.store (moment.environment.variables root) steps
 
--- a value is a number of a range
+-- a value is a number of a range, or a set with all its members there
 abbrev pub IsIn : Interval → Value → Type 0
 IsIn range (Number number) = HasMember range number
+IsIn range (Members set) = IsSet set × HasSet range set
 
 -- the value of a part of a variable is defined
 abbrev pub HasValue : Moment → ℕ → List Step → Type 0
@@ -43,6 +46,11 @@ HasValue moment root steps = (v : Value) × (value_at moment root steps ≡ Some
 -- an entire variable has a number as its value
 abbrev pub HasNumber : Moment → ℕ → ℤ → Type 0
 HasNumber moment root number = value_at moment root [] ≡ Some (Number number)
+
+-- each variable that is told to be an ordinal has a number as its value, where it has one
+abbrev pub HoldNumbers : (ordinal : ℕ → Bool) → Moment → Type 0
+HoldNumbers ordinal moment =
+    (root : ℕ) (v : Value) → ordinal root ≡ true → value_at moment root [] ≡ Some v → (n : ℤ) × (v ≡ Number n)
 
 -- what number a bound is
 abbrev pub IsBoundBy : Moment → Option ℕ → ℤ → ℤ → Type 0

@@ -6,6 +6,7 @@ pub mod Forms
 pub mod Conditions
 pub mod Loops
 pub mod Stores
+pub mod Values
 pub mod Holds
 pub mod Knows
 pub mod Laws

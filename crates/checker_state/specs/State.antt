@@ -11,7 +11,7 @@ use Rattle.std.specs.declared.cmp.Ordering.{Ordering}
 use Rattle.std.specs.declared.cmp.Ordering.TheVariants.{Less, Equal, Greater}
 use Rattle.types.specs.declared.form.OrdinalRange.{OrdinalRange}
 use Rattle.typed_tree.specs.declared.tree.Tree.{Tree}
-use Rattle.checker_rows.specs.Rows.{index_at, rows_of}
+use Rattle.checker_rows.specs.Rows.{index_at, is_ordinal_variable, rows_of}
 use Rattle.domain.specs.Interval.{Interval, is_included, is_vacant, vacant}
 use Rattle.checker_state.specs.Bounds.{Bound, bound_order, constant, is_at_most, is_variable, plus, raised_bound}
 
@@ -204,20 +204,26 @@ abbrev pub is_spanned : Facts → ℕ → Option OrdinalRange → Bool
 is_spanned known row None = false
 is_spanned known row (Some range) = list_any (covers known (all_of row range)) known.held
 
--- what is told of the rows of a program: how many variables have one of their own, which come first; and where the
--- first index on the way to the components of each row lies, if there is one
+-- what is told of the rows of a program: how many variables have one of their own, which come first; which of these
+-- variables are ordinals; and where the first index on the way to the components of each row lies, if there is one
 pub record Table : Type 0 where
   pub variables : ℕ
+  pub ordinal : ℕ → Bool
   pub index : ℕ → Option OrdinalRange
 
 abbrev pub table_of : Tree → Table
-table_of tree = record { variables = length tree.variables.items; index = index_at (rows_of tree) }
+table_of tree = record {
+  variables = length tree.variables.items;
+  ordinal = is_ordinal_variable tree;
+  index = index_at (rows_of tree);
+}
 
 module _ (table : Table) where
-  -- a variable that is there is known to be defined
+  -- an ordinal variable that is there is known to be defined
   abbrev pub has_number : State → ℕ → Bool
   has_number Dead root = true
-  has_number (Live known) root = nat_lt root table.variables && (row_at known root).is_defined
+  has_number (Live known) root =
+      nat_lt root table.variables && (table.ordinal root && (row_at known root).is_defined)
 
   -- the variable of a bound, if it has one, is
   abbrev pub has_value_by : State → Option ℕ → Bool

@@ -1,6 +1,6 @@
 //! What holds of states at the moments of a run. Each law is the contract of a function that does nothing.
 ghost use Rattle.checker_state.specs.Laws.{AssignmentsHold, ConditionsTell, FormsTell, GivenHolds, HeadsHold};
-ghost use Rattle.checker_state.specs.Laws.{JoinHolds, LeavingHolds, StoresHold};
+ghost use Rattle.checker_state.specs.Laws.{JoinHolds, LeavingHolds, StoresHold, ValuesTell};
 
 /// Where two ways meet, what is known behind them holds, whichever was taken.
 pub fn join_holds()
@@ -40,4 +40,9 @@ pub fn leaving_holds()
 /// After values were stored to components, what is known behind the stores holds.
 pub fn stores_hold()
     ensures { StoresHold }
+{}
+
+/// What is known of the values of expressions, ordinals and sets, is so.
+pub fn values_tell()
+    ensures { ValuesTell }
 {}

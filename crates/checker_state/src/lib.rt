@@ -8,6 +8,7 @@ mod forms;
 mod held;
 pub mod laws;
 mod reach;
+mod sets;
 mod term;
 mod value;
 
@@ -16,5 +17,8 @@ pub use ends::{Ends, difference, sum};
 pub use forms::{bound_form, entire};
 pub use held::{Claim, Held, Order, Span, Stretch};
 pub use reach::{Index, Indexes, Reach};
+pub use sets::{
+    is_closed_member, is_closed_range, operated_sets, tested_member, with_member, with_members,
+};
 pub use term::Term;
 pub use value::Known;

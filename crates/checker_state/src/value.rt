@@ -1,6 +1,7 @@
 ghost use Rattle.std.specs.Prelude.{◌≡◌};
-ghost use Rattle.checker_state.specs.declared.value.Known.TheVariants.{Ordinal};
+ghost use Rattle.checker_state.specs.Values.{known_range};
 
+use domain::hull::Hull;
 use domain::interval::Interval;
 
 /// What the walk knows of a value.
@@ -8,14 +9,18 @@ use domain::interval::Interval;
 pub enum Known {
     /// An ordinal: the range of its number.
     Ordinal(Interval),
+    /// A set: the range of its members.
+    Set(Hull),
 }
 
 impl Known {
-    /// The range of an ordinal.
+    /// The range of an ordinal, or that of the members of a set.
     pub fn range(self) -> Interval
-        ensures { self ≡ Ordinal result }
+        ensures { result ≡ known_range self }
     {
-        let Known::Ordinal(range) = self;
-        range
+        match self {
+            Known::Ordinal(range) => range,
+            Known::Set(hull) => hull.range(),
+        }
     }
 }

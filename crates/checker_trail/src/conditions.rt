@@ -1,6 +1,7 @@
 ghost use Rattle.std.specs.Prelude.{◌≡◌, if◌then◌else◌, map};
 ghost use Rattle.std.specs.List.{list_all};
 ghost use Rattle.domain.specs.Interval.{always_true, never_true};
+ghost use Rattle.checker_rows.specs.Rows.{is_ordinal_variable};
 ghost use Rattle.checker_state.specs.Conditions.{bound_at_least, bound_at_most, bound_isnt, branched, condition_of};
 ghost use Rattle.checker_state.specs.Conditions.{conjunct_of, narrowed, operation_refined, opposite, related};
 ghost use Rattle.checker_state.specs.Conditions.{related_forms, single_refined, takes_both, told};
@@ -20,7 +21,8 @@ use typed_tree::tree::{Calculation, Dyadic, Expr, Link, Monadic, Relation};
 impl<'a> State<'a> {
     /// What is known where a condition, whose value lies in a range, had a truth value.
     pub fn branch(&mut self, condition: &Expr, range: Interval, truth: bool)
-        ensures { Moves (branched truth condition.now range) self.old self.new }
+        ensures { Moves (branched (is_ordinal_variable self.old.table.now) truth condition.now range)
+            self.old self.new }
     {
         self.die_if(excludes(range, truth));
         if holds_call(condition) {
@@ -31,10 +33,11 @@ impl<'a> State<'a> {
 
     /// What a condition tells that had a truth value, if no call in it changes that.
     fn refine(&mut self, condition: &Expr, truth: bool)
-        ensures { Moves ((condition_of condition.now).refined truth) self.old self.new }
+        ensures { Moves ((condition_of (is_ordinal_variable self.old.table.now) condition.now).refined truth)
+            self.old self.new }
     {
         match condition {
-            Expr::Constant { .. } | Expr::Variable { .. } => {}
+            Expr::Constant { .. } | Expr::Variable { .. } | Expr::Set { .. } => {}
             Expr::Compare { .. } | Expr::Call { .. } => {}
             Expr::Monadic {
                 operation: Monadic::Plain(Calculation::Complement),
@@ -56,8 +59,8 @@ impl<'a> State<'a> {
 
     /// The same of a single operator.
     fn refine_single(&mut self, first: &Expr, rest: &[Link], truth: bool)
-        ensures { Moves (single_refined truth (condition_of first.now).form (map conjunct_of rest.now))
-            self.old self.new }
+        ensures { Moves (single_refined truth (condition_of (is_ordinal_variable self.old.table.now) first.now).form
+            (map (conjunct_of (is_ordinal_variable self.old.table.now)) rest.now)) self.old self.new }
     {
         if rest.len() != 1 {
             return;
@@ -65,8 +68,8 @@ impl<'a> State<'a> {
         let link = &rest[0];
         self.refine_operation(
             link.operation,
-            bound_form(first),
-            bound_form(&link.operand),
+            bound_form(self.table, first),
+            bound_form(self.table, &link.operand),
             truth,
         )
     }
@@ -89,7 +92,12 @@ impl<'a> State<'a> {
             | Dyadic::Div { .. }
             | Dyadic::Mod { .. }
             | Dyadic::And
-            | Dyadic::Or => {}
+            | Dyadic::Or
+            | Dyadic::Union
+            | Dyadic::Difference
+            | Dyadic::Intersection
+            | Dyadic::SetRelation(_)
+            | Dyadic::In => {}
         }
     }
 

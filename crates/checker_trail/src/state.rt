@@ -74,7 +74,7 @@ impl<'a> State<'a> {
         self.known.is_dead || self.known.row(row).is_defined
     }
 
-    /// Whether the variable of a bound, if it has one, is there and known to be defined.
+    /// Whether the variable of a bound, if it has one, is an ordinal that is there and known to be defined.
     pub fn has_value(&self, bound: Bound) -> bool
         ensures { result ≡ has_value (table_of self.now.table.now) (seen self.now) (said_bound bound) }
     {

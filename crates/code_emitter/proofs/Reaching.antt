@@ -7,7 +7,7 @@ use Rattle.typed_tree.specs.declared.tree.Selector.{Selector}
 use Rattle.typed_tree.specs.declared.tree.Selector.TheVariants.{Element, Field}
 use Rattle.code_scheme.specs.Code.{At, By, Reached, address_code, address_of, fetch_code, reached_from, selectors_code, store_code}
 use Rattle.code_scheme.specs.Depth.{access_depth}
-use Rattle.code_scheme.specs.Scopes.{Scope, access_offset, behind_fields, links_to, selectors_from, variable_home}
+use Rattle.code_scheme.specs.Scopes.{Scope, access_home, access_offset, behind_fields, links_to, selectors_from}
 use Rattle.code_emitter.specs.declared.access.Cell.{Cell}
 use Rattle.code_emitter.specs.Reaching.{address_instr, cell_of}
 
@@ -49,9 +49,9 @@ any_is false level start place selectors codes = from_is level place (behind_fie
 
 pub address_is : (scope : Scope) (access : Access) (codes : List (List Instr))
     → address_code scope access codes ≡ address_instr scope access ∷
-    selectors_code (selectors_from (variable_home scope access.root).refers access.selectors.items) codes
+    selectors_code (selectors_from (access_home scope access).refers access.selectors.items) codes
 address_is scope access codes =
-    let home = variable_home scope access.root in
+    let home = access_home scope access in
     any_is home.refers (links_to scope home.level) home.start (access_offset scope access) access.selectors.items codes
 
 -- what fields alone select has no index to evaluate, and the fields before the first index have none

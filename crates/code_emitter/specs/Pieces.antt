@@ -1,12 +1,19 @@
 -- Parts of the code of statements. It does not say what they do.
-use Rattle.std.specs.Prelude.{ℕ, ℤ, ◌+◌, List, [], ◌∷◌, ◌++◌, length}
+use Rattle.std.specs.Prelude.{ℕ, ℤ, ◌+◌, Bool, List, [], ◌∷◌, ◌++◌, length}
+use Rattle.std.specs.Prelude.{if◌then◌else◌}
 use Rattle.std.specs.Global.{Vec}
 use Rattle.pcode_assembler.specs.declared.instr.Instr.{Instr}
 use Rattle.pcode_assembler.specs.declared.instr.Instr.TheVariants as instr
 use Rattle.typed_tree.specs.declared.tree.Direction.{Direction}
 use Rattle.typed_tree.specs.declared.tree.ForHead.{ForHead}
-use Rattle.code_scheme.specs.Scopes.{Scope, held_offset, holding}
-use Rattle.code_scheme.specs.Code.{Placed, order_instr, range_check, row_code}
+use Rattle.typed_tree.specs.declared.tree.WithRecord.{WithRecord}
+use Rattle.code_scheme.specs.declared.home.Home.{Home}
+use Rattle.code_scheme.specs.Scopes.{Scope, count, held_offset, holding}
+use Rattle.code_scheme.specs.Code.{Placed, address_code, index_codes, order_instr, range_check, row_code}
+
+-- how many cells the set takes to which others are joined, if there is one
+abbrev pub held_sets : Bool → ℕ
+held_sets some = if some then 1 else 0
 
 -- a test, and what is done where it holds; where it doesn't, a jump behind that and so many instructions more
 abbrev pub guarded_code : ℕ → List Instr → Placed → Placed
@@ -23,6 +30,14 @@ abbrev pub for_tests : Scope → ForHead → List Instr
 for_tests scope head =
     instr.Load 0 (held_offset scope 0) ∷ range_check head.first.fits ∷ instr.Store 0 (held_offset scope 0)
     ∷ range_check head.last.fits ∷ []
+
+-- a scope in which so many records more stand, all of which lie here
+abbrev pub among : Scope → List Home → ℕ → Scope
+among scope records cells = record scope { next = count (scope.next + cells); records = records }
+
+-- the address of a record of a `with`
+abbrev pub record_code : Scope → WithRecord → List Instr
+record_code scope one = address_code scope one.access (index_codes scope one.indexes.items)
 
 -- where an arm of a case statement begins behind its row of constants, and the jump behind it
 abbrev pub arm_begin : Scope → List ℤ → ℕ → ℕ

@@ -5,7 +5,7 @@ use Rattle.pcode_assembler.specs.declared.instr.Instr.{Instr}
 use Rattle.pcode_assembler.specs.declared.instr.Instr.TheVariants as instr
 use Rattle.typed_tree.specs.declared.tree.Access.{Access}
 use Rattle.code_scheme.specs.Code.{At, By, Reached}
-use Rattle.code_scheme.specs.Scopes.{Scope, access_offset, links_to, variable_home}
+use Rattle.code_scheme.specs.Scopes.{Scope, access_home, access_offset, links_to}
 use Rattle.code_emitter.specs.declared.access.Cell.{Cell}
 
 -- the cell, where there is one
@@ -16,6 +16,6 @@ cell_of (By address) = None
 -- what pushes the address
 abbrev pub address_instr : Scope → Access → Instr
 address_instr scope access =
-    let home = variable_home scope access.root in
+    let home = access_home scope access in
     let level = links_to scope home.level in
     if home.refers then instr.Load level home.start else instr.LoadAddress level (access_offset scope access)

@@ -16,12 +16,12 @@ pub struct Cell {
 }
 
 /// The cell of what is accessed, where that lies at an offset in a frame: fields alone select it, and from no variable
-/// parameter.
+/// parameter and no record of a `with`.
 pub fn cell_in_frame(scope: &Scope, access: &Access) -> Option<Cell>
     ensures cell { (codes : List (List Instr)) → result ≡ cell_of (reached scope.now access.now codes) }
     ensures needs { (indexes : List ℕ) → IsSome result → access_depth access.now.selectors.items indexes ≡ 1 }
 {
-    let home = scope.home(access.root);
+    let home = scope.begun(access);
     if home.refers || !behind_fields(access.selectors.as_slice()).is_empty() {
         return None;
     }
@@ -31,12 +31,12 @@ pub fn cell_in_frame(scope: &Scope, access: &Access) -> Option<Cell>
     })
 }
 
-/// What pushes the address from which the code of the selectors goes on: that in the cell of a variable parameter, else
-/// that of the component which the fields before the first index select.
+/// What pushes the address from which the code of the selectors goes on: that in the cell of a variable parameter or of
+/// a record of a `with`, else that of the component which the fields before the first index select.
 pub fn address_in(scope: &Scope, access: &Access) -> Instr
     ensures { result ≡ address_instr scope.now access.now }
 {
-    let home = scope.home(access.root);
+    let home = scope.begun(access);
     let level = scope.links_to(home.level);
     if home.refers {
         return Instr::Load {

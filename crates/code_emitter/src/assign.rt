@@ -1,5 +1,5 @@
 ghost use Rattle.std.specs.Prelude.{◌≡◌, [], ◌∷◌, ◌++◌, ◌+◌, max};
-ghost use Rattle.code_scheme.specs.Code.{assign_code, copy_code, expr_code, range_check};
+ghost use Rattle.code_scheme.specs.Code.{assign_code, copy_code, expr_code, value_check};
 ghost use Rattle.code_scheme.specs.Depth.{access_depth, expr_depth, index_depths, store_depth, whole_depth};
 ghost use Rattle.code_scheme.specs.Sizes.{capped};
 ghost use Rattle.code_emitter.specs.Emitted.{Gets};
@@ -7,7 +7,7 @@ ghost use Rattle.code_emitter.specs.Emitted.{Gets};
 use crate::access::{Cell, cell_in_frame};
 use crate::emitter::Emitter;
 use crate::expression::{emit_address, emit_expr, emit_whole, row_length};
-use crate::instrs::check_of;
+use crate::instrs::value_check_of;
 use code_scheme::scope::Scope;
 use pcode_assembler::instr::Instr;
 use typed_tree::tree::{Assignment, Copying};
@@ -57,10 +57,10 @@ pub fn emit_copy(code: &mut Emitter, scope: &Scope, copying: &Copying) -> u32
 /// A value that is assigned, and its check.
 fn emit_checked(code: &mut Emitter, scope: &Scope, assignment: &Assignment) -> u32
     ensures emits { Gets code.old code.new
-        (expr_code scope.now assignment.now.value ++ range_check assignment.now.fits ∷ []) }
+        (expr_code scope.now assignment.now.value ++ value_check assignment.now.fits ∷ []) }
     ensures needs { result ≡ capped (expr_depth assignment.now.value) }
 {
     let depth = emit_expr(code, scope, &assignment.value);
-    code.put(check_of(assignment.fits));
+    code.put(value_check_of(assignment.fits));
     depth
 }

@@ -11,6 +11,7 @@ use crate::case::emit_case;
 use crate::emitter::Emitter;
 use crate::expression::{emit_call, emit_expr};
 use crate::instrs::{check_of, load, store};
+use crate::with::emit_with;
 use crate::write::emit_write;
 use code_scheme::scope::Scope;
 use pcode_assembler::instr::Instr;
@@ -57,6 +58,7 @@ pub fn emit_stmt(code: &mut Emitter, scope: &Scope, stmt: &Stmt) -> u32
         Stmt::Repeat { head, statements } => emit_repeat(code, scope, head, statements),
         Stmt::For { head, body } => emit_for(code, scope, head, body),
         Stmt::Case { head, arms } => emit_case(code, scope, head, arms),
+        Stmt::With { head, body } => emit_with(code, scope, head, body),
     }
 }
 

@@ -1,12 +1,13 @@
-ghost use Rattle.std.specs.Prelude.{◌≡◌, pos, [], ◌∷◌, ◌++◌, map};
+ghost use Rattle.std.specs.Prelude.{◌≡◌, false, pos, [], ◌∷◌, ◌++◌, map};
 ghost use Rattle.pcode_assembler.specs.declared.instr.Instr.TheVariants.{CallProcedure, CheckDefined, Compare};
 ghost use Rattle.pcode_assembler.specs.declared.instr.Instr.TheVariants.{IndexAddress, LoadConstant, LoadMany};
 ghost use Rattle.code_scheme.specs.Code.{address_code, calculation_code, call_code, dyadic_code, expr_code};
 ghost use Rattle.code_scheme.specs.Code.{fetch_code, field_code, index_codes, link_code, monadic_code, passed_code};
-ghost use Rattle.code_scheme.specs.Code.{range_check, reached, relation_instr, selectors_code, shift_code};
-ghost use Rattle.code_scheme.specs.Code.{variable_code, whole_code};
-ghost use Rattle.code_scheme.specs.Depth.{access_depth, call_depth, expr_depth, index_depths, link_depth};
-ghost use Rattle.code_scheme.specs.Depth.{monadic_depth, passed_depth, shift_depth, whole_depth};
+ghost use Rattle.code_scheme.specs.Code.{range_check, reached, relation_instr, selectors_code, set_code, shift_code};
+ghost use Rattle.code_scheme.specs.Code.{designators_code, single_code, span_code, union_code, variable_code};
+ghost use Rattle.code_scheme.specs.Code.{whole_code};
+ghost use Rattle.code_scheme.specs.Depth.{access_depth, call_depth, designators_depth, expr_depth, index_depths};
+ghost use Rattle.code_scheme.specs.Depth.{link_depth, monadic_depth, passed_depth, shift_depth, whole_depth};
 ghost use Rattle.code_scheme.specs.Scopes.{row_length as length_of_row};
 ghost use Rattle.code_scheme.specs.Sizes.{capped};
 ghost use Rattle.typed_tree.specs.WellFormed.{length_of};
@@ -14,14 +15,19 @@ ghost use Rattle.code_emitter.specs.Emitted.{Gets};
 
 use crate::access::{Cell, address_in, cell_in_frame};
 use crate::emitter::Emitter;
-use crate::instrs::{check_of, comparison_of, positive_at};
+use crate::instrs::{
+    check_of, check_range, comparison_of, positive_at, set_comparison_of, value_check_of,
+};
 use code_scheme::routine::Routine;
 use code_scheme::scope::{GREATEST_OFFSET, LINKS, Scope, selectors_from};
 use pcode_assembler::instr::Instr;
 use typed_tree::tree::{
-    Access, Calculation, Call, Dyadic, Expr, Link, Monadic, Passed, RangeTest, Relation, Selector,
-    Shift, Whole,
+    Access, Calculation, Call, Designator, Dyadic, Expr, Link, Monadic, Passed, RangeTest,
+    Relation, Selector, Shift, Whole,
 };
+
+/// The greatest member that a set may have.
+const GREATEST_MEMBER: i32 = 127;
 
 /// The greatest length that an instruction may have.
 const GREATEST_LENGTH: u32 = 65536;
@@ -41,6 +47,7 @@ pub fn emit_expr(code: &mut Emitter, scope: &Scope, expr: &Expr) -> u32
             access,
             indexes,
             defined,
+            ..
         } => emit_variable(code, scope, access, indexes.as_slice(), *defined),
         Expr::Monadic {
             operation,
@@ -71,7 +78,70 @@ pub fn emit_expr(code: &mut Emitter, scope: &Scope, expr: &Expr) -> u32
             first.max(second.saturating_add(cells_of_whole(left)).max(2))
         }
         Expr::Call { call, actuals } => emit_call(code, scope, *call, actuals.as_slice()),
+        Expr::Set {
+            designators,
+            members,
+            ..
+        } => emit_set(code, scope, designators.as_slice(), members.as_slice()),
     }
+}
+
+/// A set constructor: the empty set, or that of each designator, joined to the one before it.
+#[cycle(emit_expr)]
+fn emit_set(code: &mut Emitter, scope: &Scope, designators: &[Designator], members: &[Expr]) -> u32
+    ensures emits { Gets code.old code.new (set_code designators.now (index_codes scope.now members.now)) }
+    ensures needs { result ≡ capped (designators_depth 0 designators.now (index_depths members.now)) }
+{
+    if designators.is_empty() {
+        code.put(Instr::LoadSet { members: 0 });
+        1
+    } else {
+        emit_designators(code, scope, designators, members)
+    }
+}
+
+/// The sets of designators, each joined to the one before it: the members of each are evaluated beside that. One
+/// without its members ends them.
+#[cycle(emit_expr)]
+fn emit_designators(
+    code: &mut Emitter,
+    scope: &Scope,
+    designators: &[Designator],
+    members: &[Expr],
+) -> u32
+    ensures emits { Gets code.old code.new
+        (designators_code false designators.now (index_codes scope.now members.now)) }
+    ensures needs { result ≡ capped (designators_depth 0 designators.now (index_depths members.now)) }
+{
+    let mut next = 0;
+    let mut some = false;
+    let mut depth = 1u32;
+    for designator in designators {
+        let Some(first) = members.get(next) else {
+            return depth;
+        };
+        let held = u32::from(some);
+        match *designator {
+            Designator::Single { site } => {
+                let value = emit_expr(code, scope, first);
+                emit_single(code, site, some);
+                depth = depth.max(value.saturating_add(held));
+                next += 1;
+            }
+            Designator::Range { site } => {
+                let Some(last) = members.get(next + 1) else {
+                    return depth;
+                };
+                let begin = emit_expr(code, scope, first);
+                let end = emit_expr(code, scope, last);
+                emit_span(code, site, some);
+                depth = depth.max(begin.max(end.saturating_add(1)).saturating_add(held));
+                next += 2;
+            }
+        }
+        some = true;
+    }
+    depth
 }
 
 /// A call: the links of a new frame, behind them the actual parameters, and the jump to the routine.
@@ -102,7 +172,7 @@ fn emit_passed(code: &mut Emitter, scope: &Scope, actual: &Passed) -> u32
     match actual {
         Passed::Value { value, fits } => {
             let depth = emit_expr(code, scope, value);
-            code.put(check_of(*fits));
+            code.put(value_check_of(*fits));
             depth
         }
         Passed::Whole { value, indexes, .. } => emit_whole(code, scope, value, indexes.as_slice()),
@@ -196,7 +266,7 @@ pub fn emit_address(code: &mut Emitter, scope: &Scope, access: &Access, indexes:
     ensures needs { result ≡ capped (access_depth access.now.selectors.items (index_depths indexes.now)) }
 {
     code.put(address_in(scope, access));
-    let refers = scope.home(access.root).refers;
+    let refers = scope.begun(access).refers;
     let selectors = selectors_from(refers, access.selectors.as_slice());
     emit_selectors(code, scope, selectors, indexes)
 }
@@ -390,5 +460,36 @@ fn emit_dyadic(code: &mut Emitter, operation: Dyadic)
         Dyadic::And => code.put(Instr::And),
         Dyadic::Or => code.put(Instr::Or),
         Dyadic::Relation(relation) => code.put(comparison_of(relation)),
+        Dyadic::Union => code.put(Instr::Union),
+        Dyadic::Difference => code.put(Instr::Difference),
+        Dyadic::Intersection => code.put(Instr::Intersection),
+        Dyadic::SetRelation(relation) => code.put(set_comparison_of(relation)),
+        Dyadic::In => code.put(Instr::IsMember),
+    }
+}
+
+/// Behind the value of a member: its test, and its set, joined to the one before it if there is one.
+fn emit_single(code: &mut Emitter, site: u32, joins: bool)
+    ensures { Gets code.old code.new (single_code site ++ union_code joins) }
+{
+    let check = check_range(site, 0, GREATEST_MEMBER);
+    code.put_all(&[check, Instr::Singleton]);
+    emit_union(code, joins);
+}
+
+/// Behind the first and the last of a range: their test, and their set, joined to the one before it if there is one.
+fn emit_span(code: &mut Emitter, site: u32, joins: bool)
+    ensures { Gets code.old code.new (span_code site ++ union_code joins) }
+{
+    code.put_all(&[Instr::CheckMembers { site }, Instr::SetRange]);
+    emit_union(code, joins);
+}
+
+/// A set is joined to the one before it, if there is one.
+fn emit_union(code: &mut Emitter, joins: bool)
+    ensures { Gets code.old code.new (union_code joins) }
+{
+    if joins {
+        code.put(Instr::Union);
     }
 }

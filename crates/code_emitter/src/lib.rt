@@ -10,4 +10,5 @@ pub mod emitter;
 mod expression;
 mod instrs;
 pub mod program;
+mod with;
 mod write;

@@ -2,22 +2,39 @@
 use Rattle.code_generator.proofs.Words.{◌≡◌, ℕ, zero, suc, ◌+◌, ◌-◌, ◌*◌, ◌<◌, ◌≤◌, max, List, [], ◌∷◌, ◌++◌, length, map, Option, Some, None, Ok, refl, sym}
 use Rattle.code_generator.proofs.Words.{ap, ◌∙◌, subst, append_assoc, arith, length-append, Bool, true, inr, ℤ, pos, ◌-ℤ◌, int_le, ◌&&◌, nat_lt, slice_get}
 use Rattle.code_generator.proofs.Words.{list_all, option_and_then, and_parts, eqb-true, ltb-true, false≢true, same_Some, slice_get_within, length-map, Instr}
-use Rattle.code_generator.proofs.Words.{TypeId, cells_of, is_ordinal, Expr, RangeTest, Variable, all_hold, is_well_formed_expr, Value, Place, stored}
+use Rattle.code_generator.proofs.Words.{TypeId, cells_of, nat_eq, Expr, RangeTest, Variable, all_hold, is_well_formed_expr, Value, Place, stored}
 use Rattle.code_generator.proofs.Words.{Gives, Action, ◌>>=◌, number_of, require, value_of, UsesTurnsExactly, Cell, Number, State, expr_code, Home, expr_depth}
 use Rattle.code_generator.proofs.Words.{row_length, links_to, variable_home, start_within}
 use Rattle.std.proofs.Common.{if◌then◌else◌}
+use Rattle.std.specs.Cmp.Lexicographic.{pointwise}
+use Rattle.std.specs.Option.{option_map}
+use Rattle.std.specs.Prelude.{Vec}
+use Rattle.std.specs.declared.alloc.Global.{Global}
 use Rattle.std.specs.Prelude.{negsuc, ◌≤ℤ◌, fold}
 use Rattle.std.proofs.lemmas.Int.{ints}
 use Rattle.pcode_assembler.specs.declared.instr.Instr.TheVariants as instr
 use Rattle.types.specs.declared.form.Step.TheVariants as step
+use Rattle.types.specs.Types.{is_scalar}
+use Rattle.typed_tree.specs.declared.tree.Base.{Base}
+use Rattle.typed_tree.specs.declared.tree.Base.TheVariants as base_at
+use Rattle.typed_tree.specs.declared.tree.PathStep.{PathStep}
+use Rattle.typed_tree.specs.declared.tree.Scalar.{Scalar}
+use Rattle.typed_tree.specs.declared.tree.Scalar.TheVariants as scalar
+use Rattle.typed_tree.specs.Kinds.{are_ordinals, held_by}
+use Rattle.typed_tree.specs.Records.{OpenRecord, all_begin, begins as all_begins, is_open_as, is_same_step, is_there}
+use Rattle.code_generator.proofs.Texts.{compares_strings}
 use Rattle.typed_tree.specs.declared.tree.Access.{Access}
 use Rattle.typed_tree.specs.declared.tree.Selector.{Selector}
 use Rattle.typed_tree.specs.declared.tree.Selector.TheVariants.{Element, Field}
-use Rattle.typed_tree.specs.Accesses.{index_count, led, is_type, selected as chosen}
+use Rattle.typed_tree.specs.Accesses.{Origin, AtRecord, AtVariable, accessed, index_count, is_type, led, lying, origin_by, origin_of, root_of}
+use Rattle.typed_tree.specs.Accesses.{selected as chosen}
+use Rattle.typed_tree.specs.Accesses.{steps_of}
 use Rattle.typed_tree.specs.WellFormed.{is_visible, is_well_formed_selector, is_well_formed_test, is_whole, leads_to}
 use Rattle.meaning.specs.Effect as effect
 use Rattle.meaning.specs.Effect.{fetch}
-use Rattle.meaning.specs.Meaning.{Evaluation, selected}
+use Rattle.meaning.specs.declared.store.Value.TheVariants as value
+use Rattle.meaning.specs.Kinds.{type_on}
+use Rattle.meaning.specs.Meaning.{Evaluation, place_at, selected}
 use Rattle.meaning.specs.Meaning as meaning
 use Rattle.stack_machine.specs.Addresses.{element}
 use Rattle.stack_machine.specs.Frames.{on_two, base as base_of}
@@ -25,19 +42,23 @@ use Rattle.code_scheme.specs.Code.{Reached, At, By, address_code, address_of, fe
 use Rattle.code_scheme.specs.Code.{variable_code}
 use Rattle.code_scheme.specs.Depth.{access_depth}
 use Rattle.code_scheme.proofs.Depths.{address_takes_one, indexes_taken}
-use Rattle.code_scheme.specs.Scopes.{offset, access_offset, behind_fields, fields_offset}
+use Rattle.code_scheme.specs.Scopes.{offset, access_offset, behind_fields, fields_offset, links, record_home}
 use Rattle.check_remover.specs.Strip.{stays}
 use Rattle.code_generator.proofs.Acts.{loads}
 use Rattle.code_generator.proofs.Addressing.{loads_address, increases, indexes as element_indexed, loads_indirect}
-use Rattle.code_generator.proofs.Alike.{LiesIn, Leads, cell_of, cell_within, alike_above, base_is, keeps_above}
-use Rattle.code_generator.proofs.Evaluating.{ExprRuns, fetched_runs, frames_of, sites, range_then}
+use Rattle.code_generator.proofs.Alike.{LiesIn, Leads, cell_within, alike_above, base_is, keeps_above}
+use Rattle.code_generator.proofs.Scalars.{HasFit, cell_of, is_kind, is_scalar_of, scalar_at, scalar_of, scalar_there as scalar_there_of}
+use Rattle.code_generator.proofs.Nesting.{one_there}
+use Rattle.code_generator.proofs.Places.{way_is}
+use Rattle.code_generator.proofs.Evaluating.{ExprRuns, Gives as GivesKind, fetched_runs, frames_of, shape_of, sites, range_then}
 use Rattle.code_generator.proofs.Numbers.{same_range}
-use Rattle.code_generator.proofs.Parts.{inner, IsPart, element_part, field_part, is_element, is_field_of, led_on, ordinal_part, part_later, part_up_to}
+use Rattle.code_generator.proofs.Parts.{inner, IsPart, element_part, field_part, is_element, is_field_of, led_on, scalar_part, part_later, part_up_to}
 use Rattle.code_generator.proofs.Reach.{Stands, StandsAt, stands_front, stands_back, Comes, comes_less, stays_here}
 use Rattle.code_generator.proofs.Exact.{exact_selected}
-use Rattle.code_generator.proofs.Setting.{Setting, Shown, Way, Direct, ByAddress, Reaches, outline, around, exact_around, on, Based, linked, limit_far, acts}
+use Rattle.code_generator.proofs.Setting.{Setting, Shown, ShownRecord, Way, Direct, ByAddress, Reaches, outline, around, exact_around, on, Based, linked}
+use Rattle.code_generator.proofs.Setting.{limit_far, acts}
 use Rattle.code_generator.proofs.Setting.{entered}
-use Rattle.code_generator.proofs.Running.{beside, number_cell, IsValue, Aim, Arrives, Evaluates, Runs, instr_then, runs_from, then_code, value_on}
+use Rattle.code_generator.proofs.Running.{ordinal_beside, Aim, Arrives, Evaluates, Runs, instr_then, runs_from, then_code, value_on}
 use Rattle.code_generator.proofs.Lists.{slice_get-front, length_one}
 
 -- how far a number lies above another
@@ -48,7 +69,7 @@ counted (negsuc n) h = absurd (omega (arith, ints, h))
 module _ (g : Setting) where
   -- the part of a place that is of a type lies from a cell on, below the cells that are held
   abbrev pub PartAt : Place → TypeId → ℕ → Type 0
-  PartAt p t d = IsPart g.tree.types g.world g.below p t d
+  PartAt p t d = IsPart (outline g) g.world g.below p t d
 
   -- index expressions, each with what is shown of its code
   abbrev pub Indexes : Type 0
@@ -60,8 +81,20 @@ module _ (g : Setting) where
   abbrev pub wells : Indexes → List Bool
   wells indexes = map (is_well_formed_expr (outline g) g.number) (expressions indexes)
 
-  abbrev pub are_well_formed_indexes : Indexes → Bool
-  are_well_formed_indexes indexes = all_hold (wells indexes)
+  -- they are in order, and ordinals
+  abbrev pub AreOrdinals : List Expr → Type 0
+  AreOrdinals es =
+      (all_hold (map (is_well_formed_expr (outline g) g.number) es) ≡ true) × (are_ordinals (map held_by es) ≡ true)
+      × (all_begin (map all_begins es) g.opened ≡ true) × (all_hold (map (compares_strings g.tree.types) es) ≡ true)
+
+  -- the first one is, and the others are
+  pub first_ordinal : (e : Expr) (es : List Expr) → AreOrdinals (e ∷ es) → GivesKind scalar.Ordinal (shape_of g e) × AreOrdinals es
+  first_ordinal e es good =
+      let well = and_parts _ _ good.0 in
+      let held = and_parts _ _ good.1 in
+      let there = and_parts _ _ good.2 in
+      let strings = and_parts _ _ good.3 in
+      ((well.0, is_kind scalar.Ordinal (held_by e) held.0, there.0, strings.0), (well.1, held.1, there.1, strings.1))
 
   pub as_many_wells : (indexes : Indexes) → length (wells indexes) ≡ length (expressions indexes)
   as_many_wells indexes = length-map (expressions indexes) (is_well_formed_expr (outline g) g.number)
@@ -138,13 +171,13 @@ module _ (g : Setting) where
 
   -- the part that a field is
   field_at_part : (end position before d : ℕ) (p : Place) (t part : TypeId)
-      → chosen g.tree.types (Field position before) t ≡ Some part → IsPart g.tree.types g.world end p t d
-      → IsPart g.tree.types g.world end (inner p (step.Field position ∷ [])) part (d + before)
+      → chosen g.tree.types (Field position before) t ≡ Some part → IsPart (outline g) g.world end p t d
+      → IsPart (outline g) g.world end (inner p (step.Field position ∷ [])) part (d + before)
   field_at_part end position before d p t part is whole =
       let f = is_field_of g.tree.types t part position before is in
-      subst (λ k. IsPart g.tree.types g.world end (inner p (step.Field position ∷ [])) part (d + k)) (sym f.offset_is)
-      (subst (λ u. IsPart g.tree.types g.world end (inner p (step.Field position ∷ [])) u (d + f.field.offset)) f.type_is
-      (field_part g.tree.types g.world end g.known p t d position f.field f.found whole))
+      subst (λ k. IsPart (outline g) g.world end (inner p (step.Field position ∷ [])) part (d + k)) (sym f.offset_is)
+      (subst (λ u. IsPart (outline g) g.world end (inner p (step.Field position ∷ [])) u (d + f.field.offset)) f.type_is
+      (field_part (outline g) g.world end g.known p t d position f.field f.found whole))
 
   -- the part that an element is, at an index in the range of the test
   element_at_part : (fits : RangeTest) (cells d n : ℕ) (index : ℤ) (p : Place) (t part : TypeId)
@@ -152,7 +185,7 @@ module _ (g : Setting) where
       → pos n ≡ index -ℤ fits.range.first → PartAt p t d → PartAt (inner p (step.Element index ∷ [])) part (d + n * cells) × (cells ≤ 65536)
   element_at_part fits cells d n index p t part is low high counts whole =
       let e = is_element g.tree.types t part fits cells is in
-      let lies = element_part g.tree.types g.world g.below g.known p t d e.element e.found index (subst (λ z. z ≤ℤ index) e.first low)
+      let lies = element_part (outline g) g.world g.below g.known p t d e.element e.found index (subst (λ z. z ≤ℤ index) e.first low)
       (subst (λ z. index ≤ℤ z) e.last high) n (counts ∙ ap (λ z. index -ℤ z) e.first) whole in
       let few = lies.few in
       let same = (g.known.elements g.tree.types t e.element e.found).cells in
@@ -177,7 +210,7 @@ module _ (g : Setting) where
   SelectorsRun selectors indexes =
       (depth place d : ℕ) (base held : List Cell) (p : Place) (t last : TypeId) (s : effect.State) → Stands g.target place (selectors_code selectors
       (codes indexes))
-      → are_well_formed_indexes indexes ≡ true → are_selectors selectors ≡ true → length (expressions indexes) ≡ index_count selectors
+      → AreOrdinals (expressions indexes) → are_selectors selectors ≡ true → length (expressions indexes) ≡ index_count selectors
       → led g.tree.types selectors t ≡ Some last → PartAt p t d → Based g s base
       → g.below + length held + fold max depth (map (λ i. i + 1) (depths indexes)) ≤ g.limit → g.below + length held < g.limit
       → Addresses (on g ((base ++ held) ++ Number (pos d) ∷ []) place s) held (place + length (selectors_code selectors (codes indexes))) last
@@ -214,8 +247,7 @@ module _ (g : Setting) where
       let c = expr_code g.scope index.0 in
       let indexing = instr.IndexAddress fits.range.first (row_length cells) ∷ selectors_code selectors (codes indexes) in
       let more = start_within (max depth (expr_depth index.0 + 1)) (map (λ i. i + 1) (depths indexes)) in
-      let parts : (is_well_formed_expr (outline g) g.number index.0 ≡ true) × (are_well_formed_indexes indexes ≡ true) =
-      and_parts _ _ wells in
+      let parts = first_ordinal index.0 (expressions indexes) wells in
       let selector_parts : (is_well_formed_test (outline g) g.number fits ≡ true) × (are_selectors selectors ≡ true) =
       and_parts _ _ well in
       let test_parts = and_parts (nat_lt fits.site (sites g)) (is_whole fits.range.first && is_whole fits.range.last) selector_parts.0 in
@@ -225,21 +257,20 @@ module _ (g : Setting) where
       let chosen_by : Value → Action (Option Place) = λ v.
       selected selectors (map value_of (expressions indexes)) (around g) (Some (inner p (step.Element (number_of v) ∷ []))) in
       let next : Value → Action (Option Place) = λ v. require (effect.is_in fits.range v) fits.site >>= λ _. chosen_by v in
-      beside g (IsValue g above) (number_cell g) (address_on held last) c (range_check fits ∷ indexing) place base held (Number (pos d) ∷ [])
+      ordinal_beside g (address_on held last) c (range_check fits ∷ indexing) place base held (Number (pos d) ∷ [])
       (value_of index.0 (around g)) next s ((exact_around g).values index.0) stands
-      (λ front. index.1 place base above s front parts.0 based (omega arith))
-      (λ base2 v s2 rest based2 so.
-      let fit2 = so.0 in
-      let n = number_of v in
+      (λ front. index.1 scalar.Ordinal place base above s front parts.0 based (omega arith))
+      (λ base2 n s2 rest based2 fit2 room2.
+      let v = value.Number n in
       let from = place + length c in
       let one = (base2 ++ held) ++ Number (pos d) ∷ [] in
       let in_frame = linked g s2 base2 held based2 in
       let e : from + 1 + length indexing ≡ from + length (range_check fits ∷ indexing) = omega arith in
       subst (λ there. Addresses (on g (one ++ Number n ∷ []) from s2) held there last (next v) s2) e
-      (range_then g (address_on held last (from + 1 + length indexing)) fits v one from s2 (chosen_by v) rest.0
+      (range_then g (address_on held last (from + 1 + length indexing)) fits n one from s2 (chosen_by v) rest.0
       (ltb-true fits.site (sites g) test_parts.0) (omega (arith, in_frame, length_one (base2 ++ held) (Number (pos d)))) fit2
       (λ holds.
-      let both = and_parts (int_le fits.range.first n) (int_le n fits.range.last) (sym (same_range fits.range v fit2) ∙ holds) in
+      let both = and_parts (int_le fits.range.first n) (int_le n fits.range.last) (sym (same_range fits.range n fit2) ∙ holds) in
       let low : fits.range.first ≤ℤ n = omega (arith, ints, both.0) in
       let far = counted (n -ℤ fits.range.first) (omega (arith, ints, low)) in
       let lies = element_at_part fits cells d far.0 n p t on_led.0 on_led.1 low (omega (arith, ints, both.1)) far.1 whole in
@@ -261,45 +292,80 @@ module _ (g : Setting) where
 
   -- ---- an access
 
-  -- what is known of selectors that lead from a variable to a type that is wanted, with so many index expressions
-  pub record LeadsTo (wanted : TypeId → Bool) (root : ℕ) (selectors : List Selector) (indexes : ℕ) : Type 0 where
-    pub visible : is_visible (outline g) g.number root ≡ true
+  -- what is known of selectors that lead from where an access begins to a type that is wanted, with so many index expressions
+  pub record LeadsTo (wanted : TypeId → Bool) (origin : Origin) (selectors : List Selector) (indexes : ℕ) : Type 0 where
+    pub visible : is_visible (outline g) g.number (root_of origin) ≡ true
     pub counts : indexes ≡ index_count selectors
     pub well : are_selectors selectors ≡ true
     pub variable : Variable
-    pub declared : slice_get g.tree.variables.items root ≡ Some variable
+    pub declared : slice_get g.tree.variables.items (root_of origin) ≡ Some variable
+    -- the type of what it begins at
+    pub from : TypeId
+    pub from_is : lying g.tree.types (steps_of origin) variable.type_id ≡ Some from
     pub last : TypeId
-    pub ends : led g.tree.types selectors variable.type_id ≡ Some last
+    pub ends : led g.tree.types selectors from ≡ Some last
+    pub last_is : accessed g.tree.variables.items g.tree.types origin selectors ≡ Some last
     pub is_wanted : wanted last ≡ true
 
-  module _ (wanted : TypeId → Bool) (root : ℕ) (selectors : List Selector) (indexes : ℕ) where
-    pub leads : leads_to (outline g) g.number wanted root selectors indexes ≡ true → LeadsTo wanted root selectors indexes
+  -- the type of what an access accesses, from that of what it begins at
+  abbrev led_from : Origin → List Selector → Option Variable → Option TypeId
+  led_from origin selectors o =
+      option_and_then (λ (v : Variable). option_and_then (led g.tree.types selectors) (lying g.tree.types (steps_of origin) v.type_id)) o
+
+  accessed_from : (origin : Origin) (selectors : List Selector)
+      → accessed g.tree.variables.items g.tree.types origin selectors ≡ led_from origin selectors (slice_get g.tree.variables.items (root_of origin))
+  accessed_from (AtVariable root) selectors = refl
+  accessed_from (AtRecord root slot steps) selectors = refl
+
+  module _ (wanted : TypeId → Bool) (origin : Origin) (selectors : List Selector) (indexes : ℕ) where
+    pub leads : leads_to (outline g) g.number wanted origin selectors indexes ≡ true → LeadsTo wanted origin selectors indexes
     leads e =
         let seen = and_parts _ _ e in
         let parts = and_parts _ _ seen.1 in
         let parts' = and_parts _ _ parts.1 in
-        to_variable seen.0 (eqb-true indexes (index_count selectors) parts.0) parts'.0 (slice_get g.tree.variables.items root) refl parts'.1
+        to_variable seen.0 (eqb-true indexes (index_count selectors) parts.0) parts'.0 (slice_get g.tree.variables.items (root_of origin)) refl
+        (ap (is_type wanted) (sym (accessed_from origin selectors)) ∙ parts'.1)
       where
-        to_type : is_visible (outline g) g.number root ≡ true → indexes ≡ index_count selectors → are_selectors selectors ≡ true → (variable : Variable)
-            → slice_get g.tree.variables.items root ≡ Some variable → (o : Option TypeId) → led g.tree.types selectors variable.type_id ≡ o
-            → is_type wanted o ≡ true
-            → LeadsTo wanted root selectors indexes
-        to_type visible counts well variable declared None ends e = absurd (false≢true e)
-        to_type visible counts well variable declared (Some last) ends e =
-            record { visible = visible; counts = counts; well = well; variable = variable; declared = declared; last = last; ends = ends; is_wanted = e }
+        to_type : is_visible (outline g) g.number (root_of origin) ≡ true → indexes ≡ index_count selectors → are_selectors selectors ≡ true
+            → (variable : Variable) → slice_get g.tree.variables.items (root_of origin) ≡ Some variable → (from : TypeId)
+            → lying g.tree.types (steps_of origin) variable.type_id ≡ Some from → (o : Option TypeId) → led g.tree.types selectors from ≡ o
+            → is_type wanted o ≡ true → LeadsTo wanted origin selectors indexes
+        to_type visible counts well variable declared from from_is None ends e = absurd (false≢true e)
+        to_type visible counts well variable declared from from_is (Some last) ends e = record {
+          visible = visible;
+          counts = counts;
+          well = well;
+          variable = variable;
+          declared = declared;
+          from = from;
+          from_is = from_is;
+          last = last;
+          ends = ends;
+          last_is = accessed_from origin selectors ∙ ap (led_from origin selectors) declared ∙ ap (option_and_then (led g.tree.types selectors)) from_is
+              ∙ ends;
+          is_wanted = e;
+        }
 
-        to_variable : is_visible (outline g) g.number root ≡ true → indexes ≡ index_count selectors → are_selectors selectors ≡ true → (o : Option Variable)
-            → slice_get g.tree.variables.items root ≡ o
-            → is_type wanted (option_and_then (λ (v : Variable). led g.tree.types selectors v.type_id) o) ≡ true → LeadsTo wanted root selectors indexes
+        to_from : is_visible (outline g) g.number (root_of origin) ≡ true → indexes ≡ index_count selectors → are_selectors selectors ≡ true
+            → (variable : Variable) → slice_get g.tree.variables.items (root_of origin) ≡ Some variable → (o : Option TypeId)
+            → lying g.tree.types (steps_of origin) variable.type_id ≡ o → is_type wanted (option_and_then (led g.tree.types selectors) o) ≡ true
+            → LeadsTo wanted origin selectors indexes
+        to_from visible counts well variable declared None is e = absurd (false≢true e)
+        to_from visible counts well variable declared (Some from) is e =
+            to_type visible counts well variable declared from is (led g.tree.types selectors from) refl e
+
+        to_variable : is_visible (outline g) g.number (root_of origin) ≡ true → indexes ≡ index_count selectors → are_selectors selectors ≡ true
+            → (o : Option Variable) → slice_get g.tree.variables.items (root_of origin) ≡ o → is_type wanted (led_from origin selectors o) ≡ true
+            → LeadsTo wanted origin selectors indexes
         to_variable visible counts well None declared e = absurd (false≢true e)
         to_variable visible counts well (Some variable) declared e =
-            to_type visible counts well variable declared (led g.tree.types selectors variable.type_id) refl e
+            to_from visible counts well variable declared (lying g.tree.types (steps_of origin) variable.type_id) refl e
 
   -- where the fields before the first index lead to
   pub record Ahead (end : ℕ) (selectors : List Selector) (p : Place) (d : ℕ) (last : TypeId) : Type 0 where
     pub there : Place
     pub its : TypeId
-    pub part : IsPart g.tree.types g.world end there its (d + fields_offset selectors)
+    pub part : IsPart (outline g) g.world end there its (d + fields_offset selectors)
     pub ends : led g.tree.types (behind_fields selectors) its ≡ Some last
     pub counts : index_count (behind_fields selectors) ≡ index_count selectors
     pub well : are_selectors (behind_fields selectors) ≡ true
@@ -307,13 +373,13 @@ module _ (g : Setting) where
         → selected selectors evaluations (around g) (Some p) ≡ selected (behind_fields selectors) evaluations (around g) (Some there)
 
   ahead : (end : ℕ) (selectors : List Selector) (p : Place) (t : TypeId) (d : ℕ) (last : TypeId) → are_selectors selectors ≡ true
-      → led g.tree.types selectors t ≡ Some last → IsPart g.tree.types g.world end p t d → Ahead end selectors p d last
+      → led g.tree.types selectors t ≡ Some last → IsPart (outline g) g.world end p t d → Ahead end selectors p d last
   ahead end [] p t d last well ends whole =
       let same : d ≡ d + 0 = omega arith in
       record {
         there = p;
         its = t;
-        part = subst (IsPart g.tree.types g.world end p t) same whole;
+        part = subst (IsPart (outline g) g.world end p t) same whole;
         ends = ends;
         counts = refl;
         well = well;
@@ -324,7 +390,7 @@ module _ (g : Setting) where
       record {
         there = p;
         its = t;
-        part = subst (IsPart g.tree.types g.world end p t) same whole;
+        part = subst (IsPart (outline g) g.world end p t) same whole;
         ends = ends;
         counts = refl;
         well = well;
@@ -338,7 +404,7 @@ module _ (g : Setting) where
       record {
         there = rest.there;
         its = rest.its;
-        part = subst (IsPart g.tree.types g.world end rest.there rest.its) at rest.part;
+        part = subst (IsPart (outline g) g.world end rest.there rest.its) at rest.part;
         ends = rest.ends;
         counts = rest.counts;
         well = rest.well;
@@ -413,81 +479,159 @@ module _ (g : Setting) where
   reached_there level start owner [] indexes l = (owner, l, refl, refl, refl)
   reached_there level start owner (x ∷ rest) indexes l = refl
 
-  module _ (access : Access) (wanted : TypeId → Bool) (count : ℕ) (indexes : List (List Instr)) (l : LeadsTo wanted access.root access.selectors.items count)
-    where
-      abbrev home : Home
-      home = variable_home g.scope access.root
+  -- an access that begins at a variable
+  module _ (number root : ℕ) (vec : Vec Selector Global) (wanted : TypeId → Bool) (count : ℕ) (indexes : List (List Instr))
+      (l : LeadsTo wanted (AtVariable root) vec.items count) where
+    abbrev at_variable : Access
+    at_variable = record { number = number; root = root; base = base_at.Variable; selectors = vec }
 
-      abbrev level : ℕ
-      level = links_to g.scope home.level
+    abbrev home : Home
+    home = variable_home g.scope root
 
-      abbrev selectors : List Selector
-      selectors = access.selectors.items
+    abbrev level : ℕ
+    level = links_to g.scope home.level
 
-      abbrev shown : Shown g.tree g.world g.fixed g.below g.frame g.scope g.environment access.root l.variable
-      shown = g.shows access.root l.variable l.declared l.visible
+    abbrev selectors : List Selector
+    selectors = vec.items
 
-      entry_meant : (evaluations : List Evaluation) → meaning.accessed access evaluations (around g)
-          ≡ (λ s. selected selectors evaluations (around g) (Some shown.place) (entered g access.number s))
-      entry_meant evaluations = ap {B = Action (Option Place)} (λ (o : Option Place) (s : effect.State). selected selectors evaluations (around g) o
-          (entered g access.number s)) shown.place_is
+    abbrev shown : Shown g.tree g.world g.fixed g.below g.frame g.scope g.environment root l.variable
+    shown = g.shows root l.variable l.declared l.visible
 
-      begins_by : (way : Way) → Reaches g.tree g.world g.fixed g.below shown.place l.variable (shown.owner + home.start) home.refers way
-          → Begins access l.last indexes
-      begins_by Direct r =
-          let whole = r.1 in
-          let near = g.near access.root l.variable l.declared r.0 in
-          let start = shown.owner + home.start in
-          let close = part_up_to g.tree.types g.world g.below shown.place l.variable.type_id start whole in
-          let all = ahead (start + cells_of g.tree.types l.variable.type_id) selectors shown.place l.variable.type_id start l.last l.well l.ends close in
-          let within = all.part.within in
-          let inside = whole.within in
-          let at : start + fields_offset selectors ≡ shown.owner + access_offset g.scope access = omega arith in
-          let part = part_later g.tree.types g.world (start + cells_of g.tree.types l.variable.type_id) g.below all.there all.its
-          (start + fields_offset selectors)
-          (omega arith) all.part in
-          record {
-            rest = behind_fields selectors;
-            there = all.there;
-            its = all.its;
-            cell = shown.owner + access_offset g.scope access;
-            part = subst (PartAt all.there all.its) at part;
-            ends = all.ends;
-            counts = all.counts;
-            well = all.well;
-            meant = λ evaluations. entry_meant evaluations
-                ∙ ap {B = Action (Option Place)} (λ (action : Action (Option Place)) (s : effect.State). action (entered g access.number s))
-                (all.meant evaluations);
-            first = instr.LoadAddress level (access_offset g.scope access);
-            pushes = address_pushed level (access_offset g.scope access) shown.owner shown.leads (omega arith);
-            way = reached_from level (access_offset g.scope access) (behind_fields selectors) indexes;
-            way_is = ap (λ b. if b then By (instr.Load level home.start ∷ selectors_code selectors indexes)
-                else reached_from level (access_offset g.scope access) (behind_fields selectors) indexes) r.0;
-            reaches = reached_there level (access_offset g.scope access) shown.owner (behind_fields selectors) indexes shown.leads;
-          }
-      begins_by (ByAddress address) r = record {
-        rest = selectors;
-        there = shown.place;
-        its = l.variable.type_id;
-        cell = address;
-        part = r.2;
-        ends = l.ends;
-        counts = refl;
-        well = l.well;
-        meant = entry_meant;
-        first = instr.Load level home.start;
-        pushes = reference_pushed level home.start shown.owner address shown.leads r.1;
-        way = By (instr.Load level home.start ∷ selectors_code selectors indexes);
-        way_is = ap (λ b. if b then By (instr.Load level home.start ∷ selectors_code selectors indexes)
-            else reached_from level (access_offset g.scope access) (behind_fields selectors) indexes) r.0;
-        reaches = refl;
-      }
+    abbrev start_offset : ℕ
+    start_offset = access_offset g.scope at_variable
 
-      pub begins : Begins access l.last indexes
-      begins = begins_by shown.way shown.reaches
+    entry_meant : (evaluations : List Evaluation) → meaning.accessed at_variable evaluations (around g)
+        ≡ (λ s. selected selectors evaluations (around g) (Some shown.place) (entered g number s))
+    entry_meant evaluations = ap {B = Action (Option Place)} (λ (o : Option Place) (s : effect.State). selected selectors evaluations (around g) o
+        (entered g number s)) shown.place_is
+
+    -- the type of the variable is that of what it begins at
+    ends_from : led g.tree.types selectors l.variable.type_id ≡ Some l.last
+    ends_from = ap (led g.tree.types selectors) (same_Some l.variable.type_id l.from l.from_is) ∙ l.ends
+
+    begins_by : (way : Way) → Reaches g.tree g.world g.fixed g.below shown.place l.variable (shown.owner + home.start) home.refers way
+        → Begins at_variable l.last indexes
+    begins_by Direct r =
+        let whole = r.1 in
+        let near = g.near root l.variable l.declared r.0 in
+        let start = shown.owner + home.start in
+        let close = part_up_to (outline g) g.world g.below shown.place l.variable.type_id start whole in
+        let all = ahead (start + cells_of g.tree.types l.variable.type_id) selectors shown.place l.variable.type_id start l.last l.well ends_from close in
+        let within = all.part.within in
+        let inside = whole.within in
+        let at : start + fields_offset selectors ≡ shown.owner + start_offset = omega arith in
+        let part = part_later (outline g) g.world (start + cells_of g.tree.types l.variable.type_id) g.below all.there all.its
+        (start + fields_offset selectors)
+        (omega arith) all.part in
+        record {
+          rest = behind_fields selectors;
+          there = all.there;
+          its = all.its;
+          cell = shown.owner + start_offset;
+          part = subst (PartAt all.there all.its) at part;
+          ends = all.ends;
+          counts = all.counts;
+          well = all.well;
+          meant = λ evaluations. entry_meant evaluations
+              ∙ ap {B = Action (Option Place)} (λ (action : Action (Option Place)) (s : effect.State). action (entered g number s))
+              (all.meant evaluations);
+          first = instr.LoadAddress level start_offset;
+          pushes = address_pushed level start_offset shown.owner shown.leads (omega arith);
+          way = reached_from level start_offset (behind_fields selectors) indexes;
+          way_is = ap (λ b. if b then By (instr.Load level home.start ∷ selectors_code selectors indexes)
+              else reached_from level start_offset (behind_fields selectors) indexes) r.0;
+          reaches = reached_there level start_offset shown.owner (behind_fields selectors) indexes shown.leads;
+        }
+    begins_by (ByAddress address) r = record {
+      rest = selectors;
+      there = shown.place;
+      its = l.variable.type_id;
+      cell = address;
+      part = r.2;
+      ends = ends_from;
+      counts = refl;
+      well = l.well;
+      meant = entry_meant;
+      first = instr.Load level home.start;
+      pushes = reference_pushed level home.start shown.owner address shown.leads r.1;
+      way = By (instr.Load level home.start ∷ selectors_code selectors indexes);
+      way_is = ap (λ b. if b then By (instr.Load level home.start ∷ selectors_code selectors indexes)
+          else reached_from level start_offset (behind_fields selectors) indexes) r.0;
+      reaches = refl;
+    }
+
+    begins_at_variable : Begins at_variable l.last indexes
+    begins_at_variable = begins_by shown.way shown.reaches
+
+  -- one that begins at a record that is open
+  module _ (number root slot : ℕ) (path : Vec PathStep Global) (vec : Vec Selector Global) (wanted : TypeId → Bool) (count : ℕ)
+      (indexes : List (List Instr)) (l : LeadsTo wanted (AtRecord root slot path.items) vec.items count)
+      (there : is_there g.opened (AtRecord root slot path.items) ≡ true) where
+    abbrev at_record : Access
+    at_record = record { number = number; root = root; base = base_at.Record slot path; selectors = vec }
+
+    abbrev record_at : Home
+    record_at = record_home g.scope slot
+
+    abbrev links_up : ℕ
+    links_up = links_to g.scope record_at.level
+
+    open_record : (one : OpenRecord) × (slice_get g.opened slot ≡ Some one) × (is_open_as root path.items one ≡ true)
+    open_record = one_there (is_open_as root path.items) (slice_get g.opened slot) there
+
+    abbrev open_shown : ShownRecord g.tree g.world g.fixed g.below g.frame g.scope g.records slot open_record.0
+    open_shown = g.opens slot open_record.0 open_record.1
+
+    no_links_up : links_up ≡ 0
+    no_links_up =
+        let none : g.scope.level - g.scope.level ≡ 0 = omega arith in
+        ap (links_to g.scope) open_shown.level_is ∙ ap links none
+
+    -- it is of the type of what the access begins at
+    type_same : open_shown.id ≡ l.from
+    type_same =
+        let same = and_parts (nat_eq root open_record.0.root) (pointwise is_same_step path.items open_record.0.steps) open_record.2 in
+        let root_is = eqb-true root open_record.0.root same.0 in
+        let steps_are = way_is path.items open_record.0.steps same.1 in
+        same_Some open_shown.id l.from
+        (sym open_shown.type_is ∙ ap (λ n. type_on (outline g) n open_record.0.steps) (sym root_is) ∙ ap (type_on (outline g) root) (sym steps_are)
+        ∙ ap (λ o. option_and_then (lying g.tree.types path.items) (option_map (λ (v : Variable). v.type_id) o)) l.declared ∙ l.from_is)
+
+    begins_at_record : Begins at_record l.last indexes
+    begins_at_record = record {
+      rest = vec.items;
+      there = open_shown.place;
+      its = l.from;
+      cell = open_shown.address;
+      part = subst (λ t. PartAt open_shown.place t open_shown.address) type_same open_shown.part;
+      ends = l.ends;
+      counts = refl;
+      well = l.well;
+      meant = λ evaluations. ap {B = Action (Option Place)} (λ (o : Option (Option Place)) (s : effect.State). selected vec.items evaluations (around g)
+          (place_at o) (entered g number s)) open_shown.place_is;
+      first = instr.Load links_up record_at.start;
+      pushes = reference_pushed links_up record_at.start g.frame open_shown.address
+          (subst (λ n. Leads g.fixed n g.frame g.frame) (sym no_links_up) refl) open_shown.held;
+      way = By (instr.Load links_up record_at.start ∷ selectors_code vec.items indexes);
+      way_is = ap (λ b. if b then By (instr.Load links_up record_at.start ∷ selectors_code vec.items indexes)
+          else reached_from links_up (access_offset g.scope at_record) (behind_fields vec.items) indexes) open_shown.refers;
+      reaches = refl;
+    }
+
+  begins_from : (number root : ℕ) (base : Base) (vec : Vec Selector Global) (wanted : TypeId → Bool) (count : ℕ) (indexes : List (List Instr))
+      (l : LeadsTo wanted (origin_by root base) vec.items count) → is_there g.opened (origin_by root base) ≡ true
+      → Begins (record { number = number; root = root; base = base; selectors = vec }) l.last indexes
+  begins_from number root base_at.Variable vec wanted count indexes l there = begins_at_variable number root vec wanted count indexes l
+  begins_from number root (base_at.Record slot path) vec wanted count indexes l there =
+      begins_at_record number root slot path vec wanted count indexes l there
+
+  -- where the code of an access begins
+  pub begins : (access : Access) (wanted : TypeId → Bool) (count : ℕ) (indexes : List (List Instr))
+      (l : LeadsTo wanted (origin_of access) access.selectors.items count) → is_there g.opened (origin_of access) ≡ true → Begins access l.last indexes
+  begins access wanted count indexes l there = begins_from access.number access.root access.base access.selectors wanted count indexes l there
 
   module _ (access : Access) (indexes : Indexes) (last : TypeId) (start : Begins access last (codes indexes))
-      (good : are_well_formed_indexes indexes ≡ true) (counts : length (expressions indexes) ≡ index_count access.selectors.items) where
+      (good : AreOrdinals (expressions indexes)) (counts : length (expressions indexes) ≡ index_count access.selectors.items) where
     abbrev rest_code : List Instr
     rest_code = selectors_code start.rest (codes indexes)
 
@@ -530,29 +674,44 @@ module _ (g : Setting) where
         (pushed_runs place base held s (subst (Stands g.target place) address_is stands) based deep)
 
     -- the value of a scalar that is loaded, checked
-    loaded_runs : (defined place : ℕ) (cells base held : List Cell) (p : Place) (d : ℕ) (s : effect.State) → defined < sites g → LiesIn g.world p d
+    loaded_runs : (kind : Scalar) (defined place : ℕ) (cells base held : List Cell) (p : Place) (d : ℕ) (s : effect.State) → defined < sites g
+        → LiesIn g.world p d → scalar_at (outline g) p ≡ Some kind
         → StandsAt g.target (place + 1) (instr.CheckDefined defined 1) (g.target.is_open defined) → Based g s base → g.below + length held < g.limit
         → ((cell : Cell) → d < length (base ++ held) → slice_get (base ++ held) d ≡ Some cell
         → Comes g.target 1 (on g cells place s) (on g ((base ++ held) ++ cell ∷ []) (place + 1) s))
-        → Evaluates g (on g cells place s) held (place + 1 + 1) (fetch (Some p) defined) s
-    loaded_runs defined place cells base held p d s within lies stands based room does =
-        let above = alike_above g.world s.store base held based.alike in
-        let loaded = does (cell_of (stored s.store p)) (cell_within g.world s.store (base ++ held) p d above lies) (above.scalars p d lies) in
-        runs_from g (value_on g held (place + 1 + 1)) 1 _ _ (fetch (Some p) defined) s loaded
-        (fetched_runs g (place + 1) defined base held s (stored s.store p) stands within based room (above.fits p d lies))
+        → Evaluates g kind (on g cells place s) held (place + 1 + 1) (fetch (Some p) defined) s
+    loaded_runs kind defined place cells base held p d s within lies is stands based room does =
+        let above = alike_above (outline g) g.world s.store base held based.alike in
+        let loaded = does (cell_of (stored s.store p)) (cell_within (outline g) g.world s.store (base ++ held) p d above lies) (above.scalars p d lies) in
+        runs_from g (value_on g kind held (place + 1 + 1)) 1 _ _ (fetch (Some p) defined) s loaded
+        (fetched_runs g kind (place + 1) defined base held s (stored s.store p) stands within based room
+        (subst (λ k. HasFit k (stored s.store p)) is (above.fits p d lies)))
 
-    module _ (ordinal : is_ordinal g.tree.types last ≡ true) where
+    module _ (kind : Scalar) (scalar_is : scalar_of g.tree.types last ≡ Some kind) where
+      abbrev is_one : is_scalar g.tree.types last ≡ true
+      is_one = is_scalar_of g.tree.types last kind scalar_is
+
+      -- a part of that type is such a one
+      pub kind_there : (p : Place) (d : ℕ) → PartAt p last d → scalar_at (outline g) p ≡ Some kind
+      kind_there p d part = scalar_there_of (outline g) p last part.typed ∙ scalar_is
+
       -- what is reached without a selector is the scalar
-      pub scalar_there : start.rest ≡ [] → LiesIn g.world start.there start.cell
-      scalar_there none =
+      pub part_there : start.rest ≡ [] → PartAt start.there last start.cell
+      part_there none =
           let same : start.its ≡ last = same_Some start.its last (ap (λ rest. led g.tree.types rest start.its) (sym none) ∙ start.ends) in
-          ordinal_part g.tree.types g.world g.below g.known start.there last start.cell ordinal (subst (λ u. PartAt start.there u start.cell) same start.part)
+          subst (λ u. PartAt start.there u start.cell) same start.part
+
+      pub scalar_lies_there : (p : Place) (d : ℕ) → PartAt p last d → LiesIn g.world p d
+      scalar_lies_there p d part = scalar_part (outline g) g.world g.below g.known p last d is_one part
+
+      pub scalar_there : start.rest ≡ [] → LiesIn g.world start.there start.cell
+      scalar_there none = scalar_lies_there start.there start.cell (part_there none)
 
       fetch_by : (way : Reached) → reached g.scope access (codes indexes) ≡ way → IsReached way start.cell start.first start.rest (codes indexes)
           → (defined place : ℕ) (base held : List Cell) (s : effect.State) → defined < sites g
           → Stands g.target place (fetch_code way ++ (instr.CheckDefined defined 1 ∷ [])) → Based g s base
           → g.below + length held + access_depth access.selectors.items (depths indexes) ≤ g.limit
-          → Evaluates g (on g (base ++ held) place s) held (place + length (fetch_code way ++ (instr.CheckDefined defined 1 ∷ [])))
+          → Evaluates g kind (on g (base ++ held) place s) held (place + length (fetch_code way ++ (instr.CheckDefined defined 1 ∷ [])))
           (found >>= λ q. fetch q defined) s
       fetch_by (At level first) is r defined place base held s within stands based deep =
           let cells = base ++ held in
@@ -561,10 +720,11 @@ module _ (g : Setting) where
           let long = length-append base held in
           let e : place + 1 + 1 ≡ place + 2 = omega arith in
           let selects = λ (rest : List Selector). (λ (t : effect.State). selected rest (map value_of (expressions indexes)) (around g) (Some start.there) t) in
-          subst (λ rest. Evaluates g (on g cells place s) held (place + 2)
+          subst (λ rest. Evaluates g kind (on g cells place s) held (place + 2)
           (selected rest (map value_of (expressions indexes)) (around g) (Some start.there) >>= λ q. fetch q defined) s) (sym r.3)
-          (subst (λ q. Evaluates g (on g cells place s) held q (fetch (Some start.there) defined) s) e
-          (loaded_runs defined place cells base held start.there start.cell s within (scalar_there r.3) stands.1.0 based (omega arith)
+          (subst (λ q. Evaluates g kind (on g cells place s) held q (fetch (Some start.there) defined) s) e
+          (loaded_runs kind defined place cells base held start.there start.cell s within (scalar_there r.3)
+          (kind_there start.there start.cell (part_there r.3)) stands.1.0 based (omega arith)
           (λ cell inside at.
           acts g (instr.Load level first) cells (cells ++ cell ∷ []) place s _ stands.0 refl
           (loads g.frame g.limit g.size cells level first r.0 cell (omega arith) (frame_found level r.0 base held s based r.1)
@@ -574,8 +734,8 @@ module _ (g : Setting) where
           let load = instr.LoadIndirect 0 ∷ [] in
           let split = append_assoc code load check in
           let far = limit_far g in
-          subst (λ c. Evaluates g (on g (base ++ held) place s) held (place + length c) (found >>= λ q. fetch q defined) s) (sym split)
-          (address_then (value_on g held) code (load ++ check) place _ held last found (λ q. fetch q defined) s exact_found
+          subst (λ c. Evaluates g kind (on g (base ++ held) place s) held (place + length c) (found >>= λ q. fetch q defined) s) (sym split)
+          (address_then (value_on g kind held) code (load ++ check) place _ held last found (λ q. fetch q defined) s exact_found
           (subst (Stands g.target place) split stands)
           (λ front. subst (λ c. Addresses (on g (base ++ held) place s) held (place + length c) last found s) (sym r)
           (pushed_runs place base held s (subst (Stands g.target place) r front) based deep))
@@ -584,21 +744,21 @@ module _ (g : Setting) where
           let long = length-append base2 held in
           let from = place + length code in
           let e : from + 1 + 1 ≡ from + 2 = omega arith in
-          subst (λ q. Evaluates g (on g ((base2 ++ held) ++ Number (pos d) ∷ []) from s2) held q (fetch (Some p) defined) s2) e
-          (loaded_runs defined from ((base2 ++ held) ++ Number (pos d) ∷ []) base2 held p d s2 within
-          (ordinal_part g.tree.types g.world g.below g.known p last d ordinal part2) rest.1.0 based2 room2
+          subst (λ q. Evaluates g kind (on g ((base2 ++ held) ++ Number (pos d) ∷ []) from s2) held q (fetch (Some p) defined) s2) e
+          (loaded_runs kind defined from ((base2 ++ held) ++ Number (pos d) ∷ []) base2 held p d s2 within
+          (scalar_lies_there p d part2) (kind_there p d part2) rest.1.0 based2 room2
           (λ cell inside at'.
           acts g (instr.LoadIndirect 0) ((base2 ++ held) ++ Number (pos d) ∷ []) ((base2 ++ held) ++ cell ∷ []) from s2 _ rest.0 refl
           (loads_indirect g.frame g.limit g.size (base2 ++ held) (linked g s2 base2 held based2) d cell (omega arith) (omega arith) inside at')))))
 
-      -- the code of the value of an ordinal that is accessed, checked
+      -- the code of the value of an ordinal or a set that is accessed, checked
       pub fetch_runs : (defined place : ℕ) (base held : List Cell) (s : effect.State) → defined < sites g
           → Stands g.target place (variable_code g.scope access (codes indexes) defined) → Based g s base
           → g.below + length held + access_depth access.selectors.items (depths indexes) ≤ g.limit
-          → Evaluates g (on g (base ++ held) place s) held (place + length (variable_code g.scope access (codes indexes) defined))
+          → Evaluates g kind (on g (base ++ held) place s) held (place + length (variable_code g.scope access (codes indexes) defined))
           (found >>= λ q. fetch q defined) s
       fetch_runs defined place base held s within stands based deep =
-          subst (λ way. Evaluates g (on g (base ++ held) place s) held (place + length (fetch_code way ++ (instr.CheckDefined defined 1 ∷ [])))
+          subst (λ way. Evaluates g kind (on g (base ++ held) place s) held (place + length (fetch_code way ++ (instr.CheckDefined defined 1 ∷ [])))
           (found >>= λ q. fetch q defined) s) (sym start.way_is)
           (fetch_by start.way start.way_is start.reaches defined place base held s within
           (subst (λ way. Stands g.target place (fetch_code way ++ (instr.CheckDefined defined 1 ∷ []))) start.way_is stands) based deep)

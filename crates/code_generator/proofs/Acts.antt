@@ -110,45 +110,53 @@ module _ (frame limit size : ℕ) where
         ∙ ap (λ r. r >>= λ a. Ok (framed (slice_set below a (cell_at (length s.cells - 1) s)))) (in_use_is (owner + offset) (length below) h)
         ∙ ap (λ o. Ok (framed (slice_set below (owner + offset) (elim o as (λ _. Cell) [ Some there ↦ there | None ↦ Undefined ])))) (top_at cell)
 
+    -- two cells at the top
+    module _ (a b : Cell) where
+      abbrev pub both : List Cell
+      both = (below ++ a ∷ []) ++ b ∷ []
+
+      pub right_at : slice_get both (length both - 1) ≡ Some b
+      right_at =
+          let e : length both - 1 ≡ length (below ++ a ∷ []) = omega (arith, length_two below a b, length_one below a) in
+          ap (slice_get both) e ∙ slice_get_seam (below ++ a ∷ []) b []
+
+      pub left_at : slice_get both (length both - 2) ≡ Some a
+      left_at =
+          let e : length both - 2 ≡ length below = omega (arith, length_two below a b) in
+          ap (slice_get both) e ∙ ap (λ cs. slice_get cs (length below)) (append_assoc below (a ∷ []) (b ∷ []))
+          ∙ slice_get_seam below a (b ∷ [])
+
+      pub two_popped : take (length both - 2) both ≡ below
+      two_popped =
+          let e : length both - 2 ≡ length below = omega (arith, length_two below a b) in
+          ap (λ n. take n both) e ∙ ap (take (length below)) (append_assoc below (a ∷ []) (b ∷ []))
+          ∙ take-append_seam below (a ∷ b ∷ [])
+
+      pub has_two : has 2 (framed both) ≡ Ok tt
+      has_two = has_some 2 both (omega (arith, length_two below a b))
+
+      pub room_for_third : length below < limit → has_room_after 2 (framed both) ≡ Ok tt
+      room_for_third room = has_room 2 both (omega (arith, length_two below a b))
+
     -- two numbers at the top
     module _ (a b : ℤ) where
       abbrev pub two : List Cell
       two = (below ++ Number a ∷ []) ++ Number b ∷ []
 
-      pub right_at : slice_get two (length two - 1) ≡ Some (Number b)
-      right_at =
-          let e : length two - 1 ≡ length (below ++ Number a ∷ []) = omega (arith, length_two below (Number a) (Number b), length_one below (Number a)) in
-          ap (slice_get two) e ∙ slice_get_seam (below ++ Number a ∷ []) (Number b) []
-
-      pub left_at : slice_get two (length two - 2) ≡ Some (Number a)
-      left_at =
-          let e : length two - 2 ≡ length below = omega (arith, length_two below (Number a) (Number b)) in
-          ap (slice_get two) e ∙ ap (λ cs. slice_get cs (length below)) (append_assoc below (Number a ∷ []) (Number b ∷ []))
-          ∙ slice_get_seam below (Number a) (Number b ∷ [])
-
-      pub two_popped : take (length two - 2) two ≡ below
-      two_popped =
-          let e : length two - 2 ≡ length below = omega (arith, length_two below (Number a) (Number b)) in
-          ap (λ n. take n two) e ∙ ap (take (length below)) (append_assoc below (Number a ∷ []) (Number b ∷ []))
-          ∙ take-append_seam below (Number a ∷ Number b ∷ [])
-
-      pub has_two : has 2 (framed two) ≡ Ok tt
-      has_two = has_some 2 two (omega (arith, length_two below (Number a) (Number b)))
-
       numbers_are : two_numbers (framed two) ≡ Ok (a, b)
       numbers_are =
-          ap (λ o. number o >>= λ l. number_at 1 (framed two) >>= λ r. Ok (l, r)) left_at
-          ∙ ap (λ o. number o >>= λ r. Ok (a, r)) right_at
+          ap (λ o. number o >>= λ l. number_at 1 (framed two) >>= λ r. Ok (l, r)) (left_at (Number a) (Number b))
+          ∙ ap (λ o. number o >>= λ r. Ok (a, r)) (right_at (Number a) (Number b))
 
       pub top_is : top_two (framed two) ≡ Ok (a, b)
-      top_is = ap (λ r. r >>= λ _. two_numbers (framed two)) has_two ∙ numbers_are
+      top_is = ap (λ r. r >>= λ _. two_numbers (framed two)) (has_two (Number a) (Number b)) ∙ numbers_are
 
       -- they give way to a text
       abbrev pub text_written : (ℤ → ℤ → List ℕ) → ℤ × ℤ → Attempt (Frames × List ℕ)
       text_written text numbers = Ok (popped 2 (framed two), text numbers.0 numbers.1)
 
       pub writes : (text : ℤ → ℤ → List ℕ) → (top_two (framed two) >>= text_written text) ≡ Ok (framed below, text a b)
-      writes text = ap (λ r. r >>= text_written text) top_is ∙ ap (λ cs. Ok (framed cs, text a b)) two_popped
+      writes text = ap (λ r. r >>= text_written text) top_is ∙ ap (λ cs. Ok (framed cs, text a b)) (two_popped (Number a) (Number b))
 
       pub sums : sum_is_integer (framed two) ≡ Ok (is_integer (a +ℤ b))
       sums = ap (λ r. r >>= λ ns. Ok (is_integer (ns.0 +ℤ ns.1))) top_is
@@ -160,17 +168,17 @@ module _ (frame limit size : ℕ) where
       multiplies = ap (λ r. r >>= λ ns. Ok (is_integer (ns.0 *ℤ ns.1))) top_is
 
       -- the topmost two numbers are there, and there is room for a third
-      operands_are : length below < limit → operands (framed two) ≡ Ok (a, b)
+      pub operands_are : length below < limit → operands (framed two) ≡ Ok (a, b)
       operands_are room =
           let s = framed two in
-          ap (λ r. r >>= λ _. has_room_after 2 s >>= λ _. two_numbers s) has_two
-          ∙ ap (λ r. r >>= λ _. two_numbers s) (has_room 2 two (omega (arith, length_two below (Number a) (Number b))))
+          ap (λ r. r >>= λ _. has_room_after 2 s >>= λ _. two_numbers s) (has_two (Number a) (Number b))
+          ∙ ap (λ r. r >>= λ _. two_numbers s) (room_for_third (Number a) (Number b) room)
           ∙ numbers_are
 
       pub on_two_is : (f : ℤ → ℤ → ℤ) → length below < limit → on_two f (framed two) ≡ Ok (framed (below ++ Number (f a b) ∷ []))
       on_two_is f room =
           ap (λ r. r >>= λ ns. Ok (pushed (Number (f ns.0 ns.1)) (popped 2 (framed two)))) (operands_are room)
-          ∙ ap (λ cs. Ok (framed (cs ++ Number (f a b) ∷ []))) two_popped
+          ∙ ap (λ cs. Ok (framed (cs ++ Number (f a b) ∷ []))) (two_popped (Number a) (Number b))
 
       -- two numbers give way to a third, unless the divisor is wrong
       divisor_is : (test : ℤ → Bool) (f : ℤ → ℤ → ℤ) → length below < limit → test b ≡ true
@@ -179,7 +187,7 @@ module _ (frame limit size : ℕ) where
       divisor_is test f room good =
           ap (λ r. r >>= λ ns. unless_fault (test ns.1) WrongDivisor >>= λ _. Ok (pushed (Number (f ns.0 ns.1)) (popped 2 (framed two)))) (operands_are room)
           ∙ ap (λ t. unless_fault t WrongDivisor >>= λ _. Ok (pushed (Number (f a b)) (popped 2 (framed two)))) good
-          ∙ ap (λ cs. Ok (framed (cs ++ Number (f a b) ∷ []))) two_popped
+          ∙ ap (λ cs. Ok (framed (cs ++ Number (f a b) ∷ []))) (two_popped (Number a) (Number b))
 
       pub divides : length below < limit → is_true b ≡ true → divide (framed two) ≡ Ok (framed (below ++ Number (int_wrapping_div w32 a b) ∷ []))
       divides room good = divisor_is is_true (int_wrapping_div w32) room good

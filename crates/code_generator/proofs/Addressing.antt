@@ -95,24 +95,24 @@ module _ (frame limit size : ℕ) where
         ∙ ap (λ c. Ok (framed frame limit size (below ++ c ∷ [])))
         (cell_there cells address cell frame limit size (slice_get-front below (Number (pos address) ∷ []) address cell e))
 
-    -- a number and the address below it are popped, and the number is stored there
-    pub stores_indirect : (address : ℕ) (n : ℤ) → address < length below
-        → store_indirect (framed frame limit size ((below ++ Number (pos address) ∷ []) ++ Number n ∷ [])) ≡ Ok
-        (framed frame limit size (slice_set below address (Number n)))
-    stores_indirect address n h =
-        let s = framed frame limit size ((below ++ Number (pos address) ∷ []) ++ Number n ∷ []) in
+    -- a cell and the address below it are popped, and the cell is stored there
+    pub stores_indirect : (address : ℕ) (cell : Cell) → address < length below
+        → store_indirect (framed frame limit size ((below ++ Number (pos address) ∷ []) ++ cell ∷ [])) ≡ Ok
+        (framed frame limit size (slice_set below address cell))
+    stores_indirect address cell h =
+        let s = framed frame limit size ((below ++ Number (pos address) ∷ []) ++ cell ∷ []) in
         ap (λ r. r >>= λ _. number_at 2 s >>= λ a. address_of a (length (popped 2 s).cells) >>= λ place. Ok
         (record (popped 2 s) { cells = slice_set (popped 2 s).cells place (cell_at (length s.cells - 1) s) }))
-        (has_two frame limit size below linked (pos address) n)
+        (has_two frame limit size below linked (Number (pos address)) cell)
         ∙ ap (λ o. number o >>= λ a. address_of a (length (popped 2 s).cells) >>= λ place. Ok
         (record (popped 2 s) { cells = slice_set (popped 2 s).cells place (cell_at (length s.cells - 1) s) })) (left_at frame limit size below linked
-        (pos address) n)
+        (Number (pos address)) cell)
         ∙ ap (λ cs. in_use address (length cs) >>= λ place. Ok (framed frame limit size (slice_set cs place (cell_at (length s.cells - 1) s))))
-        (two_popped frame limit size below linked (pos address) n)
+        (two_popped frame limit size below linked (Number (pos address)) cell)
         ∙ ap (λ r. r >>= λ place. Ok (framed frame limit size (slice_set below place (cell_at (length s.cells - 1) s))))
         (in_use_is frame limit size address (length below) h)
         ∙ ap (λ c. Ok (framed frame limit size (slice_set below address c)))
-        (cell_there s.cells (length s.cells - 1) (Number n) frame limit size (right_at frame limit size below linked (pos address) n))
+        (cell_there s.cells (length s.cells - 1) cell frame limit size (right_at frame limit size below linked (Number (pos address)) cell))
 
     -- ---- rows
 

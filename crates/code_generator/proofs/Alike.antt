@@ -3,24 +3,15 @@
 -- meanwhile; static links lead from frame to frame over such cells. It says nothing of cells that are neither.
 use Rattle.code_generator.proofs.Words.{◌≡◌, ℕ, zero, suc, ◌+◌, ◌<◌, ◌≤◌, ◌⊎◌, List, [], ◌∷◌, ◌++◌, length, Option, Some, None, Ok, Err, refl, sym, ap, ◌∙◌}
 use Rattle.code_generator.proofs.Words.{subst, ⊎_elim, arith, length-append, Bool, true, false, slice_get, slice_set, pos, if◌then◌else◌, lt-ltb}
-use Rattle.code_generator.proofs.Words.{slice_get_within, Value, number_of, Place, stored, Cell, Undefined, Number}
+use Rattle.code_generator.proofs.Words.{slice_get_within, Value, Place, stored, Cell, Number}
 use Rattle.std.proofs.lemmas.Bool.{cases_eq}
 use Rattle.types.specs.Components.{Steps}
 use Rattle.meaning.specs.Store.{Store, place_eq}
 use Rattle.stack_machine.specs.declared.stop.MachineFault.TheVariants.{OutOfBounds}
 use Rattle.stack_machine.specs.Frames.{◌>>=◌, number, address_of, base}
-use Rattle.code_generator.proofs.Numbers.{Fits}
+use Rattle.typed_tree.specs.WellFormed.{Outline}
+use Rattle.code_generator.proofs.Scalars.{HasFit, cell_of, scalar_at, scalar_same}
 use Rattle.code_generator.proofs.Lists.{slice_get-front, set_same, set_other}
-
--- what a cell holds for a scalar
-abbrev pub cell_of : Option Value → Cell
-cell_of None = Undefined
-cell_of (Some v) = Number (number_of v)
-
--- a value of a scalar is of its type, which is integer
-abbrev pub HasFit : Option Value → Type 0
-HasFit None = Unit {0}
-HasFit (Some v) = Fits (number_of v)
 
 -- a variable of a frame
 pub record Extent : Type 0 where
@@ -73,23 +64,25 @@ pub record IsApart (world : World) (fixed : Fixed) : Type 0 where
   pub free : (p : Place) (c : ℕ) → LiesIn world p c → slice_get fixed c ≡ Some None
 
 -- the store and the cells are alike
-pub record Alike (world : World) (store : Store) (cells : List Cell) : Type 0 where
+pub record Alike (outline : Outline) (world : World) (store : Store) (cells : List Cell) : Type 0 where
   -- each scalar and its cell hold the same, or nothing
   pub scalars : (p : Place) (c : ℕ) → LiesIn world p c → slice_get cells c ≡ Some (cell_of (stored store p))
-  -- what a scalar holds is of its type
-  pub fits : (p : Place) (c : ℕ) → LiesIn world p c → HasFit (stored store p)
+  -- what a scalar holds is of its kind
+  pub fits : (p : Place) (c : ℕ) → LiesIn world p c → HasFit (scalar_at outline p) (stored store p)
 
 -- the cells hold what is fixed
 pub record Keeps (fixed : Fixed) (cells : List Cell) : Type 0 where
   pub each : (i : ℕ) (cell : Cell) → slice_get fixed i ≡ Some (Some cell) → slice_get cells i ≡ Some cell
 
 -- the cell of a scalar is one of the cells
-pub cell_within : (world : World) (store : Store) (cells : List Cell) (p : Place) (c : ℕ) → Alike world store cells → LiesIn world p c → c < length cells
-cell_within world store cells p c alike lies = slice_get_within cells c (cell_of (stored store p)) (alike.scalars p c lies)
+pub cell_within : (outline : Outline) (world : World) (store : Store) (cells : List Cell) (p : Place) (c : ℕ) → Alike outline world store cells
+    → LiesIn world p c → c < length cells
+cell_within outline world store cells p c alike lies = slice_get_within cells c (cell_of (stored store p)) (alike.scalars p c lies)
 
 -- more cells on top change nothing
-pub alike_above : (world : World) (store : Store) (cells more : List Cell) → Alike world store cells → Alike world store (cells ++ more)
-alike_above world store cells more alike = record {
+pub alike_above : (outline : Outline) (world : World) (store : Store) (cells more : List Cell) → Alike outline world store cells
+    → Alike outline world store (cells ++ more)
+alike_above outline world store cells more alike = record {
   scalars = λ p c l. slice_get-front cells more c _ (alike.scalars p c l);
   fits = alike.fits;
 }
@@ -98,8 +91,8 @@ pub keeps_above : (fixed : Fixed) (cells more : List Cell) → Keeps fixed cells
 keeps_above fixed cells more keeps = record { each = λ i cell at. slice_get-front cells more i cell (keeps.each i cell at) }
 
 -- a scalar gets a value, or becomes undefined
-module _ (world : World) (store : Store) (cells : List Cell) (fixed : Fixed) (p : Place) (c : ℕ) (new : Option Value) (apart : IsApart world fixed)
-    (at : LiesIn world p c) where
+module _ (outline : Outline) (world : World) (store : Store) (cells : List Cell) (fixed : Fixed) (p : Place) (c : ℕ) (new : Option Value)
+    (apart : IsApart world fixed) (at : LiesIn world p c) where
   abbrev after : Store
   after = (p, new) ∷ store
 
@@ -110,13 +103,13 @@ module _ (world : World) (store : Store) (cells : List Cell) (fixed : Fixed) (p 
   stored_by : (q : Place) (same : Bool) → place_eq p q ≡ same → stored after q ≡ (if same then new else stored store q)
   stored_by q same e = ap (λ b. if b then new else stored store q) e
 
-  module _ (fit : HasFit new) (alike : Alike world store cells) where
+  module _ (fit : HasFit (scalar_at outline p) new) (alike : Alike outline world store cells) where
     scalar_after : (q : Place) (d : ℕ) → LiesIn world q d → slice_get set_cells d ≡ Some (cell_of (stored after q))
     scalar_after q d l =
         ⊎_elim
         (λ same.
         ap (slice_get set_cells) (sym same.0)
-        ∙ set_same cells c (cell_of new) (cell_within world store cells p c alike at)
+        ∙ set_same cells c (cell_of new) (cell_within outline world store cells p c alike at)
         ∙ ap (λ o. Some (cell_of o)) (sym (stored_by q true same.1)))
         (λ other.
         set_other cells c d (cell_of new) other.0
@@ -124,14 +117,15 @@ module _ (world : World) (store : Store) (cells : List Cell) (fixed : Fixed) (p 
         ∙ ap (λ o. Some (cell_of o)) (sym (stored_by q false other.1)))
         (apart.scalars p q c d at l)
 
-    fit_after : (q : Place) (d : ℕ) → LiesIn world q d → HasFit (stored after q)
+    fit_after : (q : Place) (d : ℕ) → LiesIn world q d → HasFit (scalar_at outline q) (stored after q)
     fit_after q d l =
         ⊎_elim
-        (λ same. subst HasFit (sym (stored_by q true same.1)) fit)
-        (λ other. subst HasFit (sym (stored_by q false other.1)) (alike.fits q d l))
+        (λ same. subst (HasFit (scalar_at outline q)) (sym (stored_by q true same.1))
+        (subst (λ kind. HasFit kind new) (scalar_same outline p q same.1) fit))
+        (λ other. subst (HasFit (scalar_at outline q)) (sym (stored_by q false other.1)) (alike.fits q d l))
         (apart.scalars p q c d at l)
 
-    pub alike_set : Alike world after set_cells
+    pub alike_set : Alike outline world after set_cells
     alike_set = record { scalars = scalar_after; fits = fit_after }
 
   -- what is fixed stays

@@ -1,40 +1,46 @@
 -- The code of an assignment, to an ordinal or of a whole value: the target is accessed first, then comes the value, and the
 -- components of the target get it; or it stops as the assignment does.
 use Rattle.code_generator.proofs.Words.{◌≡◌, ℕ, ◌+◌, ◌<◌, ◌≤◌, max, List, [], ◌∷◌, ◌++◌, length, map, Option, Some, Ok, inr, refl, sym, ap, ◌∙◌, subst, arith}
-use Rattle.code_generator.proofs.Words.{length-append, append_assoc, true, slice_set, ℤ, pos, nat_lt, ◌&&◌, and_parts, ltb-true, Instr, Form, TypeId}
-use Rattle.code_generator.proofs.Words.{components_of, cells_of, is_ordinal, Expr, all_hold, is_well_formed_expr, Value, Place, Action, ◌>>=◌}
-use Rattle.code_generator.proofs.Words.{number_of, require, value_of, Cell, Number, expr_code, expr_depth, row_length, start_within}
+use Rattle.code_generator.proofs.Words.{length-append, append_assoc, slice_set, pos, nat_lt, ◌&&◌, and_parts, ltb-true, Instr, Form, TypeId}
+use Rattle.code_generator.proofs.Words.{components_of, cells_of, Expr, all_hold, is_well_formed_expr, Value, Place, Action, ◌>>=◌}
+use Rattle.code_generator.proofs.Words.{require, value_of, Cell, Number, expr_code, expr_depth, row_length}
 use Rattle.pcode_assembler.specs.declared.instr.Instr.TheVariants as instr
 use Rattle.typed_tree.specs.declared.tree.Assignment.{Assignment}
 use Rattle.typed_tree.specs.declared.tree.Copying.{Copying}
-use Rattle.typed_tree.specs.Accesses.{index_count}
-use Rattle.typed_tree.specs.WellFormed.{fits_target, is_well_formed_test, is_well_formed_whole, is_whole, leads_to_ordinal, leads_to_whole, length_of, may_copy}
-use Rattle.typed_tree.specs.WellFormed.{source_of, whole_indexes}
+use Rattle.types.specs.Types.{is_scalar}
+use Rattle.typed_tree.specs.declared.tree.Scalar.{Scalar}
+use Rattle.typed_tree.specs.Accesses.{index_count, is_type, origin_of}
+use Rattle.typed_tree.specs.Kinds.{are_ordinal_indexes, held_by, is_held, is_held_value}
+use Rattle.typed_tree.specs.Records.{accesses_begin, all_begin, begins as all_begins, is_there, value_begins}
+use Rattle.code_generator.proofs.Texts.{all_compare, compares_strings, value_compares}
+use Rattle.typed_tree.specs.WellFormed.{fits_target, is_well_formed_test, is_well_formed_whole, is_whole, leads_to_scalar, leads_to_whole, length_of, may_copy}
+use Rattle.typed_tree.specs.WellFormed.{source_of, tests_type, whole_indexes}
 use Rattle.meaning.specs.Store.{kept}
 use Rattle.meaning.specs.Effect as effect
 use Rattle.meaning.specs.Effect.{store_all}
 use Rattle.meaning.specs.Meaning.{accessed, selected, whole_of}
-use Rattle.code_scheme.specs.Code.{Reached, At, By, address_code, address_of, range_check, reached, selectors_code, store_code, whole_code}
+use Rattle.code_scheme.specs.Code.{Reached, At, By, address_code, address_of, reached, selectors_code, store_code, value_check, whole_code}
 use Rattle.code_scheme.specs.Depth.{access_depth, store_depth, whole_depth}
 use Rattle.code_scheme.proofs.Depths.{address_takes_one}
-use Rattle.code_generator.proofs.Accesses.{Indexes, Addresses, Begins, IsReached, expressions, wells, codes, depths, are_well_formed_indexes, PartAt}
+use Rattle.code_generator.proofs.Accesses.{AreOrdinals, Indexes, Addresses, Begins, IsReached, expressions, codes, depths, PartAt}
 use Rattle.code_generator.proofs.Accesses.{address_is, address_runs, begins, exact_found, frame_found, found as place_found, leads, pushed_runs, scalar_there}
+use Rattle.code_generator.proofs.Accesses.{kind_there, part_there, scalar_lies_there}
 use Rattle.code_generator.proofs.Accesses.{address_then}
 use Rattle.code_generator.proofs.Acts.{stores}
 use Rattle.code_generator.proofs.Addressing.{stores_indirect}
 use Rattle.code_generator.proofs.Alike.{Leads, LiesIn, cell_within}
 use Rattle.code_generator.proofs.Passing.{CallsAt}
-use Rattle.code_generator.proofs.Evaluating.{sites, ExecutesAs, frames_of, one_held, range_then}
-use Rattle.code_generator.proofs.Exprs.{expr_runs, expr_then}
+use Rattle.code_generator.proofs.Evaluating.{Gives, shape_of, sites, ExecutesAs, frames_of, one_held, value_tested}
+use Rattle.code_generator.proofs.Scalars.{AllFit, HasFit, HasKind, fit_length, is_kind, scalar_at, scalar_of, scalar_tested, scalars_of, value_cell}
+use Rattle.code_generator.proofs.Exprs.{expr_runs}
 use Rattle.code_generator.proofs.Held.{scalar_kept}
-use Rattle.code_generator.proofs.Numbers.{Fits}
-use Rattle.code_generator.proofs.Parts.{ordinal_part}
 use Rattle.code_generator.proofs.Reach.{Comes, Stands}
 use Rattle.code_generator.proofs.Rows.{cells_of as value_cells, length-cells_of}
 use Rattle.code_generator.proofs.Setting.{Setting, outline, around, exact_around, on, Based, linked, Here, acts, entered}
-use Rattle.code_generator.proofs.Wholes.{IsRow, set_row, set_row_front, stores_many, stored_all, store_all_is, row_kept, whole_runs, copied_cells}
-use Rattle.code_generator.proofs.Wholes.{few_components, is_whole_type, wanted_type, AllFit}
-use Rattle.code_generator.proofs.Running.{beside, Aim, Arrives, Executes, Runs, done, kept_on}
+use Rattle.code_generator.proofs.Wholes.{IsInOrder, copied_fit, part_kinds, row_kinds, row_long, set_row, set_row_front, stores_many, stored_all, store_all_is}
+use Rattle.code_generator.proofs.Wholes.{row_kept, whole_runs, copied_cells}
+use Rattle.code_generator.proofs.Wholes.{few_components, is_whole_type, wanted_type}
+use Rattle.code_generator.proofs.Running.{beside, scalar_then, Aim, Arrives, Executes, Runs, done, kept_on}
 use Rattle.code_generator.proofs.Lists.{set_front, length_one}
 
 module _ (g : Setting) (known : CallsAt g) where
@@ -46,10 +52,9 @@ module _ (g : Setting) (known : CallsAt g) where
   told_back [] = refl
   told_back (e ∷ es) = ap (λ rest. e ∷ rest) (told_back es)
 
-  module _ (assignment : Assignment) (good : is_well_formed_expr (outline g) g.number assignment.value ≡ true)
-      (site_within : assignment.fits.site < sites g) where
+  module _ (assignment : Assignment) (good : Gives assignment.fits.tests (shape_of g assignment.value)) (site_within : assignment.fits.site < sites g) where
     abbrev value_code : List Instr
-    value_code = expr_code g.scope assignment.value ++ (range_check assignment.fits ∷ [])
+    value_code = expr_code g.scope assignment.value ++ (value_check assignment.fits ∷ [])
 
     -- what is done with a value that was tested
     abbrev tested : (Value → Action (Unit {0})) → Value → Action (Unit {0})
@@ -58,71 +63,83 @@ module _ (g : Setting) (known : CallsAt g) where
     -- a value, its test, and the code behind them
     value_stored : (aim : ℕ → Aim (Unit {0})) (c : List Instr) (place : ℕ) (base held : List Cell) (s : effect.State) (next : Value → Action (Unit {0}))
         → Stands g.target place (value_code ++ c) → Based g s base → g.below + length held + expr_depth assignment.value ≤ g.limit
-        → ((base2 : List Cell) (w : Value) (t : effect.State) → Stands g.target (place + length value_code) c → Based g t base2 → Fits (number_of w)
-        → Runs g (aim (place + length value_code + length c)) (on g ((base2 ++ held) ++ Number (number_of w) ∷ []) (place + length value_code) t)
+        → ((base2 : List Cell) (w : Value) (t : effect.State) → Stands g.target (place + length value_code) c → Based g t base2
+        → HasKind assignment.fits.tests w
+        → Runs g (aim (place + length value_code + length c)) (on g ((base2 ++ held) ++ value_cell w ∷ []) (place + length value_code) t)
         (next w) t)
         → Runs g (aim (place + length (value_code ++ c))) (on g (base ++ held) place s) (value_of assignment.value (around g) >>= (tested next)) s
     value_stored aim c place base held s next stands based deep stored =
         let value = expr_code g.scope assignment.value in
-        let check = range_check assignment.fits ∷ [] in
+        let check = value_check assignment.fits ∷ [] in
         let split = append_assoc value check c in
         let e : place + length value_code ≡ place + length value + 1 = omega (arith, length-append value check) in
+        let kind = assignment.fits.tests in
         subst (λ code. Runs g (aim (place + length code)) (on g (base ++ held) place s) (value_of assignment.value (around g) >>= (tested next)) s)
         (sym split)
-        (expr_then g known aim assignment.value (range_check assignment.fits ∷ c) place base held (tested next) s
-        (subst (Stands g.target place) split stands) good based deep
-        (λ base2 w t rest based2 fit room le.
+        (scalar_then g kind aim value (check ++ c) place _ held (value_of assignment.value (around g)) (tested next) s
+        ((exact_around g).values assignment.value) (subst (Stands g.target place) split stands)
+        (λ front. expr_runs g known assignment.value kind place base held s front good based deep)
+        (λ base2 w t rest based2 has room le.
         let from = place + length value in
-        let n = number_of w in
-        let e' : from + 1 + length c ≡ from + length (range_check assignment.fits ∷ c) = omega arith in
-        subst (λ end. Runs g (aim end) (on g ((base2 ++ held) ++ Number n ∷ []) from t) (tested next w) t) e'
-        (range_then g (aim (from + 1 + length c)) assignment.fits w (base2 ++ held) from t (next w) rest.0 site_within (linked g t base2 held based2) fit
+        let e' : from + 1 + length c ≡ from + length (check ++ c) = omega arith in
+        subst (λ end. Runs g (aim end) (on g ((base2 ++ held) ++ value_cell w ∷ []) from t) (tested next w) t) e'
+        (value_tested g (aim (from + 1 + length c)) kind assignment.fits w (base2 ++ held) from t (next w) rest.0 site_within
+        (linked g t base2 held based2) has
         (λ _.
-        subst (λ p. Runs g (aim (p + length c)) (on g ((base2 ++ held) ++ Number n ∷ []) p t) (next w) t) e
-        (stored base2 w t (subst (λ p. Stands g.target p c) (sym e) rest.1) based2 fit)))))
+        subst (λ p. Runs g (aim (p + length c)) (on g ((base2 ++ held) ++ value_cell w ∷ []) p t) (next w) t) e
+        (stored base2 w t (subst (λ p. Stands g.target p c) (sym e) rest.1) based2 has)))))
 
-    -- a number on top is stored into a scalar in a frame
-    stores_there : (level start owner : ℕ) (p : Place) (place : ℕ) (base held : List Cell) (n : ℤ) (s : effect.State) → Leads g.fixed level g.frame owner
-        → LiesIn g.world p (owner + start) → Here g place (instr.Store level start) → Based g s base
-        → Comes g.target 1 (on g ((base ++ held) ++ Number n ∷ []) place s)
-        (on g (slice_set base (owner + start) (Number n) ++ held) (place + 1) s)
-    stores_there level start owner p place base held n s l lies here based =
+    -- a cell on top is stored into a scalar in a frame
+    stores_there : (level start owner : ℕ) (p : Place) (place : ℕ) (base held : List Cell) (cell : Cell) (s : effect.State)
+        → Leads g.fixed level g.frame owner → LiesIn g.world p (owner + start) → Here g place (instr.Store level start) → Based g s base
+        → Comes g.target 1 (on g ((base ++ held) ++ cell ∷ []) place s)
+        (on g (slice_set base (owner + start) cell ++ held) (place + 1) s)
+    stores_there level start owner p place base held cell s l lies here based =
         let below = base ++ held in
-        let low = cell_within g.world s.store base p (owner + start) based.alike lies in
+        let low = cell_within (outline g) g.world s.store base p (owner + start) based.alike lies in
         let at = length-append base held in
-        let does = stores g.frame g.limit g.size below (linked g s base held based) (Number n) level start owner
+        let does = stores g.frame g.limit g.size below (linked g s base held based) cell level start owner
         (frame_found g level owner base held s based l) (omega arith)
-        ∙ ap (λ cs. Ok (frames_of g cs)) (set_front base held (owner + start) (Number n) low) in
-        acts g (instr.Store level start) (below ++ Number n ∷ []) (slice_set base (owner + start) (Number n) ++ held) place s
+        ∙ ap (λ cs. Ok (frames_of g cs)) (set_front base held (owner + start) cell low) in
+        acts g (instr.Store level start) (below ++ cell ∷ []) (slice_set base (owner + start) cell ++ held) place s
         _ here refl does
 
     module _ (indexes : Indexes g) (last : TypeId) (start : Begins g assignment.target last (codes g indexes))
-        (wells_good : are_well_formed_indexes g indexes ≡ true)
+        (wells_good : AreOrdinals g (expressions g indexes))
         (counts : length (expressions g indexes) ≡ index_count assignment.target.selectors.items)
-        (ordinal : is_ordinal g.tree.types last ≡ true) where
+        (scalar : scalar_of g.tree.types last ≡ Some assignment.fits.tests) where
+      abbrev kind : Scalar
+      kind = assignment.fits.tests
+
+      -- what was tested fits what is accessed
+      stored_fit : (p : Place) (d : ℕ) (w : Value) → PartAt g p last d → HasKind kind w → HasFit (scalar_at (outline g) p) (Some w)
+      stored_fit p d w part has =
+          subst (λ k. HasFit k (Some w)) (sym (kind_there g assignment.target indexes last start wells_good counts kind scalar p d part)) has
+
       abbrev target_found : Action (Option Place)
       target_found = place_found g assignment.target indexes last start wells_good counts
 
       abbrev next : Option Place → Action (Unit {0})
       next q = value_of assignment.value (around g) >>= tested (effect.store q)
 
-      -- the code that stores into an ordinal that is accessed
+      -- the code that stores into an ordinal or a set that is accessed
       store_by : (way : Reached) → IsReached g way start.cell start.first start.rest (codes g indexes)
           → (address_of way ≡ start.first ∷ selectors_code start.rest (codes g indexes)) → (place : ℕ) (base held : List Cell)
           (s : effect.State) → Stands g.target place (store_code value_code way) → Based g s base
           → g.below + length held + store_depth assignment.target.selectors.items (depths g indexes) (expr_depth assignment.value) ≤ g.limit
           → Executes g (on g (base ++ held) place s) held (place + length (store_code value_code way)) (target_found >>= next) s
       store_by (At level first) r address place base held s stands based deep =
-          let lies = subst (LiesIn g.world start.there) r.2 (scalar_there g assignment.target indexes last start wells_good counts ordinal r.3) in
+          let lies = subst (LiesIn g.world start.there) r.2 (scalar_there g assignment.target indexes last start wells_good counts kind scalar r.3) in
+          let part = part_there g assignment.target indexes last start wells_good counts kind scalar r.3 in
           let store = instr.Store level first ∷ [] in
           subst (λ rest. Executes g (on g (base ++ held) place s) held (place + length (value_code ++ store))
           (selected rest (map value_of (expressions g indexes)) (around g) (Some start.there) >>= next) s) (sym r.3)
           (value_stored (kept_on g held) store place base held s (effect.store (Some start.there)) stands based (omega arith)
-          (λ base2 w t here based2 fit.
-          let n = number_of w in
-          inr (done g 1 _ (slice_set base2 (r.0 + first) (Number n)) held (place + length value_code + 1)
-          (record t { store = kept t.store (Some start.there) w }) (scalar_kept g start.there (r.0 + first) t base2 w lies based2 fit)
-          (stores_there level first r.0 start.there (place + length value_code) base2 held n t r.1 lies here.0 based2))))
+          (λ base2 w t here based2 has.
+          inr (done g 1 _ (slice_set base2 (r.0 + first) (value_cell w)) held (place + length value_code + 1)
+          (record t { store = kept t.store (Some start.there) w })
+          (scalar_kept g start.there (r.0 + first) t base2 w lies based2 (stored_fit start.there start.cell w part has))
+          (stores_there level first r.0 start.there (place + length value_code) base2 held (value_cell w) t r.1 lies here.0 based2))))
       store_by (By c) r address place base held s stands based deep =
           let store = instr.StoreIndirect ∷ [] in
           let from = place + length c in
@@ -132,26 +149,27 @@ module _ (g : Setting) (known : CallsAt g) where
           (pushed_runs g assignment.target indexes last start wells_good counts place base held s (subst (Stands g.target place) address front) based
           (omega arith)))
           (λ base1 d p s1 rest based1 part1 room1.
-          let lies = ordinal_part g.tree.types g.world g.below g.known p last d ordinal part1 in
+          let lies = scalar_lies_there g assignment.target indexes last start wells_good counts kind scalar p d part1 in
           let above = held ++ Number (pos d) ∷ [] in
           let high = length_one held (Number (pos d)) in
           let end = from + length value_code + 1 in
-          subst (λ cells. Executes g (on g cells from s1) held (from + length (value_code ++ store)) (next (Some p)) s1) (one_held g base1 held (pos d))
+          subst (λ cells. Executes g (on g cells from s1) held (from + length (value_code ++ store)) (next (Some p)) s1)
+          (one_held g base1 held (Number (pos d)))
           (value_stored (kept_on g held) store from base1 above s1 (effect.store (Some p)) rest based1 (omega arith)
-          (λ base2 w t here based2 fit.
-          let n = number_of w in
+          (λ base2 w t here based2 has.
           let cells = base2 ++ held in
-          let inside = cell_within g.world t.store base2 p d based2.alike lies in
+          let cell = value_cell w in
+          let inside = cell_within (outline g) g.world t.store base2 p d based2.alike lies in
           let long = length-append base2 held in
-          let stored = acts g instr.StoreIndirect ((cells ++ Number (pos d) ∷ []) ++ Number n ∷ []) (slice_set base2 d (Number n) ++ held)
+          let stored = acts g instr.StoreIndirect ((cells ++ Number (pos d) ∷ []) ++ cell ∷ []) (slice_set base2 d cell ++ held)
           (from + length value_code)
           t _ here.0 refl
-          (stores_indirect g.frame g.limit g.size cells (linked g t base2 held based2) d n (omega arith)
-          ∙ ap (λ cs. Ok (frames_of g cs)) (set_front base2 held d (Number n) inside)) in
-          subst (λ cs. Executes g (on g (cs ++ Number n ∷ []) (from + length value_code) t) held end (effect.store (Some p) w) t)
-          (sym (one_held g base2 held (pos d)))
-          (inr (done g 1 _ (slice_set base2 d (Number n)) held end (record t { store = kept t.store (Some p) w })
-          (scalar_kept g p d t base2 w lies based2 fit) stored)))))
+          (stores_indirect g.frame g.limit g.size cells (linked g t base2 held based2) d cell (omega arith)
+          ∙ ap (λ cs. Ok (frames_of g cs)) (set_front base2 held d cell inside)) in
+          subst (λ cs. Executes g (on g (cs ++ cell ∷ []) (from + length value_code) t) held end (effect.store (Some p) w) t)
+          (sym (one_held g base2 held (Number (pos d))))
+          (inr (done g 1 _ (slice_set base2 d cell) held end (record t { store = kept t.store (Some p) w })
+          (scalar_kept g p d t base2 w lies based2 (stored_fit p d w part1 has)) stored)))))
 
       store_runs : (place : ℕ) (base held : List Cell) (s : effect.State)
           → Stands g.target place (store_code value_code (reached g.scope assignment.target (codes g indexes))) → Based g s base
@@ -165,17 +183,22 @@ module _ (g : Setting) (known : CallsAt g) where
           (ap address_of (sym start.way_is) ∙ address_is g assignment.target indexes last start wells_good counts) place base held s
           (subst (λ way. Stands g.target place (store_code value_code way)) start.way_is stands) based deep)
 
-  -- an assignment to an ordinal
+  -- an assignment to an ordinal or a set
   module _ (assignment : Assignment) where
     abbrev AssignRuns : List Expr → Type 0
     AssignRuns es =
-        ExecutesAs g (λ scope place. store_code (expr_code scope assignment.value ++ (range_check assignment.fits ∷ []))
+        ExecutesAs g (λ scope place. store_code (expr_code scope assignment.value ++ (value_check assignment.fits ∷ []))
         (reached scope assignment.target (map (expr_code scope) es)))
         (store_depth assignment.target.selectors.items (map expr_depth es) (expr_depth assignment.value))
-        (all_hold (map (is_well_formed_expr (outline g) g.number) es)
-        && (leads_to_ordinal (outline g) g.number assignment.target.root assignment.target.selectors.items (length es)
-        && (is_well_formed_expr (outline g) g.number assignment.value
-        && fits_target (outline g) g.number assignment.fits assignment.target.root assignment.target.selectors.items)))
+        (record {
+          well = all_hold (map (is_well_formed_expr (outline g) g.number) es)
+              && (leads_to_scalar (outline g) g.number (origin_of assignment.target) assignment.target.selectors.items (length es)
+              && (is_well_formed_expr (outline g) g.number assignment.value
+              && fits_target (outline g) g.number assignment.fits (origin_of assignment.target) assignment.target.selectors.items));
+          held = are_ordinal_indexes es && is_held assignment.fits.tests (held_by assignment.value);
+          there = accesses_begin assignment.target es g.opened && all_begins assignment.value g.opened;
+          strings = all_compare g.tree.types es && compares_strings g.tree.types assignment.value;
+        })
         (λ env. effect.enter assignment.number env.visible >>= λ _. accessed assignment.target (map value_of es) env >>= λ q.
         value_of assignment.value env >>= λ w. require (effect.is_in assignment.fits.range w) assignment.fits.site >>= λ _. effect.store q w)
 
@@ -183,26 +206,41 @@ module _ (g : Setting) (known : CallsAt g) where
     assigned indexes place base held s stands good based high deep =
         let target = assignment.target in
         let fits = assignment.fits in
-        let count = length (expressions g indexes) in
-        let leads_there = leads_to_ordinal (outline g) g.number target.root target.selectors.items count in
+        let es = expressions g indexes in
+        let count = length es in
+        let leads_there = leads_to_scalar (outline g) g.number (origin_of target) target.selectors.items count in
         let well_valued = is_well_formed_expr (outline g) g.number assignment.value in
-        let fitting = fits_target (outline g) g.number fits target.root target.selectors.items in
-        let one = and_parts (are_well_formed_indexes g indexes) (leads_there && (well_valued && fitting)) good in
+        let fitting = fits_target (outline g) g.number fits (origin_of target) target.selectors.items in
+        let one = and_parts (all_hold (map (is_well_formed_expr (outline g) g.number) es)) (leads_there && (well_valued && fitting)) good.0 in
         let two = and_parts leads_there (well_valued && fitting) one.1 in
         let three = and_parts well_valued fitting two.1 in
         let four = and_parts (is_well_formed_test (outline g) g.number fits) _ three.1 in
+        let helds = and_parts (are_ordinal_indexes es) (is_held fits.tests (held_by assignment.value)) good.1 in
+        let begun = and_parts (accesses_begin target es g.opened) (all_begins assignment.value g.opened) good.2 in
+        let begun_there = and_parts (all_begin (map all_begins es) g.opened) (is_there g.opened (origin_of target)) begun.0 in
+        let strings = and_parts (all_compare g.tree.types es) (compares_strings g.tree.types assignment.value) good.3 in
+        let ordinals : AreOrdinals g es = (one.0, helds.0, begun_there.0, strings.0) in
+        let value_good : Gives fits.tests (shape_of g assignment.value) = (
+          three.0,
+          is_kind fits.tests (held_by assignment.value) helds.1,
+          begun.1,
+          strings.1,
+        ) in
         let site_within = ltb-true fits.site (sites g) (and_parts (nat_lt fits.site (sites g)) (is_whole fits.range.first
         && is_whole fits.range.last) four.0).0 in
-        let led_to = leads g (is_ordinal g.tree.types) target.root target.selectors.items count two.0 in
-        let start = begins g target (is_ordinal g.tree.types) count (codes g indexes) led_to in
+        let wanted = is_scalar g.tree.types in
+        let led_to = leads g wanted (origin_of target) target.selectors.items count two.0 in
+        let tested_type = ap (is_type (tests_type g.tree.types fits)) (sym led_to.last_is) ∙ four.1 in
+        let kind_is = scalar_tested g.tree.types led_to.last fits.tests fits.range tested_type in
+        let start = begins g target wanted count (codes g indexes) led_to begun_there.1 in
         let s2 = entered g target.number (entered g assignment.number s) in
-        let c = store_code (expr_code g.scope assignment.value ++ (range_check fits ∷ [])) (reached g.scope target (codes g indexes)) in
+        let c = store_code (expr_code g.scope assignment.value ++ (value_check fits ∷ [])) (reached g.scope target (codes g indexes)) in
         let next : Option Place → Action (Unit {0}) = λ q. value_of assignment.value (around g) >>= λ w. require
         (effect.is_in fits.range w) fits.site >>= λ _. effect.store q w
         in
         subst (λ action. Executes g (on g (base ++ held) place s) held (place + length c) (action >>= next) (entered g assignment.number s))
-        (sym (start.meant (map value_of (expressions g indexes))))
-        (store_runs assignment three.0 site_within indexes led_to.last start one.0 led_to.counts led_to.is_wanted place base held s2 stands based deep)
+        (sym (start.meant (map value_of es)))
+        (store_runs assignment value_good site_within indexes led_to.last start ordinals led_to.counts kind_is place base held s2 stands based deep)
 
     pub assign_runs : AssignRuns assignment.indexes.items
     assign_runs = subst AssignRuns (told_back assignment.indexes.items) (assigned (told assignment.indexes.items))
@@ -211,7 +249,8 @@ module _ (g : Setting) (known : CallsAt g) where
 
   -- a row gives way to the components that got it
   row_stored : (p : Place) (type_id : TypeId) (d count place : ℕ) (base held : List Cell) (vs : List Value) (s : effect.State) → PartAt g p type_id d
-      → cells_of g.tree.types type_id ≡ count → length vs ≡ count → AllFit vs → Stands g.target place (instr.StoreMany count ∷ []) → Based g s base
+      → cells_of g.tree.types type_id ≡ count → length vs ≡ count → AllFit (scalars_of g.tree.types type_id) vs
+      → Stands g.target place (instr.StoreMany count ∷ []) → Based g s base
       → Executes g (on g (((base ++ held) ++ Number (pos d) ∷ []) ++ value_cells vs) place s) held (place + 1)
       (store_all (Some p) (components_of g.tree.types type_id) vs) s
   row_stored p type_id d count place base held vs s part cells long fit stands based =
@@ -223,7 +262,8 @@ module _ (g : Setting) (known : CallsAt g) where
       let inside = part.within in
       let full = based.full in
       let many = g.known.cells g.tree.types type_id in
-      let kept_base = row_kept g p components d vs s base part.from.each (omega arith) fit based in
+      let kept_base = row_kept g p components d vs s base part.from.each (subst (λ kinds. AllFit kinds vs) (sym (part_kinds g p type_id part.typed)) fit)
+      based in
       let stored = acts g (instr.StoreMany count) ((below ++ Number (pos d) ∷ []) ++ row) (set_row base d row ++ held) place s _ stands.0 refl
       (stores_many g.frame g.limit g.size below (linked g s base held based) row count d (omega arith) (omega arith)
       ∙ ap (λ cs. Ok (frames_of g cs)) (set_row_front base held d row (omega arith))) in
@@ -238,11 +278,16 @@ module _ (g : Setting) (known : CallsAt g) where
         ExecutesAs g (λ scope place. address_code scope copying.target (map (expr_code scope) es)
         ++ (whole_code scope copying.value (map (expr_code scope) vs) ++ (instr.StoreMany (row_length (length_of copying.value)) ∷ [])))
         (max (access_depth copying.target.selectors.items (map expr_depth es)) (whole_depth copying.value (map expr_depth vs) + 1))
-        (all_hold (map (is_well_formed_expr (outline g) g.number) es)
-        && (leads_to_whole (outline g) g.number copying.type_id copying.target.root copying.target.selectors.items (length es)
-        && ((all_hold (whole_indexes copying.value (map (is_well_formed_expr (outline g) g.number) vs))
-        && is_well_formed_whole (outline g) g.number copying.value (length vs))
-        && may_copy (outline g) g.number copying.type_id (source_of copying.value) (length_of copying.value))))
+        (record {
+          well = all_hold (map (is_well_formed_expr (outline g) g.number) es)
+              && (leads_to_whole (outline g) g.number copying.type_id (origin_of copying.target) copying.target.selectors.items (length es)
+              && ((all_hold (whole_indexes copying.value (map (is_well_formed_expr (outline g) g.number) vs))
+              && is_well_formed_whole (outline g) g.number copying.value (length vs))
+              && may_copy (outline g) g.number copying.type_id (source_of copying.value) (length_of copying.value)));
+          held = are_ordinal_indexes es && is_held_value copying.value vs;
+          there = accesses_begin copying.target es g.opened && value_begins copying.value vs g.opened;
+          strings = all_compare g.tree.types es && value_compares g.tree.types copying.value vs;
+        })
         (λ env. effect.enter copying.number env.visible >>= λ _. accessed copying.target (map value_of es) env >>= λ q.
         whole_of copying.value (map value_of vs) env >>= λ values. store_all q (components_of env.visible.types copying.type_id) values)
 
@@ -251,29 +296,38 @@ module _ (g : Setting) (known : CallsAt g) where
         let target = copying.target in
         let type_id = copying.type_id in
         let v = copying.value in
-        let count = length (expressions g indexes) in
+        let es = expressions g indexes in
+        let vs = expressions g value_indexes in
+        let count = length es in
         let n = length_of v in
-        let leads_there = leads_to_whole (outline g) g.number type_id target.root target.selectors.items count in
-        let well_indexed = all_hold (whole_indexes v (wells g value_indexes)) in
+        let leads_there = leads_to_whole (outline g) g.number type_id (origin_of target) target.selectors.items count in
+        let well_indexed = all_hold (whole_indexes v (map (is_well_formed_expr (outline g) g.number) vs)) in
         let well_made = is_well_formed_whole (outline g) g.number v (length (expressions g value_indexes)) in
         let may = may_copy (outline g) g.number type_id (source_of v) n in
-        let one = and_parts (are_well_formed_indexes g indexes) (leads_there && ((well_indexed && well_made) && may)) good in
+        let one = and_parts (all_hold (map (is_well_formed_expr (outline g) g.number) es)) (leads_there && ((well_indexed && well_made) && may)) good.0 in
         let two = and_parts leads_there ((well_indexed && well_made) && may) one.1 in
         let three = and_parts (well_indexed && well_made) may two.1 in
         let four = and_parts well_indexed well_made three.0 in
+        let helds = and_parts (are_ordinal_indexes es) (is_held_value v vs) good.1 in
+        let begun = and_parts (accesses_begin target es g.opened) (value_begins v vs g.opened) good.2 in
+        let begun_there = and_parts (all_begin (map all_begins es) g.opened) (is_there g.opened (origin_of target)) begun.0 in
+        let strings = and_parts (all_compare g.tree.types es) (value_compares g.tree.types v vs) good.3 in
+        let ordinals : AreOrdinals g es = (one.0, helds.0, begun_there.0, strings.0) in
+        let order : IsInOrder g v vs = (four.0, four.1, helds.1, begun.1, strings.1) in
+        let long = row_long g v (length vs) four.1 in
         let cells = copied_cells g type_id (source_of v) n three.1 in
         let same : n ≡ row_length n = few_components g v (length (expressions g value_indexes)) four.1 in
         let more = address_takes_one target.selectors.items (depths g indexes) in
-        let led_to = leads g (is_whole_type g type_id) target.root target.selectors.items count two.0 in
+        let led_to = leads g (is_whole_type g type_id) (origin_of target) target.selectors.items count two.0 in
         let its = wanted_type g led_to.last type_id led_to.is_wanted in
-        let start = begins g target (is_whole_type g type_id) count (codes g indexes) led_to in
+        let start = begins g target (is_whole_type g type_id) count (codes g indexes) led_to begun_there.1 in
         let c = address_code g.scope target (codes g indexes) in
         let d = whole_code g.scope v (codes g value_indexes) in
         let store = instr.StoreMany (row_length n) ∷ [] in
         let from = place + length c in
         let there = from + length d in
         let s2 = entered g target.number (entered g copying.number s) in
-        let from_there = place_found g target indexes led_to.last start one.0 led_to.counts in
+        let from_there = place_found g target indexes led_to.last start ordinals led_to.counts in
         let next : List Form → Option Place → Action (Unit {0}) = λ types q.
         whole_of v (map value_of (expressions g value_indexes)) (around g) >>= λ values. store_all q (components_of types type_id) values in
         subst (λ action. Executes g (on g (base ++ held) place s) held (place + length (c ++ (d ++ store))) (action >>= next g.environment.types)
@@ -281,17 +335,18 @@ module _ (g : Setting) (known : CallsAt g) where
         (subst (λ types. Executes g (on g (base ++ held) place s) held (place + length (c ++ (d ++ store))) (from_there >>= next types) s2)
         (sym g.types_are)
         (address_then g (kept_on g held) c (d ++ store) place _ held led_to.last from_there (next g.tree.types) s2
-        (exact_found g target indexes led_to.last start one.0 led_to.counts) stands
-        (λ front. address_runs g target indexes led_to.last start one.0 led_to.counts place base held s2 front based (omega arith))
+        (exact_found g target indexes led_to.last start ordinals led_to.counts) stands
+        (λ front. address_runs g target indexes led_to.last start ordinals led_to.counts place base held s2 front based (omega arith))
         (λ base1 a p s1 rest based1 part1 room1.
         let taller = length_one held (Number (pos a)) in
         let part = subst (λ t. PartAt g p t a) its part1 in
-        beside g (IsRow g n) value_cells (kept_on g held) d store from base1 held (Number (pos a) ∷ []) (whole_of v (map value_of
+        beside g (AllFit (row_kinds g v)) value_cells (kept_on g held) d store from base1 held (Number (pos a) ∷ []) (whole_of v (map value_of
         (expressions g value_indexes)) (around g)) (λ values. store_all (Some p) (components_of g.tree.types type_id) values) s1
         ((exact_around g).wholes v (expressions g value_indexes)) rest
-        (λ front. whole_runs g v value_indexes from base1 (held ++ Number (pos a) ∷ []) s1 front four.0 four.1 based1 (omega arith))
+        (λ front. whole_runs g v value_indexes from base1 (held ++ Number (pos a) ∷ []) s1 front order based1 (omega arith))
         (λ base2 values t storing based2 so.
-        row_stored p type_id a n there base2 held values t part cells so.0 so.1
+        row_stored p type_id a n there base2 held values t part cells (fit_length (row_kinds g v) values so ∙ long)
+        (copied_fit g type_id v (length vs) values four.1 three.1 so)
         (subst (λ k. Stands g.target there (instr.StoreMany k ∷ [])) (sym same) storing) based2))))
 
     pub copy_runs : CopyRuns copying.indexes.items copying.value_indexes.items

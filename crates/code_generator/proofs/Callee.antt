@@ -1,12 +1,14 @@
 -- A routine that was called: its activation is the latest, its frame begins behind what its caller holds, and all that stands
 -- below it but the scalars is fixed while it runs.
 use Rattle.code_generator.proofs.Words.{◌≡◌, ℕ, suc, ◌+◌, ◌-◌, ◌<◌, ◌≤◌, ◌⊎◌, inl, inr, ⊎_elim, List, [], ◌∷◌, ◌++◌, length, map, take, Option, Some, None}
+use Rattle.code_generator.proofs.Words.{none-some, option_and_then}
 use Rattle.code_generator.proofs.Words.{refl, sym, ap, ◌∙◌, subst, arith, Bool, true, false, length-append, append_assoc, replicate, eq-eqb, if◌then◌else◌}
 use Rattle.code_generator.proofs.Words.{nat_eq, nat_lt, slice_get, pos, ◌&&◌, ◌||◌, eqb-true, false≢true, ltb-true, length-map, sum_by-cons, slice_get_within}
 use Rattle.code_generator.proofs.Words.{components_of, cells_of, Block, Variable, VariableKind, heading_of, is_parameter_kind, is_variable_kind, roots_where}
 use Rattle.code_generator.proofs.Words.{Place, Argument, OfValue, OfRow, OfPlace, Cell, Undefined, Number, Home, routines_of, block_depth, living_need, Scope}
 use Rattle.code_generator.proofs.Words.{block_scope, called_routine, cells_where, is_parameter_of, links_to, other_cells, parameter_cells, slot_cells}
 use Rattle.code_generator.proofs.Words.{variable_home}
+use Rattle.std.specs.Option.{option_map}
 use Rattle.std.proofs.lemmas.Bool.{false_from_ne_true}
 use Rattle.typed_tree.specs.declared.tree.VariableKind.TheVariants as kinds
 use Rattle.typed_tree.specs.WellFormed.{encloses, is_one_of, is_round, is_visible, of_one, outline_of}
@@ -357,7 +359,7 @@ module _ (g : Setting) (number : ℕ) (block : Block) (block_is : slice_get g.tr
         (eq-eqb v.block number own)
 
     -- one that is no variable parameter lies in the frame
-    pub own_part : is_variable_kind v.kind ≡ false → IsPart g.tree.types new_world new_below (own_place activation root) v.type_id
+    pub own_part : is_variable_kind v.kind ≡ false → IsPart (outline_of g.tree) new_world new_below (own_place activation root) v.type_id
         (new_frame + (variable_home new_scope root).start)
     own_part plain =
         let slot = slot_of g.tree g.known v plain in
@@ -385,6 +387,7 @@ module _ (g : Setting) (number : ℕ) (block : Block) (block_is : slice_get g.tr
           };
           within = omega (arith, slot, many, ends, front, rest, start);
           few = few_of v at own plain;
+          typed = ap (λ o. option_and_then (λ id. Some id) (option_map (λ (w : Variable). w.type_id) o)) at;
         }
       where
         few_of : (v : Variable) → slice_get variables root ≡ Some v → v.block ≡ number → is_variable_kind v.kind ≡ false
@@ -419,7 +422,7 @@ module _ (g : Setting) (number : ℕ) (block : Block) (block_is : slice_get g.tr
     -- what a variable parameter stands for
     reference : (argument : Argument) (first : List Cell) → is_variable_kind v.kind ≡ true → Fitted g v argument first
         → (p : Place) × (address : ℕ) × (place_passed argument ≡ Some p) × (first ≡ Number (pos address) ∷ [])
-        × IsPart g.tree.types g.world g.below p v.type_id address
+        × IsPart (outline_of g.tree) g.world g.below p v.type_id address
     reference (OfValue w) first refers f = absurd (false≢true (sym (no_reference v.kind f.0) ∙ refers))
     reference (OfRow vs) first refers f = absurd (false≢true (sym (no_reference v.kind f.0) ∙ refers))
     reference (OfPlace None) first refers f = absurd f
@@ -463,7 +466,7 @@ module _ (g : Setting) (number : ℕ) (block : Block) (block_is : slice_get g.tr
           reaches = (
             its_refers ∙ refers,
             fixed,
-            part_above g.tree.types new_activation g.world g.below new_below r.0 v.type_id r.1 (omega arith) r.4,
+            part_above (outline_of g.tree) new_activation g.world g.below new_below r.0 v.type_id r.1 (omega arith) r.4,
           );
         }
 
@@ -528,13 +531,13 @@ module _ (g : Setting) (number : ℕ) (block : Block) (block_is : slice_get g.tr
         → Reaches g.tree new_world new_fixed new_below x.place v (x.owner + (variable_home g.scope root).start) (variable_home g.scope root).refers way
     reaches_outside Direct r = (
       r.0,
-      part_above g.tree.types new_activation g.world g.below new_below x.place v.type_id (x.owner + (variable_home g.scope root).start) (omega arith)
+      part_above (outline_of g.tree) new_activation g.world g.below new_below x.place v.type_id (x.owner + (variable_home g.scope root).start) (omega arith)
           r.1,
     )
     reaches_outside (ByAddress address) r = (
       r.0,
       outer_fixed (x.owner + (variable_home g.scope root).start) (Some (Number (pos address))) r.1,
-      part_above g.tree.types new_activation g.world g.below new_below x.place v.type_id address (omega arith) r.2,
+      part_above (outline_of g.tree) new_activation g.world g.below new_below x.place v.type_id address (omega arith) r.2,
     )
 
     shown_outside : NewShown root v
@@ -627,4 +630,9 @@ module _ (g : Setting) (number : ℕ) (block : Block) (block_is : slice_get g.tr
         bottom = g.bottom;
         chain = new_chain;
         blank = outer_fixed (g.bottom + 2) (Some Undefined) g.blank;
+        opened = [];
+        records = [];
+        as_many_homes = refl;
+        as_many_records = refl;
+        opens = λ slot one at. absurd (none-some one at);
       }

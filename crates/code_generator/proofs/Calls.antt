@@ -34,6 +34,7 @@ use Rattle.code_generator.proofs.Returning.{back_based, back_comes, back_place, 
 use Rattle.code_generator.proofs.Setting.{exact_around, Setting, Based, Ends, Starves, around, on, outline, running_at, starves_first}
 use Rattle.code_generator.proofs.Starting.{assigned, begun_state, h, started}
 use Rattle.code_generator.proofs.Stmts.{stmt_runs}
+use Rattle.code_generator.proofs.Withs.{block_good}
 use Rattle.code_generator.proofs.Running.{Arrives, Executes, gives_then, kept_on, runs_from, then_runs}
 
 module _ (g : Setting) (depth : ℕ) (known : CallsRun depth) (depth_is : g.depth ≡ suc depth) (is_function : Bool) (number : ℕ) (block : Block)
@@ -253,7 +254,7 @@ module _ (g : Setting) (depth : ℕ) (known : CallsRun depth) (depth_is : g.dept
         let body_stands = stands_front g.target inside (stmt_code block.body its.scope inside) (end_code its.scope number block.heading.result) code_stands.1 in
         let none = append-nil base2 in
         let whole = (small_block g.tree g.short number block block_is).whole in
-        let runs = stmt_runs block.body its known (omega arith) inside base2 [] t body_stands (well_block g.tree g.well number block block_is).body after
+        let runs = stmt_runs block.body its known (omega arith) inside base2 [] t body_stands (block_good g.tree g.well number block block_is) after
         (omega (arith, whole)) (omega arith) in
         let ran = subst (λ cs. Executes its (on its cs inside t) [] behind_body (effect_of block.body (around its)) t) none runs in
         then_runs its (kept_on its [] behind_body) (return_on its [] is_function back) (on its base2 inside t) (effect_of block.body (around its))

@@ -16,7 +16,7 @@ use Rattle.meaning.specs.Counting.{value_behind}
 use Rattle.meaning.specs.Store.{part}
 use Rattle.meaning.specs.Effect.{Stops, and_then, enter, is_in, store, use_turn}
 use Rattle.meaning.specs.Laws.{AllUseTurnsExactly, UsedTurns, state_after}
-use Rattle.meaning.specs.Meaning.{Evaluation, Surroundings, all_of, all_passed, combined, effect_of, link_step, parameter_of, passing_of, selected, for_round}
+use Rattle.meaning.specs.Meaning.{Evaluation, Surroundings, all_of, all_passed, effect_of, link_step, parameter_of, passing_of, selected, for_round}
 use Rattle.meaning.specs.Meaning.{is_so, repeat_round, turn_if, while_round}
 
 pub exact_give : {A : Type 0} (a : A) → UsesTurnsExactly (give a)
@@ -67,8 +67,7 @@ module _ (env : Surroundings) (exact : AllUseTurnsExactly env) where
   exact_link number operation operand v one =
       exact_then (enter number env.visible) _ (exact.entries number)
       (λ _. exact_then (operand env) _ one
-      (λ w. exact_then (combined operation (number_of v) (number_of w)) _ (exact.operators operation (number_of v) (number_of w))
-      (λ n. exact_give (Number n))))
+      (λ w. exact.operations operation v w))
 
   pub exact_passed : (actuals : List Passed) → UsesTurnsExactly (all_passed (map passing_of actuals) env)
   exact_passed [] = exact_give []

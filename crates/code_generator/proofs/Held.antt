@@ -3,7 +3,7 @@
 use Rattle.code_generator.proofs.Words.{◌≡◌, ℕ, ◌+◌, ◌<◌, ◌≤◌, List, [], ◌∷◌, ◌++◌, length, Option, Some, None, Ok, refl, sym, ap, ◌∙◌, subst, arith}
 use Rattle.code_generator.proofs.Words.{append-nil, append_assoc, length-append, Bool, true, false, and_parts, eqb-true, false≢true, nat_eq, slice_get}
 use Rattle.code_generator.proofs.Words.{slice_set, ℤ, pos, not, ◌&&◌, ◌||◌, if◌then◌else◌, same_Some, slice_get_within, Instr, is_ordinal, Variable}
-use Rattle.code_generator.proofs.Words.{VariableKind, is_variable_kind, Value, Place, stored, number_of, deed_of, Cell, Undefined}
+use Rattle.code_generator.proofs.Words.{VariableKind, is_variable_kind, Value, Place, stored, deed_of, Cell, Undefined}
 use Rattle.code_generator.proofs.Words.{Number, is_true, Home, links_to, variable_home}
 use Rattle.std.specs.Prelude.{◌-◌}
 use Rattle.std.specs.Ordering.{int_eq}
@@ -13,6 +13,8 @@ use Rattle.pcode_assembler.specs.declared.instr.Instr.TheVariants as instr
 use Rattle.typed_tree.specs.declared.tree.Direction.{Direction}
 use Rattle.typed_tree.specs.declared.tree.Direction.TheVariants as direction
 use Rattle.typed_tree.specs.declared.tree.VariableKind.TheVariants as kinds
+use Rattle.typed_tree.specs.declared.tree.Scalar.TheVariants as scalar
+use Rattle.typed_tree.specs.Accesses.{AtVariable}
 use Rattle.typed_tree.specs.WellFormed.{is_control, is_declared, is_local_kind, leads_to_ordinal, of_one}
 use Rattle.meaning.specs.declared.store.Value.TheVariants as value
 use Rattle.meaning.specs.Store.{kept, forgotten}
@@ -32,8 +34,9 @@ use Rattle.code_generator.proofs.Setting.{AllHeld, Setting, Shown, Way, Direct, 
 use Rattle.code_generator.proofs.Setting.{branches_on}
 use Rattle.code_generator.proofs.Setting.{jumps}
 use Rattle.code_generator.proofs.Acts.{framed, pushes, loads, stores, on_two_is}
-use Rattle.code_generator.proofs.Alike.{LiesIn, Leads, HasFit, alike_set, cell_of, cell_within, keeps_set}
-use Rattle.code_generator.proofs.Parts.{ordinal_part}
+use Rattle.code_generator.proofs.Alike.{LiesIn, Leads, alike_set, cell_within, keeps_set}
+use Rattle.code_generator.proofs.Scalars.{HasFit, cell_of, is_scalar_of, scalar_at, scalar_of, scalar_ordinal, scalar_there, value_cell}
+use Rattle.code_generator.proofs.Parts.{scalar_part}
 use Rattle.code_generator.proofs.Places.{place_apart}
 use Rattle.code_generator.proofs.Lists.{slice_behind, slice_get-front, set_twice, set_front, set_above, length_one}
 
@@ -49,7 +52,7 @@ module _ (g : Setting) where
 
   module _ (p : Place) (start : ℕ) (lies : LiesIn g.world p (g.frame + start)) where
     scalar_inside : (s : effect.State) (base : List Cell) → Based g s base → g.frame + start < length base
-    scalar_inside s base based = cell_within g.world s.store base p (g.frame + start) based.alike lies
+    scalar_inside s base based = cell_within (outline g) g.world s.store base p (g.frame + start) based.alike lies
 
     -- what is popped into it
     pub stores_scalar : (s : effect.State) (base held cells : List Cell) (cell : Cell) (place : ℕ) → Based g s base
@@ -74,20 +77,21 @@ module _ (g : Setting) where
       ∙ based.fresh q later
 
   -- a scalar that gets a value or becomes undefined, wherever it lies
-  scalar_set : (p : Place) (cell : ℕ) (new : Option Value) (s : effect.State) (base : List Cell) → HasFit new → LiesIn g.world p cell → Based g s base
-      → Based g (record s { store = (p, new) ∷ s.store }) (slice_set base cell (cell_of new))
+  scalar_set : (p : Place) (cell : ℕ) (new : Option Value) (s : effect.State) (base : List Cell) → HasFit (scalar_at (outline g) p) new
+      → LiesIn g.world p cell → Based g s base → Based g (record s { store = (p, new) ∷ s.store }) (slice_set base cell (cell_of new))
   scalar_set p cell new s base fit lies based = record {
     full = length-set base cell (cell_of new) ∙ based.full;
-    alike = alike_set g.world s.store base g.fixed p cell new g.apart lies fit based.alike;
-    keeps = keeps_set g.world s.store base g.fixed p cell new g.apart lies based.keeps;
+    alike = alike_set (outline g) g.world s.store base g.fixed p cell new g.apart lies fit based.alike;
+    keeps = keeps_set (outline g) g.world s.store base g.fixed p cell new g.apart lies based.keeps;
     old = based.old;
     fresh = still_fresh p cell new s base lies based;
     lasting = based.lasting;
     deep = based.deep;
   }
 
-  pub scalar_kept : (p : Place) (cell : ℕ) (s : effect.State) (base : List Cell) (v : Value) → LiesIn g.world p cell → Based g s base → Fits (number_of v)
-      → Based g (record s { store = kept s.store (Some p) v }) (slice_set base cell (Number (number_of v)))
+  pub scalar_kept : (p : Place) (cell : ℕ) (s : effect.State) (base : List Cell) (v : Value) → LiesIn g.world p cell → Based g s base
+      → HasFit (scalar_at (outline g) p) (Some v)
+      → Based g (record s { store = kept s.store (Some p) v }) (slice_set base cell (value_cell v))
   scalar_kept p cell s base v lies based fit = scalar_set p cell (Some v) s base fit lies based
 
   -- a variable that is an ordinal and lies where the code finds it
@@ -95,13 +99,14 @@ module _ (g : Setting) where
     pub home : Place
     pub home_is : g.environment.variables root ≡ Some home
     pub lies : LiesIn g.world home (g.frame + control_offset g.scope root)
+    pub ordinal : scalar_at (outline g) home ≡ Some scalar.Ordinal
 
   module _ (root : ℕ) (well : is_control (outline g) g.number root ≡ true) where
-    abbrev parts : (is_declared (outline g) g.number is_local_kind root ≡ true) × (leads_to_ordinal (outline g) g.number root [] 0 ≡ true)
-    parts = and_parts (is_declared (outline g) g.number is_local_kind root) (leads_to_ordinal (outline g) g.number root [] 0) well
+    abbrev parts : (is_declared (outline g) g.number is_local_kind root ≡ true) × (leads_to_ordinal (outline g) g.number (AtVariable root) [] 0 ≡ true)
+    parts = and_parts (is_declared (outline g) g.number is_local_kind root) (leads_to_ordinal (outline g) g.number (AtVariable root) [] 0) well
 
-    abbrev found : LeadsTo g (is_ordinal g.tree.types) root [] 0
-    found = leads g (is_ordinal g.tree.types) root [] 0 parts.1
+    abbrev found : LeadsTo g (is_ordinal g.tree.types) (AtVariable root) [] 0
+    found = leads g (is_ordinal g.tree.types) (AtVariable root) [] 0 parts.1
 
     -- the block itself declares it, and it is no variable parameter
     its_own : (nat_eq found.variable.block g.number ≡ true) × (is_local_kind found.variable.kind ≡ true)
@@ -131,20 +136,30 @@ module _ (g : Setting) where
     abbrev shown : Shown g.tree g.world g.fixed g.below g.frame g.scope g.environment root found.variable
     shown = g.shows root found.variable found.declared found.visible
 
+    -- its type is an ordinal one
+    kind_is : scalar_of g.tree.types found.variable.type_id ≡ Some scalar.Ordinal
+    kind_is =
+        let same = same_Some found.variable.type_id found.from found.from_is ∙ same_Some found.from found.last found.ends in
+        scalar_ordinal g.tree.types found.variable.type_id (ap (is_ordinal g.tree.types) same ∙ found.is_wanted)
+
     lies_by : (way : Way) → Reaches g.tree g.world g.fixed g.below shown.place found.variable (shown.owner + home_here.start) home_here.refers way
-        → LiesIn g.world shown.place (g.frame + control_offset g.scope root)
+        → IsScalar root
     lies_by Direct r =
-        let same = same_Some found.variable.type_id found.last found.ends in
         let here : g.frame ≡ shown.owner = subst (λ n. Leads g.fixed n g.frame shown.owner) no_links shown.leads in
-        subst (λ frame. LiesIn g.world shown.place (frame + control_offset g.scope root)) (sym here)
-        (ordinal_part g.tree.types g.world g.below g.known shown.place found.variable.type_id (shown.owner + home_here.start)
-        (ap (is_ordinal g.tree.types) same ∙ found.is_wanted) r.1)
+        record {
+          home = shown.place;
+          home_is = shown.place_is;
+          lies = subst (λ frame. LiesIn g.world shown.place (frame + control_offset g.scope root)) (sym here)
+              (scalar_part (outline g) g.world g.below g.known shown.place found.variable.type_id (shown.owner + home_here.start)
+              (is_scalar_of g.tree.types found.variable.type_id scalar.Ordinal kind_is) r.1);
+          ordinal = scalar_there (outline g) shown.place found.variable.type_id r.1.typed ∙ kind_is;
+        }
     lies_by (ByAddress address) r = absurd (false≢true (sym refers_not ∙ r.0))
 
     pub is_scalar : IsScalar root
-    is_scalar = record { home = shown.place; home_is = shown.place_is; lies = lies_by shown.way shown.reaches }
+    is_scalar = lies_by shown.way shown.reaches
 
-  module _ (root : ℕ) (scalar : IsScalar root) where
+  module _ (root : ℕ) (control : IsScalar root) where
     abbrev pub slot : ℕ
     slot = g.frame + control_offset g.scope root
 
@@ -152,27 +167,28 @@ module _ (g : Setting) where
     pub stores_variable : (s : effect.State) (base held cells : List Cell) (cell : Cell) (place : ℕ) → Based g s base
         → cells ≡ (base ++ held) ++ cell ∷ [] → Here g place (instr.Store 0 (control_offset g.scope root))
         → Comes g.target 1 (on g cells place s) (on g (slice_set base slot cell ++ held) (place + 1) s)
-    stores_variable = stores_scalar scalar.home (control_offset g.scope root) scalar.lies
+    stores_variable = stores_scalar control.home (control_offset g.scope root) control.lies
 
     pub inside : (s : effect.State) (base : List Cell) → Based g s base → slot < length base
-    inside = scalar_inside scalar.home (control_offset g.scope root) scalar.lies
+    inside = scalar_inside control.home (control_offset g.scope root) control.lies
 
     pub variable_kept : (s : effect.State) (base : List Cell) (n : ℤ) → Based g s base → Fits n
         → Based g (record s { store = kept s.store (g.environment.variables root) (value.Number n) }) (slice_set base slot (Number n))
     variable_kept s base n based fit =
-        subst (λ home. Based g (record s { store = kept s.store home (value.Number n) }) (slice_set base slot (Number n))) (sym scalar.home_is)
-        (scalar_kept scalar.home slot s base (value.Number n) scalar.lies based fit)
+        subst (λ home. Based g (record s { store = kept s.store home (value.Number n) }) (slice_set base slot (Number n))) (sym control.home_is)
+        (scalar_kept control.home slot s base (value.Number n) control.lies based
+        (subst (λ kind. HasFit kind (Some (value.Number n))) (sym control.ordinal) fit))
 
     pub variable_forgotten : (s : effect.State) (base : List Cell) → Based g s base
         → Based g (record s { store = forgotten s.store (g.environment.variables root) }) (slice_set base slot Undefined)
     variable_forgotten s base based =
-        subst (λ home. Based g (record s { store = forgotten s.store home }) (slice_set base slot Undefined)) (sym scalar.home_is)
-        (scalar_set scalar.home slot None s base tt scalar.lies based)
+        subst (λ home. Based g (record s { store = forgotten s.store home }) (slice_set base slot Undefined)) (sym control.home_is)
+        (scalar_set control.home slot None s base tt control.lies based)
 
   -- ---- held cells
 
   -- where they lie
-  held_at : (held : List Cell) (n : ℕ) → AllHeld g held → g.below + (length held + n) < g.limit
+  pub held_at : (held : List Cell) (n : ℕ) → AllHeld g held → g.below + (length held + n) < g.limit
       → g.frame + held_offset g.scope n ≡ g.below + (length held + n)
   held_at held n high room = let far = limit_far g in omega (arith, high)
 

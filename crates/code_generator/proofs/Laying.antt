@@ -30,7 +30,7 @@ module _ (g : Setting) (number : ℕ) where
   fitted_length v (OfValue w) first f =
       let slot : slot_cells g.tree.types v ≡ cells_of g.tree.types v.type_id =
       ap (λ b. if b then 1 else cells_of g.tree.types v.type_id) (no_reference v.kind f.0) in
-      let one = ap length (g.known.ordinals g.tree.types v.type_id f.1) in
+      let one = ap length (g.known.scalars g.tree.types v.type_id f.1) in
       let cells = ap length f.3 in
       let many = g.known.cells g.tree.types v.type_id in
       omega (arith, slot, one, cells, many)

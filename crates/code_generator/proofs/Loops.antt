@@ -128,6 +128,20 @@ reset g slack next = record g {
       let x = g.shows root variable at seen in
       record { place = x.place; place_is = x.place_is; owner = x.owner; leads = x.leads; way = x.way; reaches = x.reaches };
   chain = g.chain;
+  as_many_homes = g.as_many_homes;
+  opens = λ slot one at.
+      let x = g.opens slot one at in
+      record {
+        place = x.place;
+        place_is = x.place_is;
+        id = x.id;
+        type_is = x.type_is;
+        level_is = x.level_is;
+        refers = x.refers;
+        address = x.address;
+        held = x.held;
+        part = x.part;
+      };
 }
 
 module _ (g : Setting) (slack next : ℕ) where

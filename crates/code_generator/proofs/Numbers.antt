@@ -1,7 +1,7 @@
 -- Numbers of type integer: what the machine's operations give of them, in 32 bits, is what the program means, and all
 -- but a checked result is of type integer again.
 use Rattle.code_generator.proofs.Words.{◌≡◌, ℕ, zero, suc, ◌<◌, ◌≤◌, refl, sym, ap, ◌∙◌, subst, arith, Bool, true, false, ℤ, pos, ◌-ℤ◌, int_le, ◌&&◌}
-use Rattle.code_generator.proofs.Words.{if◌then◌else◌, w32, and_parts, Value, number_of}
+use Rattle.code_generator.proofs.Words.{if◌then◌else◌, w32, and_parts}
 use Rattle.std.specs.Prelude.{negsuc, neg_ℤ, ◌+ℤ◌, ◌*ℤ◌, ◌/◌, ◌%◌, ◌-◌, int_div, unsigned_abs}
 use Rattle.std.specs.Int.{cast_signed, int_rem_euclid, int_wrapping_add, int_wrapping_sub, int_wrapping_mul, int_wrapping_div, int_wrapping_neg}
 use Rattle.std.specs.Int.RustNames.{FitsSigned}
@@ -119,8 +119,8 @@ pub same_test : (n : ℤ) → is_integer_number n ≡ is_integer n
 same_test n = both_or_none (int_le (neg_ℤ maxint) n) (int_le n maxint)
 
 -- a number of type integer lies in a range as the machine tests it
-pub same_range : (range : OrdinalRange) (v : Value) → Fits (number_of v) → is_in range v ≡ (int_le range.first (number_of v) && int_le (number_of v) range.last)
-same_range range (value.Number n) h =
+pub same_range : (range : OrdinalRange) (n : ℤ) → Fits n → is_in range (value.Number n) ≡ (int_le range.first n && int_le n range.last)
+same_range range n h =
     ap (λ b. b && is_within range.first range.last n) (same_test n ∙ h.is) ∙ both_or_none (int_le range.first n) (int_le n range.last)
 
 and_true : (b : Bool) → (b && true) ≡ b

@@ -2,7 +2,7 @@
 -- on. Each selector leads from such a part to another one. It says nothing of what the components hold.
 use Rattle.code_generator.proofs.Words.{◌≡◌, ℕ, zero, suc, ◌+◌, ◌*◌, ◌≤◌, List, [], ◌∷◌, ◌++◌, Option, Some, None, refl, sym, ap, ◌∙◌, subst, arith, inr}
 use Rattle.code_generator.proofs.Words.{append-nil, append_assoc, slice_get, ℤ, pos, ◌-ℤ◌, ◌&&◌, nat_eq, option_and_then, and_parts, eqb-true, none-some}
-use Rattle.code_generator.proofs.Words.{slice_get_within, Form, TypeId, components_of, cells_of, is_ordinal, RangeTest, Place}
+use Rattle.code_generator.proofs.Words.{slice_get_within, Form, TypeId, components_of, cells_of, RangeTest, Place}
 use Rattle.std.proofs.Common.{◌≤ℤ◌}
 use Rattle.std.specs.Prelude.{true}
 use Rattle.std.specs.Option.{option_map}
@@ -16,12 +16,15 @@ use Rattle.types.specs.declared.form.Step.{Step}
 use Rattle.types.specs.declared.form.Step.TheVariants.{Element, Field}
 use Rattle.types.specs.Components.{Steps}
 use Rattle.types.specs.Laws.{HasElements, HasField}
-use Rattle.types.specs.Types.{element_of, field_at}
+use Rattle.types.specs.Types.{element_of, field_at, is_scalar}
 use Rattle.typed_tree.specs.declared.tree.Selector.{Selector}
 use Rattle.typed_tree.specs.declared.tree.Selector.TheVariants as selector
 use Rattle.typed_tree.specs.Accesses.{are_values_of, element_type, field_type, selected, led}
+use Rattle.typed_tree.specs.WellFormed.{Outline}
+use Rattle.meaning.specs.Kinds.{type_at}
 use Rattle.code_generator.specs.Known.{Known}
 use Rattle.code_generator.proofs.Alike.{Activation, World, LiesIn}
+use Rattle.code_generator.proofs.Scalars.{type_inside}
 
 -- a place with more steps behind its own
 abbrev pub inner : Place → Steps → Place
@@ -108,17 +111,21 @@ led_on types s selectors t last e = by (selected types s t) refl e
     by None is e = absurd (none-some last e)
     by (Some part) is e = (part, is, e)
 
-module _ (types : List Form) (world : World) (end : ℕ) where
+module _ (outline : Outline) (world : World) (end : ℕ) where
+  abbrev types : List Form
+  types = outline.types
+
   -- the part of a place that is of a type lies from a cell on, and ends before another; it has no more cells than a type
   pub record IsPart (p : Place) (t : TypeId) (cell : ℕ) : Type 0 where
     pub from : LiesFrom world p (components_of types t) cell
     pub within : cell + cells_of types t ≤ end
     pub few : cells_of types t ≤ 65536
+    pub typed : type_at outline p ≡ Some t
 
-  -- an ordinal is a scalar
-  pub ordinal_part : (known : Known) (p : Place) (t : TypeId) (cell : ℕ) → is_ordinal types t ≡ true → IsPart p t cell → LiesIn world p cell
-  ordinal_part known p t cell ordinal part =
-      scalar_lies world p cell (subst (λ components. LiesFrom world p components cell) (known.ordinals types t ordinal) part.from)
+  -- an ordinal or a set is a scalar
+  pub scalar_part : (known : Known) (p : Place) (t : TypeId) (cell : ℕ) → is_scalar types t ≡ true → IsPart p t cell → LiesIn world p cell
+  scalar_part known p t cell scalar part =
+      scalar_lies world p cell (subst (λ components. LiesFrom world p components cell) (known.scalars types t scalar) part.from)
 
   -- the element at an index
   module _ (known : Known) (p : Place) (t : TypeId) (cell : ℕ) (e : ArrayElement) (found : element_of types t ≡ Some e) (index : ℤ)
@@ -153,6 +160,7 @@ module _ (types : List Form) (world : World) (end : ℕ) where
       from = step_lies world p (components_of types t) (components_of types e.type_id) cell (n * e.cells) (Element index) among part.from;
       within = (let inside = ends_inside e.cells refl in let all = part.within in omega arith);
       few = (let inside = ends_inside e.cells refl in let all = part.few in omega arith);
+      typed = type_inside outline p t (Element index ∷ []) part.typed ∙ ap (λ o. option_and_then (λ id. Some id) (option_map (λ x. x.type_id) o)) found;
     }
 
   -- the field at a position
@@ -173,12 +181,13 @@ module _ (types : List Form) (world : World) (end : ℕ) where
       from = step_lies world p (components_of types t) (components_of types f.type_id) cell f.offset (Field position) field_among part.from;
       within = (let inside = own_field.ends in let all = part.within in omega arith);
       few = (let inside = own_field.ends in let all = part.few in omega arith);
+      typed = type_inside outline p t (Field position ∷ []) part.typed ∙ ap (λ o. option_and_then (λ id. Some id) (option_map (λ x. x.type_id) o)) found;
     }
 
 -- a part of an older world lies in one with an activation more too, below a later end
-pub part_above : (types : List Form) (a : Activation) (world : World) (end later : ℕ) (p : Place) (t : TypeId) (cell : ℕ) → end ≤ later
-    → IsPart types world end p t cell → IsPart types (a ∷ world) later p t cell
-part_above types a world end later p t cell le part =
+pub part_above : (outline : Outline) (a : Activation) (world : World) (end later : ℕ) (p : Place) (t : TypeId) (cell : ℕ) → end ≤ later
+    → IsPart outline world end p t cell → IsPart outline (a ∷ world) later p t cell
+part_above outline a world end later p t cell le part =
     let inside = part.within in
     record {
       from = record {
@@ -188,15 +197,16 @@ part_above types a world end later p t cell le part =
       };
       within = omega arith;
       few = part.few;
+      typed = part.typed;
     }
 
 -- it ends before a later cell too, and where its own cells do
-pub part_later : (types : List Form) (world : World) (end later : ℕ) (p : Place) (t : TypeId) (cell : ℕ) → end ≤ later → IsPart types world end p t cell
-    → IsPart types world later p t cell
-part_later types world end later p t cell le part =
+pub part_later : (outline : Outline) (world : World) (end later : ℕ) (p : Place) (t : TypeId) (cell : ℕ) → end ≤ later → IsPart outline world end p t cell
+    → IsPart outline world later p t cell
+part_later outline world end later p t cell le part =
     let inside = part.within in
-    record { from = part.from; within = omega arith; few = part.few }
+    record { from = part.from; within = omega arith; few = part.few; typed = part.typed }
 
-pub part_up_to : (types : List Form) (world : World) (end : ℕ) (p : Place) (t : TypeId) (cell : ℕ) → IsPart types world end p t cell
-    → IsPart types world (cell + cells_of types t) p t cell
-part_up_to types world end p t cell part = record { from = part.from; within = omega arith; few = part.few }
+pub part_up_to : (outline : Outline) (world : World) (end : ℕ) (p : Place) (t : TypeId) (cell : ℕ) → IsPart outline world end p t cell
+    → IsPart outline world (cell + cells_of outline.types t) p t cell
+part_up_to outline world end p t cell part = record { from = part.from; within = omega arith; few = part.few; typed = part.typed }

@@ -1,11 +1,16 @@
 -- Actual parameters, and calls: what is shown of the code of an actual parameter, that it leaves the cells of what is passed;
 -- and of a call, that the machine comes back with the result on top of what was held.
 use Rattle.code_generator.proofs.Words.{◌≡◌, ℕ, suc, ◌+◌, ◌-◌, ◌<◌, ◌≤◌, inr, List, [], ◌∷◌, ◌++◌, length, Some, None, refl, subst, arith, append-nil, Bool}
-use Rattle.code_generator.proofs.Words.{true, false, slice_get, ℤ, pos, Instr, cells_of, is_ordinal, Block, Variable, heading_of, is_variable_kind, Value}
+use Rattle.code_generator.proofs.Words.{true, false, slice_get, ℤ, pos, Instr, cells_of, Block, Variable, heading_of, is_variable_kind, Value}
 use Rattle.code_generator.proofs.Words.{Gives, Action, ◌>>=◌, number_of, UsesTurnsExactly, Argument, OfValue, OfRow, OfPlace, Cell, Undefined, Number}
 use Rattle.code_generator.proofs.Words.{State, called_routine, links_to, row_length}
 use Rattle.pcode_assembler.specs.declared.instr.Instr.TheVariants as instr
+use Rattle.types.specs.Types.{is_scalar}
 use Rattle.typed_tree.specs.declared.tree.Passed.{Passed}
+use Rattle.typed_tree.specs.declared.tree.Scalar.TheVariants as scalar
+use Rattle.typed_tree.specs.Kinds.{is_held_passed}
+use Rattle.typed_tree.specs.Records.{passed_begin}
+use Rattle.code_generator.proofs.Texts.{passes_strings}
 use Rattle.typed_tree.specs.WellFormed.{formal_of, is_callable, is_value_kind, is_well_formed_passed}
 use Rattle.meaning.specs.Effect as effect
 use Rattle.meaning.specs.Meaning.{Passing, calls_of, passing_of}
@@ -13,11 +18,11 @@ use Rattle.code_scheme.specs.Code.{passed_code}
 use Rattle.code_scheme.specs.Depth.{PassedDepth, passed_depth}
 use Rattle.code_generator.proofs.Accesses.{PartAt}
 use Rattle.code_generator.proofs.Alike.{Leads}
-use Rattle.code_generator.proofs.Numbers.{Fits}
+use Rattle.code_generator.proofs.Evaluating.{Shape}
+use Rattle.code_generator.proofs.Scalars.{AllFit, HasFit, HasKind, ordinal_cell, scalar_of, scalars_of, value_cell}
 use Rattle.code_generator.proofs.Reach.{Stands, StandsAt, Comes, comes_less, stays_here}
 use Rattle.code_generator.proofs.Rows.{cells_of as value_cells}
 use Rattle.code_generator.proofs.Setting.{Setting, outline, around, on, Based}
-use Rattle.code_generator.proofs.Wholes.{AllFit}
 use Rattle.code_generator.proofs.Running.{Aim, Arrives, Evaluates, Executes, Runs, done, kept_on, runs_to, then_runs, value_on}
 
 module _ (g : Setting) where
@@ -26,9 +31,11 @@ module _ (g : Setting) where
   -- cells hold what is passed to a formal parameter, as it takes it
   abbrev pub Fitted : Variable → Argument → List Cell → Type 0
   Fitted formal (OfValue v) cells =
-      (is_value_kind formal.kind ≡ true) × (is_ordinal g.tree.types formal.type_id ≡ true) × Fits (number_of v) × (cells ≡ Number (number_of v) ∷ [])
+      (is_value_kind formal.kind ≡ true) × (is_scalar g.tree.types formal.type_id ≡ true) × HasFit (scalar_of g.tree.types formal.type_id) (Some v)
+      × (cells ≡ value_cell v ∷ [])
   Fitted formal (OfRow vs) cells =
-      (is_value_kind formal.kind ≡ true) × (length vs ≡ cells_of g.tree.types formal.type_id) × AllFit vs × (cells ≡ value_cells vs)
+      (is_value_kind formal.kind ≡ true) × (length vs ≡ cells_of g.tree.types formal.type_id) × AllFit (scalars_of g.tree.types formal.type_id) vs
+      × (cells ≡ value_cells vs)
   Fitted formal (OfPlace None) cells = ⊥
   Fitted formal (OfPlace (Some p)) cells =
       (address : ℕ) × (is_variable_kind formal.kind ≡ true) × PartAt g p formal.type_id address × (cells ≡ Number (pos address) ∷ [])
@@ -63,15 +70,24 @@ module _ (g : Setting) where
       ((base, based, cells, formal, is, fitted, refl), comes_less g.target (s.turns - s.turns + 0) least m _ (omega arith) l, omega arith)
 
   -- the code c of an actual parameter
-  abbrev pub PassesAs : List Instr → PassedDepth → (ℕ → ℕ → Bool) → Passing → Type 0
-  PassesAs c depth well passing =
-      (callee position place : ℕ) (base held : List Cell) (s : effect.State) → Stands g.target place c → well callee position ≡ true → Based g s base
-      → g.below + length held + depth.depth ≤ g.limit
+  abbrev pub PassesAs : List Instr → PassedDepth → Shape (ℕ → ℕ → Bool) Bool → Passing → Type 0
+  PassesAs c depth shape passing =
+      (callee position place : ℕ) (base held : List Cell) (s : effect.State) → Stands g.target place c → shape.well callee position ≡ true
+      → shape.held ≡ true → shape.there ≡ true → shape.strings ≡ true → Based g s base → g.below + length held + depth.depth ≤ g.limit
       → Passes (on g (base ++ held) place s) held (place + length c) depth.cells callee position (passing (around g)) s
+
+  -- what is known of one
+  abbrev pub passed_shape : Passed → Shape (ℕ → ℕ → Bool) Bool
+  passed_shape p = record {
+    well = is_well_formed_passed (outline g) g.number p;
+    held = is_held_passed p;
+    there = passed_begin p g.opened;
+    strings = passes_strings g.tree.types p;
+  }
 
   -- what is shown of an actual parameter
   abbrev pub PassedRuns : Passed → Type 0
-  PassedRuns p = PassesAs (passed_code g.scope p) (passed_depth p) (is_well_formed_passed (outline g) g.number p) (passing_of p)
+  PassedRuns p = PassesAs (passed_code g.scope p) (passed_depth p) (passed_shape p) (passing_of p)
 
   -- ---- actual parameters, one after another
 
@@ -96,7 +112,7 @@ module _ (g : Setting) where
   -- what is held stays, and the value of a call is on top if it is that of a function
   abbrev pub return_on : List Cell → Bool → ℕ → Aim Value
   return_on held is_function place = record {
-    Holds = λ v s. (base : List Cell) × Based g s base × Fits (number_of v);
+    Holds = λ v s. (base : List Cell) × Based g s base × HasKind scalar.Ordinal v;
     there = λ v s h. on g ((h.0 ++ held) ++ left_by is_function (number_of v)) place s;
     gain = 0;
   }
@@ -105,18 +121,26 @@ module _ (g : Setting) where
   Returns m held place is_function action s = Runs g (return_on held is_function place) m action s
 
   -- a value is what a function leaves
-  pub evaluated_returns : (m : State) (held : List Cell) (place : ℕ) (action : Action Value) (s : effect.State) → Evaluates g m held place action s
-      → Returns m held place true action s
+  pub evaluated_returns : (m : State) (held : List Cell) (place : ℕ) (action : Action Value) (s : effect.State)
+      → Evaluates g scalar.Ordinal m held place action s → Returns m held place true action s
   evaluated_returns m held place action s e =
-      runs_to g (value_on g held place) (return_on held true place) m action s (omega arith) e
-      (λ v t x. ((x.0, x.1, x.2.0), stays_here g.target _))
+      runs_to g (value_on g scalar.Ordinal held place) (return_on held true place) m action s (omega arith) e
+      (λ v t x. (
+        (x.0, x.1, x.2.0),
+        subst (λ cell. Comes g.target 0 (on g ((x.0 ++ held) ++ value_cell v ∷ []) place t) (on g ((x.0 ++ held) ++ cell ∷ []) place t))
+            (ordinal_cell v x.2.0) (stays_here g.target _),
+      ))
 
   -- the call of a function is a value
   pub function_evaluates : (m : State) (held : List Cell) (place : ℕ) (action : Action Value) (s : effect.State) → g.below + length held < g.limit
-      → Returns m held place true action s → Evaluates g m held place action s
+      → Returns m held place true action s → Evaluates g scalar.Ordinal m held place action s
   function_evaluates m held place action s room e =
-      runs_to g (return_on held true place) (value_on g held place) m action s (omega arith) e
-      (λ v t x. ((x.0, x.1, (x.2, room)), stays_here g.target _))
+      runs_to g (return_on held true place) (value_on g scalar.Ordinal held place) m action s (omega arith) e
+      (λ v t x. (
+        (x.0, x.1, (x.2, room)),
+        subst (λ cell. Comes g.target 0 (on g ((x.0 ++ held) ++ cell ∷ []) place t) (on g ((x.0 ++ held) ++ value_cell v ∷ []) place t))
+            (ordinal_cell v x.2) (stays_here g.target _),
+      ))
 
   -- the call of a procedure is a statement
   pub returns_executes : (m : State) (held : List Cell) (place : ℕ) (action : Action Value) (s : effect.State) → UsesTurnsExactly action

@@ -1,5 +1,5 @@
 -- Places that are told apart: by their activations, their variables, and the steps to their components.
-use Rattle.code_generator.proofs.Words.{◌≡◌, ℕ, refl, ap, true, false, eq-eqb, nat_eq, ◌&&◌, eqb-true, and_parts, false≢true, Place}
+use Rattle.code_generator.proofs.Words.{◌≡◌, ℕ, List, refl, ap, true, false, eq-eqb, nat_eq, ◌&&◌, eqb-true, and_parts, false≢true, Place}
 use Rattle.std.proofs.Common.{ℤ}
 use Rattle.std.specs.Bool.{Decides}
 use Rattle.std.specs.Cmp.Lexicographic.{pointwise}
@@ -9,6 +9,9 @@ use Rattle.std.proofs.lemmas.Slice.Eq.{slice_eq-Decides}
 use Rattle.types.specs.declared.form.Step.{Step}
 use Rattle.types.specs.declared.form.Step.TheVariants.{Element, Field}
 use Rattle.types.specs.Components.{Steps}
+use Rattle.typed_tree.specs.declared.tree.PathStep.{PathStep}
+use Rattle.typed_tree.specs.declared.tree.PathStep.TheVariants as path
+use Rattle.typed_tree.specs.Records.{is_same_step}
 use Rattle.meaning.specs.Store.{step_eq, place_eq}
 
 step_decided : (s t : Step) → Decides (step_eq s t) (s ≡ t)
@@ -41,3 +44,14 @@ place_apart p q differ =
     false_from_ne_true (place_eq p q)
     (λ e. differ (eqb-true p.activation q.activation
     (and_parts (nat_eq p.activation q.activation) (nat_eq p.variable q.variable && pointwise step_eq p.steps q.steps) e).0))
+
+-- ways that are told as the same
+step_is : (s t : PathStep) → Decides (is_same_step s t) (s ≡ t)
+step_is path.Element path.Element = (λ e. refl, λ e. refl)
+step_is path.Element (path.Field b) = (λ e. absurd (false≢true e), λ e. cc)
+step_is (path.Field a) path.Element = (λ e. absurd (false≢true e), λ e. cc)
+step_is (path.Field a) (path.Field b) =
+    (λ e. ap path.Field (eqb-true a b e), λ e. eq-eqb a b (ap (λ s. elim s as (λ _. ℕ) [ path.Element ↦ a | path.Field n ↦ n ]) e))
+
+pub way_is : (first second : List PathStep) → pointwise is_same_step first second ≡ true → first ≡ second
+way_is first second same = (slice_eq-Decides step_is first second (pointwise is_same_step first second) refl).0 same

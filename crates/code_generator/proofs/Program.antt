@@ -39,7 +39,7 @@ use Rattle.code_generator.proofs.Calls.{calls_run}
 use Rattle.code_generator.proofs.Cells.{small_block}
 use Rattle.code_generator.proofs.Closing.{Closes, closing, count_grows, first_block, more_behind, most_repeats, repeats_within, take_short}
 use Rattle.code_generator.proofs.Explained.{as_much, as_much_more, end_over, explained_done, explained_full, explained_more, leads_before, leads_to, stops_end}
-use Rattle.code_generator.proofs.Nesting.{well_block}
+use Rattle.code_generator.proofs.Withs.{block_good}
 use Rattle.code_generator.proofs.ProgramStart as started
 use Rattle.code_generator.proofs.Reach.{Target, StandsAt, Stands, stands_front, stands_back, Comes, IsOver, Stops, comes_by, comes_on, comes_less, WritesOn}
 use Rattle.code_generator.proofs.Reach.{begins_itself, stops_on, stops_by}
@@ -161,7 +161,7 @@ module _ (known : Known) (tree : Tree) (well : IsWellFormed tree) (short : is_to
         body_runs =
             let whole = (small_block tree short 0 block block_is).whole in
             stmt_runs block.body setting (calls_run (suc turns)) (omega arith) 1 first_cells [] first
-            (stands_front target 1 body (instr.Stop ∷ []) own_stands.1) (well_block tree well 0 block block_is).body
+            (stands_front target 1 body (instr.Stop ∷ []) own_stands.1) (block_good tree well 0 block block_is)
             (started.first_based known tree well short target sites_are stands comes_back repeats_are_few input cells small block block_is fits turns)
             (omega (arith, whole)) (omega arith)
 
@@ -210,8 +210,8 @@ module _ (known : Known) (tree : Tree) (well : IsWellFormed tree) (short : is_to
             let deeper : suc used + (turns - used) ≡ suc turns = omega (arith, le) in
             let shorter : meant.run tree input used ≡ effect.Stops ending.More there =
             ap (λ o. meant.run_of tree (suc used) o s) block_is
-            ∙ known.deeper tree (suc used) (turns - used) (around setting).visible block.body s (omega arith)
-            ∙ ap (λ d. effect_of block.body (record { visible = (around setting).visible; calls = meant.calls_of tree d }) s) deeper
+            ∙ known.deeper tree (suc used) (turns - used) (around setting).visible [] block.body s (omega arith)
+            ∙ ap (λ d. effect_of block.body (record { visible = (around setting).visible; records = []; calls = meant.calls_of tree d }) s) deeper
             ∙ x.2 in
             let u = stops_on target 1 start inside _ comes_in x.3 in
             let needs : cells < living_need tree there.starved = x.4 in

@@ -1,10 +1,12 @@
 -- The program's block as it runs: its activation is the only one, its frame the first, and nothing of it is defined.
 use Rattle.code_generator.proofs.Words.{◌≡◌, ℕ, zero, suc, ◌+◌, ◌-◌, ◌<◌, ◌≤◌, inl, ⊎_elim, List, [], ◌∷◌, ◌++◌, length, map, Option, Some, None, refl, sym, ap}
 use Rattle.code_generator.proofs.Words.{◌∙◌, subst, arith, Bool, true, false, replicate, eq-eqb, if◌then◌else◌, nat_eq, slice_get, pos, ◌&&◌, ◌||◌, and_parts}
-use Rattle.code_generator.proofs.Words.{eqb-true, false≢true, ltb-true, none-some, same_Some, components_of, Form, cells_of, Block, Tree, Variable}
+use Rattle.code_generator.proofs.Words.{eqb-true, false≢true, ltb-true, none-some, option_and_then, same_Some, components_of, Form, cells_of, Block, Tree}
+use Rattle.code_generator.proofs.Words.{Variable}
 use Rattle.code_generator.proofs.Words.{VariableKind, IsWellFormed, heading_of, is_parameter_kind, is_variable_kind, roots_where, Place, Cell, Undefined}
 use Rattle.code_generator.proofs.Words.{Number, Home, routines_of, block_depth, Scope, block_scope, cells_where, is_parameter_of, links_to, other_cells}
 use Rattle.code_generator.proofs.Words.{parameter_cells, slot_cells, variable_home}
+use Rattle.std.specs.Option.{option_map}
 use Rattle.std.proofs.lemmas.Bool.{or_parts}
 use Rattle.pcode_assembler.specs.declared.instr.Instr.TheVariants as instr
 use Rattle.typed_tree.specs.declared.tree.VariableKind.TheVariants as kinds
@@ -185,7 +187,7 @@ module _ (known : Known) (tree : Tree) (well : IsWellFormed tree) (short : is_to
         else (if is_one_of block.heading.around.items v.block then begun.caller.variables root else None)) (eq-eqb v.block 0 own)
         ∙ its_place v.kind (plain_of root v at own)
 
-    own_part : IsPart tree.types world below (own_place 0 root) v.type_id (0 + (variable_home scope root).start)
+    own_part : IsPart (outline_of tree) world below (own_place 0 root) v.type_id (0 + (variable_home scope root).start)
     own_part =
         let slot = slot_of tree known v (plain_of root v at own) in
         let many = known.cells tree.types v.type_id in
@@ -212,6 +214,7 @@ module _ (known : Known) (tree : Tree) (well : IsWellFormed tree) (short : is_to
           };
           within = omega (arith, slot, many, ends, front, rest, its_start);
           few = omega (arith, slot, many, ends, front, rest, begins, few);
+          typed = ap (λ o. option_and_then (λ id. Some id) (option_map (λ (w : Variable). w.type_id) o)) at;
         }
 
     shown : Shown tree world fixed below 0 scope environment root v
@@ -287,6 +290,11 @@ module _ (known : Known) (tree : Tree) (well : IsWellFormed tree) (short : is_to
         bottom = 0;
         chain = subst (λ n. Leads fixed n 0 0) (sym (no_links 0)) refl;
         blank = refl;
+        opened = [];
+        records = [];
+        as_many_homes = refl;
+        as_many_records = refl;
+        opens = λ slot one at. absurd (none-some one at);
       }
 
   -- nothing is defined

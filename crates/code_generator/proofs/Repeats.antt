@@ -4,7 +4,7 @@ use Rattle.std.specs.declared.alloc.Global.{Global}
 use Rattle.std.specs.declared.boxed.Box.{Box}
 use Rattle.typed_tree.specs.declared.tree.Stmt.{Stmt}
 use Rattle.typed_tree.specs.declared.tree.Stmt.TheOpen.{Stmt-F}
-use Rattle.typed_tree.specs.declared.tree.Stmt.TheOpen.Stmt-F.{Empty, Assign, Copy, Write, Compound, If, While, Repeat, For, Case, Call as Calling}
+use Rattle.typed_tree.specs.declared.tree.Stmt.TheOpen.Stmt-F.{Empty, Assign, Copy, Write, Compound, If, While, Repeat, For, Case, Call as Calling, With}
 use Rattle.typed_tree.specs.declared.tree.Stmt.TheFolds.{fold-Stmt}
 use Rattle.code_scheme.specs.Depth.{greatest}
 
@@ -24,6 +24,7 @@ repeats_step (While head body) = body.value
 repeats_step (Repeat head statements) = greatest statements.items + 1
 repeats_step (For head body) = body.value
 repeats_step (Case head arms) = greatest arms.items
+repeats_step (With head body) = body.value
 
 abbrev pub repeats : Stmt → ℕ
 repeats = fold-Stmt ℕ repeats_step

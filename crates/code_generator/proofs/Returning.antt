@@ -9,7 +9,8 @@ use Rattle.std.proofs.lemmas.List.{take-append-le}
 use Rattle.pcode_assembler.specs.declared.instr.Instr.TheVariants as instr
 use Rattle.typed_tree.specs.declared.tree.FunctionResult.{FunctionResult}
 use Rattle.typed_tree.specs.declared.tree.VariableKind.TheVariants as kinds
-use Rattle.typed_tree.specs.Accesses.{accessed, is_type}
+use Rattle.typed_tree.specs.declared.tree.Scalar.TheVariants as scalar
+use Rattle.typed_tree.specs.Accesses.{AtVariable, accessed, is_type}
 use Rattle.typed_tree.specs.WellFormed.{is_kind_of, is_result_kind, is_result_or_none, result_roots}
 use Rattle.meaning.specs.Effect as effect
 use Rattle.meaning.specs.Effect.{fetch}
@@ -18,13 +19,14 @@ use Rattle.stack_machine.specs.Machine.{and_then, at_place}
 use Rattle.code_scheme.specs.Code.{return_code}
 use Rattle.code_scheme.specs.Depth.{result_depth}
 use Rattle.code_generator.proofs.Acts.{framed, loads}
-use Rattle.code_generator.proofs.Alike.{Fixed, Keeps, Leads, LiesIn, alike_above, cell_of, cell_within}
+use Rattle.code_generator.proofs.Alike.{Fixed, Keeps, Leads, LiesIn, alike_above, cell_within}
+use Rattle.code_generator.proofs.Scalars.{HasFit, cell_of, is_scalar_of, scalar_of, scalar_ordinal, scalar_there}
 use Rattle.code_generator.proofs.Callee.{link_at, outer_fixed, own_part, seen}
 use Rattle.code_generator.proofs.Calling.{leaves}
 use Rattle.code_generator.proofs.Evaluating.{fetched_runs, sites}
 use Rattle.code_generator.proofs.Laying.{Laid}
 use Rattle.code_generator.proofs.Nesting.{Callable, well_block}
-use Rattle.code_generator.proofs.Parts.{ordinal_part}
+use Rattle.code_generator.proofs.Parts.{IsPart, scalar_part}
 use Rattle.code_generator.proofs.Passing.{Returns, evaluated_returns, left_by}
 use Rattle.code_generator.proofs.Reach.{Comes, Stands, StandsAt, comes_by, comes_less, stays_here}
 use Rattle.code_generator.proofs.Setting.{Setting, Based, outline, on, running_at, acts}
@@ -238,21 +240,29 @@ module _ (g : Setting) (number : ℕ) (block : Block) (block_is : slice_get g.tr
         ∙ home variable.kind kind_is
 
     good : (nat_lt result.defined (sites g) ≡ true)
-        × (is_type (is_ordinal g.tree.types) (accessed g.tree.variables.items g.tree.types result.root []) ≡ true)
+        × (is_type (is_ordinal g.tree.types) (accessed g.tree.variables.items g.tree.types (AtVariable result.root) []) ≡ true)
     good =
-        and_parts (nat_lt result.defined (sites g)) (is_type (is_ordinal g.tree.types) (accessed g.tree.variables.items g.tree.types result.root []))
+        and_parts (nat_lt result.defined (sites g))
+        (is_type (is_ordinal g.tree.types) (accessed g.tree.variables.items g.tree.types (AtVariable result.root) []))
         (ap (is_result_or_none (outline g)) (sym is) ∙ (well_block g.tree g.well number block block_is).result_good)
 
     ordinal : is_ordinal g.tree.types variable.type_id ≡ true
     ordinal = ap (λ o. is_type (is_ordinal g.tree.types) (option_and_then (λ (v : Variable). Some v.type_id) o)) (sym declared) ∙ good.1
 
+    scalar_is : scalar_of g.tree.types variable.type_id ≡ Some scalar.Ordinal
+    scalar_is = scalar_ordinal g.tree.types variable.type_id ordinal
+
+    part : IsPart (outline g) its.world its.below (own_place s.activations result.root) variable.type_id
+        (its.frame + (variable_home its.scope result.root).start)
+    part =
+        own_part g number block block_is callable outer way held cells arguments s.activations return depth based.old room laid fits result.root variable
+        declared own
+        (plain variable.kind kind_is)
+
     lies : LiesIn its.world (own_place s.activations result.root) (its.frame + (variable_home its.scope result.root).start)
     lies =
-        ordinal_part g.tree.types its.world its.below g.known (own_place s.activations result.root) variable.type_id
-        (its.frame + (variable_home its.scope result.root).start) ordinal
-        (own_part g number block block_is callable outer way held cells arguments s.activations return depth based.old room laid fits result.root variable
-        declared own
-        (plain variable.kind kind_is))
+        scalar_part (outline g) its.world its.below g.known (own_place s.activations result.root) variable.type_id
+        (its.frame + (variable_home its.scope result.root).start) (is_scalar_of g.tree.types variable.type_id scalar.Ordinal scalar_is) part
 
     -- it is pushed, and has to be defined
     result_runs : (place : ℕ) (last : List Cell) (t : effect.State) → Based its t last
@@ -264,18 +274,19 @@ module _ (g : Setting) (number : ℕ) (block : Block) (block_is : slice_get g.tr
         let d = its.frame + (variable_home its.scope result.root).start in
         let start = (variable_home its.scope result.root).start in
         let stack = last ++ [] in
-        let above = alike_above its.world t.store last [] after.alike in
+        let above = alike_above (outline g) its.world t.store last [] after.alike in
         let cell = cell_of (stored t.store p) in
         let full = after.full in
         let long = length-append last [] in
         let loaded = acts its (instr.Load 0 start) stack (stack ++ cell ∷ []) place t _ stands.0 refl
         (loads its.frame its.limit its.size stack 0 start its.frame cell (omega (arith, long, space)) refl
-        (cell_within its.world t.store stack p d above lies) (above.scalars p d lies)) in
+        (cell_within (outline g) its.world t.store stack p d above lies) (above.scalars p d lies)) in
         subst (λ o. Returns its (on its stack place t) [] (place + 1 + 1) true (fetch o result.defined) t) (sym place_is)
         (evaluated_returns its _ [] (place + 1 + 1) (fetch (Some p) result.defined) t
-        (runs_from its (value_on its [] (place + 1 + 1)) 1 _ _ (fetch (Some p) result.defined) t loaded
-        (fetched_runs its (place + 1) result.defined last [] t (stored t.store p) stands.1.0 (ltb-true result.defined (sites g) good.0) after
-        (omega (arith, full, space)) (above.fits p d lies))))
+        (runs_from its (value_on its scalar.Ordinal [] (place + 1 + 1)) 1 _ _ (fetch (Some p) result.defined) t loaded
+        (fetched_runs its scalar.Ordinal (place + 1) result.defined last [] t (stored t.store p) stands.1.0 (ltb-true result.defined (sites g) good.0) after
+        (omega (arith, full, space))
+        (subst (λ kind. HasFit kind (stored t.store p)) (scalar_there (outline g) p variable.type_id part.typed ∙ scalar_is) (above.fits p d lies)))))
 
   -- the code at the end, up to the return
   finishes : (result : Option FunctionResult) (is_function : Bool) → block.heading.result ≡ result → is_kind_of is_function result ≡ true → (place : ℕ)

@@ -6,6 +6,7 @@ use Rattle.code_generator.proofs.Words.{number_of, Cell, Number, Frames, Attempt
 use Rattle.std.specs.Prelude.{negsuc, int_lt}
 use Rattle.std.proofs.Math.Seq.{take-append_seam}
 use Rattle.std.proofs.lemmas.Int.{ints}
+use Rattle.meaning.specs.declared.store.Value.TheVariants as value
 use Rattle.meaning.specs.Meaning.{order_of}
 use Rattle.meaning.specs.Integers as meant
 use Rattle.stack_machine.specs.Deeds.{string_written}
@@ -14,21 +15,24 @@ use Rattle.stack_machine.specs.Rows as rows
 use Rattle.stack_machine.specs.Texts as texts
 use Rattle.code_generator.proofs.Acts.{framed, has_some, has_room, top_at}
 use Rattle.code_generator.proofs.Numbers.{Fits}
+use Rattle.code_generator.proofs.Scalars.{value_cell}
+use Rattle.code_generator.proofs.Strings.{AreNumbers}
 
 -- the cells of a row of values
 abbrev pub cells_of : List Value → List Cell
-cells_of vs = map (λ v. Number (number_of v)) vs
+cells_of vs = map value_cell vs
 
 pub length-cells_of : (vs : List Value) → length (cells_of vs) ≡ length vs
-length-cells_of vs = length-map vs (λ v. Number (number_of v))
+length-cells_of vs = length-map vs value_cell
 
 -- and their numbers
 abbrev pub numbers_of : List Value → List ℤ
 numbers_of vs = map number_of vs
 
-numbers_are : (vs : List Value) → rows.numbers (cells_of vs) ≡ Ok (numbers_of vs)
-numbers_are [] = refl
-numbers_are (v ∷ vs) = ap (λ r. r >>= λ others. Ok (number_of v ∷ others)) (numbers_are vs)
+numbers_are : (vs : List Value) → AreNumbers vs → rows.numbers (cells_of vs) ≡ Ok (numbers_of vs)
+numbers_are [] are = refl
+numbers_are (value.Number n ∷ vs) are = ap (λ r. r >>= λ others. Ok (n ∷ others)) (numbers_are vs are.1)
+numbers_are (value.Members set ∷ vs) are = absurd are.0
 
 module _ (frame limit size : ℕ) where
   -- a row below others, and below nothing
@@ -53,7 +57,8 @@ module _ (frame limit size : ℕ) where
       ap (λ m. take m cells) start ∙ ap (take (length below)) (append_assoc below row above) ∙ take-append_seam below (row ++ above)
 
   -- two rows give way to their order
-  module _ (below : List Cell) (linked : frame + 4 ≤ length below) (left right : List Value) (n : ℕ) (long : length left ≡ n) (as_long : length right ≡ n) where
+  module _ (below : List Cell) (linked : frame + 4 ≤ length below) (left right : List Value) (n : ℕ) (long : length left ≡ n) (as_long : length right ≡ n)
+      (left_are : AreNumbers left) (right_are : AreNumbers right) where
     abbrev both : List Cell
     both = (below ++ cells_of left) ++ cells_of right
 
@@ -82,14 +87,15 @@ module _ (frame limit size : ℕ) where
         ap (λ x. x >>= λ _. has_room_after (2 * n) store >>= λ _. left_read) (has_some frame limit size (2 * n) both (omega arith))
         ∙ ap (λ x. x >>= λ _. left_read) (has_room frame limit size (2 * n) both (omega arith))
         ∙ ap (λ cs. rows.numbers cs >>= right_read) (row_is below (cells_of left) (cells_of right) (2 * n) n two (l ∙ long))
-        ∙ ap (λ x. x >>= right_read) (numbers_are left)
+        ∙ ap (λ x. x >>= right_read) (numbers_are left left_are)
         ∙ ap (λ cs. rows.numbers cs >>= order_pushed (numbers_of left)) (top_row_is (below ++ cells_of left) (cells_of right) n (r ∙ as_long))
-        ∙ ap (λ x. x >>= order_pushed (numbers_of left)) (numbers_are right)
+        ∙ ap (λ x. x >>= order_pushed (numbers_of left)) (numbers_are right right_are)
         ∙ ap (λ cs. Ok (framed frame limit size (cs ++ Number order ∷ [])))
         (popped_is below (cells_of left) (cells_of right) (2 * n) two)
 
   -- a row and a width give way to a text
-  module _ (below : List Cell) (linked : frame + 4 ≤ length below) (row : List Value) (width : ℤ) (n : ℕ) (long : length row ≡ n) where
+  module _ (below : List Cell) (linked : frame + 4 ≤ length below) (row : List Value) (width : ℤ) (n : ℕ) (long : length row ≡ n)
+      (row_are : AreNumbers row) where
     abbrev string : List Cell
     string = (below ++ cells_of row) ++ Number width ∷ []
 
@@ -110,7 +116,7 @@ module _ (frame limit size : ℕ) where
         ) in
         ap (λ x. x >>= λ _. rows.numbers (rows.row (n + 1) n string_store) >>= width_read) (has_some frame limit size (n + 1) string (omega arith))
         ∙ ap (λ cs. rows.numbers cs >>= width_read) (row_is below (cells_of row) (Number width ∷ []) (n + 1) n (omega arith) (l ∙ long))
-        ∙ ap (λ x. x >>= width_read) (numbers_are row)
+        ∙ ap (λ x. x >>= width_read) (numbers_are row row_are)
         ∙ ap (λ o. number o >>= λ w. Ok (numbers_of row, w))
         (top_at frame limit size (below ++ cells_of row) (omega (arith, length-append below (cells_of row))) (Number width))
 

@@ -4,6 +4,8 @@ use Rattle.code_generator.proofs.Words.{◌≡◌, ℕ, ◌+◌, ◌-◌, ◌<�
 use Rattle.code_generator.proofs.Words.{append_assoc, Bool, true, false, ℤ, Instr, Value, Reply, Gives, Action, ◌>>=◌, number_of, require, UsesTurnsExactly}
 use Rattle.code_generator.proofs.Words.{deed_of, Cell, Number, Attempt, Frames, State, moved, is_true}
 use Rattle.pcode_assembler.specs.declared.instr.Instr.TheVariants as instr
+use Rattle.typed_tree.specs.declared.tree.Scalar.{Scalar}
+use Rattle.typed_tree.specs.declared.tree.Scalar.TheVariants as scalar
 use Rattle.meaning.specs.declared.store.Value.TheVariants as value
 use Rattle.meaning.specs.Effect as effect
 use Rattle.meaning.proofs.Replies.{and_then-and_then}
@@ -11,6 +13,7 @@ use Rattle.stack_machine.specs.Deeds.{Tests}
 use Rattle.code_generator.proofs.Acts.{framed}
 use Rattle.code_generator.proofs.Exact.{exact_give, exact_then}
 use Rattle.code_generator.proofs.Numbers.{Fits}
+use Rattle.code_generator.proofs.Scalars.{HasKind, ordinal_fits, ordinal_is, value_cell}
 use Rattle.code_generator.proofs.Reach.{Stands, StandsAt, Comes, comes_on, comes_less, stands_front, stands_back, stays_here}
 use Rattle.code_generator.proofs.Setting.{Setting, on, Based, Ends, ends_on, Starves, starves_on, starves_same, starves_first, starves_behind, as_value, passes}
 use Rattle.code_generator.proofs.Setting.{fails, branched, jumps}
@@ -171,41 +174,69 @@ module _ (g : Setting) where
 
   -- ---- the code of an expression
 
-  -- its value is of type integer
-  abbrev pub IsValue : List Cell → Value → Type 0
-  IsValue held v = Fits (number_of v) × (g.below + length held < g.limit)
+  -- its value is of this kind
+  abbrev pub IsValue : Scalar → List Cell → Value → Type 0
+  IsValue kind held v = HasKind kind v × (g.below + length held < g.limit)
 
-  abbrev pub number_cell : Value → List Cell
-  number_cell v = Number (number_of v) ∷ []
+  abbrev pub value_top : Value → List Cell
+  value_top v = value_cell v ∷ []
 
-  abbrev pub value_on : List Cell → ℕ → Aim Value
-  value_on held = top_on (IsValue held) number_cell held
+  abbrev pub value_on : Scalar → List Cell → ℕ → Aim Value
+  value_on kind held = top_on (IsValue kind held) value_top held
 
-  abbrev pub Evaluates : State → List Cell → ℕ → Action Value → effect.State → Type 0
-  Evaluates m held place action s = Runs (value_on held place) m action s
+  abbrev pub Evaluates : Scalar → State → List Cell → ℕ → Action Value → effect.State → Type 0
+  Evaluates kind m held place action s = Runs (value_on kind held place) m action s
 
   -- a value that is there after some instructions
-  pub gives : (least : ℕ) (m : State) (base held : List Cell) (place : ℕ) (v : Value) (s : effect.State) → Based g s base
-      → Comes g.target least m (on g ((base ++ held) ++ Number (number_of v) ∷ []) place s) → Fits (number_of v) → g.below + length held < g.limit
-      → Arrives (value_on held place) s.turns m (Gives v s)
-  gives least m base held place v s based l fit room =
+  pub gives : (kind : Scalar) (least : ℕ) (m : State) (base held : List Cell) (place : ℕ) (v : Value) (s : effect.State) → Based g s base
+      → Comes g.target least m (on g ((base ++ held) ++ value_cell v ∷ []) place s) → HasKind kind v → g.below + length held < g.limit
+      → Arrives (value_on kind held place) s.turns m (Gives v s)
+  gives kind least m base held place v s based l fit room =
       ((base, based, (fit, room)), comes_less g.target (s.turns - s.turns + 0) least m _ (omega arith) l, omega arith)
 
-  -- a value, and the code behind it
+  -- a value of a kind, and the code behind it
+  pub scalar_then : {A : Type 0} (kind : Scalar) (aim : ℕ → Aim A) (c c' : List Instr) (place : ℕ) (m : State) (held : List Cell) (first : Action Value)
+      (next : Value → Action A) (s : effect.State) → UsesTurnsExactly first → Stands g.target place (c ++ c')
+      → (Stands g.target place c → Evaluates kind m held (place + length c) first s)
+      → ((base : List Cell) (v : Value) (t : effect.State) → Stands g.target (place + length c) c' → Based g t base → HasKind kind v
+      → g.below + length held < g.limit → t.turns ≤ s.turns
+      → Runs (aim (place + length c + length c')) (on g ((base ++ held) ++ value_cell v ∷ []) (place + length c) t) (next v) t)
+      → Runs (aim (place + length (c ++ c'))) m (first >>= next) s
+  scalar_then kind aim c c' place m held first next s exact stands runs h =
+      then_code (value_on kind held) aim c c' place m first next s exact stands runs (λ v t x rest. h x.0 v t rest x.1 x.2.0 x.2.1)
+
+  -- an ordinal
   pub value_then : {A : Type 0} (aim : ℕ → Aim A) (c c' : List Instr) (place : ℕ) (m : State) (held : List Cell) (first : Action Value)
       (next : Value → Action A) (s : effect.State) → UsesTurnsExactly first → Stands g.target place (c ++ c')
-      → (Stands g.target place c → Evaluates m held (place + length c) first s)
-      → ((base : List Cell) (v : Value) (t : effect.State) → Stands g.target (place + length c) c' → Based g t base → Fits (number_of v)
+      → (Stands g.target place c → Evaluates scalar.Ordinal m held (place + length c) first s)
+      → ((base : List Cell) (n : ℤ) (t : effect.State) → Stands g.target (place + length c) c' → Based g t base → Fits n
       → g.below + length held < g.limit → t.turns ≤ s.turns
-      → Runs (aim (place + length c + length c')) (on g ((base ++ held) ++ Number (number_of v) ∷ []) (place + length c) t) (next v) t)
+      → Runs (aim (place + length c + length c')) (on g ((base ++ held) ++ Number n ∷ []) (place + length c) t) (next (value.Number n)) t)
       → Runs (aim (place + length (c ++ c'))) m (first >>= next) s
   value_then aim c c' place m held first next s exact stands runs h =
-      then_code (value_on held) aim c c' place m first next s exact stands runs (λ v t x rest. h x.0 v t rest x.1 x.2.0 x.2.1)
+      scalar_then scalar.Ordinal aim c c' place m held first next s exact stands runs
+      (λ base v t rest based has room le.
+      subst (λ w. Runs (aim (place + length c + length c')) (on g ((base ++ held) ++ value_cell w ∷ []) (place + length c) t) (next w) t)
+      (sym (ordinal_is v has)) (h base (number_of v) t rest based (ordinal_fits v has) room le))
+
+  -- and one beside a row that is held too
+  pub ordinal_beside : {B : Type 0} (aim : ℕ → Aim B) (c c' : List Instr) (place : ℕ) (base held row : List Cell) (first : Action Value)
+      (next : Value → Action B) (s : effect.State) → UsesTurnsExactly first → Stands g.target place (c ++ c')
+      → (Stands g.target place c → Evaluates scalar.Ordinal (on g (base ++ (held ++ row)) place s) (held ++ row) (place + length c) first s)
+      → ((base2 : List Cell) (n : ℤ) (t : effect.State) → Stands g.target (place + length c) c' → Based g t base2 → Fits n
+      → g.below + length (held ++ row) < g.limit
+      → Runs (aim (place + length c + length c')) (on g (((base2 ++ held) ++ row) ++ Number n ∷ []) (place + length c) t) (next (value.Number n)) t)
+      → Runs (aim (place + length (c ++ c'))) (on g ((base ++ held) ++ row) place s) (first >>= next) s
+  ordinal_beside aim c c' place base held row first next s exact stands runs h =
+      beside (IsValue scalar.Ordinal (held ++ row)) value_top aim c c' place base held row first next s exact stands runs
+      (λ base2 v t rest based so.
+      subst (λ w. Runs (aim (place + length c + length c')) (on g (((base2 ++ held) ++ row) ++ value_cell w ∷ []) (place + length c) t) (next w) t)
+      (sym (ordinal_is v so.0)) (h base2 (number_of v) t rest based (ordinal_fits v so.0) so.1))
 
   -- a number
   pub number_then : {A : Type 0} (aim : ℕ → Aim A) (c c' : List Instr) (place : ℕ) (m : State) (held : List Cell) (first : Action ℤ)
       (next : ℤ → Action A) (s : effect.State) → UsesTurnsExactly first → Stands g.target place (c ++ c')
-      → (Stands g.target place c → Evaluates m held (place + length c) (as_value first) s)
+      → (Stands g.target place c → Evaluates scalar.Ordinal m held (place + length c) (as_value first) s)
       → ((base : List Cell) (n : ℤ) (t : effect.State) → Stands g.target (place + length c) c' → Based g t base → Fits n
       → Runs (aim (place + length c + length c')) (on g ((base ++ held) ++ Number n ∷ []) (place + length c) t) (next n) t)
       → Runs (aim (place + length (c ++ c'))) m (first >>= next) s
@@ -214,7 +245,7 @@ module _ (g : Setting) where
       (λ t. sym (and_then-and_then (first t) (λ n. effect.give (value.Number n)) (λ v. next (number_of v))))
       (value_then aim c c' place m held (as_value first) (λ v. next (number_of v)) s
       (exact_then first (λ n. effect.give (value.Number n)) exact (λ n. exact_give (value.Number n))) stands runs
-      (λ base v t rest based fit room le. h base (number_of v) t rest based fit))
+      (λ base n t rest based fit room le. h base n t rest based fit))
 
   -- ---- the code of a statement
 

@@ -2,15 +2,17 @@
 -- program does.
 use Rattle.code_generator.proofs.Words.{◌≡◌, ℕ, suc, ◌+◌, ◌-◌, ◌<◌, ◌≤◌, ◌⊎◌, inl, inr, List, [], ◌∷◌, ◌++◌, length, Some, None, Ok, Err, refl, sym, ap, subst}
 use Rattle.code_generator.proofs.Words.{arith, length-append, Bool, true, false, ◌∙◌, slice_get, ℤ, pos, if◌then◌else◌, Instr, Tree, Block, Variable}
-use Rattle.code_generator.proofs.Words.{IsWellFormed, cells_of, Ending, Value, Place, stored, Gives, Action, ◌>>=◌, UsesTurnsExactly, Cell}
+use Rattle.code_generator.proofs.Words.{IsWellFormed, Option, TypeId, cells_of, Ending, Value, Place, stored, Gives, Action, ◌>>=◌, UsesTurnsExactly, Cell}
 use Rattle.code_generator.proofs.Words.{Undefined, Number, deed_of, Frames, Attempt, is_true, State, moved, routines_of, block_depth, living_need, Scope}
 use Rattle.code_generator.proofs.Words.{links_to, other_cells, parameter_cells, variable_home}
 use Rattle.pcode_assembler.specs.declared.instr.Instr.TheVariants as instr
+use Rattle.typed_tree.specs.Records.{OpenRecord}
 use Rattle.typed_tree.specs.WellFormed.{Outline, is_visible, outline_of}
 use Rattle.meaning.specs.declared.outcome.Ending.TheVariants as ending
 use Rattle.meaning.specs.declared.store.Value.TheVariants as value
 use Rattle.meaning.specs.Store as meant
 use Rattle.meaning.specs.Store.{Environment}
+use Rattle.meaning.specs.Kinds.{type_on}
 use Rattle.meaning.specs.Effect as effect
 use Rattle.meaning.specs.Laws.{AllGoRoundByRound, AllUseTurnsExactly}
 use Rattle.meaning.specs.Meaning.{Surroundings, calls_of}
@@ -19,7 +21,7 @@ use Rattle.stack_machine.specs.declared.stop.Stop.TheVariants as stop
 use Rattle.stack_machine.specs.Deeds.{Acts, Tests, jumped_if_false}
 use Rattle.stack_machine.specs.Machine.{Next, carried_out, and_then, checked, with_frames, with_place, error_of}
 use Rattle.code_scheme.specs.Code.{program_code}
-use Rattle.code_scheme.specs.Scopes.{block_level, home_of}
+use Rattle.code_scheme.specs.Scopes.{block_level, home_of, record_home}
 use Rattle.code_generator.specs.Follows.{StopsAs}
 use Rattle.code_generator.specs.Known.{Known}
 use Rattle.code_scheme.specs.Large.{is_too_large}
@@ -38,9 +40,9 @@ pub data Way : Type 0 where
 
 -- a variable of this type lies in a cell, which is the one told, or the one whose address is fixed there
 abbrev pub Reaches : Tree → World → Fixed → ℕ → Place → Variable → ℕ → Bool → Way → Type 0
-Reaches tree world fixed end p variable cell refers Direct = (refers ≡ false) × IsPart tree.types world end p variable.type_id cell
+Reaches tree world fixed end p variable cell refers Direct = (refers ≡ false) × IsPart (outline_of tree) world end p variable.type_id cell
 Reaches tree world fixed end p variable cell refers (ByAddress address) =
-    (refers ≡ true) × (slice_get fixed cell ≡ Some (Some (Number (pos address)))) × IsPart tree.types world end p variable.type_id address
+    (refers ≡ true) × (slice_get fixed cell ≡ Some (Some (Number (pos address)))) × IsPart (outline_of tree) world end p variable.type_id address
 
 -- a variable is visible, and code finds it, or its address, in a frame to which static links lead
 pub record Shown (tree : Tree) (world : World) (fixed : Fixed) (end frame : ℕ) (scope : Scope) (env : Environment) (root : ℕ) (variable : Variable) : Type 0
@@ -52,12 +54,25 @@ pub record Shown (tree : Tree) (world : World) (fixed : Fixed) (end frame : ℕ)
     pub way : Way
     pub reaches : Reaches tree world fixed end place variable (owner + (variable_home scope root).start) (variable_home scope root).refers way
 
+-- a record of a with is open in a slot: code finds its address in the running frame
+pub record ShownRecord (tree : Tree) (world : World) (fixed : Fixed) (end frame : ℕ) (scope : Scope) (records : List (Option Place)) (slot : ℕ)
+    (one : OpenRecord) : Type 0 where
+  pub place : Place
+  pub place_is : slice_get records slot ≡ Some (Some place)
+  pub id : TypeId
+  pub type_is : type_on (outline_of tree) one.root one.steps ≡ Some id
+  pub level_is : (record_home scope slot).level ≡ scope.level
+  pub refers : (record_home scope slot).refers ≡ true
+  pub address : ℕ
+  pub held : slice_get fixed (frame + (record_home scope slot).start) ≡ Some (Some (Number (pos address)))
+  pub part : IsPart (outline_of tree) world end place id address
+
 -- the cells below those that are held, as many as told and alike to a store, where so many activations have begun, these
 -- blocks last, and so many turns are left
-pub record Grounded (world : World) (fixed : Fixed) (below : ℕ) (blocks : List ℕ) (depth : ℕ) (store : meant.Store) (activations : ℕ) (living : List ℕ)
-    (turns : ℕ) (base : List Cell) : Type 0 where
+pub record Grounded (outline : Outline) (world : World) (fixed : Fixed) (below : ℕ) (blocks : List ℕ) (depth : ℕ)
+    (store : meant.Store) (activations : ℕ) (living : List ℕ) (turns : ℕ) (base : List Cell) : Type 0 where
   pub full : length base ≡ below
-  pub alike : Alike world store base
+  pub alike : Alike outline world store base
   pub keeps : Keeps fixed base
   -- the activations that live have begun, and those that haven't own nothing
   pub old : (a : Activation) → Lives world a → a.number < activations
@@ -129,6 +144,13 @@ pub record Setting : Type 0 where
   pub bottom : ℕ
   pub chain : Leads fixed (links_to scope 0) frame bottom
   pub blank : slice_get fixed (bottom + 2) ≡ Some (Some Undefined)
+  -- the records of the with statements round it, by their slots: in which variables they lie, and where
+  pub opened : List OpenRecord
+  pub records : List (Option Place)
+  pub as_many_homes : length scope.records ≡ length opened
+  pub as_many_records : length records ≡ length opened
+  pub opens : (slot : ℕ) (one : OpenRecord) → slice_get opened slot ≡ Some one
+      → ShownRecord tree world fixed below frame scope records slot one
 
 -- what gives a number, where a value is wanted
 abbrev pub as_value : Action ℤ → Action Value
@@ -141,14 +163,14 @@ module _ (g : Setting) where
 
   -- what is visible in the running activation, and what calls do there
   abbrev pub around : Surroundings
-  around = record { visible = g.environment; calls = calls_of g.tree g.depth }
+  around = record { visible = g.environment; records = g.records; calls = calls_of g.tree g.depth }
 
   -- what is known of the pieces and of the loops that stand there
   pub exact_around : AllUseTurnsExactly around
-  exact_around = g.known.pieces g.tree g.depth g.environment
+  exact_around = g.known.pieces g.tree g.depth g.environment g.records
 
   pub goes_around : AllGoRoundByRound around
-  goes_around = g.known.rounds g.tree g.depth g.environment
+  goes_around = g.known.rounds g.tree g.depth g.environment g.records
 
   -- the state behind an entry
   abbrev pub entered : ℕ → effect.State → effect.State
@@ -165,7 +187,7 @@ module _ (g : Setting) where
 
   -- the cells below those that are held, on which the code of a piece of the block stands
   abbrev pub Based : effect.State → List Cell → Type 0
-  Based s base = Grounded g.world g.fixed g.below (g.number ∷ g.callers) g.depth s.store s.activations s.living s.turns base
+  Based s base = Grounded (outline_of g.tree) g.world g.fixed g.below (g.number ∷ g.callers) g.depth s.store s.activations s.living s.turns base
 
   -- these are all the cells that are held: above them the next one lies where the code takes it to lie
   abbrev pub AllHeld : List Cell → Type 0

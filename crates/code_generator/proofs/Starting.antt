@@ -4,7 +4,7 @@ use Rattle.code_generator.proofs.Words.{◌≡◌, ℕ, zero, suc, ◌+◌, ◌-
 use Rattle.code_generator.proofs.Words.{Some, None, refl, sym, ap, ◌∙◌, subst, arith, Bool, true, false, length-append, append_assoc, replicate, if◌then◌else◌}
 use Rattle.code_generator.proofs.Words.{nat_eq, slice_get, pos, drop-append_seam, cases_lt, eqb-true, and_parts, false≢true, length-map, none-some, same_Some}
 use Rattle.code_generator.proofs.Words.{components_of, Form, Block, Variable, VariableKind, is_parameter_kind, is_variable_kind, roots_where, Place, stored}
-use Rattle.code_generator.proofs.Words.{Gives, number_of, Argument, OfValue, OfRow, OfPlace, Cell, Undefined, Number, block_depth}
+use Rattle.code_generator.proofs.Words.{Gives, Argument, OfValue, OfRow, OfPlace, Cell, Undefined, Number, block_depth}
 use Rattle.code_generator.proofs.Words.{called_routine, cells_where, is_parameter_of, links_to, other_cells, parameter_cells, slot_cells, variable_home}
 use Rattle.std.proofs.Math.Seq.{take-append_seam}
 use Rattle.typed_tree.specs.declared.tree.VariableKind.TheVariants as kinds
@@ -12,17 +12,18 @@ use Rattle.typed_tree.specs.WellFormed.{is_value_kind}
 use Rattle.meaning.specs.Store as meant
 use Rattle.meaning.specs.Effect as effect
 use Rattle.meaning.specs.Meaning.{assign, assign_all, home_of as home_in, own_place}
-use Rattle.code_generator.proofs.Alike.{Activation, Lives, Fixed, Lies, LiesIn, HasFit, Keeps, Leads, cell_of}
+use Rattle.code_generator.proofs.Alike.{Activation, Lives, Fixed, Lies, LiesIn, Keeps, Leads}
+use Rattle.code_generator.proofs.Scalars.{AllFit, HasFit, cell_of, scalar_at, scalar_there, value_cell}
 use Rattle.code_generator.proofs.Callee.{callee, fixed_mark, new_activation, own_filled, own_part, seen, its_start}
 use Rattle.code_generator.proofs.Cells.{starts_as_parameter, where_cons}
 use Rattle.code_generator.proofs.Held.{scalar_kept}
 use Rattle.code_generator.proofs.Laying.{Laid, Takes, fitted_length, marked, marked_by, marked_first, marked_long, no_reference}
 use Rattle.code_generator.proofs.Nesting.{Callable}
-use Rattle.code_generator.proofs.Parts.{IsPart, ordinal_part}
+use Rattle.code_generator.proofs.Parts.{IsPart, scalar_part}
 use Rattle.code_generator.proofs.Passing.{Fitted}
 use Rattle.code_generator.proofs.Rows.{cells_of as value_cells}
-use Rattle.code_generator.proofs.Setting.{Setting, Based}
-use Rattle.code_generator.proofs.Wholes.{row_kept, set_row, set_row_is, store_all_is, stored_all}
+use Rattle.code_generator.proofs.Setting.{Setting, Based, outline}
+use Rattle.code_generator.proofs.Wholes.{part_kinds, row_kept, set_row, set_row_is, store_all_is, stored_all}
 use Rattle.code_generator.proofs.Lists.{slice_before, slice_behind, slice_get-front, set_middle}
 use Rattle.std.proofs.lemmas.List.{length-replicate}
 
@@ -192,9 +193,9 @@ module _ (g : Setting) (number : ℕ) (block : Block) (block_is : slice_get g.tr
   abbrev its_activation : Activation
   its_activation = new_activation g number block block_is callable outer way held cells arguments s.activations return depth based.old room laid fits
 
-  scalar_at : (p : Place) (c : ℕ) (l : LiesIn h.world p c) → (l.owner ≡ its_activation) ⊎ Lives g.world l.owner
-      → (slice_get start_cells c ≡ Some (cell_of (stored s.store p))) × HasFit (stored s.store p)
-  scalar_at p c l (inl mine) =
+  scalar_begun : (p : Place) (c : ℕ) (l : LiesIn h.world p c) → (l.owner ≡ its_activation) ⊎ Lives g.world l.owner
+      → (slice_get start_cells c ≡ Some (cell_of (stored s.store p))) × HasFit (scalar_at (outline g) p) (stored s.store p)
+  scalar_begun p c l (inl mine) =
       let lies = subst (λ a. Lies a p c) mine l.lies in
       let its = lies.its in
       let none : stored s.store p ≡ None = based.fresh p (omega (arith, its)) in
@@ -204,8 +205,8 @@ module _ (g : Setting) (number : ℕ) (block : Block) (block_is : slice_get g.tr
       ap (λ cs. slice_get cs c) (sym (append_assoc (base ++ held) its_links (blanks ++ unset)))
       ∙ own_filled g number block block_is callable outer way held cells arguments s.activations return depth based.old room laid fits
       front long blank_mark Undefined (λ v cell plain. ap (λ b. if b then cell else Undefined) plain) p c lies in
-      (cell ∙ ap (λ o. Some (cell_of o)) (sym none), subst HasFit (sym none) tt)
-  scalar_at p c l (inr lives) =
+      (cell ∙ ap (λ o. Some (cell_of o)) (sym none), subst (HasFit (scalar_at (outline g) p)) (sym none) tt)
+  scalar_begun p c l (inr lives) =
       let lies : LiesIn g.world p c = record { owner = l.owner; lives = lives; lies = l.lies } in (
         slice_get-front (base ++ held) (its_links ++ (blanks ++ unset)) c _ (slice_get-front base held c _ (based.alike.scalars p c lies)),
         based.alike.fits p c lies,
@@ -219,8 +220,8 @@ module _ (g : Setting) (number : ℕ) (block : Block) (block_is : slice_get g.tr
       record {
         full = start_long;
         alike = record {
-          scalars = λ p c l. (scalar_at p c l l.lives).0;
-          fits = λ p c l. (scalar_at p c l l.lives).1;
+          scalars = λ p c l. (scalar_begun p c l l.lives).0;
+          fits = λ p c l. (scalar_begun p c l l.lives).1;
         };
         keeps = keeps_join (g.fixed ++ map (λ c. Some c) held) _ (base ++ held) (its_links ++ (blanks ++ unset))
             (omega (arith, full, same, length-append base held, length-append g.fixed (map (λ c. Some c) held), length-map held (λ c. Some c)))
@@ -277,14 +278,14 @@ module _ (g : Setting) (number : ℕ) (block : Block) (block_is : slice_get g.tr
           seen g number block block_is callable outer way held cells arguments s.activations return depth based.old room laid fits k v at own
           ∙ value_home v.kind by_value
 
-      part_at : (d : ℕ) → d ≡ h.frame + 4 + cells_where types test (take k variables) → IsPart types h.world h.below own_home v.type_id d
+      part_at : (d : ℕ) → d ≡ h.frame + 4 + cells_where types test (take k variables) → IsPart (outline g) h.world h.below own_home v.type_id d
       part_at d is =
           let start = its_start g number block block_is callable outer way held cells arguments s.activations return depth based.old room laid fits k v at
           own in
           let begins = starts_as_parameter g.tree k v is_kind in
           let mine = ap (λ n. cells_where types (is_parameter_of n) (take k variables)) own in
           let same : h.frame + (variable_home h.scope k).start ≡ d = omega (arith, is, start, begins, mine) in
-          subst (IsPart types h.world h.below own_home v.type_id) same
+          subst (IsPart (outline g) h.world h.below own_home v.type_id) same
           (own_part g number block block_is callable outer way held cells arguments s.activations return depth based.old room laid fits k v at own
           (no_reference v.kind by_value))
 
@@ -303,24 +304,25 @@ module _ (g : Setting) (number : ℕ) (block : Block) (block_is : slice_get g.tr
         → length pre ≡ h.frame + 4 + cells_where types test (take k variables) → Based h t (pre ++ (map (blank_mark v) first ++ post))
         → OneAssigned argument pre first post t
     one_assigned (OfValue w) pre first post t f long based' =
-        let n = number_of w in
+        let cell = value_cell w in
         let part = part_at f.0 (length pre) long in
-        let lies = ordinal_part types h.world h.below g.known own_home v.type_id (length pre) f.1 part in
+        let lies = scalar_part (outline g) h.world h.below g.known own_home v.type_id (length pre) f.1 part in
+        let fit = subst (λ kind. HasFit kind (Some w)) (sym (scalar_there (outline g) own_home v.type_id part.typed)) f.2 in
         let blank : map (blank_mark v) first ≡ Undefined ∷ [] =
-        ap (map (blank_mark v)) f.3 ∙ ap (λ b. (if b then Number n else Undefined) ∷ []) (no_reference v.kind f.0) in
+        ap (map (blank_mark v)) f.3 ∙ ap (λ b. (if b then cell else Undefined) ∷ []) (no_reference v.kind f.0) in
         let before = subst (λ l. Based h t (pre ++ (l ++ post))) blank based' in
-        let after = scalar_kept h own_home (length pre) t (pre ++ (Undefined ∷ post)) w lies before f.2 in (
+        let after = scalar_kept h own_home (length pre) t (pre ++ (Undefined ∷ post)) w lies before fit in (
           meant.kept t.store (Some own_home) w,
           ap (λ o. effect.store o w t) (home_is_own f.0),
           subst (λ l. Based h (record t { store = meant.kept t.store (Some own_home) w }) (pre ++ (l ++ post))) (sym f.3)
-              (subst (Based h (record t { store = meant.kept t.store (Some own_home) w })) (set_middle pre Undefined (Number n) post) after),
+              (subst (Based h (record t { store = meant.kept t.store (Some own_home) w })) (set_middle pre Undefined cell post) after),
         )
     one_assigned (OfRow vs) pre first post t f long based' =
         let part = part_at f.0 (length pre) long in
         let components = components_of types v.type_id in
-        let many = g.known.cells types v.type_id in
+        let fit = subst (λ kinds. AllFit kinds vs) (sym (part_kinds h own_home v.type_id part.typed)) f.2 in
         let blank_long : length (map (blank_mark v) first) ≡ length (value_cells vs) = length-map first (blank_mark v) ∙ ap length f.3 in
-        let after = row_kept h own_home components (length pre) vs t (pre ++ (map (blank_mark v) first ++ post)) part.from.each (omega (arith, many, f.1)) f.2
+        let after = row_kept h own_home components (length pre) vs t (pre ++ (map (blank_mark v) first ++ post)) part.from.each fit
         based' in (
           stored_all t.store own_home components vs,
           ap (λ o. effect.store_all o components vs t) (home_is_own f.0) ∙ store_all_is own_home components vs t,

@@ -27,7 +27,7 @@ use Rattle.typed_tree.specs.declared.tree.Written.TheVariants.{Ordinal, String}
 use Rattle.typed_tree.specs.declared.tree.Whole.{Whole}
 use Rattle.typed_tree.specs.declared.tree.Stmt.{Stmt}
 use Rattle.typed_tree.specs.declared.tree.Stmt.TheOpen.{Stmt-F}
-use Rattle.typed_tree.specs.declared.tree.Stmt.TheOpen.Stmt-F.{Empty, Assign, Copy, Write, Compound, If, While, Repeat, For, Case, Call as Calling}
+use Rattle.typed_tree.specs.declared.tree.Stmt.TheOpen.Stmt-F.{Empty, Assign, Copy, Write, Compound, If, While, Repeat, For, Case, Call as Calling, With}
 use Rattle.typed_tree.specs.declared.tree.Stmt.TheViews.{roll-Stmt}
 use Rattle.typed_tree.specs.declared.tree.Stmt.TheFolds.{fold-Stmt, map-Stmt, fold-roll-Stmt, ind-Stmt}
 use Rattle.meaning.specs.declared.outcome.Ending.TheVariants as ending
@@ -50,7 +50,12 @@ use Rattle.code_scheme.specs.Code.{Placed, placed, if_code, if_else_code, while_
 use Rattle.code_scheme.specs.Code.{order_instr, next_instr, row_code, arms_code, case_code, width_code, write_instr, parameter_code, line_end_code, call_code}
 use Rattle.code_scheme.specs.Code.{passed_code, write_code, stmt_code, stmt_step, default_width, ordinal_instr, ordinal_width, whole_code}
 use Rattle.code_scheme.specs.Depth.{call_depth, greatest, passed_depth, stmt_depth, stmt_depth_step, arms_depth, parameter_depth, width_depth, whole_depth}
-use Rattle.typed_tree.specs.WellFormed.{is_well_formed_width, is_well_formed_parameter, is_well_formed_test, is_well_formed_stmt, fits_target, whole_indexes}
+use Rattle.typed_tree.specs.Accesses.{AtVariable}
+use Rattle.typed_tree.specs.Kinds.{is_held_parameter, is_held_passed, is_held_stmt, is_held_value, is_ordinal_expr, statement_held}
+use Rattle.typed_tree.specs.Records.{Begin, all_begin, begins as all_begins, begins_in, parameter_begins, passed_begin, statement_begins, value_begins}
+use Rattle.code_generator.proofs.Texts.{compares_in, compares_strings, is_text, parameter_compares, passes_strings, statement_compares, value_compares}
+use Rattle.typed_tree.specs.WellFormed.{is_text as is_text_of, source_of}
+use Rattle.typed_tree.specs.WellFormed.{is_well_formed_parameter, is_well_formed_test, is_well_formed_stmt, fits_target, whole_indexes}
 use Rattle.typed_tree.specs.WellFormed.{are_whole, stmt_is_well_formed, is_control, is_well_formed_call, is_well_formed_passed, is_well_formed_whole, length_of}
 use Rattle.code_generator.proofs.Reach.{Stands, StandsAt, stands_front, stands_back, Comes, comes_less, comes_on, stays_here}
 use Rattle.code_generator.proofs.Setting.{AllHeld, branched, goes_around, Setting, outline, around, exact_around, on, Based, later, linked, limit_far}
@@ -58,13 +63,17 @@ use Rattle.code_generator.proofs.Setting.{Here, goes_on}
 use Rattle.code_generator.proofs.Setting.{jumps, fails, entered}
 use Rattle.code_generator.proofs.Loops.{Rounds, RoundsBehind, RoundRuns, round_again, round_over, turn_then, turned, loops, reset, rounds_from_reset}
 use Rattle.code_generator.proofs.Loops.{round_on}
-use Rattle.code_generator.proofs.Accesses.{Indexes, expressions, wells, codes as index_codes}
+use Rattle.code_generator.proofs.Accesses.{Indexes, expressions, codes as index_codes}
 use Rattle.code_generator.proofs.Assigns.{told, told_back, assign_runs, copy_runs}
-use Rattle.code_generator.proofs.Evaluating.{same_four, sites, ExecutesAs, fetched_at, frames_of, one_held, range_then}
+use Rattle.code_generator.proofs.Evaluating.{Good, Shape, both, good_parts, in_order, ordinal_good, ordinal_shape, same_four, same_shape, sites, ExecutesAs}
+use Rattle.code_generator.proofs.Evaluating.{fetched_at, frames_of, one_held, range_then}
+use Rattle.code_generator.proofs.Scalars.{fit_length}
+use Rattle.code_generator.proofs.Strings.{AreNumbers}
 use Rattle.code_generator.proofs.Exact.{exact_for_round, exact_parameters, exact_repeat_round, exact_statements, exact_while_round}
 use Rattle.code_generator.proofs.Passing.{CallsAt, CallsRun, returns_executes}
 use Rattle.code_generator.proofs.Repeats.{repeats, repeats_step}
-use Rattle.code_generator.proofs.Wholes.{AllFit, few_components, fitting_bytes, whole_runs, row_then}
+use Rattle.code_generator.proofs.Wholes.{few_components, fitting_bytes, row_kinds, row_long, text_numbers, whole_runs, row_then}
+use Rattle.code_generator.proofs.Withs.{StmtRuns, popped_there, stmt_shape, with_runs}
 use Rattle.code_generator.proofs.Held.{slot, IsScalar, is_scalar, variable_kept, variable_forgotten, loads_held, stores_held, decides, begins, steps, leaves}
 use Rattle.code_generator.proofs.Held.{compares_row, last_is, next_fits, one_fits}
 use Rattle.code_scheme.proofs.Arms.{length-arms, length-row}
@@ -72,7 +81,7 @@ use Rattle.code_scheme.proofs.Pieces.{length-For}
 use Rattle.code_generator.proofs.Acts.{writes}
 use Rattle.code_generator.proofs.Numbers.{Fits, fits_by_abs, sum_is, difference_is}
 use Rattle.code_generator.proofs.Rows.{cells_of, length-cells_of, numbers_of, same_byte, writes_string}
-use Rattle.code_generator.proofs.Exprs.{call_runs, width_runs, expr_then}
+use Rattle.code_generator.proofs.Exprs.{call_runs, width_runs, width_shape, expr_then}
 use Rattle.code_generator.proofs.Running.{Aim, done_jumps, Executes, Runs, behind_executes, branch_then, done, done_then, kept_on, number_then, runs_from}
 use Rattle.code_generator.proofs.Running.{then_runs}
 use Rattle.code_generator.proofs.Lists.{length_one}
@@ -151,7 +160,7 @@ module _ (g : Setting) (known : CallsAt g) where
       (text_runs instr.WriteBoolean (texts.boolean_text n w) place two cells s _ stands.0 refl
       (writes g.frame g.limit g.size cells in_frame n w texts.boolean_text))
 
-  string_writes : (count : ℕ) (row : List Value) (place : ℕ) (cells : List Cell) (w : ℤ) (s : effect.State) → length row ≡ count → AllFit row
+  string_writes : (count : ℕ) (row : List Value) (place : ℕ) (cells : List Cell) (w : ℤ) (s : effect.State) → length row ≡ count → AreNumbers row
       → Stands g.target place (instr.WriteString count ∷ []) → g.frame + 4 ≤ length cells
       → Comes g.target 1 (on g ((cells ++ cells_of row) ++ Number w ∷ []) place s)
       (on g cells (place + 1) (written s (effect.row_text row w)))
@@ -160,12 +169,12 @@ module _ (g : Setting) (known : CallsAt g) where
       subst (λ t. Comes g.target 1 (on g string place s) (on g cells (place + 1) (written s t)))
       (same_string_text (map texts.byte_of (numbers_of row)) w ∙ ap (λ bytes. effect.string_text bytes w) (fitting_bytes row fit))
       (text_runs (instr.WriteString count) (texts.string_text (map texts.byte_of (numbers_of row)) w) place string cells s _ stands.0 refl
-      (writes_string g.frame g.limit g.size cells in_frame row w count long))
+      (writes_string g.frame g.limit g.size cells in_frame row w count long fit))
 
   -- a width above the cells of a value, with which it gives way to a text
   width_writes : (width : Option Width) (v : Written) (default : ℤ) (row : List Value) (text : ℤ → List ℕ) (place : ℕ) (base held : List Cell)
       (s : effect.State) → default_width v ≡ instr.LoadConstant default → Fits default
-      → Stands g.target place (width_code g.scope width v ++ (write_instr v ∷ [])) → is_well_formed_width (outline g) g.number width ≡ true
+      → Stands g.target place (width_code g.scope width v ++ (write_instr v ∷ [])) → Good (width_shape g width)
       → Based g s base
       → g.below + length held + (width_depth width + length row) ≤ g.limit
       → ((there : ℕ) (cells : List Cell) (w : ℤ) (u : effect.State) → Stands g.target there (write_instr v ∷ []) → g.frame + 4 ≤ length cells
@@ -189,8 +198,26 @@ module _ (g : Setting) (known : CallsAt g) where
       (writes (place + length wide) (base2 ++ held) w u rest (linked g u base2 held based2))))))
 
   -- a value that is written, and its width
+  abbrev parameter_shape : WriteParameter → Shape Bool Bool
+  parameter_shape p = record {
+    well = is_well_formed_parameter (outline g) g.number p;
+    held = is_held_parameter p;
+    there = parameter_begins p g.opened;
+    strings = parameter_compares g.tree.types p;
+  }
+
   abbrev ParameterRuns : WriteParameter → Type 0
-  ParameterRuns p = ExecutesAs g (λ scope _. parameter_code scope p) (parameter_depth p) (is_well_formed_parameter (outline g) g.number p) (parameter_of p)
+  ParameterRuns p = ExecutesAs g (λ scope _. parameter_code scope p) (parameter_depth p) (parameter_shape p) (parameter_of p)
+
+  -- a string with these index expressions
+  abbrev string_shape : Whole → List Expr → Shape Bool Bool
+  string_shape v es = record {
+    well = (all_hold (whole_indexes v (map (is_well_formed_expr (outline g) g.number) es)) && is_well_formed_whole (outline g) g.number v (length es))
+        && is_text_of g.tree.types (source_of v);
+    held = is_held_value v es;
+    there = value_begins v es g.opened;
+    strings = is_text g.tree.types v && value_compares g.tree.types v es;
+  }
 
   -- a string that is written, with these index expressions in it
   abbrev StringRuns : Whole → Vec Expr → Option Width → List Expr → Type 0
@@ -198,40 +225,44 @@ module _ (g : Setting) (known : CallsAt g) where
       ExecutesAs g (λ scope _. whole_code scope v (map (expr_code scope) es)
       ++ (width_code scope width (String v indexes) ++ (instr.WriteString (row_length (length_of v)) ∷ [])))
       (max (whole_depth v (map expr_depth es)) (width_depth width + length_of v))
-      ((all_hold (whole_indexes v (map (is_well_formed_expr (outline g) g.number) es)) && is_well_formed_whole (outline g) g.number v (length es))
-      && is_well_formed_width (outline g) g.number width)
+      (both (string_shape v es) (width_shape g width))
       (λ env. whole_of v (map value_of es) env >>= λ row. width_of width (pos (length_of v)) env >>= λ w. effect.write (effect.row_text row w))
 
   string_runs : (v : Whole) (vec : Vec Expr) (width : Option Width) (indexes : Indexes g) → StringRuns v vec width (expressions g indexes)
   string_runs v vec width indexes place base held s stands good based high deep =
       let n = length_of v in
+      let es = expressions g indexes in
       let c = whole_code g.scope v (index_codes g indexes) in
       let wide = width_code g.scope width (String v vec) in
       let writing = instr.WriteString (row_length n) ∷ [] in
-      let shape = is_well_formed_whole (outline g) g.number v (length (expressions g indexes)) in
-      let parts = and_parts (all_hold (whole_indexes v (wells g indexes)) && shape) (is_well_formed_width (outline g) g.number width) good in
-      let inside = and_parts (all_hold (whole_indexes v (wells g indexes))) shape parts.0 in
-      let same : n ≡ row_length n = few_components g v (length (expressions g indexes)) inside.1 in
+      let parts = good_parts (string_shape v es) (width_shape g width) good in
+      let own = parts.0 in
+      let inside = and_parts (all_hold (whole_indexes v (map (is_well_formed_expr (outline g) g.number) es)))
+      (is_well_formed_whole (outline g) g.number v (length es)) (and_parts _ (is_text_of g.tree.types (source_of v)) own.0).0 in
+      let text = and_parts (is_text g.tree.types v) (value_compares g.tree.types v es) own.3 in
+      let same : n ≡ row_length n = few_components g v (length es) inside.1 in
       let next : List Value → Action (Unit {0}) = λ row. width_of width (pos n) (around g) >>= λ w. effect.write (effect.row_text row w) in
-      row_then g (kept_on g held) c (wide ++ writing) place _ held n (whole_of v (map value_of (expressions g indexes)) (around g)) next s
-      ((exact_around g).wholes v (expressions g indexes)) stands
-      (λ front. whole_runs g v indexes place base held s front inside.0 inside.1 based (omega arith))
-      (λ base2 row t rest based2 long fit.
+      row_then g (kept_on g held) c (wide ++ writing) place _ held (row_kinds g v) (whole_of v (map value_of es) (around g)) next s
+      ((exact_around g).wholes v es) stands
+      (λ front. whole_runs g v indexes place base held s front (inside.0, inside.1, own.1, own.2, text.1) based (omega arith))
+      (λ base2 row t rest based2 fit.
+      let long : length row ≡ n = fit_length (row_kinds g v) row fit ∙ row_long g v (length es) inside.1 in
       width_writes width (String v vec) (pos n) row (effect.row_text row) (place + length c) base2 held t (ap (λ m. instr.LoadConstant (pos m)) (sym same))
       (fits_by_abs (pos n) (omega arith)) rest parts.1 based2 (omega (arith, long))
-      (λ there cells w u here in_frame. string_writes (row_length n) row there cells w u (long ∙ same) fit here in_frame))
+      (λ there cells w u here in_frame. string_writes (row_length n) row there cells w u (long ∙ same) (text_numbers g v row text.0 fit) here in_frame))
 
   written_runs : (v : Written) (width : Option Width) → ParameterRuns (record { value = v; width = width })
   written_runs (Ordinal v r) width place base held s stands good based high deep =
       let wide = width_code g.scope width (Ordinal v r) in
-      let parts = and_parts (is_well_formed_expr (outline g) g.number v) (is_well_formed_width (outline g) g.number width) good in
+      let parts = good_parts (ordinal_shape g v) (width_shape g width) good in
       let default = default_width_of r in
       expr_then g known (kept_on g held) v (wide ++ (ordinal_instr r ∷ [])) place base held
-      (λ x. width_of width default (around g) >>= λ w. effect.write (effect.text_of r (number_of x) w)) s stands parts.0 based (omega arith)
-      (λ base2 x t rest based2 fit room le.
-      width_writes width (Ordinal v r) default (x ∷ []) (effect.text_of r (number_of x)) (place + length (expr_code g.scope v)) base2 held t (same_default r)
+      (λ x. width_of width default (around g) >>= λ w. effect.write (effect.text_of r (number_of x) w)) s stands (ordinal_good g v parts.0) based
+      (omega arith)
+      (λ base2 n t rest based2 fit room le.
+      width_writes width (Ordinal v r) default (value.Number n ∷ []) (effect.text_of r n) (place + length (expr_code g.scope v)) base2 held t (same_default r)
       (default_fits r) rest parts.1 based2 (omega arith)
-      (λ there cells w u here in_frame. ordinal_writes r there cells (number_of x) w u fit here in_frame))
+      (λ there cells w u here in_frame. ordinal_writes r there cells n w u fit here in_frame))
   written_runs (String v indexes) width place base held s stands good based high deep =
       let runs = subst (StringRuns v indexes width) (told_back g known indexes.items) (string_runs v indexes width (told g known indexes.items)) in
       runs place base held s stands good based high deep
@@ -248,23 +279,37 @@ module _ (g : Setting) (known : CallsAt g) where
       (stays_here g.target _)))
 
   -- pieces that are executed one after another
-  all_run : {X : Type 0} (code_of : X → Placed) (depth_of : X → ℕ) (well_of : X → Bool) (meant_by : X → Execution)
-      (exact : (x : X) → UsesTurnsExactly (meant_by x (around g))) (xs : List X)
-      → Each (λ x. ExecutesAs g (code_of x) (depth_of x) (well_of x) (meant_by x)) xs → (depth place : ℕ) (base held : List Cell) (s : effect.State)
-      → Stands g.target place (placed (map (λ code. code g.scope) (map code_of xs)) place) → all_hold (map well_of xs) ≡ true → Based g s base
-      → AllHeld g held → g.below + length held + fold max depth (map depth_of xs) ≤ g.limit
-      → Executes g (on g (base ++ held) place s) held (place + length (placed (map (λ code. code g.scope) (map code_of xs)) place))
-      (all_of (map meant_by xs) (around g)) s
-  all_run code_of depth_of well_of meant_by exact [] each depth place base held s stands good based high deep = nothing_runs place base held s based
-  all_run code_of depth_of well_of meant_by exact (x ∷ xs) each depth place base held s stands good based high deep =
-      let c = code_of x g.scope place in
-      let rest = placed (map (λ code. code g.scope) (map code_of xs)) (place + length c) in
-      let d = start_within (max depth (depth_of x)) (map depth_of xs) in
-      done_then g (kept_on g held) c rest place _ held (meant_by x (around g)) (λ _. all_of (map meant_by xs) (around g)) s (exact x) stands
-      (λ front. each.0 place base held s front (and_parts _ _ good).0 based high (omega arith))
-      (λ base2 t back based2 le.
-      all_run code_of depth_of well_of meant_by exact xs each.1 (max depth (depth_of x)) (place + length c) base2 held t back (and_parts _ _ good).1 based2 high
-      (omega arith))
+  module _ {X : Type 0} (code_of : X → Placed) (depth_of : X → ℕ) (well_of held_of : X → Bool) (there_of : X → Begin) (strings_of : X → Bool)
+      (meant_by : X → Execution) (exact : (x : X) → UsesTurnsExactly (meant_by x (around g))) where
+    -- what is known of one, and of all
+    abbrev piece_shape : X → Shape Bool Bool
+    piece_shape x = record { well = well_of x; held = held_of x; there = there_of x g.opened; strings = strings_of x }
+
+    abbrev AllGood : List X → Type 0
+    AllGood xs =
+        (all_hold (map well_of xs) ≡ true) × (all_hold (map held_of xs) ≡ true) × (all_begin (map there_of xs) g.opened ≡ true)
+        × (all_hold (map strings_of xs) ≡ true)
+
+    all_run : (xs : List X) → Each (λ x. ExecutesAs g (code_of x) (depth_of x) (piece_shape x) (meant_by x)) xs
+        → (depth place : ℕ) (base held : List Cell) (s : effect.State)
+        → Stands g.target place (placed (map (λ code. code g.scope) (map code_of xs)) place) → AllGood xs → Based g s base
+        → AllHeld g held → g.below + length held + fold max depth (map depth_of xs) ≤ g.limit
+        → Executes g (on g (base ++ held) place s) held (place + length (placed (map (λ code. code g.scope) (map code_of xs)) place))
+        (all_of (map meant_by xs) (around g)) s
+    all_run [] each depth place base held s stands good based high deep = nothing_runs place base held s based
+    all_run (x ∷ xs) each depth place base held s stands good based high deep =
+        let c = code_of x g.scope place in
+        let rest = placed (map (λ code. code g.scope) (map code_of xs)) (place + length c) in
+        let d = start_within (max depth (depth_of x)) (map depth_of xs) in
+        let well = and_parts _ _ good.0 in
+        let holding = and_parts _ _ good.1 in
+        let there = and_parts _ _ good.2 in
+        let strings = and_parts _ _ good.3 in
+        done_then g (kept_on g held) c rest place _ held (meant_by x (around g)) (λ _. all_of (map meant_by xs) (around g)) s (exact x) stands
+        (λ front. each.0 place base held s front (well.0, holding.0, there.0, strings.0) based high (omega arith))
+        (λ base2 t back based2 le.
+        all_run xs each.1 (max depth (depth_of x)) (place + length c) base2 held t back (well.1, holding.1, there.1, strings.1) based2 high
+        (omega arith))
 
   each_parameter : (ps : List WriteParameter) → Each ParameterRuns ps
   each_parameter [] = tt
@@ -280,7 +325,12 @@ module _ (g : Setting) (known : CallsAt g) where
 
   write_runs : (writing : Writing)
       → ExecutesAs g (λ scope _. write_code scope writing) (greatest (map parameter_depth writing.parameters.items))
-      (all_hold (map (is_well_formed_parameter (outline g) g.number) writing.parameters.items))
+      (record {
+        well = all_hold (map (is_well_formed_parameter (outline g) g.number) writing.parameters.items);
+        held = all_hold (map is_held_parameter writing.parameters.items);
+        there = all_begin (map parameter_begins writing.parameters.items) g.opened;
+        strings = all_hold (map (parameter_compares g.tree.types) writing.parameters.items);
+      })
       (λ e. effect.enter writing.number e.visible >>= λ _. all_of (map parameter_of writing.parameters.items) e >>= λ _. line_ended writing.ends_line)
   write_runs writing place base held s stands good based high deep =
       let s1 = entered g writing.number s in
@@ -292,14 +342,15 @@ module _ (g : Setting) (known : CallsAt g) where
       (λ _. line_ended writing.ends_line) s1 (exact_parameters (around g) (exact_around g) ps) stands
       (λ front.
       subst (λ p. Executes g (on g (base ++ held) place s) held (place + length p) (all_of (map parameter_of ps) (around g)) s1) same
-      (all_run code_of parameter_depth (is_well_formed_parameter (outline g) g.number) parameter_of ((exact_around g).written) ps (each_parameter ps) 0 place
+      (all_run code_of parameter_depth (is_well_formed_parameter (outline g) g.number) is_held_parameter parameter_begins
+      (parameter_compares g.tree.types) parameter_of ((exact_around g).written) ps (each_parameter ps) 0 place
       base held s1 (subst (Stands g.target place) (sym same) front) good based high deep))
       (λ base2 t rest based2 le. line_end_runs writing.ends_line (place + length c) base2 held t rest based2)
 
   -- a condition, a jump where it is false, and what comes at either place
   condition_then : {A : Type 0} (aim : ℕ → Aim A) (condition : Expr) (target : ℕ) (c : List Instr) (place : ℕ) (base held : List Cell)
       (next : Bool → Action A) (s : effect.State) → Stands g.target place (expr_code g.scope condition ++ (instr.JumpIfFalse target ∷ c))
-      → is_well_formed_expr (outline g) g.number condition ≡ true → Based g s base → g.below + length held + expr_depth condition ≤ g.limit
+      → Good (ordinal_shape g condition) → Based g s base → g.below + length held + expr_depth condition ≤ g.limit
       → ((base2 : List Cell) (t : effect.State) → Stands g.target (place + length (expr_code g.scope condition) + 1) c → Based g t base2
       → Runs g (aim (place + length (expr_code g.scope condition) + 1 + length c))
       (on g (base2 ++ held) (place + length (expr_code g.scope condition) + 1) t) (next true) t)
@@ -311,51 +362,68 @@ module _ (g : Setting) (known : CallsAt g) where
       let jump = instr.JumpIfFalse target in
       let first = place + length (expr_code g.scope condition) in
       let e : first + 1 + length c ≡ first + length (jump ∷ c) = omega arith in
-      expr_then g known aim condition (jump ∷ c) place base held (λ v. next (is_so v)) s stands good based room
-      (λ base2 v t rest based2 fit room2 le.
-      subst (λ end. Runs g (aim end) (on g ((base2 ++ held) ++ Number (number_of v) ∷ []) first t) (next (is_so v)) t) e
-      (branch_then g (aim (first + 1 + length c)) target (base2 ++ held) (number_of v) first next t rest.0 (linked g t base2 held based2)
+      expr_then g known aim condition (jump ∷ c) place base held (λ v. next (is_so v)) s stands (ordinal_good g condition good) based room
+      (λ base2 n t rest based2 fit room2 le.
+      subst (λ end. Runs g (aim end) (on g ((base2 ++ held) ++ Number n ∷ []) first t) (next (is_so (value.Number n))) t) e
+      (branch_then g (aim (first + 1 + length c)) target (base2 ++ held) n first next t rest.0 (linked g t base2 held based2)
       (so base2 t rest.1 based2) (not_so base2 t rest.1 based2)))
 
   -- a call of a procedure
   calling_runs : (calling : ProcedureCall)
       → ExecutesAs g (λ scope _. call_code scope calling.call (map (passed_code scope) calling.actuals.items))
       (call_depth (map passed_depth calling.actuals.items))
-      (is_well_formed_call (outline g) g.number false calling.call (map (is_well_formed_passed (outline g) g.number) calling.actuals.items))
+      (record {
+        well = is_well_formed_call (outline g) g.number false calling.call (map (is_well_formed_passed (outline g) g.number) calling.actuals.items);
+        held = all_hold (map is_held_passed calling.actuals.items);
+        there = all_begin (map passed_begin calling.actuals.items) g.opened;
+        strings = all_hold (map (passes_strings g.tree.types) calling.actuals.items);
+      })
       (λ e. call_of calling.call (map passing_of calling.actuals.items) e >>= λ _. give tt)
   calling_runs calling place base held s stands good based high deep =
       let call = calling.call in
       let actuals = calling.actuals.items in
       returns_executes g _ held (place + length (call_code g.scope call (map (passed_code g.scope) actuals)))
       (call_of call (map passing_of actuals) (around g)) s
-      ((exact_around g).calls call actuals) (call_runs g known false call actuals place base held s stands good based deep)
-
--- what is shown of a statement, in each setting
-abbrev pub StmtRuns : Stmt → Type 0
-StmtRuns s = (g : Setting) → CallsRun g.depth → repeats s ≤ g.slack → ExecutesAs g (stmt_code s) (stmt_depth s) (is_well_formed_stmt (outline g) g.number s)
-    (effect_of s)
+      ((exact_around g).calls call actuals) (call_runs g known false call actuals place base held s stands good.0 good.1 good.2 good.3 based deep)
 
 abbrev bare : List ((s : Stmt) × StmtRuns s) → List Stmt
 bare ss = map (λ x. x.0) ss
 
 each_statement : (g : Setting) (known : CallsRun g.depth) (ss : List ((s : Stmt) × StmtRuns s)) (before : ℕ)
     → fold max before (map repeats (bare ss)) ≤ g.slack
-    → Each (λ s. ExecutesAs g (stmt_code s) (stmt_depth s) (is_well_formed_stmt (outline g) g.number s) (effect_of s)) (bare ss)
+    → Each (λ s. ExecutesAs g (stmt_code s) (stmt_depth s) (stmt_shape g s) (effect_of s)) (bare ss)
 each_statement g known [] before few = tt
 each_statement g known (s ∷ ss) before few =
     let least = start_within (max before (repeats s.0)) (map repeats (bare ss)) in
     (s.1 g known (omega arith), each_statement g known ss (max before (repeats s.0)) few)
 
+-- what is known of statements
+abbrev stmts_shape : Setting → List Stmt → Shape Bool Bool
+stmts_shape g ss = record {
+  well = all_hold (map (is_well_formed_stmt (outline g) g.number) ss);
+  held = all_hold (map is_held_stmt ss);
+  there = all_begin (map begins_in ss) g.opened;
+  strings = all_hold (map (compares_in g.tree.types) ss);
+}
+
+-- statements are executed one after another
+statements_run : (g : Setting) (known : CallsRun g.depth) (ss : List ((s : Stmt) × StmtRuns s)) → greatest (map repeats (bare ss)) ≤ g.slack
+    → ExecutesAs g (λ scope place. placed (map (λ code. code scope) (map stmt_code (bare ss))) place)
+    (greatest (map stmt_depth (bare ss))) (stmts_shape g (bare ss)) (all_of (map effect_of (bare ss)))
+statements_run g known ss few place base held s stands good based high deep =
+    all_run g (known g refl) stmt_code stmt_depth (is_well_formed_stmt (outline g) g.number) is_held_stmt begins_in (compares_in g.tree.types) effect_of
+    ((exact_around g).statements) (bare ss)
+    (each_statement g known ss 0 few) 0 place base held s stands good based high deep
+
 compound_runs : (g : Setting) (known : CallsRun g.depth) (number : ℕ) (ss : List ((s : Stmt) × StmtRuns s))
     → greatest (map repeats (bare ss)) ≤ g.slack
     → ExecutesAs g (λ scope place. placed (map (λ code. code scope) (map stmt_code (bare ss))) place)
-    (greatest (map stmt_depth (bare ss))) (all_hold (map (is_well_formed_stmt (outline g) g.number) (bare ss)))
+    (greatest (map stmt_depth (bare ss))) (stmts_shape g (bare ss))
     (λ e. effect.enter number e.visible >>= λ _. all_of (map effect_of (bare ss)) e)
 compound_runs g known number ss few place base held s stands good based high deep =
-    all_run g (known g refl) stmt_code stmt_depth (is_well_formed_stmt (outline g) g.number) effect_of ((exact_around g).statements) (bare ss)
-    (each_statement g known ss 0 few) 0 place base held (entered g number s) stands good based high deep
+    statements_run g known ss few place base held (entered g number s) stands good based high deep
 
-empty_runs : (g : Setting) (known : CallsRun g.depth) (number : ℕ) → ExecutesAs g (λ _ _. []) 0 true (λ e. effect.enter number e.visible)
+empty_runs : (g : Setting) (known : CallsRun g.depth) (number : ℕ) → ExecutesAs g (λ _ _. []) 0 in_order (λ e. effect.enter number e.visible)
 empty_runs g known number place base held s stands good based high deep = nothing_runs g (known g refl) place base held (entered g number s) based
 
 -- an if statement without `else`
@@ -363,15 +431,16 @@ if_runs : (g : Setting) (known : CallsRun g.depth) (number : ℕ) (condition : E
     → max (repeats consequence.0) 0 ≤ g.slack
     → ExecutesAs g (λ scope. if_code (expr_code scope condition) (stmt_code consequence.0) scope)
     (max (expr_depth condition) (max (stmt_depth consequence.0) 0))
-    (is_well_formed_expr (outline g) g.number condition && (is_well_formed_stmt (outline g) g.number consequence.0 && true))
+    (both (ordinal_shape g condition) (both (stmt_shape g consequence.0) in_order))
     (λ e. effect.enter number e.visible >>= λ _. value_of condition e >>= λ v. if is_so v then effect_of consequence.0 e else alternative_of None e)
 if_runs g known number condition consequence few place base held s stands good based high deep =
     let yes = place + length (expr_code g.scope condition) + 1 in
     let code = stmt_code consequence.0 g.scope yes in
-    let parts = and_parts _ _ good in
+    let parts = good_parts (ordinal_shape g condition) (both (stmt_shape g consequence.0) in_order) good in
+    let inside_good = (good_parts (stmt_shape g consequence.0) in_order parts.1).0 in
     condition_then g (known g refl) (kept_on g held) condition (yes + length code) code place base held
     (λ holds. if holds then effect_of consequence.0 (around g) else alternative_of None (around g)) (entered g number s) stands parts.0 based (omega arith)
-    (λ base2 t inside based2. consequence.1 g known (omega arith) yes base2 held t inside (and_parts _ _ parts.1).0 based2 high (omega arith))
+    (λ base2 t inside based2. consequence.1 g known (omega arith) yes base2 held t inside inside_good based2 high (omega arith))
     (λ base2 t inside based2. inr (done g 0 _ base2 held (yes + length code) t based2 (stays_here g.target _)))
 
 -- and one with it
@@ -379,8 +448,7 @@ if_else_runs : (g : Setting) (known : CallsRun g.depth) (number : ℕ) (conditio
     → max (repeats consequence.0) (repeats alternative.0) ≤ g.slack
     → ExecutesAs g (λ scope. if_else_code (expr_code scope condition) (stmt_code consequence.0) (stmt_code alternative.0) scope)
     (max (expr_depth condition) (max (stmt_depth consequence.0) (stmt_depth alternative.0)))
-    (is_well_formed_expr (outline g) g.number condition && (is_well_formed_stmt (outline g) g.number consequence.0
-    && is_well_formed_stmt (outline g) g.number alternative.0))
+    (both (ordinal_shape g condition) (both (stmt_shape g consequence.0) (stmt_shape g alternative.0)))
     (λ e. effect.enter number e.visible >>= λ _. value_of condition e >>= λ v. if is_so v then effect_of consequence.0 e else effect_of alternative.0 e)
 if_else_runs g known number condition consequence alternative few place base held s stands good based high deep =
     let test = expr_code g.scope condition in
@@ -392,16 +460,17 @@ if_else_runs g known number condition consequence alternative few place base hel
     let behind = instr.Jump end ∷ other in
     let e : end ≡ place + length (test ++ (instr.JumpIfFalse no ∷ (code ++ behind))) =
     omega (arith, length-append test (instr.JumpIfFalse no ∷ (code ++ behind)), length-append code behind) in
-    let parts = and_parts _ _ good in
+    let parts = good_parts (ordinal_shape g condition) (both (stmt_shape g consequence.0) (stmt_shape g alternative.0)) good in
+    let either = good_parts (stmt_shape g consequence.0) (stmt_shape g alternative.0) parts.1 in
     let next : Bool → Action (Unit {0}) = λ holds. if holds then effect_of consequence.0 (around g) else effect_of alternative.0 (around g) in
     subst (λ p. Executes g (on g (base ++ held) place s) held p (value_of condition (around g) >>= (λ v. next (is_so v))) (entered g number s)) e
     (condition_then g (known g refl) (λ _. kept_on g held end) condition no (code ++ behind) place base held next (entered g number s) stands parts.0 based
     (omega arith)
     (λ base2 t inside based2.
     done_jumps g code other yes end _ held (effect_of consequence.0 (around g)) t inside
-    (λ front. consequence.1 g known (omega arith) yes base2 held t front (and_parts _ _ parts.1).0 based2 high (omega arith)))
+    (λ front. consequence.1 g known (omega arith) yes base2 held t front either.0 based2 high (omega arith)))
     (λ base2 t inside based2.
-    alternative.1 g known (omega arith) no base2 held t (stands_back g.target yes code behind inside).1 (and_parts _ _ parts.1).1 based2 high (omega arith)))
+    alternative.1 g known (omega arith) no base2 held t (stands_back g.target yes code behind inside).1 either.1 based2 high (omega arith)))
 
 -- what each round of a loop begins with that holds nothing
 abbrev always : Unit {0} → Type 0
@@ -410,7 +479,7 @@ always start = Unit {0}
 -- a while statement
 while_runs : (g : Setting) (known : CallsRun g.depth) (head : LoopHead) (body : (s : Stmt) × StmtRuns s) → repeats body.0 ≤ g.slack
     → ExecutesAs g (λ scope. while_code (expr_code scope head.condition) (stmt_code body.0) scope) (max (expr_depth head.condition) (stmt_depth body.0))
-    (is_well_formed_expr (outline g) g.number head.condition && is_well_formed_stmt (outline g) g.number body.0)
+    (both (ordinal_shape g head.condition) (stmt_shape g body.0))
     (λ e. effect.enter head.number e.visible >>= λ _. effect.looped (while_round (value_of head.condition) (effect_of body.0) e) tt)
 while_runs g known head body few place base held s stands good based high deep =
     let s1 = entered g head.number s in
@@ -421,7 +490,7 @@ while_runs g known head body few place base held s stands good based high deep =
     let back = instr.Jump place ∷ [] in
     let e : end ≡ place + length (test ++ (instr.JumpIfFalse end ∷ (code ++ back))) =
     omega (arith, length-append test (instr.JumpIfFalse end ∷ (code ++ back)), length-append code back) in
-    let parts = and_parts (is_well_formed_expr (outline g) g.number head.condition) (is_well_formed_stmt (outline g) g.number body.0) good in
+    let parts = good_parts (ordinal_shape g head.condition) (stmt_shape g body.0) good in
     let hold : Unit {0} → List Cell = λ _. held in
     let does = effect_of body.0 (around g) in
     let round : Round (Unit {0}) = while_round (value_of head.condition) (effect_of body.0) (around g) in
@@ -430,10 +499,10 @@ while_runs g known head body few place base held s stands good based high deep =
     (λ start. exact_while_round (around g) (exact_around g) head.condition body.0)
     (λ start base2 t fits based2.
     expr_then g (known g refl) (λ _. round_on g always hold place end held 0 t.turns) head.condition (instr.JumpIfFalse end ∷ (code ++ back)) place base2 held
-    (λ v. turn_if (is_so v) does) t stands parts.0 based2 (omega arith)
-    (λ base3 v u rest based3 fit room le.
-    let tested = on g ((base3 ++ held) ++ Number (number_of v) ∷ []) (place + length test) u in
-    branched g (λ b. Rounds g always hold place end held 0 t.turns tested (turn_if b does) u) end (base3 ++ held) (number_of v) (place + length test) u rest.0
+    (λ v. turn_if (is_so v) does) t stands (ordinal_good g head.condition parts.0) based2 (omega arith)
+    (λ base3 n u rest based3 fit room le.
+    let tested = on g ((base3 ++ held) ++ Number n ∷ []) (place + length test) u in
+    branched g (λ b. Rounds g always hold place end held 0 t.turns tested (turn_if b does) u) end (base3 ++ held) n (place + length test) u rest.0
     (linked g u base3 held based3)
     (λ came.
     turn_then g always hold place end held t.turns code back inside tested _ held does (Some tt) u refl came le ((exact_around g).statements body.0) rest.1
@@ -449,7 +518,7 @@ repeat_runs : (g : Setting) (known : CallsRun g.depth) (head : LoopHead) (ss : L
     → greatest (map repeats (bare ss)) + 1 ≤ g.slack
     → ExecutesAs g (λ scope. repeat_code (placed (map (λ code. code scope) (map stmt_code (bare ss)))) (expr_code scope head.condition))
     (max (greatest (map stmt_depth (bare ss))) (expr_depth head.condition))
-    (all_hold (map (is_well_formed_stmt (outline g) g.number) (bare ss)) && is_well_formed_expr (outline g) g.number head.condition)
+    (both (stmts_shape g (bare ss)) (ordinal_shape g head.condition))
     (λ e. effect.enter head.number e.visible >>= λ _. effect.looped (repeat_round (all_of (map effect_of (bare ss))) (value_of head.condition) e) tt)
 repeat_runs g known head ss few place base held s stands good based high deep =
     let s1 = entered g head.number s in
@@ -461,8 +530,7 @@ repeat_runs g known head ss few place base held s stands good based high deep =
     let end = last + length test + 1 in
     let back = instr.JumpIfFalse place ∷ [] in
     let e : end ≡ place + length (code ++ (test ++ back)) = omega (arith, length-append code (test ++ back), length-append test back) in
-    let parts = and_parts (all_hold (map (is_well_formed_stmt (outline g) g.number) (bare ss)))
-    (is_well_formed_expr (outline g) g.number head.condition) good in
+    let parts = good_parts (stmts_shape g (bare ss)) (ordinal_shape g head.condition) good in
     let hold : Unit {0} → List Cell = λ _. held in
     let statements = all_of (map effect_of (bare ss)) in
     let round : Round (Unit {0}) = repeat_round statements (value_of head.condition) (around g) in
@@ -474,14 +542,14 @@ repeat_runs g known head ss few place base held s stands good based high deep =
     done_then h (λ _. round_on h always hold place end held 1 (suc left)) code (test ++ back) place _ held (statements (around g))
     (λ _. value_of head.condition (around g) >>= until) t (exact_statements (around g) (exact_around g) (bare ss)) stands
     (λ front.
-    all_run h known_there stmt_code stmt_depth (is_well_formed_stmt (outline g) g.number) effect_of ((exact_around g).statements) (bare ss)
-    (each_statement h known ss 0 (omega arith)) 0 place base2 held t front parts.0 based2 high (omega arith))
+    statements_run h known ss (omega arith) place base2 held t front parts.0 based2 high (omega arith))
     (λ base3 u behind based3 fewer.
-    expr_then h known_there (λ _. round_on h always hold place end held 1 (suc left)) head.condition back last base3 held until u behind parts.1 based3
+    expr_then h known_there (λ _. round_on h always hold place end held 1 (suc left)) head.condition back last base3 held until u behind
+    (ordinal_good h head.condition parts.1) based3
     (omega arith)
-    (λ base4 v w jump based4 fit room fewest.
-    let tested = on g ((base4 ++ held) ++ Number (number_of v) ∷ []) (last + length test) w in
-    branched g (λ b. Rounds h always hold place end held 1 (suc left) tested (give (if b then None else Some tt)) w) place (base4 ++ held) (number_of v)
+    (λ base4 n w jump based4 fit room fewest.
+    let tested = on g ((base4 ++ held) ++ Number n ∷ []) (last + length test) w in
+    branched g (λ b. Rounds h always hold place end held 1 (suc left) tested (give (if b then None else Some tt)) w) place (base4 ++ held) n
     (last + length test) w jump.0 (linked h w base4 held based4)
     (λ came. round_over h always hold place end held 1 (suc left) 1 tested base4 w based4 (omega arith) came)
     (λ came.
@@ -530,7 +598,7 @@ stepped g s base held n l direction.DownTo place head based high room fit fit' a
 
 -- a statement inside another one, above the cells that this one holds
 above_held : (g : Setting) (known : CallsRun g.depth) (body : (s : Stmt) × StmtRuns s) → repeats body.0 ≤ g.slack
-    → is_well_formed_stmt (outline g) g.number body.0 ≡ true → (held row : List Cell) → AllHeld g held
+    → Good (stmt_shape g body.0) → (held row : List Cell) → AllHeld g held
     → g.below + length held + (stmt_depth body.0 + length row) ≤ g.limit → (place : ℕ) (base : List Cell) (s : effect.State)
     → Stands g.target place (stmt_code body.0 (holding (length row) g.scope) place) → Based g s base
     → Executes g (on g (base ++ (held ++ row)) place s) (held ++ row) (place + length (stmt_code body.0 (holding (length row) g.scope) place))
@@ -544,7 +612,7 @@ above_held g known body few good held row high room place base s stands based =
 
 module _ (g : Setting) (known : CallsRun g.depth) (head : ForHead) (scalar : IsScalar g head.control) (body : (s : Stmt) × StmtRuns s)
     (few : repeats body.0 ≤ g.slack)
-    (good : is_well_formed_stmt (outline g) g.number body.0 ≡ true) (place : ℕ) (held : List Cell)
+    (good : Good (stmt_shape g body.0)) (place : ℕ) (held : List Cell)
     (high : AllHeld g held) (room : g.below + length held + max 4 (stmt_depth body.0 + 2) ≤ g.limit) (l : ℤ) (fit_last : Fits l) where
   -- where a round begins, where its body is over, and where the loop is
   abbrev start : ℕ
@@ -670,12 +738,12 @@ module _ (g : Setting) (known : CallsRun g.depth) (head : ForHead) (scalar : IsS
           (λ m. exact_for_round (around g) (exact_around g) head l body.0 m) for_round_runs n base s (fits, has) based) in
           let last_test : Action (Unit {0}) = require (effect.is_in head.last.fits.range (value.Number l)) head.last.fits.site >>= λ _. effect.looped round n in
           let last_here = subst (λ cs. Executes g (on g cs (six + 1) s) (hold l) out last_test s) (sym split)
-          (range_then g (kept_on g (hold l) out) head.last.fits (value.Number l) (base ++ one) (six + 1) s (effect.looped round n) rest.1.1.1.0 site_last
+          (range_then g (kept_on g (hold l) out) head.last.fits l (base ++ one) (six + 1) s (effect.looped round n) rest.1.1.1.0 site_last
           (linked g s base one based) fit_last
           (λ _. subst (λ cs. Executes g (on g cs (six + 1 + 1) s) (hold l) out (effect.looped round n) s) split looping)) in
           subst (λ m. Executes g (on g here m s) (hold l) out (rounds n) s) p
           (runs_from g (kept_on g (hold l) out) 1 _ _ (rounds n) s a
-          (range_then g (kept_on g (hold l) out) head.first.fits (value.Number n) here (four + 1) s last_test rest.1.0 site_first
+          (range_then g (kept_on g (hold l) out) head.first.fits n here (four + 1) s last_test rest.1.0 site_first
           (linked g s base (hold n) based) fits (λ _. runs_from g (kept_on g (hold l) out) 1 _ _ last_test s b last_here)))
 
       -- from the values of the bounds on
@@ -697,9 +765,14 @@ module _ (g : Setting) (known : CallsRun g.depth) (head : ForHead) (scalar : IsS
 for_runs : (g : Setting) (known : CallsRun g.depth) (head : ForHead) (body : (s : Stmt) × StmtRuns s) → repeats body.0 ≤ g.slack
     → ExecutesAs g (for_code head (stmt_code body.0))
     (max (max (expr_depth head.first.value) (expr_depth head.last.value + 1)) (max 4 (stmt_depth body.0 + 2)))
-    (is_control (outline g) g.number head.control && (is_well_formed_expr (outline g) g.number head.first.value
-    && (fits_target (outline g) g.number head.first.fits head.control [] && (is_well_formed_expr (outline g) g.number head.last.value
-    && (fits_target (outline g) g.number head.last.fits head.control [] && is_well_formed_stmt (outline g) g.number body.0)))))
+    (record {
+      well = is_control (outline g) g.number head.control && (is_well_formed_expr (outline g) g.number head.first.value
+          && (fits_target (outline g) g.number head.first.fits (AtVariable head.control) [] && (is_well_formed_expr (outline g) g.number head.last.value
+          && (fits_target (outline g) g.number head.last.fits (AtVariable head.control) [] && is_well_formed_stmt (outline g) g.number body.0))));
+      held = is_ordinal_expr head.first.value && (is_ordinal_expr head.last.value && is_held_stmt body.0);
+      there = all_begins head.first.value g.opened && (all_begins head.last.value g.opened && begins_in body.0 g.opened);
+      strings = compares_strings g.tree.types head.first.value && (compares_strings g.tree.types head.last.value && compares_in g.tree.types body.0);
+    })
     (λ e. effect.enter head.number e.visible >>= λ _. value_of head.first.value e >>= λ a. value_of head.last.value e >>= λ b.
     for_between head (effect_of body.0) e (number_of a) (number_of b) >>= λ _. effect.undefine (e.visible.variables head.control))
 for_runs g known head body few place base held s stands good based high deep =
@@ -713,12 +786,18 @@ for_runs g known head body few place base held s stands good based high deep =
     let end = inside + length (stmt_code body.0 (holding 2 g.scope) inside) + 9 + 4 in
     let e : end ≡ place + length (for_code head (stmt_code body.0) g.scope place) =
     omega (arith, length-For head (stmt_code body.0) g.scope place) in
-    let p1 = and_parts (is_control (outline g) g.number head.control) _ good in
+    let p1 = and_parts (is_control (outline g) g.number head.control) _ good.0 in
     let p2 = and_parts (is_well_formed_expr (outline g) g.number first) _ p1.1 in
-    let p3 = and_parts (fits_target (outline g) g.number head.first.fits head.control []) _ p2.1 in
+    let p3 = and_parts (fits_target (outline g) g.number head.first.fits (AtVariable head.control) []) _ p2.1 in
     let p4 = and_parts (is_well_formed_expr (outline g) g.number last) _ p3.1 in
-    let p5 = and_parts (fits_target (outline g) g.number head.last.fits head.control []) (is_well_formed_stmt (outline g) g.number body.0) p4.1 in
-    let site_of : (fits : RangeTest) → fits_target (outline g) g.number fits head.control [] ≡ true → fits.site < sites g =
+    let p5 = and_parts (fits_target (outline g) g.number head.last.fits (AtVariable head.control) []) (is_well_formed_stmt (outline g) g.number body.0) p4.1 in
+    let h1 = and_parts (is_ordinal_expr first) (is_ordinal_expr last && is_held_stmt body.0) good.1 in
+    let h2 = and_parts (is_ordinal_expr last) (is_held_stmt body.0) h1.1 in
+    let b1 = and_parts (all_begins first g.opened) (all_begins last g.opened && begins_in body.0 g.opened) good.2 in
+    let b2 = and_parts (all_begins last g.opened) (begins_in body.0 g.opened) b1.1 in
+    let s1' = and_parts (compares_strings g.tree.types first) (compares_strings g.tree.types last && compares_in g.tree.types body.0) good.3 in
+    let s2' = and_parts (compares_strings g.tree.types last) (compares_in g.tree.types body.0) s1'.1 in
+    let site_of : (fits : RangeTest) → fits_target (outline g) g.number fits (AtVariable head.control) [] ≡ true → fits.site < sites g =
     λ fits well. ltb-true fits.site (sites g)
     (and_parts (nat_lt fits.site (sites g)) _ (and_parts (is_well_formed_test (outline g) g.number fits) _ well).0).0 in
     let scalar = is_scalar g head.control p1.0 in
@@ -726,29 +805,23 @@ for_runs g known head body few place base held s stands good based high deep =
     λ v w. for_between head (effect_of body.0) (around g) (number_of v) (number_of w) >>= λ _. effect.undefine (g.environment.variables head.control) in
     let there : ℕ → Aim (Unit {0}) = λ _. kept_on g held end in
     subst (λ q. Executes g (on g (base ++ held) place s) held q (value_of first (around g) >>= (λ v. value_of last (around g) >>= λ w. rest v w)) s1) e
-    (expr_then g (known g refl) there first _ place base held (λ v. value_of last (around g) >>= λ w. rest v w) s1 stands p2.0 based (omega arith)
-    (λ base2 v t from_last based2 fit room2 le.
-    let n = number_of v in
+    (expr_then g (known g refl) there first _ place base held (λ v. value_of last (around g) >>= λ w. rest v w) s1 stands
+    (ordinal_good g first (p2.0, h1.0, b1.0, s1'.0)) based (omega arith)
+    (λ base2 n t from_last based2 fit room2 le.
+    let v = value.Number n in
     let more : length (held ++ Number n ∷ []) ≡ length held + 1 = length_one held (Number n) in
-    subst (λ cells. Executes g (on g cells (place + length a) t) held end (value_of last (around g) >>= (rest v)) t) (one_held g base2 held n)
-    (expr_then g (known g refl) there last _ (place + length a) base2 (held ++ Number n ∷ []) (rest v) t from_last p4.0 based2 (omega (arith, more))
-    (λ base3 w u from_entry based3 fit' room3 fewer.
-    let l = number_of w in
+    subst (λ cells. Executes g (on g cells (place + length a) t) held end (value_of last (around g) >>= (rest v)) t) (one_held g base2 held (Number n))
+    (expr_then g (known g refl) there last _ (place + length a) base2 (held ++ Number n ∷ []) (rest v) t from_last
+    (ordinal_good g last (p4.0, h2.0, b2.0, s2'.0)) based2 (omega (arith, more))
+    (λ base3 l u from_entry based3 fit' room3 fewer.
+    let w = value.Number l in
     let two : (base3 ++ (held ++ Number n ∷ [])) ++ Number l ∷ [] ≡ base3 ++ (held ++ Number n ∷ Number l ∷ []) =
     append_assoc base3 (held ++ Number n ∷ []) (Number l ∷ []) ∙ ap (λ cs. base3 ++ cs) (append_assoc held (Number n ∷ []) (Number l ∷ [])) in
     subst (λ cells. Executes g (on g cells test u) held end (rest v w) u) (sym two)
-    (for_between_runs g known head scalar body few p5.1 test held high (omega arith) l fit' from_entry (site_of head.first.fits p3.0)
+    (for_between_runs g known head scalar body few (p5.1, h2.1, b2.1, s2'.1) test held high (omega arith) l fit' from_entry (site_of head.first.fits p3.0)
     (site_of head.last.fits p5.0) n base3 u fit based3)))))
 
 -- ---- a case statement
-
--- a conditional jump to the next instruction takes a number away
-popped_there : (g : Setting) (below : List Cell) (n : ℤ) (place : ℕ) (s : effect.State) → StandsAt g.target place (instr.JumpIfFalse (place + 1)) true
-    → g.frame + 4 ≤ length below → Comes g.target 0 (on g (below ++ Number n ∷ []) place s) (on g below (place + 1) s)
-popped_there g below n place s stands in_frame =
-    comes_less g.target 0 1 _ _ (omega arith)
-    (branched g (λ _. Comes g.target 1 (on g (below ++ Number n ∷ []) place s) (on g below (place + 1) s)) (place + 1) below n place s stands
-    in_frame (λ came. came) (λ came. came))
 
 module _ (g : Setting) (known : CallsRun g.depth) (site : ℕ) (within : site < length g.tree.sites.items) (out : ℕ) (held : List Cell)
     (high : AllHeld g held) (n : ℤ) (fail : ℕ) (failing : StandsAt g.target fail (instr.Fail site) (g.target.is_open site)) where
@@ -764,7 +837,7 @@ module _ (g : Setting) (known : CallsRun g.depth) (site : ℕ) (within : site < 
 
   arms_run : (rows : List (Vec ℤ)) (arms : List ((s : Stmt) × StmtRuns s)) (before place : ℕ) (base : List Cell) (s : effect.State)
       → fold max before (map repeats (bare arms)) ≤ g.slack
-      → all_hold (map (is_well_formed_stmt (outline g) g.number) (bare arms)) ≡ true
+      → Good (stmts_shape g (bare arms))
       → g.below + length held + max 3 (arms_depth rows (map stmt_depth (bare arms)) + 1) ≤ g.limit → Based g s base
       → Stands g.target place (arms_code g.scope out rows (map stmt_code (bare arms)) place)
       → place + length (arms_code g.scope out rows (map stmt_code (bare arms)) place) ≡ fail
@@ -785,7 +858,7 @@ module _ (g : Setting) (known : CallsRun g.depth) (site : ℕ) (within : site < 
       omega (arith, at, same, length-append compared (instr.Jump next ∷ (code ++ (instr.Jump out ∷ rest))), length-append code (instr.Jump out ∷ rest)) in
       let jump = stands_back g.target place compared (instr.Jump next ∷ (code ++ (instr.Jump out ∷ rest))) stands in
       let from_arm = subst (λ p. Stands g.target p (code ++ (instr.Jump out ∷ rest))) e jump.1 in
-      let parts = and_parts (is_well_formed_stmt (outline g) g.number arm.0) _ good in
+      let parts = good_parts (stmt_shape g arm.0) (stmts_shape g others) good in
       let result : Bool → Action (Unit {0}) = λ b. if b then effect_of arm.0 (around g) else arm_of site rows (map effect_of others) n (around g) in
       (elim (is_among row.items n) as (λ b. Comes g.target 0 (on g (base ++ index) place s)
       (on g (base ++ index) (if b then inside else place + length compared) s)
@@ -805,8 +878,13 @@ module _ (g : Setting) (known : CallsRun g.depth) (site : ℕ) (within : site < 
 case_runs : (g : Setting) (known : CallsRun g.depth) (head : CaseHead) (arms : List ((s : Stmt) × StmtRuns s)) → greatest (map repeats (bare arms)) ≤ g.slack
     → ExecutesAs g (case_code head (map stmt_code (bare arms)))
     (max (expr_depth head.index) (max 3 (arms_depth head.constants.items (map stmt_depth (bare arms)) + 1)))
-    (nat_lt head.site (sites g) && (is_well_formed_expr (outline g) g.number head.index && (list_all are_whole head.constants.items && all_hold (map
-    (is_well_formed_stmt (outline g) g.number) (bare arms)))))
+    (record {
+      well = nat_lt head.site (sites g) && (is_well_formed_expr (outline g) g.number head.index && (list_all are_whole head.constants.items && all_hold (map
+          (is_well_formed_stmt (outline g) g.number) (bare arms))));
+      held = is_ordinal_expr head.index && all_hold (map is_held_stmt (bare arms));
+      there = all_begins head.index g.opened && all_begin (map begins_in (bare arms)) g.opened;
+      strings = compares_strings g.tree.types head.index && all_hold (map (compares_in g.tree.types) (bare arms));
+    })
     (λ e. effect.enter head.number e.visible >>= λ _. value_of head.index e >>= λ v.
     arm_of head.site head.constants.items (map effect_of (bare arms)) (number_of v) e)
 case_runs g known head arms few place base held s stands good based high deep =
@@ -819,38 +897,53 @@ case_runs g known head arms few place base held s stands good based high deep =
     let all = arms_code g.scope out rows codes first in
     let pop = instr.JumpIfFalse (out + 1) ∷ [] in
     let same : first + length all + 1 ≡ out = ap (λ m. first + m + 1) (length-arms g.scope rows codes out 0 first) in
-    let p1 = and_parts (nat_lt head.site (sites g)) _ good in
+    let p1 = and_parts (nat_lt head.site (sites g)) _ good.0 in
+    let h1 = and_parts (is_ordinal_expr head.index) (all_hold (map is_held_stmt (bare arms))) good.1 in
+    let b1 = and_parts (all_begins head.index g.opened) (all_begin (map begins_in (bare arms)) g.opened) good.2 in
+    let s1' = and_parts (compares_strings g.tree.types head.index) (all_hold (map (compares_in g.tree.types) (bare arms))) good.3 in
     let p2 = and_parts (is_well_formed_expr (outline g) g.number head.index) _ p1.1 in
     let p3 = and_parts (list_all are_whole rows) (all_hold (map (is_well_formed_stmt (outline g) g.number) (bare arms))) p2.1 in
     let within = ltb-true head.site (sites g) p1.0 in
     let next : Value → Action (Unit {0}) = λ v. arm_of head.site rows (map effect_of (bare arms)) (number_of v) (around g) in
-    expr_then g (known g refl) (kept_on g held) head.index (all ++ (instr.Fail head.site ∷ pop)) place base held next s1 stands p2.0 based (omega arith)
-    (λ base2 v t from_arms based2 fit room2 le.
-    let n = number_of v in
+    expr_then g (known g refl) (kept_on g held) head.index (all ++ (instr.Fail head.site ∷ pop)) place base held next s1 stands
+    (ordinal_good g head.index (p2.0, h1.0, b1.0, s1'.0)) based (omega arith)
+    (λ base2 n t from_arms based2 fit room2 le.
+    let v = value.Number n in
     let here = held ++ Number n ∷ [] in
     let end = first + length (all ++ (instr.Fail head.site ∷ pop)) in
     let at_end = stands_back g.target first all (instr.Fail head.site ∷ pop) from_arms in
     let popping = subst (λ p. StandsAt g.target p (instr.JumpIfFalse (out + 1)) true) same at_end.1.0 in
     let e : out + 1 ≡ end = omega (arith, same, length-append all (instr.Fail head.site ∷ pop)) in
-    subst (λ cells. Executes g (on g cells first t) held end (next v) t) (one_held g base2 held n)
+    subst (λ cells. Executes g (on g cells first t) held end (next v) t) (one_held g base2 held (Number n))
     (subst (λ q. Executes g (on g (base2 ++ here) first t) held q (next v) t) e
     (behind_executes g _ here held out (out + 1) (next v) t
-    (arms_run g known head.site within out held high n (first + length all) at_end.0 rows arms 0 first base2 t few p3.1 (omega arith) based2
+    (arms_run g known head.site within out held high n (first + length all) at_end.0 rows arms 0 first base2 t few (p3.1, h1.1, b1.1, s1'.1)
+    (omega arith) based2
     (stands_front g.target first all (instr.Fail head.site ∷ pop) from_arms) refl)
     (λ base3 u based3.
-    subst (λ cells. Comes g.target 0 (on g cells out u) (on g (base3 ++ held) (out + 1) u)) (sym (one_held g base3 held n))
+    subst (λ cells. Comes g.target 0 (on g cells out u) (on g (base3 ++ held) (out + 1) u)) (sym (one_held g base3 held (Number n)))
     (popped_there g (base3 ++ held) n out u popping (linked g u base3 held based3))))))
 
 module _ (x : Stmt-F Stmt) where
   abbrev is_step : Setting → Stmt-F Bool → Bool
   is_step g = stmt_is_well_formed (outline g) g.number
 
+  -- one layer of a statement
+  abbrev stmt_layer_shape : Setting → Shape Bool Bool
+  stmt_layer_shape g = record {
+    well = is_step g (map-Stmt Stmt Bool (fold-Stmt Bool (is_step g)) x);
+    held = statement_held (map-Stmt Stmt Bool is_held_stmt x);
+    there = statement_begins (map-Stmt Stmt Begin begins_in x) g.opened;
+    strings = statement_compares g.tree.types (map-Stmt Stmt Bool (compares_in g.tree.types) x);
+  }
+
   rolled_stmt : ((g : Setting) → CallsRun g.depth → repeats_step (map-Stmt Stmt ℕ repeats x) ≤ g.slack
       → ExecutesAs g (stmt_step (map-Stmt Stmt Placed stmt_code x))
-      (stmt_depth_step (map-Stmt Stmt ℕ stmt_depth x))
-      (is_step g (map-Stmt Stmt Bool (fold-Stmt Bool (is_step g)) x)) (effect_step (map-Stmt Stmt Execution effect_of x))) → StmtRuns (roll-Stmt x)
+      (stmt_depth_step (map-Stmt Stmt ℕ stmt_depth x)) (stmt_layer_shape g) (effect_step (map-Stmt Stmt Execution effect_of x))) → StmtRuns (roll-Stmt x)
   rolled_stmt runs g known few =
-      same_four (ExecutesAs g) (fold-roll-Stmt Placed stmt_step x) (fold-roll-Stmt ℕ stmt_depth_step x) (fold-roll-Stmt Bool (is_step g) x)
+      same_four (ExecutesAs g) (fold-roll-Stmt Placed stmt_step x) (fold-roll-Stmt ℕ stmt_depth_step x)
+      (same_shape (fold-roll-Stmt Bool (is_step g) x) (fold-roll-Stmt Bool statement_held x)
+      (ap (λ (f : Begin). f g.opened) (fold-roll-Stmt Begin statement_begins x)) (fold-roll-Stmt Bool (statement_compares g.tree.types) x))
       (fold-roll-Stmt Execution effect_step x) (runs g known (subst (λ n. n ≤ g.slack) (fold-roll-Stmt ℕ repeats_step x) few))
 
 stmt_layer : (y : Stmt-F ((s : Stmt) × StmtRuns s)) → StmtRuns (roll-Stmt (map-Stmt ((s : Stmt) × StmtRuns s) Stmt (λ s. s.0) y))
@@ -876,6 +969,8 @@ stmt_layer (For head body) =
     rolled_stmt (map-Stmt ((s : Stmt) × StmtRuns s) Stmt (λ s. s.0) (For head body)) (λ g known few. for_runs g known head body.value few)
 stmt_layer (Case head arms) =
     rolled_stmt (map-Stmt ((s : Stmt) × StmtRuns s) Stmt (λ s. s.0) (Case head arms)) (λ g known few. case_runs g known head arms.items few)
+stmt_layer (With head body) =
+    rolled_stmt (map-Stmt ((s : Stmt) × StmtRuns s) Stmt (λ s. s.0) (With head body)) (λ g known few. with_runs g known head body.value few)
 
 -- the code of a statement keeps store and cells alike, or stops as the statement does
 pub stmt_runs : (s : Stmt) → StmtRuns s

@@ -6,7 +6,7 @@ use meaning::laws::{
 use stack_machine::laws::output_only_grows;
 use types::laws::{
     components_are_cells, components_stand_once, elements_lie_in_order, fields_lie_in_order,
-    ordinals_have_one_component,
+    scalars_have_one_component,
 };
 
 // The laws of the crates below on which the proof of the code rests.
@@ -15,7 +15,7 @@ pub(crate) fn known()
 {
     components_are_cells();
     components_stand_once();
-    ordinals_have_one_component();
+    scalars_have_one_component();
     elements_lie_in_order();
     fields_lie_in_order();
     pieces_use_turns_exactly();

@@ -31,6 +31,15 @@ use Rattle.typed_tree.specs.declared.tree.Relation.{Relation}
 use Rattle.typed_tree.specs.declared.tree.Relation.TheVariants as relation
 use Rattle.typed_tree.specs.declared.tree.RangeTest.{RangeTest}
 use Rattle.typed_tree.specs.declared.tree.Access.{Access}
+use Rattle.typed_tree.specs.declared.tree.Base.{Base}
+use Rattle.typed_tree.specs.declared.tree.Base.TheVariants as base
+use Rattle.typed_tree.specs.declared.tree.Designator.{Designator}
+use Rattle.typed_tree.specs.declared.tree.Designator.TheVariants as designator
+use Rattle.typed_tree.specs.declared.tree.SetRelation.{SetRelation}
+use Rattle.typed_tree.specs.declared.tree.SetRelation.TheVariants as set_relation
+use Rattle.typed_tree.specs.declared.tree.Scalar.{Scalar}
+use Rattle.typed_tree.specs.declared.tree.Scalar.TheVariants as scalar
+use Rattle.typed_tree.specs.declared.tree.WithRecord.{WithRecord}
 use Rattle.typed_tree.specs.declared.tree.Selector.{Selector}
 use Rattle.typed_tree.specs.declared.tree.Selector.TheVariants.{Element, Field}
 use Rattle.typed_tree.specs.declared.tree.Direction.{Direction}
@@ -49,28 +58,31 @@ use Rattle.typed_tree.specs.declared.tree.Call.{Call}
 use Rattle.typed_tree.specs.declared.tree.FunctionResult.{FunctionResult}
 use Rattle.typed_tree.specs.declared.tree.Variable.{Variable as DeclaredVariable}
 use Rattle.typed_tree.specs.declared.tree.Expr.TheOpen.{Expr-F, Passed-F, Link-F}
-use Rattle.typed_tree.specs.declared.tree.Expr.TheOpen.Expr-F.{Constant, Variable, Monadic as MonadicOf, Chain, Compare, Call as CallOf}
+use Rattle.typed_tree.specs.declared.tree.Expr.TheOpen.Expr-F.{Constant, Variable, Monadic as MonadicOf, Chain, Compare, Call as CallOf, Set}
 use Rattle.typed_tree.specs.declared.tree.Expr.TheOpen.Passed-F.{Value as PassedValue, Whole as PassedWhole, Reference}
 use Rattle.typed_tree.specs.declared.tree.Expr.TheViews.{roll-Expr, roll-Passed, roll-Link}
 use Rattle.typed_tree.specs.declared.tree.Expr.TheFolds.{map-Expr, map-Passed, map-Link, fold-roll-Expr, fold-roll-Passed, fold-roll-Link, ind-Expr}
 use Rattle.typed_tree.specs.declared.tree.Expr.TheFolds.{ind-Passed}
 use Rattle.typed_tree.specs.declared.tree.Stmt.{Stmt}
 use Rattle.typed_tree.specs.declared.tree.Stmt.TheOpen.{Stmt-F}
-use Rattle.typed_tree.specs.declared.tree.Stmt.TheOpen.Stmt-F.{Empty, Assign, Write, Compound, If, While, Repeat, For, Case, Copy, Call as Calling}
+use Rattle.typed_tree.specs.declared.tree.Stmt.TheOpen.Stmt-F.{Empty, Assign, Write, Compound, If, While, Repeat, For, Case, Copy, Call as Calling, With}
 use Rattle.typed_tree.specs.declared.tree.Stmt.TheViews.{roll-Stmt}
 use Rattle.typed_tree.specs.declared.tree.Stmt.TheFolds.{map-Stmt, fold-roll-Stmt, ind-Stmt}
 use Rattle.typed_tree.specs.WellFormed.{Outline, all_hold, are_well_formed_blocks, calculation_is_well_formed, dyadic_is_well_formed, expr_is_well_formed}
 use Rattle.typed_tree.specs.WellFormed.{fits_target, is_heading, is_result_or_none, is_well_formed_block, is_well_formed_expr}
 use Rattle.typed_tree.specs.WellFormed.{is_well_formed_link, is_well_formed_parameter, is_well_formed_passed, is_well_formed_selector, is_well_formed_stmt}
 use Rattle.typed_tree.specs.WellFormed.{is_well_formed_test, is_well_formed_value, is_well_formed_whole, is_well_formed_width, is_well_formed_written}
-use Rattle.typed_tree.specs.Accesses.{index_count}
+use Rattle.typed_tree.specs.Accesses.{AtVariable, Origin, index_count, origin_of, root_of}
+use Rattle.typed_tree.specs.WellFormed.{are_well_formed, is_well_formed_record, member_site, members_wanted}
 use Rattle.typed_tree.specs.WellFormed.{are_all, is_parameter_kind, is_placed, is_result_kind, result_roots, is_visible, leads_to, length_of}
 use Rattle.typed_tree.specs.WellFormed.{link_is_well_formed, monadic_is_well_formed, outline_of, passed_is_well_formed}
 use Rattle.typed_tree.specs.WellFormed.{placed as placed_for, stmt_is_well_formed, whole_indexes}
 use Rattle.types.specs.declared.form.TypeId.{TypeId}
+use Rattle.code_scheme.specs.declared.home.Home.{Home}
 use Rattle.code_scheme.specs.declared.routine.Routine.{Routine}
 use Rattle.code_scheme.specs.Scopes.{Scope, access_offset, behind_fields, block_scope, called_routine, count as as_count, fields_offset, held_offset, holding}
 use Rattle.code_scheme.specs.Scopes.{home_or_none, homes_from, links_to, offset, other_cells, routine_or_none, row_length, start_of, variable_home}
+use Rattle.code_scheme.specs.Scopes.{access_home, begun_home, record_home, with_record, with_records}
 use Rattle.code_scheme.specs.Code.{At, By, Reached, address_of, reached, reached_from, fetch_code, store_code, call_code, passed_code, passed_step}
 use Rattle.code_scheme.specs.Code.{field_code, selectors_code, address_code, index_codes, assign_code, copy_code, control_offset, case_code}
 use Rattle.code_scheme.specs.Code.{joined, placed, Placed, calculation_code, shift_code, monadic_code, relation_instr, dyadic_code, expr_code, link_code}
@@ -78,6 +90,8 @@ use Rattle.code_scheme.specs.Code.{expr_step, link_step, check_positive, for_cod
 use Rattle.code_scheme.specs.Code.{width_code, parameter_code, write_instr, line_end_code, stmt_code, stmt_step, range_check, order_instr, next_instr}
 use Rattle.code_scheme.specs.Code.{row_code, arms_code, for_entry, for_begin, for_next, for_end, program_code, compare_code, whole_code}
 use Rattle.code_scheme.specs.Code.{written_code, block_code, blocks_code, end_code, routines_from, routines_of}
+use Rattle.code_scheme.specs.Code.{designators_code, records_code, release_code, set_code, set_relation_instr, single_code, span_code, tested_check}
+use Rattle.code_scheme.specs.Code.{union_code, with_code}
 use Rattle.code_scheme.specs.Depth.{block_depth}
 use Rattle.code_scheme.proofs.Arms.{length-arms, length-row}
 use Rattle.code_scheme.proofs.Pieces.{length-For}
@@ -103,6 +117,19 @@ links_in scope level = cut_at (scope.level - level) 15
 
 held_in : (scope : Scope) (n : ℕ) → is_offset (held_offset scope n) ≡ true
 held_in scope n = cut_at (scope.next + n) 16777215
+
+-- one record more lies at an offset as well
+record_in : (records : List Home) (one : Home) → ((slot : ℕ) → is_offset (home_or_none (slice_get records slot)).start ≡ true)
+    → is_offset one.start ≡ true → (slot : ℕ) → is_offset (home_or_none (slice_get (records ++ one ∷ []) slot)).start ≡ true
+record_in [] one each its zero = its
+record_in [] one each its (suc slot) = refl
+record_in (record_home ∷ records) one each its zero = each 0
+record_in (record_home ∷ records) one each its (suc slot) = record_in records one (λ n. each (suc n)) its slot
+
+-- what takes addresses away is an instruction for each
+length-release : (n place : ℕ) → length (release_code n place) ≡ n
+length-release zero place = refl
+length-release (suc n) place = omega (arith, length-release n (place + 1))
 
 -- a block's code has an end
 end_is_some : (block : ℕ) (scope : Scope) (result : Option FunctionResult) → 1 ≤ length (end_code scope block result)
@@ -180,9 +207,30 @@ module _ (outline : Outline) (points count : ℕ) (lax : Bool) where
   AllPass [] = Unit {0}
   AllPass (code ∷ codes) = Passes code × AllPass codes
 
-  -- where code runs, each variable begins at an offset, and each routine at an instruction
+  -- where code runs, each variable begins at an offset, each routine at an instruction, and the address of each record
+  -- lies at an offset
   abbrev ScopeIn : Scope → Type 0
-  ScopeIn scope = ((root : ℕ) → is_offset (variable_home scope root).start ≡ true) × ((callee : ℕ) → (called_routine scope callee).place < count)
+  ScopeIn scope =
+      ((root : ℕ) → is_offset (variable_home scope root).start ≡ true)
+      × (((callee : ℕ) → (called_routine scope callee).place < count) × ((slot : ℕ) → is_offset (record_home scope slot).start ≡ true))
+
+  begun_in : (scope : Scope) → ScopeIn scope → (root : ℕ) (begins : Base) → is_offset (begun_home scope root begins).start ≡ true
+  begun_in scope there root base.Variable = there.0 root
+  begun_in scope there root (base.Record slot path) = there.1.1 slot
+
+  record_there : (scope : Scope) → ScopeIn scope → ScopeIn (with_record scope)
+  record_there scope there = (
+    there.0,
+    (there.1.0, record_in scope.records (record { level = scope.level; start = held_offset scope 0; refers = true }) there.1.1 (held_in scope 0)),
+  )
+
+  records_there : (n : ℕ) (scope : Scope) → ScopeIn scope → ScopeIn (with_records n scope)
+  records_there zero scope there = there
+  records_there (suc n) scope there = records_there n (with_record scope) (record_there scope there)
+
+  release_passes : (n place : ℕ) → place + n < count → Passes (release_code n place)
+  release_passes zero place few = tt
+  release_passes (suc n) place few = (jumps_if (place + 1) (omega (arith, few)), release_passes n (place + 1) (omega (arith, few)))
 
   field_passes : (before : ℕ) → Passes (field_code before)
   field_passes zero = tt
@@ -204,6 +252,40 @@ module _ (outline : Outline) (points count : ℕ) (lax : Bool) where
   relation_passes relation.Greater = refl
   relation_passes relation.LessOrEqual = refl
   relation_passes relation.GreaterOrEqual = refl
+
+  set_relation_passes : (r : SetRelation) → test (set_relation_instr r) ≡ true
+  set_relation_passes set_relation.Equal = refl
+  set_relation_passes set_relation.NotEqual = refl
+  set_relation_passes set_relation.Included = refl
+  set_relation_passes set_relation.Includes = refl
+
+  union_passes : (some : Bool) → Passes (union_code some)
+  union_passes true = (refl, tt)
+  union_passes false = tt
+
+  -- a set constructor whose tests name sites
+  designators_pass : (some : Bool) (designators : List Designator) (codes : List (List Instr)) → AllPass codes
+      → Given (list_all (λ one. nat_lt (member_site one) outline.sites) designators) → Passes (designators_code some designators codes)
+  designators_pass some [] codes each given = tt
+  designators_pass some (designator.Single site ∷ others) [] each given = tt
+  designators_pass some (designator.Single site ∷ others) (value ∷ codes) each given =
+      let parts = given_parts (nat_lt site outline.sites) _ given in
+      let set = passes_on (single_code site) (union_code some)
+      (meets (instr.CheckRange site (pos 0) (pos 127)) _ refl refl parts.0, (refl, tt)) (union_passes some) in
+      passes_on value _ each.0 (passes_on (single_code site ++ union_code some) _ set (designators_pass true others codes each.1 parts.1))
+  designators_pass some (designator.Range site ∷ others) [] each given = tt
+  designators_pass some (designator.Range site ∷ others) (first ∷ []) each given = tt
+  designators_pass some (designator.Range site ∷ others) (first ∷ last ∷ codes) each given =
+      let parts = given_parts (nat_lt site outline.sites) _ given in
+      let set = passes_on (span_code site) (union_code some)
+      (meets (instr.CheckMembers site) _ refl refl parts.0, (refl, tt)) (union_passes some) in
+      passes_on first _ each.0
+      (passes_on last _ each.1.0 (passes_on (span_code site ++ union_code some) _ set (designators_pass true others codes each.1.1 parts.1)))
+
+  set_passes : (designators : List Designator) (codes : List (List Instr)) → AllPass codes
+      → Given (list_all (λ one. nat_lt (member_site one) outline.sites) designators) → Passes (set_code designators codes)
+  set_passes [] codes each given = (refl, tt)
+  set_passes (first ∷ others) codes each given = designators_pass false (first ∷ others) codes each given
 
   compare_passes : (r : Relation) (components : ℕ) (left right : List Instr) → Passes left → Passes right → Passes (compare_code r components left right)
   compare_passes r components left right first second =
@@ -234,9 +316,14 @@ module _ (outline : Outline) (points count : ℕ) (lax : Bool) where
     range_passes : (fits : RangeTest) → Given (is_well_formed_test outline block fits) → test (range_check fits) ≡ true
     range_passes fits given = meets (range_check fits) _ refl refl (given_parts (nat_lt fits.site outline.sites) _ given).0
 
-    target_passes : (fits : RangeTest) (root : ℕ) (selectors : List Selector) → Given (fits_target outline block fits root selectors)
+    tested_passes : (tested : Scalar) (fits : RangeTest) → Given (is_well_formed_test outline block fits) → test (tested_check tested fits) ≡ true
+    tested_passes scalar.Ordinal fits given = range_passes fits given
+    tested_passes scalar.Set fits given =
+        meets (instr.CheckSet fits.site fits.range.first fits.range.last) _ refl refl (given_parts (nat_lt fits.site outline.sites) _ given).0
+
+    target_passes : (fits : RangeTest) (origin : Origin) (selectors : List Selector) → Given (fits_target outline block fits origin selectors)
         → test (range_check fits) ≡ true
-    target_passes fits root selectors given = range_passes fits (given_parts (is_well_formed_test outline block fits) _ given).0
+    target_passes fits origin selectors given = range_passes fits (given_parts (is_well_formed_test outline block fits) _ given).0
 
     calculation_passes : (does : Calculation) → Given (calculation_is_well_formed outline block does) → Passes (calculation_code does)
     calculation_passes calculation.Same given = tt
@@ -260,6 +347,11 @@ module _ (outline : Outline) (points count : ℕ) (lax : Bool) where
     dyadic_passes dyadic.And given = (refl, tt)
     dyadic_passes dyadic.Or given = (refl, tt)
     dyadic_passes (dyadic.Relation r) given = (relation_passes r, tt)
+    dyadic_passes dyadic.Union given = (refl, tt)
+    dyadic_passes dyadic.Difference given = (refl, tt)
+    dyadic_passes dyadic.Intersection given = (refl, tt)
+    dyadic_passes (dyadic.SetRelation r) given = (set_relation_passes r, tt)
+    dyadic_passes dyadic.In given = (refl, tt)
 
     -- ---- what is accessed
 
@@ -283,11 +375,11 @@ module _ (outline : Outline) (points count : ℕ) (lax : Bool) where
     behind_given (Element fits cells ∷ selectors) given = given
 
     -- an access that leads to what is wanted has selectors that are well formed
-    selectors_given : (wanted : TypeId → Bool) (root : ℕ) (selectors : List Selector) (n : ℕ)
-        → Given (leads_to outline block wanted root selectors n) → Given (well_selectors selectors)
-    selectors_given wanted root selectors n given =
+    selectors_given : (wanted : TypeId → Bool) (origin : Origin) (selectors : List Selector) (n : ℕ)
+        → Given (leads_to outline block wanted origin selectors n) → Given (well_selectors selectors)
+    selectors_given wanted origin selectors n given =
         (given_parts (well_selectors selectors) _
-        (given_parts (nat_eq n (index_count selectors)) _ (given_parts (is_visible outline block root) _ given).1).1).0
+        (given_parts (nat_eq n (index_count selectors)) _ (given_parts (is_visible outline block (root_of origin)) _ given).1).1).0
 
     from_passes : (level start : ℕ) (selectors : List Selector) (codes : List (List Instr)) → AllPass codes
         → Given (well_selectors selectors) → is_level level ≡ true → is_offset start ≡ true → ReachedPasses (reached_from level start selectors codes)
@@ -308,9 +400,9 @@ module _ (outline : Outline) (points count : ℕ) (lax : Bool) where
       reached_passes : (access : Access) (codes : List (List Instr)) → AllPass codes
           → Given (well_selectors access.selectors.items) → ReachedPasses (reached scope access codes)
       reached_passes access codes each given =
-          let home = variable_home scope access.root in
+          let home = access_home scope access in
           any_passes home.refers (links_to scope home.level) home.start (access_offset scope access) access.selectors.items codes each given
-          (links_in scope home.level) (there.0 access.root) (cut_at (home.start + fields_offset access.selectors.items) 16777215)
+          (links_in scope home.level) (begun_in scope there access.root access.base) (cut_at (home.start + fields_offset access.selectors.items) 16777215)
 
       -- a whole value, with these codes of its index expressions, which pass if these tests of them are given
       whole_passes : (value : Whole) (codes : List (List Instr)) (wells : List Bool) (n : ℕ) → (Given (all_hold wells) → AllPass codes)
@@ -318,7 +410,7 @@ module _ (outline : Outline) (points count : ℕ) (lax : Bool) where
       whole_passes (Text number characters) codes wells n each all given = characters_pass characters.items
       whole_passes (VariableOf access type_id cells defined) codes wells n each all given =
           let parts = given_parts _ _ given in
-          let selectors = selectors_given _ access.root access.selectors.items n parts.0 in
+          let selectors = selectors_given _ (origin_of access) access.selectors.items n parts.0 in
           passes_on (address_code scope access codes) _ (address_passes _ (reached_passes access codes (each all) selectors)) (
             names_none (instr.LoadMany (row_length cells)) (cut_at cells 65536) refl,
             (meets (instr.CheckDefined defined (row_length cells)) _ (cut_at cells 65536) refl (given_parts _ _ parts.1).1, tt),
@@ -382,8 +474,11 @@ module _ (outline : Outline) (points count : ℕ) (lax : Bool) where
       call_passes call pieces inside =
           let routine = called_routine scope call.block in (
             names_none (instr.MarkStack (links_to scope routine.level)) (links_in scope routine.level) refl,
-            passes_on (joined pieces) _ inside
-                (goes (instr.CallProcedure (row_length routine.cells) routine.place) routine.place (cut_at routine.cells 65536) refl (there.1 call.block), tt),
+            passes_on (joined pieces) _ inside (
+              goes (instr.CallProcedure (row_length routine.cells) routine.place) routine.place (cut_at routine.cells 65536) refl
+                  (there.1.0 call.block),
+              tt,
+            ),
           )
 
       abbrev Code : Type 0
@@ -420,12 +515,13 @@ module _ (outline : Outline) (points count : ℕ) (lax : Bool) where
 
       expr_layer : (y : Expr-F ProvedExpr ProvedPassed ProvedLink) → ExprPasses (roll-Expr (bare_expr y))
       expr_layer (Constant number n) = rolled_expr (Constant number n) (λ given. (refl, tt))
-      expr_layer (Variable access indexes defined) =
-          rolled_expr (bare_expr (Variable access indexes defined)) (λ given.
+      expr_layer (Variable access indexes holds defined) =
+          rolled_expr (bare_expr (Variable access indexes holds defined)) (λ given.
           let parts = given_parts _ _ given in
           let parts' = given_parts _ _ parts.1 in
           passes_on (fetch_code (reached scope access (map (expr_code scope) (bare indexes.items)))) _
-          (fetch_passes _ (reached_passes access _ (indexes_pass indexes.items parts.0) (selectors_given _ access.root access.selectors.items _ parts'.0)))
+          (fetch_passes _ (reached_passes access _ (indexes_pass indexes.items parts.0)
+          (selectors_given _ (origin_of access) access.selectors.items _ parts'.0)))
           (meets (instr.CheckDefined defined 1) _ refl refl parts'.1, tt))
       expr_layer (MonadicOf number operation operand) =
           rolled_expr (bare_expr (MonadicOf number operation operand)) (λ given.
@@ -447,13 +543,18 @@ module _ (outline : Outline) (points count : ℕ) (lax : Bool) where
           rolled_expr (bare_expr (CallOf call actuals)) (λ given.
           call_passes call (map (passed_code scope) (map (λ (p : ProvedPassed). p.0) actuals.items))
           (actuals_pass actuals.items call.block 0 (given_parts _ _ given).1))
+      expr_layer (Set number designators members) =
+          rolled_expr (bare_expr (Set number designators members)) (λ given.
+          let parts = given_parts _ _ given in
+          let sites = given_parts (nat_eq _ (members_wanted designators.items)) _ parts.1 in
+          set_passes designators.items _ (indexes_pass members.items parts.0) sites.1)
 
       passed_layer : (y : Passed-F ProvedExpr ProvedPassed ProvedLink) → PassedPasses (roll-Passed (bare_passed y))
       passed_layer (PassedValue value fits) =
           rolled_passed (bare_passed (PassedValue value fits)) (λ callee position given.
           let parts = given_parts (well value.0) _ given in
           passes_on (expr_code scope value.0) _ (value.1 parts.0)
-          (range_passes fits (given_parts (is_well_formed_test outline block fits) _ parts.1).0, tt))
+          (tested_passes fits.tests fits (given_parts (is_well_formed_test outline block fits) _ parts.1).0, tt))
       passed_layer (PassedWhole type_id value indexes) =
           rolled_passed (bare_passed (PassedWhole type_id value indexes)) (λ callee position given.
           let one = given_parts _ _ given in
@@ -463,7 +564,7 @@ module _ (outline : Outline) (points count : ℕ) (lax : Bool) where
           rolled_passed (bare_passed (Reference type_id access indexes)) (λ callee position given.
           let one = given_parts _ _ given in
           let two = given_parts _ _ one.1 in
-          address_passes _ (reached_passes access _ (indexes_pass indexes.items one.0) (selectors_given _ access.root access.selectors.items _ two.0)))
+          address_passes _ (reached_passes access _ (indexes_pass indexes.items one.0) (selectors_given _ (origin_of access) access.selectors.items _ two.0)))
 
       link_layer : (y : Link-F ProvedExpr ProvedPassed ProvedLink) → LinkPasses (roll-Link (bare_link y))
       link_layer y =
@@ -507,11 +608,11 @@ module _ (outline : Outline) (points count : ℕ) (lax : Bool) where
           let one = given_parts _ _ given in
           let two = given_parts _ _ one.1 in
           let three = given_parts (well assignment.value) _ two.1 in
-          let root = assignment.target.root in
+          let origin = origin_of assignment.target in
           let selectors = assignment.target.selectors.items in
           store_passes _ _ (passes_on (expr_code scope assignment.value) _ (expr_passes assignment.value three.0)
-          (target_passes assignment.fits root selectors three.1, tt))
-          (reached_passes assignment.target _ (exprs_pass assignment.indexes.items one.0) (selectors_given _ root selectors _ two.0))
+          (tested_passes assignment.fits.tests assignment.fits (given_parts (is_well_formed_test outline block assignment.fits) _ three.1).0, tt))
+          (reached_passes assignment.target _ (exprs_pass assignment.indexes.items one.0) (selectors_given _ origin selectors _ two.0))
 
       copy_passes : (copying : Copying) → Given (stmt_is_well_formed outline block (Copy copying)) → Passes (copy_code scope copying)
       copy_passes copying given =
@@ -520,7 +621,8 @@ module _ (outline : Outline) (points count : ℕ) (lax : Bool) where
           let three = given_parts (is_well_formed_value outline block copying.value copying.value_indexes.items) _ two.1 in
           let target = copying.target in
           passes_on (address_code scope target (index_codes scope copying.indexes.items)) _
-          (address_passes _ (reached_passes target _ (exprs_pass copying.indexes.items one.0) (selectors_given _ target.root target.selectors.items _ two.0)))
+          (address_passes _ (reached_passes target _ (exprs_pass copying.indexes.items one.0)
+          (selectors_given _ (origin_of target) target.selectors.items _ two.0)))
           (passes_on (whole_code scope copying.value (index_codes scope copying.value_indexes.items)) _
           (value_passes copying.value copying.value_indexes.items three.0)
           (names_none (instr.StoreMany (row_length (length_of copying.value))) (cut_at (length_of copying.value) 65536) refl, tt))
@@ -540,7 +642,8 @@ module _ (outline : Outline) (points count : ℕ) (lax : Bool) where
 
       written_passes : (value : Written) → Given (is_well_formed_written outline block value) → Passes (written_code scope value)
       written_passes (Ordinal value representation) given = expr_passes value given
-      written_passes (String value indexes) given = value_passes value indexes.items given
+      written_passes (String value indexes) given =
+          value_passes value indexes.items (given_parts (is_well_formed_value outline block value indexes.items) _ given).0
 
       parameters_pass : (parameters : List WriteParameter) → Given (all_hold (map (is_well_formed_parameter outline block) parameters))
           → Passes (flat_map (parameter_code scope) parameters)
@@ -565,11 +668,13 @@ module _ (outline : Outline) (points count : ℕ) (lax : Bool) where
       stores : (n : ℕ) → test (instr.Store 0 (held_offset scope n)) ≡ true
       stores n = names_none (instr.Store 0 (held_offset scope n)) (held_in scope n) refl
 
-      entry_passes : (head : ForHead) (out : ℕ) → out < count → Given (fits_target outline block head.first.fits head.control [])
-          → Given (fits_target outline block head.last.fits head.control []) → Passes (for_entry scope head out)
+      entry_passes : (head : ForHead) (out : ℕ) → out < count → Given (fits_target outline block head.first.fits (AtVariable head.control) [])
+          → Given (fits_target outline block head.last.fits (AtVariable head.control) []) → Passes (for_entry scope head out)
       entry_passes head out less first last =
-          let tests : Passes (range_check head.first.fits ∷ instr.Store 0 (held_offset scope 0) ∷ range_check head.last.fits ∷ []) =
-          (target_passes head.first.fits head.control [] first, (stores 0, (target_passes head.last.fits head.control [] last, tt))) in
+          let tests : Passes (range_check head.first.fits ∷ instr.Store 0 (held_offset scope 0) ∷ range_check head.last.fits ∷ []) = (
+            target_passes head.first.fits (AtVariable head.control) [] first,
+            (stores 0, (target_passes head.last.fits (AtVariable head.control) [] last, tt)),
+          ) in
           (loads 0, (loads 1, ((order_passes head.direction).0, (jumps_if out less, (loads 0, tests)))))
 
       begin_passes : (control : ℕ) → Passes (for_begin scope control)
@@ -681,8 +786,8 @@ module _ (outline : Outline) (points count : ℕ) (lax : Bool) where
         (λ few. (jumps_if place (omega (arith, few)), tt)))
 
     for_fits : (head : ForHead) (body : ProvedStmt) (scope : Scope) → ScopeIn scope → (place : ℕ)
-        → Given (well head.first.value) → Given (fits_target outline block head.first.fits head.control [])
-        → Given (well head.last.value) → Given (fits_target outline block head.last.fits head.control [])
+        → Given (well head.first.value) → Given (fits_target outline block head.first.fits (AtVariable head.control) [])
+        → Given (well head.last.value) → Given (fits_target outline block head.last.fits (AtVariable head.control) [])
         → Given (well_stmt body.0) → Fits place (for_code head (stmt_code body.0) scope place)
     for_fits head body scope there place valued fits valued' fits' good few =
         let long = length-For head (stmt_code body.0) scope place in
@@ -743,6 +848,39 @@ module _ (outline : Outline) (points count : ℕ) (lax : Bool) where
         (passes_on all end (arms_fit scope there out (omega (arith, within, same)) rows arms first good (omega (arith, within)))
         (meets (instr.Fail head.site) _ refl refl sited, (jumps_if (out + 1) (omega (arith, within, same)), tt)))
 
+    records_pass : (scope : Scope) → ScopeIn scope → (records : List WithRecord)
+        → Given (all_hold (map (is_well_formed_record outline block) records)) → Passes (records_code scope records)
+    records_pass scope there [] given = tt
+    records_pass scope there (one ∷ others) given =
+        let parts = given_parts (is_well_formed_record outline block one) _ given in
+        let its = given_parts (are_well_formed outline block one.indexes.items) _ parts.0 in
+        passes_on (address_code scope one.access (index_codes scope one.indexes.items)) _
+        (address_passes _ (reached_passes scope there one.access _ (exprs_pass scope there one.indexes.items its.0)
+        (selectors_given _ (origin_of one.access) one.access.selectors.items _ its.1)))
+        (records_pass (with_record scope) (record_there scope there) others parts.1)
+
+    with_fits : (records : List WithRecord) (body : ProvedStmt) (scope : Scope) → ScopeIn scope → (place : ℕ)
+        → Given (all_hold (map (is_well_formed_record outline block) records)) → Given (well_stmt body.0)
+        → Fits place (with_code records (stmt_code body.0) scope place)
+    with_fits records body scope there place well good few =
+        let n = length records in
+        let addresses = records_code scope records in
+        let inside = place + length addresses in
+        let opened = with_records n scope in
+        let code = stmt_code body.0 opened inside in
+        let release = release_code n (inside + length code) in
+        let within : inside + length code + n < count =
+        omega (
+          arith,
+          few,
+          length-append addresses (code ++ release),
+          length-append code release,
+          length-release n (inside + length code),
+        ) in
+        passes_on addresses (code ++ release) (records_pass scope there records well)
+        (passes_on code release (body.1 opened (records_there n scope there) inside good (omega (arith, within)))
+        (release_passes n (inside + length code) within))
+
     stmt_layer : (y : Stmt-F ProvedStmt) → StmtFits (roll-Stmt (bare_stmt y))
     stmt_layer (Empty number) = rolled_stmt (Empty number) (λ scope there place given few. tt)
     stmt_layer (Assign assignment) = rolled_stmt (Assign assignment) (λ scope there place given few. assign_passes scope there assignment given)
@@ -778,15 +916,19 @@ module _ (outline : Outline) (points count : ℕ) (lax : Bool) where
         rolled_stmt (bare_stmt (For head body)) (λ scope there place given.
         let one = given_parts _ _ given in
         let two = given_parts (well head.first.value) _ one.1 in
-        let three = given_parts (fits_target outline block head.first.fits head.control []) _ two.1 in
+        let three = given_parts (fits_target outline block head.first.fits (AtVariable head.control) []) _ two.1 in
         let four = given_parts (well head.last.value) _ three.1 in
-        let five = given_parts (fits_target outline block head.last.fits head.control []) _ four.1 in
+        let five = given_parts (fits_target outline block head.last.fits (AtVariable head.control) []) _ four.1 in
         for_fits head body.value scope there place two.0 three.0 four.0 five.0 five.1)
     stmt_layer (Case head arms) =
         rolled_stmt (bare_stmt (Case head arms)) (λ scope there place given.
         let one = given_parts (nat_lt head.site outline.sites) _ given in
         let two = given_parts (well head.index) _ one.1 in
         case_fits head arms.items scope there place one.0 two.0 (given_parts _ _ two.1).1)
+    stmt_layer (With head body) =
+        rolled_stmt (bare_stmt (With head body)) (λ scope there place given.
+        let one = given_parts (all_hold (map (is_well_formed_record outline block) head.records.items)) _ given in
+        with_fits head.records.items body.value scope there place one.0 one.1)
 
     stmt_fits : (s : Stmt) → StmtFits s
     stmt_fits = ind-Stmt StmtFits (λ x y is. subst (λ z. StmtFits (roll-Stmt z)) is (stmt_layer y))
@@ -873,8 +1015,10 @@ program_passes tree points lax [] is given =
 program_passes tree points lax (block ∷ blocks) is given =
     let some = some_there tree block blocks is in
     blocks_pass (outline_of tree) points (length (program_code tree)) lax tree (routines_of tree)
-    (λ number. (homes_in tree 0 tree.variables.items, λ callee. routines_in tree callee (slice_get tree.blocks.items callee) refl some)) 0 tree.blocks.items 0
-    given (omega arith)
+    (λ number. (
+      homes_in tree 0 tree.variables.items,
+      (λ callee. routines_in tree callee (slice_get tree.blocks.items callee) refl some, λ slot. refl),
+    )) 0 tree.blocks.items 0 given (omega arith)
 
 given_lax : (b : Bool) → (b || true) ≡ true
 given_lax true = refl

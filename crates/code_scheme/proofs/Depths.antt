@@ -17,7 +17,10 @@ use Rattle.typed_tree.specs.declared.tree.VariableKind.{VariableKind}
 use Rattle.typed_tree.specs.declared.tree.VariableKind.TheVariants as kind
 use Rattle.types.specs.Forms.{Form}
 use Rattle.types.specs.Types.{cells_of}
+use Rattle.typed_tree.specs.declared.tree.Designator.{Designator}
+use Rattle.typed_tree.specs.declared.tree.Designator.TheVariants as designator
 use Rattle.typed_tree.specs.declared.tree.Width.{Width}
+use Rattle.typed_tree.specs.declared.tree.WithRecord.{WithRecord}
 use Rattle.typed_tree.specs.declared.tree.WriteParameter.{WriteParameter}
 use Rattle.typed_tree.specs.declared.tree.Written.{Written}
 use Rattle.typed_tree.specs.declared.tree.Written.TheVariants.{Ordinal, String}
@@ -27,7 +30,7 @@ use Rattle.typed_tree.specs.declared.tree.Expr.{Expr}
 use Rattle.typed_tree.specs.declared.tree.Link.{Link}
 use Rattle.typed_tree.specs.declared.tree.Passed.{Passed}
 use Rattle.typed_tree.specs.declared.tree.Expr.TheOpen.{Expr-F, Passed-F, Link-F}
-use Rattle.typed_tree.specs.declared.tree.Expr.TheOpen.Expr-F.{Constant, Variable, Monadic as MonadicOf, Chain, Compare, Call as CallOf}
+use Rattle.typed_tree.specs.declared.tree.Expr.TheOpen.Expr-F.{Constant, Variable, Monadic as MonadicOf, Chain, Compare, Call as CallOf, Set}
 use Rattle.typed_tree.specs.declared.tree.Expr.TheOpen.Passed-F.{Value as PassedValue, Whole as PassedWhole, Reference}
 use Rattle.typed_tree.specs.declared.tree.Expr.TheViews.{roll-Expr, roll-Passed, roll-Link}
 use Rattle.typed_tree.specs.declared.tree.Expr.TheFolds.{fold-Link, map-Expr, map-Passed, map-Link, fold-roll-Expr, fold-roll-Passed, fold-roll-Link, ind-Expr}
@@ -35,13 +38,13 @@ use Rattle.typed_tree.specs.declared.tree.Expr.TheFolds.{ind-Passed}
 use Rattle.typed_tree.specs.Accesses.{index_count}
 use Rattle.typed_tree.specs.declared.tree.Stmt.{Stmt}
 use Rattle.typed_tree.specs.declared.tree.Stmt.TheOpen.{Stmt-F}
-use Rattle.typed_tree.specs.declared.tree.Stmt.TheOpen.Stmt-F.{Empty, Assign, Write, Compound, If, While, Repeat, For, Case, Copy, Call as Calling}
+use Rattle.typed_tree.specs.declared.tree.Stmt.TheOpen.Stmt-F.{Empty, Assign, Write, Compound, If, While, Repeat, For, Case, Copy, Call as Calling, With}
 use Rattle.typed_tree.specs.declared.tree.Stmt.TheViews.{roll-Stmt}
 use Rattle.typed_tree.specs.declared.tree.Stmt.TheFolds.{map-Stmt, fold-roll-Stmt, ind-Stmt}
 use Rattle.typed_tree.specs.WellFormed.{is_parameter_kind, is_variable_kind, length_of, variables_of}
 use Rattle.code_scheme.specs.Scopes.{cells_where, is_other_of, is_parameter_of, other_cells, parameter_cells, slot_cells}
-use Rattle.code_scheme.specs.Depth.{PassedDepth, actuals_depth, block_depth, passed_depth, passed_depth_step, result_depth}
-use Rattle.code_scheme.specs.Need.{block_need, body_need, passed_need, passed_need_step, reached_need, variable_need}
+use Rattle.code_scheme.specs.Depth.{PassedDepth, actuals_depth, block_depth, designators_depth, passed_depth, passed_depth_step, records_depth, result_depth}
+use Rattle.code_scheme.specs.Need.{block_need, body_need, passed_need, passed_need_step, reached_need, record_need, variable_need}
 use Rattle.code_scheme.specs.Depth.{expr_depth, link_depth, expr_depth_step, link_depth_step, width_depth, parameter_depth, monadic_depth, access_depth}
 use Rattle.code_scheme.specs.Depth.{whole_depth, store_depth, index_depths, written_depth, written_cells, stmt_depth, stmt_depth_step, arms_depth}
 use Rattle.code_scheme.specs.Need.{expr_need, expr_need_step, link_need_step, whole_need, index_needs, width_need, written_need, parameter_need}
@@ -79,6 +82,15 @@ indexes_taken least (Element fits cells ∷ selectors) [] counts = absurd (omega
 indexes_taken least (Element fits cells ∷ selectors) (index ∷ indexes) counts =
     let rest = indexes_taken (max least (index + 1)) selectors indexes (omega (arith, counts)) in
     omega (arith, rest)
+
+-- a set takes a cell
+pub set_takes_one : (held : ℕ) (designators : List Designator) (members : List ℕ) → 1 ≤ designators_depth held designators members
+set_takes_one held [] members = omega arith
+set_takes_one held (designator.Single site ∷ others) [] = omega arith
+set_takes_one held (designator.Single site ∷ others) (value ∷ members) = omega (arith, set_takes_one 1 others members)
+set_takes_one held (designator.Range site ∷ others) [] = omega arith
+set_takes_one held (designator.Range site ∷ others) (first ∷ []) = omega arith
+set_takes_one held (designator.Range site ∷ others) (first ∷ last ∷ members) = omega (arith, set_takes_one 1 others members)
 
 -- an operation on one operand needs two cells at most
 monadic_within : (operation : Monadic) → monadic_depth operation ≤ 2
@@ -118,8 +130,8 @@ one_of x h = subst (λ n. 1 ≤ n) (sym (fold-roll-Expr ℕ PassedDepth ℕ expr
 
 one_layer : (y : Expr-F HereNeedsOne PassedHere LinkHere) → NeedsOne (roll-Expr (bare_one y))
 one_layer (Constant number n) = one_of (Constant number n) (omega arith)
-one_layer (Variable access indexes defined) =
-    one_of (bare_one (Variable access indexes defined))
+one_layer (Variable access indexes holds defined) =
+    one_of (bare_one (Variable access indexes holds defined))
     (address_takes_one access.selectors.items (map expr_depth (map (λ (e : HereNeedsOne). e.0) indexes.items)))
 one_layer (MonadicOf number operation operand) = one_of (bare_one (MonadicOf number operation operand)) (omega (arith, operand.value.1))
 one_layer (Chain first rest) =
@@ -129,6 +141,9 @@ one_layer (Compare number r left left_indexes right right_indexes) = one_of (bar
 one_layer (CallOf call actuals) =
     one_of (bare_one (CallOf call actuals))
     (omega (arith, held_within 4 (map passed_depth (map (λ (p : PassedHere). p.0) actuals.items))))
+one_layer (Set number designators members) =
+    one_of (bare_one (Set number designators members))
+    (set_takes_one 0 designators.items (map expr_depth (map (λ (e : HereNeedsOne). e.0) members.items)))
 
 link_one : (y : Link-F HereNeedsOne PassedHere LinkHere)
     → LinkNeedsOne (roll-Link (map-Link HereNeedsOne PassedHere LinkHere Expr Passed Link (λ e. e.0) (λ p. p.0) (λ l. l.0) y))
@@ -179,6 +194,33 @@ module _ (types : List Form) where
   access_within (Element fits cells ∷ selectors) (e ∷ indexes) =
       let r = access_within selectors indexes in
       omega (arith, r, e.1, sum-cons (expr_need types e.0) (map (expr_need types) (map (λ (d : HereWithin). d.0) indexes)))
+
+  -- the designators of a set constructor: beside a set at most, the last of a range beside its first as well
+  designators_within : (held : ℕ) → held ≤ 1 → (designators : List Designator) (members : List HereWithin)
+      → designators_depth held designators (map expr_depth (map (λ e. e.0) members)) ≤ 2 + sum (map (expr_need types) (map (λ e. e.0) members))
+  designators_within held few [] members = omega arith
+  designators_within held few (designator.Single site ∷ others) [] = omega arith
+  designators_within held few (designator.Single site ∷ others) (e ∷ members) =
+      omega (
+        arith,
+        few,
+        e.1,
+        designators_within 1 (omega arith) others members,
+        sum-cons (expr_need types e.0) (map (expr_need types) (map (λ (d : HereWithin). d.0) members)),
+      )
+  designators_within held few (designator.Range site ∷ others) [] = omega arith
+  designators_within held few (designator.Range site ∷ others) (first ∷ []) = omega arith
+  designators_within held few (designator.Range site ∷ others) (first ∷ last ∷ members) =
+      let needs = map (expr_need types) (map (λ (d : HereWithin). d.0) members) in
+      omega (
+        arith,
+        few,
+        first.1,
+        last.1,
+        designators_within 1 (omega arith) others members,
+        sum-cons (expr_need types first.0) (expr_need types last.0 ∷ needs),
+        sum-cons (expr_need types last.0) needs,
+      )
 
   whole_within : (value : Whole) (indexes : List HereWithin)
       → whole_depth value (map expr_depth (map (λ e. e.0) indexes)) + 6 ≤ whole_need value (map (expr_need types) (map (λ e. e.0) indexes))
@@ -242,8 +284,8 @@ module _ (types : List Form) where
 
   expr_layer : (y : Expr-F HereWithin PassedHereWithin LinkHereWithin) → ExprWithin (roll-Expr (bare_expr y))
   expr_layer (Constant number n) = rolled_expr (Constant number n) (omega arith)
-  expr_layer (Variable access indexes defined) =
-      rolled_expr (bare_expr (Variable access indexes defined)) (omega (arith, access_within access.selectors.items indexes.items))
+  expr_layer (Variable access indexes holds defined) =
+      rolled_expr (bare_expr (Variable access indexes holds defined)) (omega (arith, access_within access.selectors.items indexes.items))
   expr_layer (MonadicOf number operation operand) =
       rolled_expr (bare_expr (MonadicOf number operation operand)) (omega (arith, operand.value.1, monadic_within operation))
   expr_layer (Chain first rest) =
@@ -253,6 +295,8 @@ module _ (types : List Form) where
       rolled_expr (bare_expr (Compare number r left left_indexes right right_indexes))
       (omega (arith, whole_within left left_indexes.items, whole_within right right_indexes.items))
   expr_layer (CallOf call actuals) = rolled_expr (bare_expr (CallOf call actuals)) (omega (arith, actuals_within 4 actuals.items))
+  expr_layer (Set number designators members) =
+      rolled_expr (bare_expr (Set number designators members)) (omega (arith, designators_within 0 (omega arith) designators.items members.items))
 
   link_layer : (y : Link-F HereWithin PassedHereWithin LinkHereWithin)
       → LinkWithin (roll-Link (map-Link HereWithin PassedHereWithin LinkHereWithin Expr Passed Link (λ e. e.0) (λ p. p.0) (λ l. l.0) y))
@@ -299,6 +343,21 @@ module _ (types : List Form) where
   store_within : (selectors : List Selector) (indexes : List Expr) (value : Expr)
       → store_depth selectors (index_depths indexes) (expr_depth value) ≤ 2 + sum (index_needs types indexes) + expr_need types value
   store_within selectors indexes value = omega (arith, expr_within value, address_within selectors indexes)
+
+  -- the records of a with, and how many they are
+  records_within : (records : List WithRecord) → records_depth records ≤ sum_by (record_need types) records
+  records_within [] = omega arith
+  records_within (one ∷ others) =
+      omega (
+        arith,
+        address_within one.access.selectors.items one.indexes.items,
+        records_within others,
+        sum_by-cons (record_need types) one others,
+      )
+
+  records_counted : (records : List WithRecord) → length records ≤ sum_by (record_need types) records
+  records_counted [] = omega arith
+  records_counted (one ∷ others) = omega (arith, records_counted others, sum_by-cons (record_need types) one others)
 
   -- a width, beside the value that is written in it
   width_within : (width : Option Width) → width_depth width ≤ width_need types width + 1
@@ -375,6 +434,9 @@ module _ (types : List Form) where
   stmt_layer (Case head arms) =
       rolled_stmt (bare_stmt (Case head arms))
       (omega (arith, expr_within head.index, arms_within head.constants.items arms.items))
+  stmt_layer (With head body) =
+      rolled_stmt (bare_stmt (With head body))
+      (omega (arith, records_within head.records.items, records_counted head.records.items, body.value.1))
 
   -- the same of a statement
   pub stmt_within : (s : Stmt) → stmt_depth s ≤ stmt_need types s

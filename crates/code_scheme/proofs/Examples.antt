@@ -7,6 +7,7 @@ use Rattle.types.specs.Forms.{Form, Array, Record}
 use Rattle.types.specs.declared.form.TypeId.{TypeId}
 use Rattle.types.specs.Types.{boolean, cells_of, integer, required_forms}
 use Rattle.typed_tree.specs.declared.tree.Tree.{Tree}
+use Rattle.typed_tree.specs.declared.tree.Base.TheVariants as base
 use Rattle.typed_tree.specs.declared.tree.Block.{Block}
 use Rattle.typed_tree.specs.declared.tree.Heading.{Heading}
 use Rattle.typed_tree.specs.declared.tree.FunctionResult.{FunctionResult}
@@ -14,6 +15,8 @@ use Rattle.typed_tree.specs.declared.tree.Call.{Call}
 use Rattle.typed_tree.specs.declared.tree.Access.{Access}
 use Rattle.typed_tree.specs.declared.tree.Selector.TheVariants.{Element, Field}
 use Rattle.typed_tree.specs.declared.tree.RangeTest.{RangeTest}
+use Rattle.typed_tree.specs.declared.tree.Designator.TheVariants as designator
+use Rattle.typed_tree.specs.declared.tree.Scalar.TheVariants as scalar
 use Rattle.typed_tree.specs.declared.tree.Variable.{Variable as DeclaredVariable}
 use Rattle.typed_tree.specs.declared.tree.VariableKind.{VariableKind}
 use Rattle.typed_tree.specs.declared.tree.VariableKind.TheVariants as kind
@@ -36,10 +39,11 @@ use Rattle.typed_tree.specs.declared.tree.Stmt.TheOpen.{Stmt-F}
 use Rattle.typed_tree.specs.declared.tree.Stmt.TheOpen.Stmt-F.{Assign, Copy, Write, Compound, Call as Calling}
 use Rattle.typed_tree.specs.declared.tree.Stmt.TheViews.{roll-Stmt}
 use Rattle.typed_tree.specs.declared.tree.Stmt.TheFolds.{map-Stmt, fold-roll-Stmt}
-use Rattle.code_scheme.specs.Scopes.{Scope, homes_of}
+use Rattle.code_scheme.specs.Scopes.{Scope, homes_of, with_records}
 use Rattle.code_scheme.specs.Code.{Placed, expr_code, expr_step, link_code, link_step, parameter_code, passed_code, passed_step, placed, program_code}
-use Rattle.code_scheme.specs.Code.{stmt_code, stmt_step}
-use Rattle.code_scheme.specs.Depth.{PassedDepth, expr_depth, expr_depth_step, link_depth, link_depth_step, parameter_depth, passed_depth, passed_depth_step}
+use Rattle.code_scheme.specs.Code.{address_code, release_code, set_code, stmt_code, stmt_step}
+use Rattle.code_scheme.specs.Depth.{PassedDepth, designators_depth, expr_depth, expr_depth_step, link_depth, link_depth_step, parameter_depth, passed_depth}
+use Rattle.code_scheme.specs.Depth.{passed_depth_step}
 use Rattle.code_scheme.specs.Depth.{stmt_depth, stmt_depth_step}
 use Rattle.code_scheme.specs.Need.{block_need, expr_need, expr_need_step, link_need_step, living_need, parameter_need, passed_need, passed_need_step}
 use Rattle.code_scheme.specs.Need.{stmt_need, stmt_need_step}
@@ -144,13 +148,13 @@ module _ (heap : Vec ℕ Global) (some_call : Call) where
   constant number value = roll-Expr (Constant number value)
 
   abbrev access : ℕ → ℕ → Access
-  access number root = record { number = number; root = root; selectors = vec [] (omega arith) }
+  access number root = record { number = number; root = root; base = base.Variable; selectors = vec [] (omega arith) }
 
   abbrev variable : ℕ → ℕ → ℕ → Expr
-  variable number root site = roll-Expr (Variable (access number root) (vec [] (omega arith)) site)
+  variable number root site = roll-Expr (Variable (access number root) (vec [] (omega arith)) scalar.Ordinal site)
 
   abbrev test : ℕ → RangeTest
-  test site = record { site = site; range = record { first = negsuc 0; last = pos 8 } }
+  test site = record { site = site; tests = scalar.Ordinal; range = record { first = negsuc 0; last = pos 8 } }
 
   abbrev by_value : Expr → ℕ → Passed
   by_value value site = roll-Passed (PassedValue value (test site))
@@ -261,13 +265,13 @@ module _ (heap : Vec ℕ Global) (some_call : Call) where
 
   -- the second variable, tested at the first site; there is no third variable, nor is there a second site
   second : is_well_formed_expr (outline of_integers) 0 (variable 7 1 0) ≡ true
-  second = expr_forms of_integers (Variable (access 7 1) (vec [] (omega arith)) 0)
+  second = expr_forms of_integers (Variable (access 7 1) (vec [] (omega arith)) scalar.Ordinal 0)
 
   third : is_well_formed_expr (outline of_integers) 0 (variable 7 2 0) ≡ false
-  third = expr_forms of_integers (Variable (access 7 2) (vec [] (omega arith)) 0)
+  third = expr_forms of_integers (Variable (access 7 2) (vec [] (omega arith)) scalar.Ordinal 0)
 
   no_site : is_well_formed_expr (outline of_integers) 0 (variable 7 1 1) ≡ false
-  no_site = expr_forms of_integers (Variable (access 7 1) (vec [] (omega arith)) 1)
+  no_site = expr_forms of_integers (Variable (access 7 1) (vec [] (omega arith)) scalar.Ordinal 1)
 
   -- begin a := 7; writeln(b : 7) end
   abbrev b_in_seven : WriteParameter
@@ -340,8 +344,10 @@ module _ (heap : Vec ℕ Global) (some_call : Call) where
       Variable (record {
         number = 6;
         root = 1;
-        selectors = vec (Field 1 2 ∷ Element (record { site = 3; range = record { first = pos 5; last = pos 9 } }) 4 ∷ Field 1 1 ∷ []) (omega arith);
-      }) (vec (constant 4 (pos 7) ∷ []) (omega arith)) 1
+        base = base.Variable;
+        selectors = vec (Field 1 2 ∷ Element (record { site = 3; tests = scalar.Ordinal; range = record { first = pos 5; last = pos 9 } }) 4 ∷ Field 1 1
+            ∷ []) (omega arith);
+      }) (vec (constant 4 (pos 7) ∷ []) (omega arith)) scalar.Ordinal 1
 
   abbrev part : Expr
   part = roll-Expr part_layer
@@ -353,6 +359,7 @@ module _ (heap : Vec ℕ Global) (some_call : Call) where
     routines = [];
     level = 0;
     next = 14;
+    records = [];
   }
 
   abbrev inner : Scope
@@ -361,6 +368,7 @@ module _ (heap : Vec ℕ Global) (some_call : Call) where
     routines = [];
     level = 2;
     next = 14;
+    records = [];
   }
 
   part_code : expr_code own part ≡ instr.LoadAddress 0 7 ∷ instr.LoadConstant (pos 7) ∷ instr.CheckRange 3 (pos 5) (pos 9) ∷ instr.IndexAddress (pos 5) 4
@@ -410,3 +418,31 @@ module _ (heap : Vec ℕ Global) (some_call : Call) where
 
   ab_need : parameter_need required_forms ab_alone ≡ 10
   ab_need = refl
+
+  -- [], and [3, 1..5]
+  empty_code : set_code [] [] ≡ instr.LoadSet 0 ∷ []
+  empty_code = refl
+
+  some_code : set_code (designator.Single 4 ∷ designator.Range 5 ∷ []) ((instr.LoadConstant (pos 3) ∷ []) ∷ (instr.LoadConstant (pos 1) ∷ [])
+      ∷ (instr.LoadConstant (pos 5) ∷ []) ∷ []) ≡ instr.LoadConstant (pos 3) ∷ instr.CheckRange 4 (pos 0) (pos 127) ∷ instr.Singleton
+      ∷ instr.LoadConstant (pos 1) ∷ instr.LoadConstant (pos 5) ∷ instr.CheckMembers 5 ∷ instr.SetRange ∷ instr.Union ∷ []
+  some_code = refl
+
+  some_depth : designators_depth 0 (designator.Single 4 ∷ designator.Range 5 ∷ []) (1 ∷ 1 ∷ 1 ∷ []) ≡ 3
+  some_depth = refl
+
+  -- two records lie one behind the other, and are given up one after the other
+  two_lie : (with_records 2 inner).records ≡ record { level = 2; start = 14; refers = true } ∷ record { level = 2; start = 15; refers = true } ∷ []
+  two_lie = refl
+
+  two_end : release_code 2 7 ≡ instr.JumpIfFalse 8 ∷ instr.JumpIfFalse 9 ∷ []
+  two_end = refl
+
+  -- a field of the second, before which one cell lies
+  of_second : address_code (with_records 2 inner) (record {
+    number = 6;
+    root = 1;
+    base = base.Record 1 (vec [] (omega arith));
+    selectors = vec (Field 1 1 ∷ []) (omega arith);
+  }) [] ≡ instr.Load 0 15 ∷ instr.Increase 1 ∷ []
+  of_second = refl

@@ -13,6 +13,8 @@ use Rattle.typed_tree.specs.declared.tree.Calculation.{Calculation}
 use Rattle.typed_tree.specs.declared.tree.Calculation.TheVariants as calculation
 use Rattle.typed_tree.specs.declared.tree.Call.{Call}
 use Rattle.typed_tree.specs.declared.tree.Copying.{Copying}
+use Rattle.typed_tree.specs.declared.tree.Designator.{Designator}
+use Rattle.typed_tree.specs.declared.tree.Designator.TheVariants as designator
 use Rattle.typed_tree.specs.declared.tree.Direction.{Direction}
 use Rattle.typed_tree.specs.declared.tree.Direction.TheVariants as direction
 use Rattle.typed_tree.specs.declared.tree.Dyadic.{Dyadic}
@@ -22,7 +24,13 @@ use Rattle.typed_tree.specs.declared.tree.Monadic.{Monadic}
 use Rattle.typed_tree.specs.declared.tree.Monadic.TheVariants as monadic
 use Rattle.typed_tree.specs.declared.tree.Relation.{Relation}
 use Rattle.typed_tree.specs.declared.tree.Relation.TheVariants as relation
+use Rattle.typed_tree.specs.declared.tree.RangeTest.{RangeTest}
 use Rattle.typed_tree.specs.declared.tree.Representation.TheVariants as representation
+use Rattle.typed_tree.specs.declared.tree.SetRelation.{SetRelation}
+use Rattle.typed_tree.specs.declared.tree.SetRelation.TheVariants as set_relation
+use Rattle.typed_tree.specs.declared.tree.Scalar.{Scalar}
+use Rattle.typed_tree.specs.declared.tree.Scalar.TheVariants as scalar
+use Rattle.typed_tree.specs.declared.tree.WithRecord.{WithRecord}
 use Rattle.typed_tree.specs.declared.tree.Selector.{Selector}
 use Rattle.typed_tree.specs.declared.tree.Selector.TheVariants.{Element, Field}
 use Rattle.typed_tree.specs.declared.tree.Shift.TheVariants as shift
@@ -38,22 +46,23 @@ use Rattle.typed_tree.specs.declared.tree.Expr.{Expr}
 use Rattle.typed_tree.specs.declared.tree.Link.{Link}
 use Rattle.typed_tree.specs.declared.tree.Passed.{Passed}
 use Rattle.typed_tree.specs.declared.tree.Expr.TheOpen.{Expr-F, Passed-F, Link-F}
-use Rattle.typed_tree.specs.declared.tree.Expr.TheOpen.Expr-F.{Constant, Variable, Monadic as MonadicOf, Chain, Compare, Call as CallOf}
+use Rattle.typed_tree.specs.declared.tree.Expr.TheOpen.Expr-F.{Constant, Variable, Monadic as MonadicOf, Chain, Compare, Call as CallOf, Set}
 use Rattle.typed_tree.specs.declared.tree.Expr.TheOpen.Passed-F.{Value as PassedValue, Whole as PassedWhole, Reference}
 use Rattle.typed_tree.specs.declared.tree.Expr.TheViews.{roll-Expr, roll-Passed, roll-Link}
 use Rattle.typed_tree.specs.declared.tree.Expr.TheFolds.{map-Expr, map-Passed, map-Link, fold-roll-Expr, fold-roll-Passed, fold-roll-Link, ind-Expr, ind-Passed}
 use Rattle.typed_tree.specs.declared.tree.Stmt.{Stmt}
 use Rattle.typed_tree.specs.declared.tree.Stmt.TheOpen.{Stmt-F}
-use Rattle.typed_tree.specs.declared.tree.Stmt.TheOpen.Stmt-F.{Empty, Assign, Write, Compound, If, While, Repeat, For, Case, Copy, Call as Calling}
+use Rattle.typed_tree.specs.declared.tree.Stmt.TheOpen.Stmt-F.{Empty, Assign, Write, Compound, If, While, Repeat, For, Case, Copy, Call as Calling, With}
 use Rattle.typed_tree.specs.declared.tree.Stmt.TheViews.{roll-Stmt}
 use Rattle.typed_tree.specs.declared.tree.Stmt.TheFolds.{map-Stmt, fold-roll-Stmt, ind-Stmt}
 use Rattle.code_scheme.specs.declared.routine.Routine.{Routine}
 use Rattle.code_scheme.specs.Calls.{with_call}
 use Rattle.code_scheme.specs.Depth.{block_depth}
 use Rattle.typed_tree.specs.WellFormed.{length_of}
-use Rattle.code_scheme.specs.Scopes.{Scope, block_scope, count, holding, other_cells, routine_or_none, row_length, variable_home}
+use Rattle.code_scheme.specs.Scopes.{Scope, access_home, block_scope, count, holding, other_cells, routine_or_none, row_length, with_record, with_records}
 use Rattle.code_scheme.specs.Code.{At, By, Placed, Reached, address_code, address_of, arms_code, assign_code, block_code, blocks_code, compare_code, copy_code}
-use Rattle.code_scheme.specs.Code.{calculation_code, call_code, dyadic_code, range_check, write_code}
+use Rattle.code_scheme.specs.Code.{calculation_code, call_code, designators_code, dyadic_code, records_code, release_code, set_code, set_relation_instr}
+use Rattle.code_scheme.specs.Code.{single_code, span_code, tested_check, union_code, value_check, with_code, write_code}
 use Rattle.code_scheme.specs.Code.{end_code, expr_code, expr_step, fetch_code, field_code, index_codes, joined, line_end_code, link_code, link_step}
 use Rattle.code_scheme.specs.Code.{monadic_code}
 use Rattle.code_scheme.specs.Code.{next_instr, order_instr, parameter_code, passed_code, passed_step, placed, reached, reached_from, relation_instr, row_code}
@@ -81,6 +90,31 @@ module _ (places : ℕ → ℕ) where
   relation_moved relation.LessOrEqual = refl
   relation_moved relation.GreaterOrEqual = refl
 
+  set_relation_moved : (r : SetRelation) → with_call places (set_relation_instr r) ≡ set_relation_instr r
+  set_relation_moved set_relation.Equal = refl
+  set_relation_moved set_relation.NotEqual = refl
+  set_relation_moved set_relation.Included = refl
+  set_relation_moved set_relation.Includes = refl
+
+  tested_moved : (tested : Scalar) (fits : RangeTest) → with_call places (tested_check tested fits) ≡ tested_check tested fits
+  tested_moved scalar.Ordinal fits = refl
+  tested_moved scalar.Set fits = refl
+
+  check_moved : (fits : RangeTest) → with_call places (value_check fits) ≡ value_check fits
+  check_moved fits = tested_moved fits.tests fits
+
+  single_moved : (site : ℕ) (some : Bool) → moved (single_code site ++ union_code some) ≡ single_code site ++ union_code some
+  single_moved site true = refl
+  single_moved site false = refl
+
+  span_moved : (site : ℕ) (some : Bool) → moved (span_code site ++ union_code some) ≡ span_code site ++ union_code some
+  span_moved site true = refl
+  span_moved site false = refl
+
+  release_moved : (n place : ℕ) → moved (release_code n place) ≡ release_code n place
+  release_moved zero place = refl
+  release_moved (suc n) place = ap (λ c. instr.JumpIfFalse (place + 1) ∷ c) (release_moved n (place + 1))
+
   calculation_moved : (does : Calculation) → moved (calculation_code does) ≡ calculation_code does
   calculation_moved calculation.Same = refl
   calculation_moved calculation.Negative = refl
@@ -105,6 +139,11 @@ module _ (places : ℕ → ℕ) where
   dyadic_moved dyadic.And = refl
   dyadic_moved dyadic.Or = refl
   dyadic_moved (dyadic.Relation r) = ap (λ i. i ∷ []) (relation_moved r)
+  dyadic_moved dyadic.Union = refl
+  dyadic_moved dyadic.Difference = refl
+  dyadic_moved dyadic.Intersection = refl
+  dyadic_moved (dyadic.SetRelation r) = ap (λ i. i ∷ []) (set_relation_moved r)
+  dyadic_moved dyadic.In = refl
 
   field_moved : (before : ℕ) → moved (field_code before) ≡ field_code before
   field_moved zero = refl
@@ -151,6 +190,33 @@ module _ (places : ℕ → ℕ) where
   selectors_moved (Element fits cells ∷ selectors) [] = selectors_moved selectors []
   selectors_moved (Element fits cells ∷ selectors) (code ∷ codes) = simp (map-append, selectors_moved selectors codes)
 
+  -- a set constructor
+  designators_moved : (some : Bool) (designators : List Designator) (codes : List (List Instr))
+      → designators_code some designators (all_moved codes) ≡ moved (designators_code some designators codes)
+  designators_moved some [] codes = refl
+  designators_moved some (designator.Single site ∷ others) [] = refl
+  designators_moved some (designator.Single site ∷ others) (value ∷ codes) =
+      let set = single_code site ++ union_code some in
+      let rest = designators_code true others codes in
+      ap (λ c. moved value ++ (set ++ c)) (designators_moved true others codes)
+      ∙ ap (λ c. moved value ++ (c ++ moved rest)) (sym (single_moved site some))
+      ∙ ap (λ c. moved value ++ c) (sym (map-append (with_call places) set rest))
+      ∙ sym (map-append (with_call places) value (set ++ rest))
+  designators_moved some (designator.Range site ∷ others) [] = refl
+  designators_moved some (designator.Range site ∷ others) (first ∷ []) = refl
+  designators_moved some (designator.Range site ∷ others) (first ∷ last ∷ codes) =
+      let set = span_code site ++ union_code some in
+      let rest = designators_code true others codes in
+      ap (λ c. moved first ++ (moved last ++ (set ++ c))) (designators_moved true others codes)
+      ∙ ap (λ c. moved first ++ (moved last ++ (c ++ moved rest))) (sym (span_moved site some))
+      ∙ ap (λ c. moved first ++ (moved last ++ c)) (sym (map-append (with_call places) set rest))
+      ∙ ap (λ c. moved first ++ c) (sym (map-append (with_call places) last (set ++ rest)))
+      ∙ sym (map-append (with_call places) first (last ++ (set ++ rest)))
+
+  set_moved : (designators : List Designator) (codes : List (List Instr)) → set_code designators (all_moved codes) ≡ moved (set_code designators codes)
+  set_moved [] codes = refl
+  set_moved (first ∷ others) codes = designators_moved false (first ∷ others) codes
+
   -- what is accessed
   abbrev way_moved : Reached → Reached
   way_moved (At level start) = At level start
@@ -182,7 +248,7 @@ module _ (places : ℕ → ℕ) where
 
   reached_moved : (scope : Scope) (access : Access) (codes : List (List Instr))
       → reached scope access (all_moved codes) ≡ way_moved (reached scope access codes)
-  reached_moved scope access codes = any_moved (variable_home scope access.root).refers _ _ _ access.selectors.items _ codes
+  reached_moved scope access codes = any_moved (access_home scope access).refers _ _ _ access.selectors.items _ codes
 
   whole_moved : (scope : Scope) (value : Whole) (codes : List (List Instr)) → whole_code scope value (all_moved codes) ≡ moved (whole_code scope value codes)
   whole_moved scope (Text number characters) codes = sym (constants_moved characters.items)
@@ -265,8 +331,8 @@ module _ (places : ℕ → ℕ) where
 
       layer : (y : Expr-F HereExpr HerePassed HereLink) → ExprMoved (roll-Expr (bare y))
       layer (Constant number n) = rolled (Constant number n) refl
-      layer (Variable access indexes defined) =
-          rolled (bare (Variable access indexes defined))
+      layer (Variable access indexes holds defined) =
+          rolled (bare (Variable access indexes holds defined))
           (ap (λ cs. variable_code (to s) access cs defined) (codes_moved indexes.items)
           ∙ simp (reached_moved (from s) access (codes indexes.items), fetch_moved, map-append))
       layer (MonadicOf number operation operand) =
@@ -286,9 +352,12 @@ module _ (places : ℕ → ℕ) where
           rolled (bare (CallOf call actuals))
           (ap (call_code (to s) call) (rows_moved (passed_code (to s)) (passed_code (from s)) actuals.items)
           ∙ call_moved s call (map (passed_code (from s)) (map (λ (p : HerePassed). p.0) actuals.items)))
+      layer (Set number designators members) =
+          rolled (bare (Set number designators members))
+          (ap (set_code designators.items) (codes_moved members.items) ∙ set_moved designators.items (codes members.items))
 
       passed_layer : (y : Passed-F HereExpr HerePassed HereLink) → PassedMoved (roll-Passed (bare_passed y))
-      passed_layer (PassedValue value fits) = rolled_passed (bare_passed (PassedValue value fits)) (simp (value.1, map-append))
+      passed_layer (PassedValue value fits) = rolled_passed (bare_passed (PassedValue value fits)) (simp (value.1, map-append, check_moved))
       passed_layer (PassedWhole type_id value indexes) =
           rolled_passed (bare_passed (PassedWhole type_id value indexes))
           (ap (whole_code (to s) value) (codes_moved indexes.items) ∙ whole_moved (from s) value (codes indexes.items))
@@ -341,12 +410,13 @@ module _ (places : ℕ → ℕ) where
       assign_moved assignment =
           let target = assignment.target in
           let value = expr_code (from s) assignment.value in
-          let check = range_check assignment.fits ∷ [] in
+          let check = value_check assignment.fits ∷ [] in
           let here = index_codes (from s) assignment.indexes.items in
           let way = reached (from s) target here in
           ap (λ c. store_code (c ++ check) (reached (to s) target (index_codes (to s) assignment.indexes.items))) (expr_moved assignment.value)
           ∙ ap (λ cs. store_code (moved value ++ check) (reached (to s) target cs)) (indexes_moved assignment.indexes.items)
           ∙ ap (store_code (moved value ++ check)) (reached_moved (from s) target here)
+          ∙ ap (λ i. store_code (moved value ++ (i ∷ [])) (way_moved way)) (sym (check_moved assignment.fits))
           ∙ ap (λ v. store_code v (way_moved way)) (sym (map-append (with_call places) value check))
           ∙ store_moved (value ++ check) way
 
@@ -373,6 +443,23 @@ module _ (places : ℕ → ℕ) where
       calling_moved call actuals =
           ap (call_code (to s) call) (each_moved (passed_code (to s)) (passed_code (from s)) passed_moved actuals)
           ∙ call_moved s call (map (passed_code (from s)) actuals)
+
+    -- the records of a with, and the scope of its statement
+    records_moved : (s : Scope) (records : List WithRecord) → records_code (to s) records ≡ moved (records_code (from s) records)
+    records_moved s [] = refl
+    records_moved s (one ∷ others) =
+        let codes = index_codes (from s) one.indexes.items in
+        let rest = records_code (with_record (from s)) others in
+        ap (λ cs. address_code (to s) one.access cs ++ records_code (with_record (to s)) others) (indexes_moved s one.indexes.items)
+        ∙ ap (λ way. address_of way ++ records_code (with_record (to s)) others) (reached_moved (from s) one.access codes)
+        ∙ ap (λ c. c ++ records_code (with_record (to s)) others) (address_moved (reached (from s) one.access codes))
+        ∙ ap (λ c. moved (address_code (from s) one.access codes) ++ c) (records_moved (with_record s) others)
+        ∙ sym (map-append (with_call places) (address_code (from s) one.access codes) rest)
+
+    opened_by : (routines : List Routine) (n : ℕ) (s : Scope)
+        → with_records n (record s { routines = routines }) ≡ record (with_records n s) { routines = routines }
+    opened_by routines zero s = refl
+    opened_by routines (suc n) s = opened_by routines n (with_record s)
 
     abbrev StmtMoved : Stmt → Type 0
     StmtMoved x = (s : Scope) (place : ℕ) → stmt_code x (to s) place ≡ moved (stmt_code x (from s) place)
@@ -405,6 +492,29 @@ module _ (places : ℕ → ℕ) where
     arms_moved s (row ∷ rows) (x ∷ xs) out place =
         simp (x.1 (holding 1 s), row_moved, length-map, map-append, arms_moved s rows xs)
 
+    -- a with: its records, its statement, and what gives up the addresses
+    abbrev with_from : List Instr → ℕ → Placed → Scope → ℕ → List Instr
+    with_from addresses n body scope inside = addresses ++ (body scope inside ++ release_code n (inside + length (body scope inside)))
+
+    with_moved : (s : Scope) (records : List WithRecord) (x : HereStmt) (place : ℕ)
+        → with_code records (stmt_code x.0) (to s) place ≡ moved (with_code records (stmt_code x.0) (from s) place)
+    with_moved s records x place =
+        let n = length records in
+        let addresses = records_code (from s) records in
+        let inside = place + length addresses in
+        let opened = with_records n s in
+        let code = stmt_code x.0 (from opened) inside in
+        let release = release_code n (inside + length code) in
+        ap (λ c. with_from c n (stmt_code x.0) (with_records n (to s)) (place + length c)) (records_moved s records)
+        ∙ ap (λ l. with_from (moved addresses) n (stmt_code x.0) (with_records n (to s)) (place + l)) (length-map addresses (with_call places))
+        ∙ ap (λ scope. with_from (moved addresses) n (stmt_code x.0) scope inside) (opened_by there n s)
+        ∙ ap (λ c. moved addresses ++ (c ++ release_code n (inside + length c))) (x.1 opened inside)
+        ∙ ap (λ l. moved addresses ++ (moved code ++ release_code n (inside + l))) (length-map code (with_call places))
+        ∙ ap (λ c. moved addresses ++ (moved code ++ c)) (sym (release_moved n (inside + length code)))
+        ∙ ap (λ c. moved addresses ++ c) (sym (map-append (with_call places) code release))
+        ∙ sym (map-append (with_call places) addresses (code ++ release))
+        ∙ ap (λ scope. moved (with_from addresses n (stmt_code x.0) scope inside)) (sym (opened_by here n s))
+
     stmt_layer : (y : Stmt-F HereStmt) → StmtMoved (roll-Stmt (bare_stmt y))
     stmt_layer (Empty number) = rolled_stmt (Empty number) (λ s place. refl)
     stmt_layer (Assign assignment) = rolled_stmt (Assign assignment) (λ s place. assign_moved s assignment)
@@ -431,6 +541,8 @@ module _ (places : ℕ → ℕ) where
     stmt_layer (Case head arms) =
         rolled_stmt (bare_stmt (Case head arms)) (λ s place.
         simp (expr_moved s head.index, arms_moved s head.constants.items arms.items, length-map, map-append))
+    stmt_layer (With head body) =
+        rolled_stmt (bare_stmt (With head body)) (λ s place. with_moved s head.records.items body.value place)
 
     stmt_moved : (x : Stmt) → StmtMoved x
     stmt_moved = ind-Stmt StmtMoved (λ x y is. subst (λ z. StmtMoved (roll-Stmt z)) is (stmt_layer y))

@@ -17,33 +17,37 @@ use Rattle.typed_tree.specs.declared.tree.Link.{Link}
 use Rattle.typed_tree.specs.declared.tree.Call.{Call}
 use Rattle.typed_tree.specs.declared.tree.Passed.{Passed}
 use Rattle.typed_tree.specs.declared.tree.Passed.TheVariants as actual
+use Rattle.typed_tree.specs.declared.tree.Scalar.{Scalar}
 use Rattle.typed_tree.specs.declared.tree.Expr.TheVariants.{Variable, rolls-Variable, Chain, rolls-Chain, Monadic as MonadicOf, rolls-Monadic}
-use Rattle.typed_tree.specs.declared.tree.Expr.TheVariants.{Compare, rolls-Compare, Call as CallOf, rolls-Call as rolls-CallOf}
+use Rattle.typed_tree.specs.declared.tree.Expr.TheVariants.{Compare, rolls-Compare, Call as CallOf, rolls-Call as rolls-CallOf, Set, rolls-Set}
 use Rattle.typed_tree.specs.declared.tree.Monadic.{Monadic}
 use Rattle.typed_tree.specs.declared.tree.Relation.{Relation}
 use Rattle.typed_tree.specs.declared.tree.Expr.TheOpen.Expr-F.{Variable as Variable-layer, Chain as Chain-layer, Monadic as Monadic-layer}
-use Rattle.typed_tree.specs.declared.tree.Expr.TheOpen.Expr-F.{Compare as Compare-layer, Call as CallOf-layer}
+use Rattle.typed_tree.specs.declared.tree.Expr.TheOpen.Expr-F.{Compare as Compare-layer, Call as CallOf-layer, Set as Set-layer}
 use Rattle.typed_tree.specs.declared.tree.Expr.TheOpen.Passed-F.{Value as Value-layer, Whole as Whole-layer, Reference as Reference-layer}
 use Rattle.typed_tree.specs.declared.tree.Expr.TheFolds.{fold-roll-Expr, fold-roll-Passed, fold_out-Link}
 use Rattle.typed_tree.specs.declared.tree.LoopHead.{LoopHead}
 use Rattle.typed_tree.specs.declared.tree.ForHead.{ForHead}
 use Rattle.typed_tree.specs.declared.tree.CaseHead.{CaseHead}
+use Rattle.typed_tree.specs.declared.tree.WithHead.{WithHead}
+use Rattle.typed_tree.specs.declared.tree.Designator.{Designator}
 use Rattle.typed_tree.specs.declared.tree.Stmt.{Stmt}
 use Rattle.typed_tree.specs.declared.tree.Stmt.TheVariants.{Compound, rolls-Compound, If}
 use Rattle.typed_tree.specs.declared.tree.Stmt.TheVariants.{rolls-If, While, rolls-While, Repeat, rolls-Repeat, For, rolls-For, Case, rolls-Case}
+use Rattle.typed_tree.specs.declared.tree.Stmt.TheVariants.{With, rolls-With}
 use Rattle.typed_tree.specs.declared.tree.Stmt.TheOpen.Stmt-F.{Compound as Compound-layer}
 use Rattle.typed_tree.specs.declared.tree.Stmt.TheOpen.Stmt-F.{If as If-layer, While as While-layer, Repeat as Repeat-layer, For as For-layer}
-use Rattle.typed_tree.specs.declared.tree.Stmt.TheOpen.Stmt-F.{Case as Case-layer}
+use Rattle.typed_tree.specs.declared.tree.Stmt.TheOpen.Stmt-F.{Case as Case-layer, With as With-layer}
 use Rattle.typed_tree.specs.declared.tree.Stmt.TheFolds.{fold-roll-Stmt}
 use Rattle.typed_tree.specs.WellFormed.{length_of}
 use Rattle.code_scheme.specs.Scopes.{Scope, holding}
 use Rattle.code_scheme.specs.Code.{joined, placed, Placed, if_code, if_else_code, while_code, repeat_code, for_code, for_entry, for_begin, for_next}
 use Rattle.code_scheme.specs.Code.{for_end, case_code, dyadic_code, monadic_code, expr_step, link_step, expr_code, link_code, variable_code}
-use Rattle.code_scheme.specs.Code.{stmt_step, stmt_code, compare_code, whole_code}
-use Rattle.code_scheme.specs.Code.{address_code, call_code, index_codes, passed_code, passed_step, range_check, statements_code}
+use Rattle.code_scheme.specs.Code.{stmt_step, stmt_code, compare_code, whole_code, set_code, with_code}
+use Rattle.code_scheme.specs.Code.{address_code, call_code, index_codes, passed_code, passed_step, statements_code, value_check}
 use Rattle.code_scheme.specs.Depth.{arms_depth, expr_depth}
 use Rattle.code_scheme.specs.Depth.{access_depth, call_depth, expr_depth_step, index_depths, link_depth, link_depth_step, passed_depth, passed_depth_step}
-use Rattle.code_scheme.specs.Depth.{PassedDepth, actuals_depth, whole_depth}
+use Rattle.code_scheme.specs.Depth.{PassedDepth, actuals_depth, designators_depth, whole_depth}
 use Rattle.code_scheme.specs.Sizes.{capped}
 
 -- the pieces of a list, one for each element
@@ -60,11 +64,11 @@ expr_code-Chain scope first rest =
     ∙ ap (λ p. expr_code scope first.value ++ p) (joined-map (link_code scope) rest.items)
 
 -- the value of a variable or of a component
-pub expr_code-Variable : (scope : Scope) (access : Access) (indexes : Vec Expr) (defined : ℕ)
-    → expr_code scope (Variable access indexes defined) ≡ variable_code scope access (index_codes scope indexes.items) defined
-expr_code-Variable scope access indexes defined =
-    ap (expr_code scope) (sym (rolls-Variable access indexes defined))
-    ∙ fold-roll-Expr (List Instr) (List Instr) (List Instr) (expr_step scope) (passed_step scope) link_step (Variable-layer access indexes defined)
+pub expr_code-Variable : (scope : Scope) (access : Access) (indexes : Vec Expr) (holds : Scalar) (defined : ℕ)
+    → expr_code scope (Variable access indexes holds defined) ≡ variable_code scope access (index_codes scope indexes.items) defined
+expr_code-Variable scope access indexes holds defined =
+    ap (expr_code scope) (sym (rolls-Variable access indexes holds defined))
+    ∙ fold-roll-Expr (List Instr) (List Instr) (List Instr) (expr_step scope) (passed_step scope) link_step (Variable-layer access indexes holds defined)
 
 -- a relation of two whole values
 pub expr_code-Compare : (scope : Scope) (number : ℕ) (r : Relation) (left : Whole) (left_indexes : Vec Expr) (right : Whole) (right_indexes : Vec Expr)
@@ -82,9 +86,16 @@ expr_code-Call scope call actuals =
     ap (expr_code scope) (sym (rolls-CallOf call actuals))
     ∙ fold-roll-Expr (List Instr) (List Instr) (List Instr) (expr_step scope) (passed_step scope) link_step (CallOf-layer call actuals)
 
+-- a set constructor
+pub expr_code-Set : (scope : Scope) (number : ℕ) (designators : Vec Designator) (members : Vec Expr)
+    → expr_code scope (Set number designators members) ≡ set_code designators.items (map (expr_code scope) members.items)
+expr_code-Set scope number designators members =
+    ap (expr_code scope) (sym (rolls-Set number designators members))
+    ∙ fold-roll-Expr (List Instr) (List Instr) (List Instr) (expr_step scope) (passed_step scope) link_step (Set-layer number designators members)
+
 -- what is passed: a value, a copy, a variable
 pub passed_code-Value : (scope : Scope) (value : Expr) (fits : RangeTest)
-    → passed_code scope (actual.Value value fits) ≡ expr_code scope value ++ (range_check fits ∷ [])
+    → passed_code scope (actual.Value value fits) ≡ expr_code scope value ++ (value_check fits ∷ [])
 passed_code-Value scope value fits =
     ap (passed_code scope) (sym (actual.rolls-Value value fits))
     ∙ fold-roll-Passed (List Instr) (List Instr) (List Instr) (expr_step scope) (passed_step scope) link_step (Value-layer value fits)
@@ -179,12 +190,19 @@ stmt_code-Case scope place head arms =
     ap (λ s. stmt_code s scope place) (sym (rolls-Case head arms))
     ∙ ap (λ code. code scope place) (fold-roll-Stmt Placed stmt_step (Case-layer head arms))
 
+-- a with statement
+pub stmt_code-With : (scope : Scope) (place : ℕ) (head : WithHead) (body : Box Stmt)
+    → stmt_code (With head body) scope place ≡ with_code head.records.items (stmt_code body.value) scope place
+stmt_code-With scope place head body =
+    ap (λ s. stmt_code s scope place) (sym (rolls-With head body))
+    ∙ ap (λ code. code scope place) (fold-roll-Stmt Placed stmt_step (With-layer head body))
+
 -- how many cells an expression needs that accesses a variable, or compares two whole values
-pub expr_depth-Variable : (access : Access) (indexes : Vec Expr) (defined : ℕ)
-    → expr_depth (Variable access indexes defined) ≡ access_depth access.selectors.items (index_depths indexes.items)
-expr_depth-Variable access indexes defined =
-    ap expr_depth (sym (rolls-Variable access indexes defined))
-    ∙ fold-roll-Expr ℕ PassedDepth ℕ expr_depth_step passed_depth_step link_depth_step (Variable-layer access indexes defined)
+pub expr_depth-Variable : (access : Access) (indexes : Vec Expr) (holds : Scalar) (defined : ℕ)
+    → expr_depth (Variable access indexes holds defined) ≡ access_depth access.selectors.items (index_depths indexes.items)
+expr_depth-Variable access indexes holds defined =
+    ap expr_depth (sym (rolls-Variable access indexes holds defined))
+    ∙ fold-roll-Expr ℕ PassedDepth ℕ expr_depth_step passed_depth_step link_depth_step (Variable-layer access indexes holds defined)
 
 pub expr_depth-Chain : (first : Box Expr) (rest : Vec Link)
     → expr_depth (Chain first rest) ≡ fold max (expr_depth first.value) (map link_depth rest.items)
@@ -198,6 +216,13 @@ pub expr_depth-Compare : (number : ℕ) (r : Relation) (left : Whole) (left_inde
 expr_depth-Compare number r left left_indexes right right_indexes =
     ap expr_depth (sym (rolls-Compare number r left left_indexes right right_indexes))
     ∙ fold-roll-Expr ℕ PassedDepth ℕ expr_depth_step passed_depth_step link_depth_step (Compare-layer number r left left_indexes right right_indexes)
+
+-- a set constructor
+pub expr_depth-Set : (number : ℕ) (designators : Vec Designator) (members : Vec Expr)
+    → expr_depth (Set number designators members) ≡ designators_depth 0 designators.items (map expr_depth members.items)
+expr_depth-Set number designators members =
+    ap expr_depth (sym (rolls-Set number designators members))
+    ∙ fold-roll-Expr ℕ PassedDepth ℕ expr_depth_step passed_depth_step link_depth_step (Set-layer number designators members)
 
 -- a call of a function, and what is passed
 pub expr_depth-Call : (call : Call) (actuals : Vec Passed) → expr_depth (CallOf call actuals) ≡ call_depth (map passed_depth actuals.items)

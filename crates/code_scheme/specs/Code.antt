@@ -32,6 +32,13 @@ use Rattle.typed_tree.specs.declared.tree.Relation.TheVariants as relation
 use Rattle.typed_tree.specs.declared.tree.RangeTest.{RangeTest}
 use Rattle.typed_tree.specs.declared.tree.Direction.{Direction}
 use Rattle.typed_tree.specs.declared.tree.Direction.TheVariants as direction
+use Rattle.typed_tree.specs.declared.tree.Designator.{Designator}
+use Rattle.typed_tree.specs.declared.tree.Designator.TheVariants as designator
+use Rattle.typed_tree.specs.declared.tree.SetRelation.{SetRelation}
+use Rattle.typed_tree.specs.declared.tree.SetRelation.TheVariants as set_relation
+use Rattle.typed_tree.specs.declared.tree.Scalar.{Scalar}
+use Rattle.typed_tree.specs.declared.tree.Scalar.TheVariants as scalar
+use Rattle.typed_tree.specs.declared.tree.WithRecord.{WithRecord}
 use Rattle.typed_tree.specs.declared.tree.Representation.{Representation}
 use Rattle.typed_tree.specs.declared.tree.Representation.TheVariants as representation
 use Rattle.typed_tree.specs.declared.tree.Width.{Width}
@@ -45,19 +52,20 @@ use Rattle.typed_tree.specs.declared.tree.Link.{Link}
 use Rattle.typed_tree.specs.declared.tree.Passed.{Passed}
 use Rattle.typed_tree.specs.declared.tree.Expr.TheOpen.{Expr-F, Passed-F, Link-F}
 use Rattle.typed_tree.specs.declared.tree.Expr.TheOpen.Expr-F.{Constant, Variable, Monadic as MonadicOf, Chain}
-use Rattle.typed_tree.specs.declared.tree.Expr.TheOpen.Expr-F.{Compare, Call as CallOf}
+use Rattle.typed_tree.specs.declared.tree.Expr.TheOpen.Expr-F.{Compare, Call as CallOf, Set}
 use Rattle.typed_tree.specs.declared.tree.Expr.TheOpen.Passed-F.{Value as PassedValue, Whole as PassedWhole, Reference}
 use Rattle.typed_tree.specs.declared.tree.Expr.TheFolds.{fold-Expr, fold-Passed, fold-Link}
 use Rattle.typed_tree.specs.declared.tree.Stmt.{Stmt}
 use Rattle.typed_tree.specs.declared.tree.Stmt.TheOpen.{Stmt-F}
 use Rattle.typed_tree.specs.declared.tree.Stmt.TheOpen.Stmt-F.{Empty, Assign, Write, Compound, If, While, Repeat, For}
-use Rattle.typed_tree.specs.declared.tree.Stmt.TheOpen.Stmt-F.{Case, Copy, Call as Calling}
+use Rattle.typed_tree.specs.declared.tree.Stmt.TheOpen.Stmt-F.{Case, Copy, Call as Calling, With}
 use Rattle.typed_tree.specs.declared.tree.Stmt.TheFolds.{fold-Stmt}
 use Rattle.typed_tree.specs.WellFormed.{length_of}
 use Rattle.code_scheme.specs.declared.routine.Routine.{Routine}
 use Rattle.code_scheme.specs.Scopes.{Scope, offset, count, row_length, held_offset, holding, links_to}
-use Rattle.code_scheme.specs.Scopes.{access_offset, behind_fields, block_level, block_scope, called_routine}
-use Rattle.code_scheme.specs.Scopes.{other_cells, parameter_cells, variable_home}
+use Rattle.code_scheme.specs.Scopes.{access_home, access_offset, behind_fields, block_level, block_scope}
+use Rattle.code_scheme.specs.Scopes.{called_routine, other_cells, parameter_cells, variable_home, with_record}
+use Rattle.code_scheme.specs.Scopes.{with_records}
 use Rattle.code_scheme.specs.Depth.{block_depth}
 
 -- the pieces one after another
@@ -69,9 +77,17 @@ abbrev pub placed : List (ℕ → List Instr) → ℕ → List Instr
 placed [] place = []
 placed (piece ∷ pieces) place = piece place ++ placed pieces (place + length (piece place))
 
--- the test of a value
+-- the test of an ordinal
 abbrev pub range_check : RangeTest → Instr
 range_check fits = instr.CheckRange fits.site fits.range.first fits.range.last
+
+-- the test of a value that is assigned or passed: of an ordinal, or of each member of a set
+abbrev pub tested_check : Scalar → RangeTest → Instr
+tested_check scalar.Ordinal fits = range_check fits
+tested_check scalar.Set fits = instr.CheckSet fits.site fits.range.first fits.range.last
+
+abbrev pub value_check : RangeTest → Instr
+value_check fits = tested_check fits.tests fits
 
 -- what is calculated from the value before it, checked where it may be no integer
 abbrev pub calculation_code : Calculation → List Instr
@@ -103,6 +119,13 @@ relation_instr relation.Greater = instr.Greater
 relation_instr relation.LessOrEqual = instr.LessOrEqual
 relation_instr relation.GreaterOrEqual = instr.GreaterOrEqual
 
+-- the same of two sets
+abbrev pub set_relation_instr : SetRelation → Instr
+set_relation_instr set_relation.Equal = instr.SetEqual
+set_relation_instr set_relation.NotEqual = instr.SetNotEqual
+set_relation_instr set_relation.Included = instr.SetInside
+set_relation_instr set_relation.Includes = instr.SetAround
+
 -- a check that a number is at least 1
 abbrev pub check_positive : ℕ → Instr
 check_positive site = instr.CheckRange site (pos 1) (pos 2147483647)
@@ -117,6 +140,11 @@ dyadic_code (dyadic.Mod by_zero_or_less) = check_positive by_zero_or_less ∷ in
 dyadic_code dyadic.And = instr.And ∷ []
 dyadic_code dyadic.Or = instr.Or ∷ []
 dyadic_code (dyadic.Relation r) = relation_instr r ∷ []
+dyadic_code dyadic.Union = instr.Union ∷ []
+dyadic_code dyadic.Difference = instr.Difference ∷ []
+dyadic_code dyadic.Intersection = instr.Intersection ∷ []
+dyadic_code (dyadic.SetRelation r) = set_relation_instr r ∷ []
+dyadic_code dyadic.In = instr.IsMember ∷ []
 
 -- a field behind so many cells of its record, whose address is on top
 abbrev pub field_code : ℕ → List Instr
@@ -145,10 +173,10 @@ reached_from level start [] indexes = At level start
 reached_from level start (selector ∷ selectors) indexes =
     By (instr.LoadAddress level start ∷ selectors_code (selector ∷ selectors) indexes)
 
--- what is accessed (6.5.1): that of a variable parameter by the address in its cell
+-- what is accessed (6.5.1): that of a variable parameter, or in a record of a `with`, by the address in its cell
 abbrev pub reached : Scope → Access → List (List Instr) → Reached
 reached scope access indexes =
-    let home = variable_home scope access.root in
+    let home = access_home scope access in
     let level = links_to scope home.level in
     if home.refers then By (instr.Load level home.start ∷ selectors_code access.selectors.items indexes)
     else reached_from level (access_offset scope access) (behind_fields access.selectors.items) indexes
@@ -158,12 +186,12 @@ abbrev pub address_of : Reached → List Instr
 address_of (At level start) = instr.LoadAddress level start ∷ []
 address_of (By address) = address
 
--- the code that pushes the ordinal there
+-- the code that pushes the ordinal or the set there
 abbrev pub fetch_code : Reached → List Instr
 fetch_code (At level start) = instr.Load level start ∷ []
 fetch_code (By address) = address ++ (instr.LoadIndirect 0 ∷ [])
 
--- the code that stores an ordinal there, which this code pushes
+-- the code that stores an ordinal or a set there, which this code pushes
 abbrev pub store_code : List Instr → Reached → List Instr
 store_code value (At level start) = value ++ (instr.Store level start ∷ [])
 store_code value (By address) = address ++ (value ++ (instr.StoreIndirect ∷ []))
@@ -172,7 +200,7 @@ store_code value (By address) = address ++ (value ++ (instr.StoreIndirect ∷ []
 abbrev pub address_code : Scope → Access → List (List Instr) → List Instr
 address_code scope access indexes = address_of (reached scope access indexes)
 
--- the value of what is accessed, an ordinal, checked
+-- the value of what is accessed, an ordinal or a set, checked
 abbrev pub variable_code : Scope → Access → List (List Instr) → ℕ → List Instr
 variable_code scope access indexes defined =
     fetch_code (reached scope access indexes) ++ (instr.CheckDefined defined 1 ∷ [])
@@ -191,9 +219,38 @@ compare_code r components left right =
     left
     ++ (right ++ (instr.Compare (row_length components) ∷ instr.LoadConstant (pos 0) ∷ relation_instr r ∷ []))
 
+-- behind the value of a member, or the first and the last of several: a check, and the set of them
+abbrev pub single_code : ℕ → List Instr
+single_code site = instr.CheckRange site (pos 0) (pos 127) ∷ instr.Singleton ∷ []
+
+abbrev pub span_code : ℕ → List Instr
+span_code site = instr.CheckMembers site ∷ instr.SetRange ∷ []
+
+-- a set is joined to the one before it, if there is one
+abbrev pub union_code : Bool → List Instr
+union_code false = []
+union_code true = instr.Union ∷ []
+
+-- The code of the designators of a set constructor (6.7.1), with that of its members, where a set of others is there
+-- already or none. A designator without its members ends it.
+abbrev pub designators_code : Bool → List Designator → List (List Instr) → List Instr
+designators_code some [] members = []
+designators_code some (designator.Single site ∷ others) [] = []
+designators_code some (designator.Single site ∷ others) (value ∷ members) =
+    value ++ ((single_code site ++ union_code some) ++ designators_code true others members)
+designators_code some (designator.Range site ∷ others) [] = []
+designators_code some (designator.Range site ∷ others) (first ∷ []) = []
+designators_code some (designator.Range site ∷ others) (first ∷ last ∷ members) =
+    first ++ (last ++ ((span_code site ++ union_code some) ++ designators_code true others members))
+
+-- the code of a set constructor, which pushes a set
+abbrev pub set_code : List Designator → List (List Instr) → List Instr
+set_code [] members = instr.LoadSet 0 ∷ []
+set_code (first ∷ others) members = designators_code false (first ∷ others) members
+
 -- the code of an actual parameter, which pushes a value, checked, the components of a copy, or an address
 abbrev pub passed_step : Scope → Passed-F (List Instr) (List Instr) (List Instr) → List Instr
-passed_step scope (PassedValue value fits) = value ++ (range_check fits ∷ [])
+passed_step scope (PassedValue value fits) = value ++ (value_check fits ∷ [])
 passed_step scope (PassedWhole type_id value indexes) = whole_code scope value indexes.items
 passed_step scope (Reference type_id access indexes) = address_code scope access indexes.items
 
@@ -207,13 +264,14 @@ call_code scope call actuals =
 
 abbrev pub expr_step : Scope → Expr-F (List Instr) (List Instr) (List Instr) → List Instr
 expr_step scope (Constant number value) = instr.LoadConstant value ∷ []
-expr_step scope (Variable access indexes defined) = variable_code scope access indexes.items defined
+expr_step scope (Variable access indexes holds defined) = variable_code scope access indexes.items defined
 expr_step scope (MonadicOf number operation operand) = operand.value ++ monadic_code operation
 expr_step scope (Chain first rest) = first.value ++ joined rest.items
 expr_step scope (Compare number relation left left_indexes right right_indexes) =
     compare_code relation (length_of left) (whole_code scope left left_indexes.items)
     (whole_code scope right right_indexes.items)
 expr_step scope (CallOf call actuals) = call_code scope call actuals.items
+expr_step scope (Set number designators members) = set_code designators.items members.items
 
 abbrev pub link_step : Link-F (List Instr) (List Instr) (List Instr) → List Instr
 link_step link = link.operand ++ dyadic_code link.operation
@@ -238,7 +296,7 @@ index_codes scope = map (expr_code scope)
 -- store
 abbrev pub assign_code : Scope → Assignment → List Instr
 assign_code scope assignment =
-    store_code (expr_code scope assignment.value ++ (range_check assignment.fits ∷ []))
+    store_code (expr_code scope assignment.value ++ (value_check assignment.fits ∷ []))
     (reached scope assignment.target (index_codes scope assignment.indexes.items))
 
 -- the code of an assignment of a whole value: the target's address, the components of the value, and their store
@@ -404,6 +462,25 @@ case_code head arms scope place =
     let out = first + length (arms_code scope 0 rows arms first) + 1 in
     index ++ (arms_code scope out rows arms first ++ (instr.Fail head.site ∷ instr.JumpIfFalse (out + 1) ∷ []))
 
+-- the code of the records of a `with` (6.8.3.10), each of which pushes an address, which is held from then on
+abbrev pub records_code : Scope → List WithRecord → List Instr
+records_code scope [] = []
+records_code scope (one ∷ others) =
+    address_code scope one.access (index_codes scope one.indexes.items) ++ records_code (with_record scope) others
+
+-- what takes so many addresses away: for each a conditional jump to the next instruction
+abbrev pub release_code : ℕ → ℕ → List Instr
+release_code zero place = []
+release_code (suc n) place = instr.JumpIfFalse (place + 1) ∷ release_code n (place + 1)
+
+-- the code of a `with` statement: the addresses of its records, its statement, and what takes them away
+abbrev pub with_code : List WithRecord → Placed → Placed
+with_code records body scope place =
+    let addresses = records_code scope records in
+    let inside = place + length addresses in
+    let code = body (with_records (length records) scope) inside in
+    addresses ++ (code ++ release_code (length records) (inside + length code))
+
 abbrev pub stmt_step : Stmt-F Placed → Placed
 stmt_step (Empty number) scope place = []
 stmt_step (Assign assignment) scope place = assign_code scope assignment
@@ -420,6 +497,7 @@ stmt_step (Repeat head statements) scope place =
     repeat_code (placed (map (λ code. code scope) statements.items)) (expr_code scope head.condition) place
 stmt_step (For head body) scope place = for_code head body.value scope place
 stmt_step (Case head arms) scope place = case_code head arms.items scope place
+stmt_step (With head body) scope place = with_code head.records.items body.value scope place
 
 -- the code of a statement at a place
 abbrev pub stmt_code : Stmt → Placed

@@ -10,6 +10,9 @@ use Rattle.typed_tree.specs.declared.tree.Selector.{Selector}
 use Rattle.typed_tree.specs.declared.tree.Selector.TheVariants.{Element, Field}
 use Rattle.typed_tree.specs.declared.tree.Shift.{Shift}
 use Rattle.typed_tree.specs.declared.tree.Shift.TheVariants as shift
+use Rattle.typed_tree.specs.declared.tree.Designator.{Designator}
+use Rattle.typed_tree.specs.declared.tree.Designator.TheVariants as designator
+use Rattle.typed_tree.specs.declared.tree.WithRecord.{WithRecord}
 use Rattle.typed_tree.specs.declared.tree.Width.{Width}
 use Rattle.typed_tree.specs.declared.tree.WriteParameter.{WriteParameter}
 use Rattle.typed_tree.specs.declared.tree.Written.{Written}
@@ -23,13 +26,13 @@ use Rattle.typed_tree.specs.declared.tree.FunctionResult.{FunctionResult}
 use Rattle.typed_tree.specs.declared.tree.Block.{Block}
 use Rattle.typed_tree.specs.declared.tree.Expr.TheOpen.{Expr-F, Passed-F, Link-F}
 use Rattle.typed_tree.specs.declared.tree.Expr.TheOpen.Expr-F.{Constant, Variable, Monadic as MonadicOf, Chain}
-use Rattle.typed_tree.specs.declared.tree.Expr.TheOpen.Expr-F.{Compare, Call as CallOf}
+use Rattle.typed_tree.specs.declared.tree.Expr.TheOpen.Expr-F.{Compare, Call as CallOf, Set}
 use Rattle.typed_tree.specs.declared.tree.Expr.TheOpen.Passed-F.{Value as PassedValue, Whole as PassedWhole, Reference}
 use Rattle.typed_tree.specs.declared.tree.Expr.TheFolds.{fold-Expr, fold-Passed, fold-Link}
 use Rattle.typed_tree.specs.declared.tree.Stmt.{Stmt}
 use Rattle.typed_tree.specs.declared.tree.Stmt.TheOpen.{Stmt-F}
 use Rattle.typed_tree.specs.declared.tree.Stmt.TheOpen.Stmt-F.{Empty, Assign, Write, Compound, If, While, Repeat, For}
-use Rattle.typed_tree.specs.declared.tree.Stmt.TheOpen.Stmt-F.{Case, Copy, Call as Calling}
+use Rattle.typed_tree.specs.declared.tree.Stmt.TheOpen.Stmt-F.{Case, Copy, Call as Calling, With}
 use Rattle.typed_tree.specs.declared.tree.Stmt.TheFolds.{fold-Stmt}
 use Rattle.typed_tree.specs.WellFormed.{length_of}
 
@@ -82,14 +85,27 @@ actuals_depth held (actual ∷ actuals) = max (held + actual.depth) (actuals_dep
 abbrev pub call_depth : List PassedDepth → ℕ
 call_depth actuals = actuals_depth 4 actuals
 
+-- the designators of a set constructor, where so many sets are there already: the members of each are evaluated beside
+-- the set of those before; where none is left, a set is there
+abbrev pub designators_depth : ℕ → List Designator → List ℕ → ℕ
+designators_depth held [] members = 1
+designators_depth held (designator.Single site ∷ others) [] = 1
+designators_depth held (designator.Single site ∷ others) (value ∷ members) =
+    max (held + value) (designators_depth 1 others members)
+designators_depth held (designator.Range site ∷ others) [] = 1
+designators_depth held (designator.Range site ∷ others) (first ∷ []) = 1
+designators_depth held (designator.Range site ∷ others) (first ∷ last ∷ members) =
+    max (held + first) (max (held + 1 + last) (designators_depth 1 others members))
+
 abbrev pub expr_depth_step : Expr-F ℕ PassedDepth ℕ → ℕ
 expr_depth_step (Constant number value) = 1
-expr_depth_step (Variable access indexes defined) = access_depth access.selectors.items indexes.items
+expr_depth_step (Variable access indexes holds defined) = access_depth access.selectors.items indexes.items
 expr_depth_step (MonadicOf number operation operand) = max operand.value (monadic_depth operation)
 expr_depth_step (Chain first rest) = fold max first.value rest.items
 expr_depth_step (Compare number relation left left_indexes right right_indexes) =
     max (whole_depth left left_indexes.items) (max (whole_depth right right_indexes.items + length_of left) 2)
 expr_depth_step (CallOf call actuals) = call_depth actuals.items
+expr_depth_step (Set number designators members) = designators_depth 0 designators.items members.items
 
 abbrev pub link_depth_step : Link-F ℕ PassedDepth ℕ → ℕ
 link_depth_step link = link.operand + 1
@@ -145,6 +161,12 @@ arms_depth [] depths = 0
 arms_depth (row ∷ rows) [] = 0
 arms_depth (row ∷ rows) (depth ∷ depths) = max depth (arms_depth rows depths)
 
+-- the same of the records of a `with`: each address is pushed above those before it
+abbrev pub records_depth : List WithRecord → ℕ
+records_depth [] = 0
+records_depth (one ∷ others) =
+    max (access_depth one.access.selectors.items (index_depths one.indexes.items)) (records_depth others + 1)
+
 abbrev pub stmt_depth_step : Stmt-F ℕ → ℕ
 stmt_depth_step (Empty number) = 0
 stmt_depth_step (Assign assignment) =
@@ -162,6 +184,8 @@ stmt_depth_step (Repeat head statements) = max (greatest statements.items) (expr
 stmt_depth_step (For head body) =
     max (max (expr_depth head.first.value) (expr_depth head.last.value + 1)) (max 4 (body.value + 2))
 stmt_depth_step (Case head arms) = max (expr_depth head.index) (max 3 (arms_depth head.constants.items arms.items + 1))
+stmt_depth_step (With head body) =
+    max (records_depth head.records.items) (body.value + length head.records.items)
 
 -- how many cells the evaluation of a statement needs at once
 abbrev pub stmt_depth : Stmt → ℕ

@@ -1,7 +1,8 @@
 -- How many cells an activation of a block may need at most; a store with as many as those together that last is never
 -- full: 8, the cells of its variables and its result, 1 and the cells of each parameter, and 8 and the cells of its
 -- value for each statement and each expression of the block, where a variable that is passed as such, or to which a
--- structured value is copied, counts one cell at most. It does not say how many a frame takes, which is no more.
+-- structured value is copied, counts one cell at most, a set one cell, and a record of a `with` one cell. It does not
+-- say how many a frame takes, which is no more.
 use Rattle.std.specs.Prelude.{ℕ, ◌+◌, List, Option, Some, None, if◌then◌else◌, map, min, sum, sum_by}
 use Rattle.std.specs.Prelude.{slice_get}
 use Rattle.std.specs.declared.alloc.Global.{Global}
@@ -9,6 +10,7 @@ use Rattle.std.specs.declared.boxed.Box.{Box}
 use Rattle.typed_tree.specs.declared.tree.Tree.{Tree}
 use Rattle.typed_tree.specs.declared.tree.Block.{Block}
 use Rattle.typed_tree.specs.declared.tree.Width.{Width}
+use Rattle.typed_tree.specs.declared.tree.WithRecord.{WithRecord}
 use Rattle.typed_tree.specs.declared.tree.WriteParameter.{WriteParameter}
 use Rattle.typed_tree.specs.declared.tree.Written.{Written}
 use Rattle.typed_tree.specs.declared.tree.Written.TheVariants.{Ordinal, String}
@@ -18,24 +20,24 @@ use Rattle.typed_tree.specs.declared.tree.Expr.{Expr}
 use Rattle.typed_tree.specs.declared.tree.Passed.{Passed}
 use Rattle.typed_tree.specs.declared.tree.Expr.TheOpen.{Expr-F, Passed-F, Link-F}
 use Rattle.typed_tree.specs.declared.tree.Expr.TheOpen.Expr-F.{Constant, Variable, Monadic as MonadicOf, Chain}
-use Rattle.typed_tree.specs.declared.tree.Expr.TheOpen.Expr-F.{Compare, Call as CallOf}
+use Rattle.typed_tree.specs.declared.tree.Expr.TheOpen.Expr-F.{Compare, Call as CallOf, Set}
 use Rattle.typed_tree.specs.declared.tree.Expr.TheOpen.Passed-F.{Value as PassedValue, Whole as PassedWhole, Reference}
 use Rattle.typed_tree.specs.declared.tree.Expr.TheFolds.{fold-Expr, fold-Passed}
 use Rattle.typed_tree.specs.declared.tree.Stmt.{Stmt}
 use Rattle.typed_tree.specs.declared.tree.Stmt.TheOpen.{Stmt-F}
 use Rattle.typed_tree.specs.declared.tree.Stmt.TheOpen.Stmt-F.{Empty, Assign, Write, Compound, If, While, Repeat, For}
-use Rattle.typed_tree.specs.declared.tree.Stmt.TheOpen.Stmt-F.{Case, Copy, Call as Calling}
+use Rattle.typed_tree.specs.declared.tree.Stmt.TheOpen.Stmt-F.{Case, Copy, Call as Calling, With}
 use Rattle.typed_tree.specs.declared.tree.Stmt.TheFolds.{fold-Stmt}
 use Rattle.types.specs.Forms.{Form}
 use Rattle.types.specs.declared.form.TypeId.{TypeId}
 use Rattle.types.specs.Types.{cells_of}
 use Rattle.typed_tree.specs.WellFormed.{is_parameter_kind, length_of, variables_of, whole_indexes}
 
--- an expression whose value is an ordinal, which has one cell
+-- an expression whose value is an ordinal or a set, which has one cell
 abbrev pub one_value : ℕ
 one_value = 8 + 1
 
--- a variable or a component whose value is an ordinal, and the index expressions in it
+-- a variable or a component whose value is an ordinal or a set, and the index expressions in it
 abbrev pub access_need : List ℕ → ℕ
 access_need indexes = one_value + sum indexes
 
@@ -46,12 +48,13 @@ whole_need value indexes = 8 + length_of value + sum (whole_indexes value indexe
 -- a factor, a sign, or an operator, and what is in it
 abbrev pub expr_need_step : Expr-F ℕ ℕ ℕ → ℕ
 expr_need_step (Constant number value) = one_value
-expr_need_step (Variable access indexes defined) = access_need indexes.items
+expr_need_step (Variable access indexes holds defined) = access_need indexes.items
 expr_need_step (MonadicOf number operation operand) = one_value + operand.value
 expr_need_step (Chain first rest) = first.value + sum rest.items
 expr_need_step (Compare number relation left left_indexes right right_indexes) =
     whole_need left left_indexes.items + one_value + whole_need right right_indexes.items
 expr_need_step (CallOf call actuals) = one_value + sum actuals.items
+expr_need_step (Set number designators members) = one_value + sum members.items
 
 abbrev pub link_need_step : Link-F ℕ ℕ ℕ → ℕ
 link_need_step link = one_value + link.operand
@@ -98,6 +101,10 @@ module _ (types : List Form) where
   abbrev pub parameter_need : WriteParameter → ℕ
   parameter_need parameter = written_need parameter.value + width_need parameter.width
 
+  -- a record of a `with`, whose address has one cell, and the index expressions in it
+  abbrev pub record_need : WithRecord → ℕ
+  record_need one = access_need (index_needs one.indexes.items)
+
   -- a statement, which has no value, and what is in it; the target of an assignment is an expression of one cell
   abbrev pub stmt_need_step : Stmt-F ℕ → ℕ
   stmt_need_step (Empty number) = 8
@@ -115,6 +122,7 @@ module _ (types : List Form) where
   stmt_need_step (Repeat head statements) = 8 + sum statements.items + expr_need head.condition
   stmt_need_step (For head body) = 8 + expr_need head.first.value + expr_need head.last.value + body.value
   stmt_need_step (Case head arms) = 8 + expr_need head.index + sum arms.items
+  stmt_need_step (With head body) = 8 + sum_by record_need head.records.items + body.value
 
   abbrev pub stmt_need : Stmt → ℕ
   stmt_need = fold-Stmt ℕ stmt_need_step

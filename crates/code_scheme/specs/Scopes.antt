@@ -1,12 +1,16 @@
 -- Where the cells of a block's frame lie: behind its four links those of its parameters, then those of its other
 -- variables, each as many as the type of the variable takes, and above them what is held while its statements run. A
--- variable parameter has one cell, with the address at which its actual one lies. It does not say what the others hold.
-use Rattle.std.specs.Prelude.{ℕ, suc, ◌+◌, ◌-◌, ◌&&◌, min, Bool, true, false, List, [], ◌∷◌, Option, Some, None}
+-- variable parameter has one cell, with the address at which its actual one lies, as has each record of a `with` round
+-- a place (ISO 7185:1990, 6.8.3.10). It does not say what the others hold.
+use Rattle.std.specs.Prelude.{ℕ, zero, suc, ◌+◌, ◌-◌, ◌&&◌, min, Bool, true, false, List, [], ◌∷◌, ◌++◌}
+use Rattle.std.specs.Prelude.{Option, Some, None}
 use Rattle.std.specs.Prelude.{filter, if◌then◌else◌, length, nat_eq, not, slice_get, sum_by, take}
 use Rattle.types.specs.Forms.{Form}
 use Rattle.types.specs.Types.{cells_of}
 use Rattle.typed_tree.specs.declared.tree.Tree.{Tree}
 use Rattle.typed_tree.specs.declared.tree.Access.{Access}
+use Rattle.typed_tree.specs.declared.tree.Base.{Base}
+use Rattle.typed_tree.specs.declared.tree.Base.TheVariants as base
 use Rattle.typed_tree.specs.declared.tree.Block.{Block}
 use Rattle.typed_tree.specs.declared.tree.Selector.{Selector}
 use Rattle.typed_tree.specs.declared.tree.Selector.TheVariants.{Field}
@@ -32,12 +36,14 @@ abbrev pub links : ℕ → ℕ
 links n = min n 15
 
 -- where code runs: the variables by root, and the routines by the number of their block; the level of its own block;
--- and where in the frame the next cell lies that is held above the variables and above those that are held already
+-- where in the frame the next cell lies that is held above the variables and above those that are held already; and the
+-- records of the `with` statements round it, by their slots, each of which has such a cell
 pub record Scope : Type 0 where
   pub homes : List Home
   pub routines : List Routine
   pub level : ℕ
   pub next : ℕ
+  pub records : List Home
 
 -- how many cells a variable takes in a frame
 abbrev pub slot_cells : List Form → Variable → ℕ
@@ -103,6 +109,18 @@ home_or_none (Some home) = home
 abbrev pub variable_home : Scope → ℕ → Home
 variable_home scope root = home_or_none (slice_get scope.homes root)
 
+-- where the address of a record lies, by its slot
+abbrev pub record_home : Scope → ℕ → Home
+record_home scope slot = home_or_none (slice_get scope.records slot)
+
+-- the same of what an access begins at: a variable or a record
+abbrev pub begun_home : Scope → ℕ → Base → Home
+begun_home scope root base.Variable = variable_home scope root
+begun_home scope root (base.Record slot path) = record_home scope slot
+
+abbrev pub access_home : Scope → Access → Home
+access_home scope access = begun_home scope access.root access.base
+
 abbrev pub no_routine : Routine
 no_routine = record { level = 0; cells = 0; place = 0 }
 
@@ -128,16 +146,16 @@ abbrev pub behind_fields : List Selector → List Selector
 behind_fields (Field position before ∷ selectors) = behind_fields selectors
 behind_fields other = other
 
--- the selectors from which code goes on over an address: from that of a variable parameter's actual one all of them,
--- else those from the first index on
+-- the selectors from which code goes on over an address: from that of a variable parameter's actual one, or of a
+-- record, all of them, else those from the first index on
 abbrev pub selectors_from : Bool → List Selector → List Selector
 selectors_from true selectors = selectors
 selectors_from false selectors = behind_fields selectors
 
--- where in the frame that component begins, if the variable is no variable parameter
+-- where in the frame that component begins, if the access begins at a variable that is no variable parameter
 abbrev pub access_offset : Scope → Access → ℕ
 access_offset scope access =
-    offset ((variable_home scope access.root).start + fields_offset access.selectors.items)
+    offset ((access_home scope access).start + fields_offset access.selectors.items)
 
 -- where the n-th cell lies in the frame that is held above the variables and above those that are held already
 abbrev pub held_offset : Scope → ℕ → ℕ
@@ -147,6 +165,17 @@ held_offset scope n = offset (scope.next + n)
 abbrev pub holding : ℕ → Scope → Scope
 holding cells scope = record scope { next = count (scope.next + cells) }
 
+-- the scope of code that runs while the address of one record more is held, and of so many records more
+abbrev pub with_record : Scope → Scope
+with_record scope = record scope {
+  next = count (scope.next + 1);
+  records = scope.records ++ record { level = scope.level; start = held_offset scope 0; refers = true } ∷ [];
+}
+
+abbrev pub with_records : ℕ → Scope → Scope
+with_records zero scope = scope
+with_records (suc n) scope = with_records n (with_record scope)
+
 -- the scope of a block of a number, at whose level it runs: nothing is held above its variables
 abbrev pub block_scope : Tree → List Routine → ℕ → Scope
 block_scope tree routines number = record {
@@ -154,4 +183,5 @@ block_scope tree routines number = record {
   routines = routines;
   level = block_level tree number;
   next = count (4 + parameter_cells tree number + other_cells tree number);
+  records = [];
 }

@@ -1,7 +1,7 @@
-ghost use Rattle.std.specs.Prelude.{◌≡◌};
+ghost use Rattle.std.specs.Prelude.{◌≡◌, slice_get};
 ghost use Rattle.code_scheme.specs.Code.{numbered};
 ghost use Rattle.code_scheme.specs.Frames.{AreCounted};
-ghost use Rattle.code_scheme.specs.Scopes.{block_scope, homes_of};
+ghost use Rattle.code_scheme.specs.Scopes.{block_scope, home_or_none, homes_of};
 ghost use Rattle.code_scheme.specs.Scopes.{behind_fields as behind, fields_offset as offset_of_fields};
 ghost use Rattle.code_scheme.specs.Scopes.{selectors_from as from};
 ghost use Rattle.code_scheme.specs.Sizes.{capped};
@@ -10,7 +10,7 @@ use crate::frame::{Frame, frame_at, level_of};
 use crate::home::Home;
 use crate::routine::Routine;
 use std::marker::Model;
-use typed_tree::tree::{Access, Block, Selector, Tree};
+use typed_tree::tree::{Access, Base, Block, Selector, Tree};
 
 /// The most cells that a frame has for variables, that may be held above them, or that an evaluation is given.
 pub const MOST_CELLS: u32 = 16777216;
@@ -23,6 +23,13 @@ pub const MOST_LINKS: u8 = 15;
 
 /// How many cells a frame has before its variables.
 pub const LINKS: u32 = 4;
+
+/// Where nothing lies.
+const NO_HOME: Home = Home {
+    level: 0,
+    start: 0,
+    refers: false,
+};
 
 /// What a call of no block would lead to.
 const NO_ROUTINE: Routine = Routine {
@@ -43,9 +50,12 @@ pub struct Scope<'s> {
     level: usize,
     // Where in its frame the next cell lies that is held above its variables.
     next: u32,
+    // Where the addresses lie of the records of `with` statements round it, by slot.
+    records: &'s [Home],
 }
 
 impl<'s> Model for Scope<'s> {
+    ghost use Rattle.std.specs.Prelude.{◌≤◌};
     ghost use Rattle.code_scheme.specs.Scopes.{Scope};
 
     ghost Value = { Scope };
@@ -57,12 +67,16 @@ impl<'s> Model for Scope<'s> {
       routines = routines_by s.blocks.now s.frames.now 0 s.blocks.now;
       level = s.level;
       next = s.next;
+      records = s.records.now;
     } };
+
+    ghost invariant = { λ s. s.next ≤ 16777216 };
 }
 
 impl<'s> Scope<'s> {
-    ghost use Rattle.code_scheme.specs.Scopes.{access_offset, called_routine, held_offset, holding, links_to};
-    ghost use Rattle.code_scheme.specs.Scopes.{variable_home};
+    ghost use Rattle.std.specs.Prelude.{◌+◌, ◌≤◌, true};
+    ghost use Rattle.code_scheme.specs.Scopes.{access_home, access_offset, called_routine, count, held_offset, holding};
+    ghost use Rattle.code_scheme.specs.Scopes.{links_to, variable_home};
 
     /// The scope of the block with this number, where its statements run, if so the variables lie and these are the
     /// frames of the blocks. Each routine has the number of its block for its place.
@@ -86,6 +100,7 @@ impl<'s> Scope<'s> {
             frames,
             level: level_of(tree.blocks.as_slice(), number),
             next,
+            records: &homes[..0],
         }
     }
 
@@ -93,13 +108,16 @@ impl<'s> Scope<'s> {
     pub fn home(&self, root: u32) -> Home
         ensures { result ≡ variable_home self.now root }
     {
-        match self.homes.get(root as usize) {
-            None => Home {
-                level: 0,
-                start: 0,
-                refers: false,
-            },
-            Some(home) => *home,
+        home_at(self.homes, root)
+    }
+
+    /// Where what an access begins at lies, or its address.
+    pub fn begun(&self, access: &Access) -> Home
+        ensures { result ≡ access_home self.now access.now }
+    {
+        match access.base {
+            Base::Variable => home_at(self.homes, access.root),
+            Base::Record { slot, .. } => home_at(self.records, slot),
         }
     }
 
@@ -132,7 +150,7 @@ impl<'s> Scope<'s> {
         ensures { result ≡ access_offset self.now access.now }
     {
         let offset = self
-            .home(access.root)
+            .begun(access)
             .start
             .saturating_add(fields_offset(access.selectors.as_slice()));
         offset.min(GREATEST_OFFSET)
@@ -156,7 +174,52 @@ impl<'s> Scope<'s> {
             frames: self.frames,
             level: self.level,
             next: self.next.saturating_add(cells).min(MOST_CELLS),
+            records: self.records,
         }
+    }
+
+    /// The records of `with` statements round it.
+    pub fn records(&self) -> &[Home]
+        ensures records { result.now ≡ self.now.records }
+        ensures few { self.now.next ≤ 16777216 }
+    {
+        self.records
+    }
+
+    /// Where the address of one record more would be held.
+    pub fn next_record(&self) -> Home
+        ensures { result ≡ record { level = self.now.level; start = held_offset self.now 0; refers = true } }
+    {
+        Home {
+            level: self.level,
+            start: self.held_offset(0),
+            refers: true,
+        }
+    }
+
+    /// The scope of code that runs while so many cells more are held, and these records stand round it.
+    pub fn among<'r>(&'r self, records: &'r [Home], cells: u32) -> Scope<'r>
+        ensures scope { result ≡ record self.now { next = count (self.now.next + cells); records = records.now } }
+        ensures few { self.now.next ≤ 16777216 }
+    {
+        Scope {
+            homes: self.homes,
+            blocks: self.blocks,
+            frames: self.frames,
+            level: self.level,
+            next: self.next.saturating_add(cells).min(MOST_CELLS),
+            records,
+        }
+    }
+}
+
+// Where what has this number among some lies.
+fn home_at(homes: &[Home], number: u32) -> Home
+    ensures { result ≡ home_or_none (slice_get homes.now number) }
+{
+    match homes.get(number as usize) {
+        None => NO_HOME,
+        Some(home) => *home,
     }
 }
 

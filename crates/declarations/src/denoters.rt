@@ -51,7 +51,32 @@ pub(crate) fn denoted_type(typer: &mut Typer, denoter: &TypeDenoter) -> Result<T
             let packed = *packed;
             typer.add_type(*place, TypeForm::Record { packed, fields })
         }
+        TypeDenoter::Set {
+            packed,
+            place,
+            base,
+        } => set_type(typer, *packed, *place, base),
     }
+}
+
+// A set type, whose base is ordinal (6.4.3.4).
+#[cycle(denoters)]
+#[tactic(auto, unfolding(typing::specs::Denoters::set_type))]
+fn set_type(
+    typer: &mut Typer,
+    packed: bool,
+    place: Place,
+    base: &TypeDenoter,
+) -> Result<TypeId, TypeFault>
+    requires known { AreKnown (denoter_names base.now) typer.old.regions }
+    ensures { Takes (spec.set_type packed place (spec.denoted_type base.now) typer.old) result typer.new }
+{
+    typer.pass(place);
+    let id = index_type(typer, base)?;
+    let form = typer
+        .set_form(packed, id)
+        .ok_or(TypeFault::Mismatch(place))?;
+    typer.add_type(place, form)
 }
 
 // The index types of an array, in their order.

@@ -134,6 +134,7 @@ fn fold_denoter(
             denoters,
             ..
         } => fold_fields(alloc, names, denoters, keys),
+        TypeDenoter::Set { base, .. } => fold_denoter(alloc, base, keys),
     }
 }
 

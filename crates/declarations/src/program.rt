@@ -54,7 +54,7 @@ pub fn begin_block(typer: &mut Typer, number: u32, block: &Block) -> Result<Begu
 }
 
 /// Passes the constants, the types and the variables of a block, in the order of the text, or tells the first rule that
-/// they break, with its place (S1 to S3, K1, Y1, Y2).
+/// they break, with its place (S1 to S3, K1, Y1, Y2, Y3).
 pub fn declare(typer: &mut Typer, block: &Block) -> Result<(), TypeFault>
     requires known { AreKnown (typed_block block.now).names typer.old.regions }
     ensures { Takes (block_declarations block.now typer.old) result typer.new }

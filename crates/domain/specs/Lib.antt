@@ -1,4 +1,6 @@
 pub mod Facts
+pub mod Hull
+pub mod Hulls
 pub mod Interval
 pub mod Numbers
 pub mod Order

@@ -46,6 +46,12 @@ impl Interval {
     /// The ordinal numbers of the values of the required type Boolean (ISO 7185:1990, 6.4.2.2).
     pub const TRUTH_VALUES: Interval = Interval { first: 0, last: 1 };
 
+    /// The numbers that can be members of a set.
+    pub const MEMBERS: Interval = Interval {
+        first: 0,
+        last: 127,
+    };
+
     /// The numbers from a first to a last one: the empty range, 1..0, where the first is above the last.
     pub fn between(first: i32, last: i32) -> Interval
         ensures ends { result ≡ between first last }
@@ -146,6 +152,9 @@ const _: () = prove!(
 
 // The ends of Boolean: the ordinal numbers of false and true.
 const _: () = prove!(Interval::TRUTH_VALUES.first == 0 && Interval::TRUTH_VALUES.last == 1);
+
+// The least and the greatest number that can be a member.
+const _: () = prove!(Interval::MEMBERS.first == 0 && Interval::MEMBERS.last == 127);
 
 impl Domain for Interval {
     ghost Member = { ℤ };

@@ -1,12 +1,13 @@
 //! The domains of the checker's abstract values, and the facts that it may know.
 //!
 //! `Domain` has the four operations that the checker's soundness stands on, with their laws; `Interval` is a
-//! domain, with the arithmetic of ranges.
+//! domain, with the arithmetic of ranges, and `Hull` is one, with the operators of sets.
 #![tactic(auto)]
 
 ghost use Rattle.std.specs.Prelude.{◌≡◌, Bool, true, false};
 
 pub mod facts;
+pub mod hull;
 pub mod interval;
 
 /// A set of abstract values, each of which stands for the concrete values that are its members.

@@ -1,12 +1,15 @@
 -- The outlines of built expressions, one equation a form.
 use denote.Ref.{Bor}
-use Rattle.std.proofs.Common.{◌≡◌, ℕ, false, List, map, option_map, Box, Vec, sym, ap, ◌∙◌}
+use Rattle.std.proofs.Common.{◌≡◌, ℕ, false, List, length, map, option_map, Box, Vec, sym, ap, ◌∙◌}
+use Rattle.std.proofs.lemmas.List.{length-map}
+use Rattle.std.proofs.lemmas.Bool.{eq-eqb}
 use Rattle.std.specs.declared.alloc.Global.{Global}
 use Rattle.place.specs.declared.Place.{Place}
 use Rattle.syntax_tree.specs.declared.Name.{Name}
 use Rattle.syntax_tree.specs.declared.Sign.{Sign}
 use Rattle.syntax_tree.specs.declared.RelationalOperator.{RelationalOperator}
 use Rattle.syntax_tree.specs.declared.Selector.{Selector}
+use Rattle.syntax_tree.specs.declared.Designator.{Designator}
 use Rattle.syntax_tree.specs.declared.Expr.{Expr}
 use Rattle.syntax_tree.specs.declared.Link.{Link}
 use Rattle.syntax_tree.specs.declared.Actual.{Actual}
@@ -16,8 +19,9 @@ use Rattle.syntax_tree.specs.declared.Expr.TheViews.{roll-Expr, out-Link, out-Ac
 use Rattle.reading.specs.Lexemes.{identifier, character_string}
 use Rattle.reading.specs.Outline as form
 use Rattle.reading.specs.Outline.{has_items, only_if}
-use Rattle.reading.specs.Trees.{expr_outline, link_outline, actual_outline, actual_of, selector_rows}
+use Rattle.reading.specs.Trees.{expr_outline, link_outline, actual_outline, actual_of, selector_rows, values_of}
 use Rattle.reading.proofs.Outlines.{expr_layer, expr_is, link_is, actual_is}
+use Rattle.expression_parser.specs.Members.{members_look}
 
 rolled : (e : Expr) (d : layer.Expr-F Expr Actual Link) → roll-Expr d ≡ e → expr_outline e ≡ expr_layer d
 rolled e d is = ap expr_outline (sym is) ∙ expr_is d
@@ -44,6 +48,13 @@ built_call name actuals = rolled (syntax.Call name actuals) (layer.Call name act
 pub built_parenthesized : (place : Place) (inner : Box Expr Global)
     → expr_outline (syntax.Parenthesized place inner) ≡ form.parenthesized place (expr_outline inner.value)
 built_parenthesized place inner = rolled (syntax.Parenthesized place inner) (layer.Parenthesized place inner) (syntax.rolls-Parenthesized place inner)
+
+pub built_set : (place : Place) (designators : Vec Designator Global) (members : Vec Expr Global) → values_of designators.items ≡ length members.items
+    → expr_outline (syntax.Set place designators members) ≡ form.set place (members_look designators.items members.items)
+built_set place designators members each =
+    rolled (syntax.Set place designators members) (layer.Set place designators members) (syntax.rolls-Set place designators members)
+    ∙ ap (λ test. only_if test (form.set place (members_look designators.items members.items)))
+    (eq-eqb (values_of designators.items) (length (map expr_outline members.items)) (each ∙ sym (length-map members.items expr_outline)))
 
 pub built_not : (place : Place) (operand : Box Expr Global)
     → expr_outline (syntax.Not place operand) ≡ form.negated place (expr_outline operand.value)

@@ -8,6 +8,7 @@ use Rattle.std.specs.declared.alloc.Global.{Global}
 use Rattle.lexer.specs.declared.token.Token.{Token}
 use Rattle.lexer.specs.declared.token.Kind.{Kind}
 use Rattle.lexer.specs.declared.token.Kind.TheVariants as kind
+use Rattle.lexer.specs.declared.token.Symbol.TheVariants as symbol
 use Rattle.lexer.specs.declared.token.Word.TheVariants as word
 use Rattle.syntax_tree.specs.declared.Selector.{Selector}
 use Rattle.syntax_tree.specs.declared.Selector.TheVariants.{Index, Field}
@@ -15,9 +16,9 @@ use Rattle.reading.specs.Lexemes.{Lexeme}
 use Rattle.reading.specs.Outline as form
 use Rattle.reading.specs.Outline.{Outline, has_items}
 use Rattle.reading.specs.Reading.{Reading, and_then, choose, pure, ◌>>=◌, peek, next_kind, is_kind, on, expect_name, number_taken, text_taken}
-use Rattle.reading.specs.Reading.{word_taken}
+use Rattle.reading.specs.Reading.{symbol_taken, word_taken}
 use Rattle.reading.specs.Trees.{selector_rows}
-use Rattle.reading.specs.Expressions.{Below, actuals, any_factor, expression_below, factor, factor_below, named, negated, parenthesized, selectors}
+use Rattle.reading.specs.Expressions.{Below, actuals, any_factor, expression_below, factor, factor_below, named, negated, parenthesized, selectors, set}
 
 -- ---- selectors, or none
 
@@ -98,7 +99,8 @@ factor_is (suc levels) = refl
 
 module _ (inner operand : Below) where
   by_next : Option Kind → Reading Outline
-  by_next next = if is_kind kind.Identifier next then named inner else on (word_taken word.Not) (negated inner operand) (parenthesized inner)
+  by_next next = if is_kind kind.Identifier next then named inner
+      else on (word_taken word.Not) (negated inner operand) (on (symbol_taken symbol.OpenBracket) (set inner) (parenthesized inner))
 
   by_text : Option Lexeme → Reading Outline
   by_text found = choose found (λ text. pure (form.string text)) (peek >>= by_next)

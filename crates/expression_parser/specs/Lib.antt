@@ -1,3 +1,4 @@
 pub mod Built
 pub mod Levels
+pub mod Members
 pub mod Selecting

@@ -7,6 +7,7 @@ ghost use Rattle.token_cursor.specs.Cursor.{Makes};
 ghost use Rattle.expression_parser.specs.Built.{actuals_outlines, links_turns, selectors_outlines};
 ghost use Rattle.expression_parser.specs.Levels.{chain_of};
 ghost use Rattle.expression_parser.specs.Levels as level_spec;
+ghost use Rattle.expression_parser.specs.Members.{MakesMember, MakesMembers};
 ghost use Rattle.expression_parser.specs.Selecting.{is_index, Selects, SelectsIndex};
 
 use crate::build;
@@ -14,7 +15,7 @@ use lexer::token::{Kind, Symbol, Word};
 use place::Place;
 use reading::refusal::Refusal;
 use std::alloc::Global;
-use syntax_tree::{Actual, Expr, Link, Selector};
+use syntax_tree::{Actual, Designator, Expr, Link, Selector};
 use token_cursor::cursor::Cursor;
 use token_cursor::memory::put;
 use token_cursor::nesting::inside;
@@ -134,8 +135,11 @@ fn factor<'a>(alloc: Global, cursor: &mut Cursor<'_, 'a>, levels: u32) -> Result
     if let Some(Kind::Identifier) = cursor.peek() {
         return named(alloc, cursor, levels);
     }
-    match cursor.take_word(Word::Not) {
-        Some(place) => negated(alloc, cursor, levels, place),
+    if let Some(place) = cursor.take_word(Word::Not) {
+        return negated(alloc, cursor, levels, place);
+    }
+    match cursor.take_symbol(Symbol::OpenBracket) {
+        Some(open) => set(alloc, cursor, levels, open),
         None => parenthesized(alloc, cursor, levels),
     }
 }
@@ -300,6 +304,85 @@ fn parenthesized<'a>(
     let inner = below(alloc, cursor, levels, Some(open));
     let inner = cursor.followed_by(inner, Kind::Symbol(Symbol::CloseParenthesis));
     build::parenthesized(alloc, open, inner)
+}
+
+/// A set constructor (6.7.1) behind its opening bracket.
+#[cycle(expression)]
+#[tactic(auto, using(crate::proofs::Built::built_set), unfolding(reading::specs::Expressions::set))]
+fn set<'a>(
+    alloc: Global,
+    cursor: &mut Cursor<'_, 'a>,
+    levels: u32,
+    open: Place,
+) -> Result<Expr<'a>, Refusal>
+    ensures { Makes expr_outline (spec.set (expression_below levels) «open» cursor.old.rest.now) result cursor.new }
+{
+    let (designators, members) = members(alloc, cursor, levels)?;
+    Ok(Expr::Set {
+        open,
+        designators,
+        members,
+    })
+}
+
+/// The designators and the values of a set's members, and its closing bracket.
+#[cycle(expression)]
+#[tactic(auto, unfolding(reading::specs::Expressions::members))]
+fn members<'a>(
+    alloc: Global,
+    cursor: &mut Cursor<'_, 'a>,
+    levels: u32,
+) -> Result<(Vec<Designator>, Vec<Expr<'a>>), Refusal>
+    ensures { MakesMembers (spec.members (expression_below levels) cursor.old.rest.now) result cursor.new }
+{
+    if let Some(_) = cursor.take_symbol(Symbol::CloseBracket) {
+        return Ok((Vec::new(alloc), Vec::new(alloc)));
+    }
+    let found = member_list(alloc, cursor, levels)?;
+    cursor.expect_symbol(Symbol::CloseBracket)?;
+    Ok(found)
+}
+
+#[cycle(expression)]
+fn member_list<'a>(
+    alloc: Global,
+    cursor: &mut Cursor<'_, 'a>,
+    levels: u32,
+) -> Result<(Vec<Designator>, Vec<Expr<'a>>), Refusal>
+    ensures { MakesMembers (separated Symbol.Comma (spec.member (expression_below levels)) cursor.old.rest.now)
+        result cursor.new }
+{
+    let mut designators = Vec::new(alloc);
+    let mut members = Vec::new(alloc);
+    loop {
+        put(
+            &mut designators,
+            member(alloc, cursor, levels, &mut members),
+        )?;
+        let Some(_) = cursor.take_symbol(Symbol::Comma) else {
+            return Ok((designators, members));
+        };
+    }
+}
+
+/// The designator of a set's member, whose values are put behind the others.
+#[cycle(expression)]
+#[tactic(auto, unfolding(reading::specs::Expressions::member))]
+fn member<'a>(
+    alloc: Global,
+    cursor: &mut Cursor<'_, 'a>,
+    levels: u32,
+    members: &mut Vec<Expr<'a>>,
+) -> Result<Designator, Refusal>
+    ensures { MakesMember (spec.member (expression_below levels) cursor.old.rest.now) result cursor.new
+        members.old.items members.new.items }
+{
+    put(members, index(alloc, cursor, levels))?;
+    let Some(_) = cursor.take_symbol(Symbol::Range) else {
+        return Ok(Designator::Single);
+    };
+    put(members, index(alloc, cursor, levels))?;
+    Ok(Designator::Range)
 }
 
 /// The actual parameters of a call (6.7.3).

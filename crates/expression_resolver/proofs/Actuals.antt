@@ -1,12 +1,15 @@
 -- Actual parameters: how their typing goes on from those that are made, and how they look.
 use Rattle.std.proofs.Common.{◌≡◌, ℕ, suc, ◌+◌, ◌<◌, ◌≤◌, List, [], ◌∷◌, ◌++◌, map, length, drop, get_or, Ok, inl, inr, refl, sym, ap, ◌∙◌, append-nil}
-use Rattle.std.proofs.Common.{length-append, arith}
+use Rattle.std.proofs.Common.{◌&&◌, true, ap₂, length-append, arith}
 use Rattle.std.proofs.lemmas.List.{drop_more, at_drop_all, length-map, map-append}
 use Rattle.std.proofs.lemmas.Grind.{flat_map-append}
 use Rattle.syntax_tree.specs.declared.Actual.{Actual}
 use Rattle.typed_tree.specs.declared.fault.TypeFault.{TypeFault}
 use Rattle.typed_tree.specs.declared.tree.Passed.{Passed as PassedOne}
+use Rattle.std.proofs.lemmas.List.Folds.{list_all-append}
 use Rattle.typed_tree.specs.Entries.{joined}
+use Rattle.typed_tree.specs.Kinds.{is_held_passed}
+use Rattle.typed_tree.specs.Tests.{all_hold}
 use Rattle.typed_tree.specs.Look.{Look, look_passed}
 use Rattle.typed_tree.specs.WellFormed.{placed}
 use Rattle.typing.specs.Passing.{Passed, Checked, After, after, and_then, behind_marks}
@@ -14,6 +17,7 @@ use Rattle.typing.specs.Expressions.{actual, actuals_for, written_actual}
 use Rattle.typing.specs.Outcomes.{IsFault}
 use Rattle.typing.proofs.Rows.{behind_nothing, behind_both}
 use Rattle.expression_resolver.specs.Made.{look_actuals}
+use Rattle.expression_resolver.specs.Values.{are_held_actuals}
 
 -- ---- how they look
 
@@ -96,3 +100,12 @@ module _ (roots : List ℕ) (actuals : List Actual) (old : Passed) where
       ∙ at_drop_all (λ rs. behind_marks (look_actuals callee made) (actuals_for rs (map written_actual (drop i actuals)) callee i now)) roots i
       (omega (arith, all, as_many))
       ∙ ap (λ look. Ok (after tt look now)) (append-nil (look_actuals callee made))
+
+-- one more is as it is taken
+pub one_held : (made : List PassedOne) (one : PassedOne) (new : List PassedOne) → new ≡ made ++ one ∷ [] → are_held_actuals made ≡ true
+    → is_held_passed one ≡ true → are_held_actuals new ≡ true
+one_held made one new is so also =
+    ap are_held_actuals is
+    ∙ ap all_hold (map-append is_held_passed made (one ∷ []))
+    ∙ list_all-append (λ b. b) (map is_held_passed made) (is_held_passed one ∷ [])
+    ∙ ap₂ (λ a b. a && b) so (ap (λ b. b && true) also)

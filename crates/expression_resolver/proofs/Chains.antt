@@ -1,5 +1,8 @@
 -- Chains and relations, as they begin with their first operands.
-use Rattle.std.proofs.Common.{◌≡◌, map, Option, sym, ap, ap₂, ◌∙◌, Box, Vec}
+use Rattle.std.proofs.Common.{◌≡◌, ℕ, ◌+◌, ◌<◌, List, [], ◌∷◌, ◌++◌, map, length, drop, get_or, Option, Ok, append-nil, sym, ap, ap₂, ◌∙◌, Box, Vec}
+use Rattle.std.specs.Prelude.{flat_map}
+use Rattle.std.proofs.lemmas.List.{drop_more}
+use Rattle.std.proofs.lemmas.Grind.{flat_map-append}
 use Rattle.std.specs.declared.alloc.Global.{Global}
 use Rattle.place.specs.declared.Place.{Place}
 use Rattle.syntax_tree.specs.declared.Expr.{Expr as SyntaxExpr}
@@ -7,8 +10,12 @@ use Rattle.syntax_tree.specs.declared.Link.{Link}
 use Rattle.syntax_tree.specs.declared.RelationalOperator.{RelationalOperator}
 use Rattle.syntax_tree.specs.declared.Expr.TheVariants as syntax
 use Rattle.typed_tree.specs.declared.site.SiteKind.{SiteKind}
-use Rattle.typing.specs.Passing.{Passed}
-use Rattle.typing.specs.Expressions.{expression, written_link, begun_by, chain, chain_behind, relation, relation_behind}
+use Rattle.typed_tree.specs.declared.tree.Link.{Link as TreeLink}
+use Rattle.typed_tree.specs.Look.{look_link}
+use Rattle.typing.specs.declared.typed.Typed.{Typed}
+use Rattle.typing.specs.Passing.{Passed, after, and_then, behind_marks}
+use Rattle.typing.specs.Expressions.{expression, written_link, begun_by, chain, chain_behind, links, relation, relation_behind}
+use Rattle.typing.proofs.Rows.{behind_both}
 use Rattle.typing.proofs.Written.{typing_chain, typing_relation}
 
 module _ (w : SyntaxExpr) (lead : Option SiteKind) (old : Passed) where
@@ -28,3 +35,26 @@ module _ (w : SyntaxExpr) (lead : Option SiteKind) (old : Passed) where
   relation_begun left operator place right operand other is same also =
       ap (λ e. e.typing lead old) (ap expression is ∙ typing_relation left operator place right)
       ∙ ap₂ (λ e f. relation (expression e) operator place (expression f) lead old) (sym same) (sym also)
+
+-- ---- operators, one after another
+
+module _ (rest : List Link) (left : Typed) (old : Passed) where
+  -- those so far are made, and those behind them are left
+  abbrev pub AreLinksFrom : ℕ → List TreeLink → Typed → Passed → Type 0
+  AreLinksFrom i made typed now =
+      links left (map written_link rest) old ≡ behind_marks (flat_map look_link made) (links typed (map written_link (drop i rest)) now)
+
+  -- the next one is made
+  pub link_made : (i : ℕ) (made : List TreeLink) (typed : Typed) (now : Passed) → AreLinksFrom i made typed now → (written : Link) → i < length rest
+      → written ≡ get_or rest i written → (one : TreeLink) (next : Typed) (new : Passed) (all : List TreeLink) → all ≡ made ++ one ∷ []
+      → written_link written typed now ≡ Ok (after next (look_link one) new) → AreLinksFrom (i + 1) all next new
+  link_made i made typed now so_far written within is one next new all are passes =
+      let others = map written_link (drop (i + 1) rest) in
+      so_far
+      ∙ ap (λ ls. behind_marks (flat_map look_link made) (links typed (map written_link ls) now))
+      (drop_more rest i written within ∙ ap (λ l. l ∷ drop (i + 1) rest) (sym is))
+      ∙ ap (λ r. behind_marks (flat_map look_link made) (and_then r (λ a. behind_marks a.look (links a.answer others a.passed)))) passes
+      ∙ behind_both (flat_map look_link made) (look_link one) (links next others new)
+      ∙ ap (λ look. behind_marks look (links next others new))
+      (ap (λ look. flat_map look_link made ++ look) (sym (append-nil (look_link one)))
+      ∙ sym (ap (flat_map look_link) are ∙ flat_map-append look_link made (one ∷ [])))

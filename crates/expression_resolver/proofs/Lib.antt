@@ -2,9 +2,12 @@ mod Actuals
 mod Calls
 mod Chains
 pub mod Fitting
+pub mod HeldForms
+pub mod KeptKinds
+mod MemberRows
 mod Named
 mod Only
-mod Operands
+pub mod Operands
 mod PassedForms
 mod Results
 pub mod Selecting

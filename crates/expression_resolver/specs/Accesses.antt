@@ -1,7 +1,7 @@
 -- How accesses are made: a variable as it is entered, the selectors behind it with their index expressions, and the
 -- value of what is selected. It says nothing of what typing answers.
-use Rattle.std.specs.Prelude.{◌≡◌, ◌⊎◌, ℕ, suc, Bool, List, [], ◌∷◌, ◌++◌, flat_map, length, map, drop, Result}
-use Rattle.std.specs.Prelude.{if◌then◌else◌, Ok, Err, Option}
+use Rattle.std.specs.Prelude.{◌≡◌, ℕ, suc, Bool, List, [], ◌∷◌, ◌++◌, flat_map, length, map, drop, Result}
+use Rattle.std.specs.Prelude.{Ok, Err, Option}
 use Rattle.place.specs.declared.Place.{Place}
 use Rattle.syntax_tree.specs.declared.Name.{Name}
 use Rattle.syntax_tree.specs.declared.Expr.{Expr as SyntaxExpr}
@@ -14,13 +14,15 @@ use Rattle.typed_tree.specs.declared.site.SiteKind.{SiteKind}
 use Rattle.typed_tree.specs.declared.site.SiteKind.TheVariants as kind
 use Rattle.typed_tree.specs.declared.tree.Expr.{Expr}
 use Rattle.typed_tree.specs.declared.tree.Selector.{Selector as TreeSelector}
-use Rattle.typed_tree.specs.Accesses.{index_count}
+use Rattle.typed_tree.specs.Accesses.{Origin, index_count, origin_by, root_of}
 use Rattle.typed_tree.specs.Look.{Look, Access, look_expr}
 use Rattle.typing.specs.declared.typed.Typed.{Typed}
 use Rattle.typing.specs.Passing.{Passed, Passing, Checked, After, after, behind_marks, pure, ◌>>=◌, ◌>>◌}
 use Rattle.typing.specs.Steps.{find, may_change, site, enter_as}
-use Rattle.typing.specs.Expressions.{Written, as_variable, behind, selected, tests_structured, ordinal_value}
-use Rattle.typing.specs.Expressions.{whole_value, expression}
+use Rattle.typing.specs.Expressions.{Denoted, Written, behind, expression, kind_now, selected, value_of_kind}
+use Rattle.typing.specs.Expressions.{accessed, variable_of}
+use Rattle.typing.specs.View.{denoted_of}
+use Rattle.typing.specs.declared.records.DenotedVariable.{DenotedVariable}
 use Rattle.typing.specs.Outcomes.{IsFault, Makes}
 use Rattle.expression_resolver.specs.declared.typed.Entered.{Entered}
 use Rattle.expression_resolver.specs.declared.typed.Reached.{Reached}
@@ -28,15 +30,12 @@ use Rattle.expression_resolver.specs.declared.typed.Selection.{Selection}
 
 -- ---- a variable
 
--- the variable that a name denotes, by its root and its type; or nothing is found, or what is no variable
-abbrev pub FindsVariable : Name → Passed → Result (ℕ × TypeId) TypeFault → Passed → Type 0
-FindsVariable name old (Ok variable) new =
-    (denotation : Denotation) × (find name old ≡ Ok (after denotation [] new))
-    × (as_variable name.place denotation ≡ Ok variable)
-FindsVariable name old (Err why) new =
-    IsFault (find name old) why
-    ⊎ ((denotation : Denotation) × (middle : Passed) × (find name old ≡ Ok (after denotation [] middle))
-    × (as_variable name.place denotation ≡ Err why))
+-- the variable, or the field of a record of a with, that a name denotes
+abbrev pub named_variable : Name → Passing Denoted
+named_variable name = find name >>= variable_of name.place
+
+abbrev pub MakesVariable : Checked (After Denoted) → Result DenotedVariable TypeFault → Passed → Type 0
+MakesVariable = Makes denoted_of (λ _. [])
 
 -- a variable is entered in an expression, by the site of its test and the leading one
 unfoldable pub begun : Place → Option SiteKind → Passing (ℕ × Option ℕ)
@@ -46,17 +45,18 @@ begun place lead = do
   enter_as Access
   pure (defined, id)
 
--- a variable of a root that is entered
-abbrev pub MakesEntered : ℕ → Checked (After (ℕ × Option ℕ)) → Result Entered TypeFault → Passed → Type 0
-MakesEntered root outcome (Ok made) new =
-    (outcome ≡ Ok (after (made.defined, made.site) (Access made.number ∷ []) new)) × (made.root ≡ root)
-MakesEntered root outcome (Err why) new = IsFault outcome why
+-- a variable that is entered, where its access begins
+abbrev pub MakesEntered : Origin → Checked (After (ℕ × Option ℕ)) → Result Entered TypeFault → Passed → Type 0
+MakesEntered origin outcome (Ok made) new =
+    (outcome ≡ Ok (after (made.defined, made.site) (Access made.number ∷ []) new))
+    × (origin_by made.root made.base ≡ origin)
+MakesEntered origin outcome (Err why) new = IsFault outcome why
 
 -- ---- selectors
 
--- nothing is selected of a value of a type
-pub record IsNothing (type_id : TypeId) (made : Selection) : Type 0 where
-  pub selectors : made.selectors.items ≡ []
+-- these selectors lead to a value of a type, without index expressions
+pub record IsBegunBy (before : List TreeSelector) (type_id : TypeId) (made : Selection) : Type 0 where
+  pub selectors : made.selectors.items ≡ before
   pub indexes : made.indexes.items ≡ []
   pub is_of : made.type_id ≡ type_id
 
@@ -73,12 +73,17 @@ abbrev pub MakesSelection
     : Checked (After (List TreeSelector × TypeId)) → Result Selection TypeFault → Passed → Type 0
 MakesSelection = Makes (λ made. (made.selectors.items, made.type_id)) look_selection
 
--- what is accessed of a variable that may be changed, by its root and its type, at the place of its name
-unfoldable pub reached : Place → ℕ × TypeId → List Selector → List Written → Passing (List TreeSelector × TypeId)
-reached place variable selectors indexes = do
-  may_change place variable.0
+-- what is accessed of what a name denotes
+unfoldable pub component_of : Denoted → List Selector → List Written → Passing (List TreeSelector × TypeId)
+component_of variable selectors indexes = do
   enter_as Access
-  selected [] variable.1 selectors indexes
+  selected variable.selectors variable.type_id selectors indexes
+
+-- the same of a variable that may be changed, at the place of its name
+unfoldable pub reached : Place → Denoted → List Selector → List Written → Passing (List TreeSelector × TypeId)
+reached place variable selectors indexes = do
+  may_change place (root_of variable.origin)
+  component_of variable selectors indexes
 
 -- how it looks
 abbrev pub look_reached : Reached → Look
@@ -145,14 +150,19 @@ SelectsOne selector indexes s old (Err why) new now =
 
 -- ---- values
 
--- the value of a component, by the root of its variable, the sites of that, and the selectors
-unfoldable pub value : ℕ → ℕ × Option ℕ → List TreeSelector × TypeId → Passing Typed
-value root sites component = do
-  structured ← tests_structured component.1
-  (if structured then whole_value else ordinal_value) root component.0 component.1 sites.0 sites.1
+-- the value of a component, by where its access begins, the sites of its variable, and the selectors
+unfoldable pub value : Origin → ℕ × Option ℕ → List TreeSelector × TypeId → Passing Typed
+value origin sites component = do
+  found ← kind_now component.1
+  value_of_kind found origin component.0 component.1 sites.0 sites.1
 
 -- the value of what was selected of a variable that was entered
 abbrev pub valued : Entered → Selection → Passing Typed
 valued entered made s =
     behind_marks (Access entered.number ∷ look_selection made)
-    (value entered.root (entered.defined, entered.site) (made.selectors.items, made.type_id) s)
+    (value (origin_by entered.root entered.base) (entered.defined, entered.site) (made.selectors.items, made.type_id) s)
+
+-- the value of what a name denotes, a variable or a field of a record of a with
+abbrev pub entire_value : Denotation → Place → Option SiteKind → Passing Typed
+entire_value denotation place lead =
+    variable_of place denotation >>= (λ variable. accessed variable [] [] place lead)

@@ -1,71 +1,58 @@
--- How the answers are what typing says of expressions: what is made of a form has the type, the length and the leading
--- site that typing answers, and looks so. It says nothing of what typing answers.
-use Rattle.std.specs.Prelude.{◌≡◌, ◌⊎◌, ℕ, List, [], ◌∷◌, ◌++◌, flat_map, length, map, Result, Ok, Err}
-use Rattle.std.specs.Prelude.{Bool, true, false, Option, Some, None, Vec}
+-- How the answers are what typing says of expressions: what is made of a form is what typing answers, with its leading
+-- site, and looks so; and operands are as they are taken. It says nothing of what typing answers.
+use Rattle.std.specs.Prelude.{◌≡◌, ◌⊎◌, ℕ, List, [], ◌∷◌, ◌++◌, ◌&&◌, ◌||◌, flat_map, length, map, Result, Ok, Err}
+use Rattle.std.specs.Prelude.{Bool, true, false, Option, Some, None, Vec, is_some}
 use Rattle.std.specs.declared.alloc.Global.{Global}
 use Rattle.place.specs.declared.Place.{Place}
 use Rattle.syntax_tree.specs.declared.Actual.{Actual}
 use Rattle.syntax_tree.specs.declared.Expr.{Expr as SyntaxExpr}
-use Rattle.syntax_tree.specs.declared.Link.{Link as SyntaxLink}
-use Rattle.syntax_tree.specs.declared.Expr.TheViews.{out-Actual, out-Link}
+use Rattle.syntax_tree.specs.declared.Expr.TheViews.{out-Actual}
 use Rattle.scopes.specs.declared.denotation.Denotation.{Denotation}
 use Rattle.scopes.specs.declared.denotation.Denotation.TheVariants as denotes
 use Rattle.typed_tree.specs.declared.fault.TypeFault.{TypeFault}
 use Rattle.typed_tree.specs.declared.site.SiteKind.{SiteKind}
-use Rattle.typed_tree.specs.declared.site.SiteKind.TheVariants as kind
+use Rattle.typed_tree.specs.declared.tree.Designator.{Designator}
+use Rattle.typed_tree.specs.declared.tree.Designator.TheVariants as designator
+use Rattle.typed_tree.specs.declared.tree.Dyadic.{Dyadic}
 use Rattle.typed_tree.specs.declared.tree.Dyadic.TheVariants as dyadic
 use Rattle.typed_tree.specs.declared.tree.Expr.{Expr}
+use Rattle.typed_tree.specs.declared.tree.Expr.TheFolds.{fold-Link}
 use Rattle.typed_tree.specs.declared.tree.Fitted.{Fitted}
 use Rattle.typed_tree.specs.declared.tree.RangeTest.{RangeTest}
+use Rattle.typed_tree.specs.declared.tree.Scalar.{Scalar}
+use Rattle.typed_tree.specs.declared.tree.Scalar.TheVariants as scalar
 use Rattle.typed_tree.specs.declared.tree.Whole.{Whole}
 use Rattle.typed_tree.specs.declared.tree.Link.{Link}
 use Rattle.typed_tree.specs.declared.tree.Monadic.{Monadic}
-use Rattle.typed_tree.specs.declared.tree.Relation.{Relation}
 use Rattle.typed_tree.specs.declared.tree.Passed.{Passed as PassedOne}
 use Rattle.typed_tree.specs.declared.tree.Variable.{Variable}
 use Rattle.types.specs.declared.form.TypeId.{TypeId}
 use Rattle.types.specs.Types.{boolean}
 use Rattle.typed_tree.specs.Entries.{joined}
+use Rattle.typed_tree.specs.Kinds.{Held, expression_held, is_held, is_same, link_held, links_held, passed_held}
 use Rattle.typed_tree.specs.Look.{Look, Text, Operation, Applied, Begins, Operator, Compared, Ends, look_call}
-use Rattle.typed_tree.specs.Look.{look_expr, look_link, look_passed, look_whole}
-use Rattle.typed_tree.specs.WellFormed.{length_of, placed, source_of}
+use Rattle.typed_tree.specs.Look.{Constructed, Constructs, look_expr, look_link, look_passed, look_whole}
+use Rattle.typed_tree.specs.WellFormed.{members_wanted, placed}
 use Rattle.typing.specs.declared.typed.Typed.{Typed}
+use Rattle.typing.specs.declared.typed.TypedValue.{TypedValue}
 use Rattle.typing.specs.Passing.{Passed, Passing, Checked, After, after, and_then, behind_marks, given, pure, ◌>>=◌}
 use Rattle.typing.specs.Passing.{◌>>◌, ◌>>?◌}
 use Rattle.typing.specs.Steps.{enter, enter_as, host_type, or_mismatch, site}
-use Rattle.typing.specs.Expressions.{Copy, Written, behind, copying, fitting, operand_type, typed, typed_text}
+use Rattle.typing.specs.Expressions.{Copy, Written, behind, copying, fitting, is_scalar_value, last_member}
 use Rattle.typing.specs.Expressions.{or_no_result}
+use Rattle.typing.specs.Expressions.{test_kind, typed, typed_set, typed_text, whole_copy}
 use Rattle.typing.specs.Outcomes.{IsFault, Makes, Tells}
 use Rattle.expression_resolver.specs.declared.typed.Begun.{Begun}
-use Rattle.expression_resolver.specs.declared.typed.Value.{Value}
-use Rattle.expression_resolver.specs.declared.typed.Value.TheVariants.{Ordinal, Whole as WholeOf}
+use Rattle.expression_resolver.specs.declared.typed.Members.{Members}
+use Rattle.expression_resolver.specs.declared.typed.SitedMember.{SitedMember}
 use Rattle.expression_resolver.specs.declared.typed.TypedCall.{TypedCall}
 use Rattle.expression_resolver.specs.declared.typed.TypedExpr.{TypedExpr}
 use Rattle.expression_resolver.specs.declared.typed.TypedLinks.{TypedLinks}
-
--- how what stands for a value looks
-abbrev pub look_value : Value → Look
-look_value (Ordinal value) = look_expr value
-look_value (WholeOf value indexes) = look_whole value indexes.items
-
--- how many components it has, where it is structured
-abbrev pub value_length : Value → Option ℕ
-value_length (Ordinal value) = None
-value_length (WholeOf value indexes) = Some (length_of value)
-
--- the type of the variable whose value it is; an ordinal has none, and a string of its own
-abbrev pub value_source : Value → Option TypeId
-value_source (Ordinal value) = None
-value_source (WholeOf value indexes) = source_of value
+use Rattle.expression_resolver.specs.Values.{copy_of, look_value, scalar_of, value_of}
 
 -- what an expression is
 abbrev pub typed_of : TypedExpr → Typed
-typed_of made = record {
-  type_id = made.type_id;
-  length = value_length made.value;
-  source = value_source made.value;
-  site = made.site;
-}
+typed_of made = record { value = value_of made.value; site = made.site }
 
 -- an expression
 abbrev pub MakesTyped : Checked (After Typed) → Result TypedExpr TypeFault → Passed → Type 0
@@ -102,40 +89,113 @@ pub record IsMonadicOf (begun : Begun) (operation : Monadic) (operand : Expr) (t
   pub looks : look_value made.value ≡ Operation begun.number ∷ (look_expr operand ++ (Applied operation ∷ []))
   pub is : typed_of made ≡ typed type_id begun.site
 
--- an operator and its right operand, behind what stands to its left
-abbrev pub MakesLink : Typed → SyntaxLink → Checked (After Typed) → Result Link TypeFault → Passed → Type 0
-MakesLink left written = Makes (λ _. typed (operand_type (out-Link written).operator) left.site) look_link
+-- an operator and its right operand, and what they make of what stands to their left
+abbrev pub MakesLink : Checked (After Typed) → Result (Link × Typed) TypeFault → Passed → Type 0
+MakesLink = Makes (λ made. made.1) (λ made. look_link made.0)
 
 -- the operators of a chain
 abbrev pub MakesLinks : Checked (After Typed) → Result TypedLinks TypeFault → Passed → Type 0
 MakesLinks = Makes (λ made. made.typed) (λ made. flat_map look_link made.links.items)
 
--- a chain of a first operand, an ordinal with this leading site, and the operators behind it
+-- what comes of an operator with its right operand behind a left one
+abbrev pub held_behind : Link → Held → Held
+held_behind = fold-Link Held Bool (Held → Held) expression_held passed_held link_held
+
+-- operators make an ordinal of an ordinal, or a set of a set, if they make something of these, and each takes its
+-- operands
+pub record AreHeldLinks (left value : TypedValue) (links : List Link) : Type 0 where
+  pub scalar : is_scalar_value value ≡ is_scalar_value left
+  pub held : (before : Held) → is_held (scalar_of left) before ≡ true
+      → is_held (scalar_of value) (links_held before (map held_behind links)) ≡ true
+
+-- a chain of a first operand with this leading site, and the operators behind it
 pub record IsChainOf (first : Expr) (site : Option ℕ) (rest : TypedLinks) (made : TypedExpr) : Type 0 where
   pub looks : look_value made.value
       ≡ Begins ∷ (look_expr first ++ (flat_map look_link rest.links.items ++ (Ends ∷ [])))
-  pub is : typed_of made ≡ typed rest.typed.type_id site
+  pub is : typed_of made ≡ record { value = rest.typed.value; site = site }
 
 -- how two strings look that are compared, behind the right one
-abbrev pub look_compared : Option ℕ → Option ℕ → Look
-look_compared (Some left) (Some right) = Compared left right ∷ []
+abbrev pub look_compared : Option Copy → Option Copy → Look
+look_compared (Some left) (Some right) = Compared left.source left.cells right.source right.cells ∷ []
 look_compared left right = []
 
+-- a value is such an ordinal or set
+abbrev pub is_such : Scalar → TypedValue → Bool
+is_such wanted value = is_scalar_value value && is_same wanted (scalar_of value)
+
+-- both are structured
+abbrev pub are_structured : TypedValue → TypedValue → Bool
+are_structured left right = is_some (whole_copy left) && is_some (whole_copy right)
+
+-- a relation takes two operands: two ordinals or two structured ones, two sets, or an ordinal and a set
+abbrev pub relates : Dyadic → TypedValue → TypedValue → Bool
+relates (dyadic.Relation relation) left right =
+    (is_such scalar.Ordinal left && is_such scalar.Ordinal right) || are_structured left right
+relates (dyadic.SetRelation relation) left right = is_such scalar.Set left && is_such scalar.Set right
+relates dyadic.In left right = is_such scalar.Ordinal left && is_such scalar.Set right
+relates other left right = false
+
 -- the relation of two operands
-pub record IsRelationOf (number : ℕ) (relation : Relation) (left right : TypedExpr) (made : TypedExpr) : Type 0 where
+pub record IsRelationOf (number : ℕ) (operation : Dyadic) (left right : TypedExpr) (made : TypedExpr) : Type 0 where
   pub looks : look_value made.value
-      ≡ Begins ∷ (look_value left.value ++ (Operator number (dyadic.Relation relation) ∷ (look_value right.value
-      ++ (look_compared (value_length left.value) (value_length right.value) ++ (Ends ∷ [])))))
+      ≡ Begins ∷ (look_value left.value ++ (Operator number operation ∷ (look_value right.value
+      ++ (look_compared (whole_copy (value_of left.value)) (whole_copy (value_of right.value)) ++ (Ends ∷ [])))))
   pub is : typed_of made ≡ typed boolean left.site
+
+-- ---- set constructors
+
+-- a set of members, which is entered
+pub record IsSetOf (begun : Begun) (members : Members) (made : TypedExpr) : Type 0 where
+  pub looks : look_value made.value
+      ≡ Constructs begun.number ∷ (flat_map look_expr members.values.items
+      ++ (Constructed members.designators.items (length members.values.items) ∷ []))
+  pub is : typed_of made ≡ typed_set (record { host = members.host; packed = None }) begun.site
+
+-- the designators of a set constructor, and the host type of its members
+abbrev pub MakesMembers
+    : Checked (After (List Designator × Option TypeId)) → Result Members TypeFault → Passed → Type 0
+MakesMembers =
+    Makes (λ made. (made.designators.items, made.host)) (λ made. flat_map look_expr made.values.items)
+
+-- a member that stands alone, or first in a range, with its site; and the last one of a range
+abbrev pub MakesFirst : Checked (After (ℕ × TypeId)) → Result SitedMember TypeFault → Passed → Type 0
+MakesFirst = Makes (λ made. (made.site, made.type_id)) (λ made. look_expr made.value)
+
+abbrev pub MakesLast : Checked (After TypeId) → Result (TypeId × Expr) TypeFault → Passed → Type 0
+MakesLast = Makes (λ made. made.0) (λ made. look_expr made.1)
+
+-- a range behind its first value
+abbrev pub range_behind : SitedMember → Written → Passing (Designator × TypeId)
+range_behind first last s =
+    behind_marks (look_expr first.value)
+    ((last_member (Some first.type_id) last >>= (λ type_id. pure (designator.Range first.site, type_id))) s)
+
+-- a member more, by so many values
+pub record IsMemberBehind (count : ℕ) (outcome : Checked (After (Designator × TypeId))) (old new : Members)
+    (now : Passed) : Type 0 where
+  pub designator : Designator
+  pub type_id : TypeId
+  pub own : List Expr
+  pub is : outcome ≡ Ok (after (designator, type_id) (flat_map look_expr own) now)
+  pub designators : new.designators.items ≡ old.designators.items ++ designator ∷ []
+  pub values : new.values.items ≡ old.values.items ++ own
+  pub host : new.host ≡ Some type_id
+  pub counted : length own ≡ count
+  pub wanted : members_wanted (designator ∷ []) ≡ count
+
+abbrev pub TakesMember
+    : ℕ → Checked (After (Designator × TypeId)) → Members → Result (Unit {0}) TypeFault → Members → Passed → Type 0
+TakesMember count outcome old (Ok _) new now = IsMemberBehind count outcome old new now
+TakesMember count outcome old (Err why) new now = IsFault outcome why
 
 -- ---- values that are assigned, or passed to value parameters
 
--- a value that is assigned to an ordinal type, by its test, whose site stands at the place, before those of its own
-unfoldable pub fitted : TypeId → Place → Written → Passing RangeTest
-fitted type_id place w = do
-  id ← site kind.Subrange place
+-- a value that is assigned to a scalar type, by its test, whose site stands at the place, before those of its own
+unfoldable pub fitted : Scalar → TypeId → Place → Written → Passing RangeTest
+fitted tested type_id place w = do
+  id ← site (test_kind tested) place
   range ← w.typing None >>? (λ types t. or_mismatch place (fitting types type_id t))
-  pure (record { site = id; range = range })
+  pure (record { site = id; tests = tested; range = range })
 
 abbrev pub MakesFitted : Checked (After RangeTest) → Result Fitted TypeFault → Passed → Type 0
 MakesFitted = Makes (λ made. made.fits) (λ made. look_expr made.value)
@@ -143,10 +203,6 @@ MakesFitted = Makes (λ made. made.fits) (λ made. look_expr made.value)
 -- a value that is copied to a structured type; K1 at the place where it may not be
 abbrev pub copied : TypeId → Place → Written → Passing Copy
 copied type_id place w = w.typing None >>? (λ types t. or_mismatch place (copying types type_id t))
-
--- how it is copied
-abbrev pub copy_of : Whole × Vec Expr Global → Copy
-copy_of made = record { source = source_of made.0; cells = length_of made.0 }
 
 abbrev pub MakesCopied : Checked (After Copy) → Result (Whole × Vec Expr Global) TypeFault → Passed → Type 0
 MakesCopied = Makes copy_of (λ made. look_whole made.0 made.1.items)

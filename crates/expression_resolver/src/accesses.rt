@@ -1,33 +1,55 @@
-ghost use Rattle.std.specs.Prelude.{◌≡◌, [], ◌∷◌, Ok};
-ghost use Rattle.typed_tree.specs.Look.{Constant};
-ghost use Rattle.typing.specs.Expressions.{typed, typed_text};
+ghost use Rattle.std.specs.Prelude.{◌≡◌, [], ◌∷◌, true, length, Ok, IfOk};
+ghost use Rattle.typed_tree.specs.Accesses.{index_count, origin_by, origin_of};
+ghost use Rattle.typed_tree.specs.Kinds.{are_ordinal_indexes, held_by, is_held};
+ghost use Rattle.typed_tree.specs.Look as look;
+ghost use Rattle.typed_tree.specs.Look.{Constant, look_access, look_expr};
+ghost use Rattle.typing.specs.Expressions.{typed};
 ghost use Rattle.typing.specs.Passing.{after};
-ghost use Rattle.expression_resolver.specs.Accesses.{FindsVariable, IsCounted, MakesEntered, SelectsField};
-ghost use Rattle.expression_resolver.specs.Accesses.{begun, valued};
-ghost use Rattle.expression_resolver.specs.Made.{MakesBegun, MakesTyped, text_entered, typed_of, look_value};
+ghost use Rattle.typing.specs.View.{denoted_of};
+ghost use Rattle.expression_resolver.specs.Accesses.{IsCounted, MakesEntered, MakesVariable, SelectsField};
+ghost use Rattle.expression_resolver.specs.Accesses.{begun, named_variable, valued};
+ghost use Rattle.expression_resolver.specs.Made.{IsSetOf, MakesBegun, MakesTyped, text_entered, typed_of};
+ghost use Rattle.expression_resolver.specs.Values.{look_value};
 
-use crate::typed::{Begun, Entered, Selection, TypedExpr, Value};
+use crate::typed::{Begun, Entered, Members, Selection, TypedExpr};
+use crate::value::Value;
 use place::Place;
 use std::alloc::Global;
 use syntax_tree::Name;
 use typed_tree::fault::TypeFault;
 use typed_tree::site::SiteKind;
-use typed_tree::tree::{Access, Expr, Selector, Whole};
-use types::TypeId;
-use typing::Typer;
-use typing::rules::as_variable;
+use typed_tree::tree::{Access, Base, Expr, Scalar, Selector};
+use types::{SetBase, TypeId, TypeKind};
+use typing::{DenotedVariable, Typer};
 
 impl Selection {
-    ghost use Rattle.expression_resolver.specs.Accesses.{IsNothing};
+    ghost use Rattle.expression_resolver.specs.Accesses.{IsBegunBy};
 
-    /// No selectors: a value of a type itself.
-    pub(crate) fn nothing(alloc: Global, type_id: TypeId) -> Selection
-        ensures { IsNothing type_id result }
+    /// The selectors to what a name denotes, a value of a type.
+    pub(crate) fn begun(alloc: Global, selectors: Vec<Selector>, type_id: TypeId) -> Selection
+        ensures { IsBegunBy selectors.items type_id result }
     {
         Selection {
-            selectors: Vec::new(alloc),
+            selectors,
             indexes: Vec::new(alloc),
             type_id,
+        }
+    }
+}
+
+impl Members {
+    ghost use Rattle.std.specs.Prelude.{None};
+
+    /// No members.
+    pub(crate) fn none(alloc: Global) -> Members
+        ensures designators { result.designators.items ≡ [] }
+        ensures values { result.values.items ≡ [] }
+        ensures host { result.host ≡ None }
+    {
+        Members {
+            designators: Vec::new(alloc),
+            values: Vec::new(alloc),
+            host: None,
         }
     }
 }
@@ -46,16 +68,17 @@ pub(crate) fn begin(
 }
 
 /// The value of a constant of an ordinal type.
+#[tactic(auto, using(crate::proofs::HeldForms::held_constant))]
 pub(crate) fn constant(begun: Begun, value: i32, type_id: TypeId) -> TypedExpr
     ensures is { typed_of result ≡ typed type_id begun.site }
     ensures looks { look_value result.value ≡ Constant begun.number value ∷ [] }
 {
     let Begun { number, site } = begun;
-    TypedExpr {
-        value: Value::Ordinal(Expr::Constant { number, value }),
+    let value = Value::Ordinal {
         type_id,
-        site,
-    }
+        value: Expr::Constant { number, value },
+    };
+    TypedExpr { value, site }
 }
 
 /// The value of a string of a type, which is entered behind its leading site.
@@ -68,22 +91,44 @@ pub(crate) fn text(
     ensures { MakesTyped (text_entered site type_id characters.items typer.old) result typer.new }
 {
     let number = typer.enter()?;
-    Ok(TypedExpr {
-        value: Value::Whole {
-            value: Whole::Text { number, characters },
-            indexes: Vec::new(typer.alloc),
-        },
+    let value = Value::Text {
         type_id,
-        site,
-    })
+        number,
+        characters,
+    };
+    Ok(TypedExpr { value, site })
 }
 
-/// The variable that a name denotes, by its root and its type: K2 where it is none.
-pub(crate) fn variable(typer: &mut Typer, name: &Name) -> Result<(u32, TypeId), TypeFault>
-    ensures { FindsVariable name.now typer.old result typer.new }
+/// A set of members (6.7.1), which is entered.
+#[tactic(auto, using(crate::proofs::HeldForms::held_set, typed_tree::proofs::Looks::look_set))]
+pub(crate) fn set(begun: Begun, members: Members) -> TypedExpr
+    ensures { IsSetOf begun members result }
+{
+    let Begun { number, site } = begun;
+    let Members {
+        designators,
+        values,
+        host,
+    } = members;
+    let value = Value::Set {
+        base: SetBase { host, packed: None },
+        value: Expr::Set {
+            number,
+            designators,
+            members: values,
+        },
+    };
+    TypedExpr { value, site }
+}
+
+/// The variable, or the field of a record of a with, that a name denotes: K2 where it denotes none.
+#[tactic(auto, using(crate::proofs::Selecting::plain_variable))]
+pub fn named_variable(typer: &mut Typer, name: &Name) -> Result<DenotedVariable, TypeFault>
+    ensures made { MakesVariable (named_variable name.now typer.old) result typer.new }
+    ensures plain { IfOk result (λ made. index_count made.selectors.items ≡ 0) }
 {
     let denotation = typer.find(name)?;
-    as_variable(name.place, denotation)
+    typer.variable_of(name.place, denotation)
 }
 
 /// A variable is entered, at the place of its name: its test, the leading site, and its number.
@@ -91,16 +136,18 @@ pub(crate) fn variable(typer: &mut Typer, name: &Name) -> Result<(u32, TypeId), 
 pub(crate) fn enter(
     typer: &mut Typer,
     root: u32,
+    base: Base,
     place: Place,
     lead: Option<SiteKind>,
 ) -> Result<Entered, TypeFault>
-    ensures { MakesEntered root (begun place lead typer.old) result typer.new }
+    ensures { MakesEntered (origin_by root base) (begun place lead typer.old) result typer.new }
 {
     let defined = typer.site(SiteKind::UndefinedVariable, place)?;
     let Begun { number, site } = begin(typer, lead, place)?;
     Ok(Entered {
         number,
         root,
+        base,
         defined,
         site,
     })
@@ -124,43 +171,65 @@ pub(crate) fn select_field(
     Ok(())
 }
 
-/// The value of what is selected of a variable: an ordinal, which is of the host type (6.7.1), or a structured value.
+/// The value of what is selected of a variable: an ordinal, which is of the host type (6.7.1), a set, or a structured
+/// value.
 pub(crate) fn accessed_value(typer: &Typer, entered: Entered, selection: Selection) -> TypedExpr
     requires counted { IsCounted selection }
     ensures { valued entered selection typer.now ≡ Ok (after (typed_of result) (look_value result.value) typer.now) }
 {
-    let Entered { defined, site, .. } = entered;
+    let Entered {
+        number,
+        root,
+        base,
+        defined,
+        site,
+    } = entered;
     let Selection {
         selectors,
         indexes,
         type_id,
     } = selection;
     let access = Access {
-        number: entered.number,
-        root: entered.root,
+        number,
+        root,
+        base,
         selectors,
     };
-    if typer.types().is_structured(type_id) {
-        let value = Whole::Variable {
-            access,
+    let kind = typer.types().kind(type_id);
+    if let Some(TypeKind::Structured) = kind {
+        let cells = typer.types().cells(type_id);
+        let value = Value::Variable {
             type_id,
-            cells: typer.types().cells(type_id),
+            access,
+            indexes,
+            cells,
             defined,
         };
-        return TypedExpr {
-            value: Value::Whole { value, indexes },
-            type_id,
-            site,
-        };
+        return TypedExpr { value, site };
     }
-    let value = Expr::Variable {
+    if let Some(TypeKind::Set { base, .. }) = kind {
+        let value = read(access, indexes, Scalar::Set, defined);
+        let value = Value::Set { base, value };
+        return TypedExpr { value, site };
+    }
+    let type_id = typer.types().host(type_id);
+    let value = read(access, indexes, Scalar::Ordinal, defined);
+    let value = Value::Ordinal { type_id, value };
+    TypedExpr { value, site }
+}
+
+// What an ordinal or a set variable holds, which is tested at a site.
+#[tactic(auto, using(crate::proofs::HeldForms::read_forms))]
+fn read(access: Access, indexes: Vec<Expr>, holds: Scalar, defined: u32) -> Expr
+    requires held { are_ordinal_indexes indexes.items ≡ true }
+    ensures looks { look_expr result ≡ look_access access indexes.items
+        (look.Value (origin_of access) access.selectors.items (length indexes.items) holds defined) }
+    ensures held { is_held holds (held_by result) ≡ true }
+{
+    Expr::Variable {
         access,
         indexes,
+        holds,
         defined,
-    };
-    TypedExpr {
-        value: Value::Ordinal(value),
-        type_id: typer.types().host(type_id),
-        site,
     }
 }

@@ -1,34 +1,47 @@
 ghost use Rattle.std.specs.Prelude.{◌≡◌, ℕ, true, [], ◌∷◌, Ok, Err, IfOk, MatchResult, length, map};
+ghost use Rattle.syntax_tree.specs.Places.{members_of};
+ghost use Rattle.types.specs.Types.{kind_of};
+ghost use Rattle.typed_tree.specs.Accesses.{index_count, origin_of};
+ghost use Rattle.typed_tree.specs.Kinds.{held_by, is_held, is_held_passed, is_held_value, is_ordinal_expr};
+ghost use Rattle.typed_tree.specs.declared.tree.Scalar.TheVariants as scalar;
 ghost use Rattle.typed_tree.specs.Look.{Begins};
+ghost use Rattle.typed_tree.specs.WellFormed.{members_wanted};
 ghost use Rattle.typing.specs.Passing.{behind_marks};
 ghost use Rattle.typing.specs.Expressions as spec;
 ghost use Rattle.typing.specs.Expressions.{result_variable};
-ghost use Rattle.typed_tree.specs.Accesses.{index_count};
+ghost use Rattle.typing.specs.View.{denoted_of};
 ghost use Rattle.expression_resolver.specs.Made.{IsHostOf, MakesActuals, MakesCall, MakesPassed};
 ghost use Rattle.expression_resolver.specs.Made.{MakesCopied, MakesFitted, copied, fitted};
-ghost use Rattle.expression_resolver.specs.Made.{typed_of, look_value};
-ghost use Rattle.expression_resolver.specs.Made.{MakesTyped, MakesLink, MakesLinks, IsOnly, is_alone};
+ghost use Rattle.expression_resolver.specs.Made.{AreHeldLinks, MakesTyped, MakesLink, MakesLinks, IsOnly, is_alone};
+ghost use Rattle.expression_resolver.specs.Made.{MakesFirst, MakesLast, MakesMembers, TakesMember, range_behind};
+ghost use Rattle.expression_resolver.specs.Made.{typed_of};
 ghost use Rattle.expression_resolver.specs.Accesses.{MakesSelection, MakesIndex, SelectsElement, SelectsOne, IsCounted};
-ghost use Rattle.expression_resolver.specs.Accesses.{MakesReached, reached};
+ghost use Rattle.expression_resolver.specs.Accesses.{MakesReached, component_of, entire_value, reached};
+ghost use Rattle.expression_resolver.specs.Values.{AreTestedAlike, are_held_actuals, look_value, tested_as};
 
-use crate::accesses::{accessed_value, begin, constant, enter, select_field, text, variable};
+use crate::accesses::{
+    accessed_value, begin, constant, enter, named_variable, select_field, set, text,
+};
 use crate::operators::{self, monadic};
-use crate::typed::{Begun, Reached, Selection, TypedCall, TypedExpr, TypedLinks, Value};
+use crate::typed::{
+    Begun, Members, Reached, Selection, SitedMember, TypedCall, TypedExpr, TypedLinks,
+};
+use crate::value::Value;
 use place::Place;
 use scopes::Denotation;
 use syntax_tree as syntax;
 use typed_tree::fault::TypeFault;
 use typed_tree::site::SiteKind;
 use typed_tree::tree::{
-    Access, Calculation, Call, Expr, Fitted, Link, Monadic, Passed, RangeTest, Selector,
-    VariableKind, Whole,
+    Access, Calculation, Call, Designator, Expr, Fitted, Link, Monadic, Passed, RangeTest, Scalar,
+    Selector, VariableKind, Whole,
 };
-use types::{ArrayElement, TypeId, TypeTable};
+use types::{ArrayElement, TypeId, TypeKind, TypeTable};
 use typing::rules::{
-    as_function, as_routine, fitting, may_compare, may_copy, may_index, operand_type, relation_of,
-    sign_operation, takes_operands,
+    as_function, as_routine, copying, fitting, may_index, may_relate, member_of, member_with_site,
+    members_test, relation_behind, result_of, sign_operation, test_kind,
 };
-use typing::{Typed, Typer, characters};
+use typing::{DenotedVariable, Typed, Typer, characters};
 
 /// An expression, by the kind of its leading site.
 #[cycle(expressions)]
@@ -55,6 +68,11 @@ pub fn expression(
             indexes,
         } => component(typer, name, selectors, indexes, lead),
         syntax::Expr::String { text, place } => string(typer, text, *place, lead),
+        syntax::Expr::Set {
+            open,
+            designators,
+            members,
+        } => constructed(typer, *open, designators, members, lead),
         syntax::Expr::Call { name, actuals } => call(typer, name, actuals, lead),
         syntax::Expr::Parenthesized { open, inner } => parenthesized(typer, *open, inner, lead),
         syntax::Expr::Not { place, operand } => negation(typer, *place, operand, lead),
@@ -138,7 +156,8 @@ fn spelled(
     text(typer, site, type_id, characters)
 }
 
-// What a name denotes that is no routine of the program, as an expression: a constant or a variable.
+// What a name denotes that is no routine of the program, as an expression: a constant, a variable, or a field of a
+// record of a with.
 #[tactic(auto, unfolding(typing::specs::Expressions::denoted))]
 fn denoted(
     typer: &mut Typer,
@@ -159,10 +178,8 @@ fn denoted(
             let characters = typer.text_at(number)?;
             text(typer, site, type_id, characters)
         }
-        Denotation::Variable { root, type_id } => {
-            let entered = enter(typer, root, place, lead)?;
-            let nothing = Selection::nothing(typer.alloc, type_id);
-            Ok(accessed_value(typer, entered, nothing))
+        Denotation::Variable { .. } | Denotation::Field { .. } => {
+            entire(typer, denotation, place, lead)
         }
         Denotation::Procedure(_) | Denotation::Function(_) => {
             Err(TypeFault::WrongParameters(place))
@@ -170,6 +187,27 @@ fn denoted(
         Denotation::TypeName(_) | Denotation::Output => Err(TypeFault::Mismatch(place)),
         Denotation::Routine { .. } => unreachable!(),
     }
+}
+
+// The value of a variable, or of a field of a record of a with.
+fn entire(
+    typer: &mut Typer,
+    denotation: Denotation,
+    place: Place,
+    lead: Option<SiteKind>,
+) -> Result<TypedExpr, TypeFault>
+    ensures { MakesTyped (entire_value denotation place lead typer.old) result typer.new }
+{
+    let DenotedVariable {
+        root,
+        base,
+        selectors,
+        type_id,
+        ..
+    } = typer.variable_of(place, denotation)?;
+    let entered = enter(typer, root, base, place, lead)?;
+    let selection = Selection::begun(typer.alloc, selectors, type_id);
+    Ok(accessed_value(typer, entered, selection))
 }
 
 // A component of a variable (6.5.1, 6.5.3).
@@ -185,26 +223,35 @@ fn component(
     ensures { MakesTyped (spec.component name.now selectors.now (map spec.expression indexes.now) lead typer.old) result
         typer.new }
 {
-    let (root, type_id) = variable(typer, name)?;
-    let entered = enter(typer, root, name.place, lead)?;
-    let selection = selected(typer, type_id, selectors, indexes)?;
+    let variable = named_variable(typer, name)?;
+    let DenotedVariable {
+        root,
+        base,
+        selectors: before,
+        type_id,
+        ..
+    } = variable;
+    let entered = enter(typer, root, base, name.place, lead)?;
+    let selection = selected(typer, before, type_id, selectors, indexes)?;
     Ok(accessed_value(typer, entered, selection))
 }
 
-// The selectors of an access, from a value of a type, with their index expressions (6.5.3): K1 where one is none of
-// the type before it, S3 at a name that is no field.
+// The selectors of an access, behind those before, from a value of a type, with their index expressions (6.5.3): K1
+// where one is none of the type before it, S3 at a name that is no field.
 #[cycle(expressions)]
 fn selected(
     typer: &mut Typer,
+    before: Vec<Selector>,
     type_id: TypeId,
     selectors: &[syntax::Selector],
     indexes: &[syntax::Expr],
 ) -> Result<Selection, TypeFault>
-    ensures made { MakesSelection (spec.selected [] type_id selectors.now (map spec.expression indexes.now) typer.old)
-        result typer.new }
+    requires plain { index_count before.items ≡ 0 }
+    ensures made { MakesSelection (spec.selected before.items type_id selectors.now (map spec.expression indexes.now)
+        typer.old) result typer.new }
     ensures counted { IfOk result IsCounted }
 {
-    let mut selection = Selection::nothing(typer.alloc, type_id);
+    let mut selection = Selection::begun(typer.alloc, before, type_id);
     for selector in selectors {
         select(typer, selector, indexes, &mut selection)?;
     }
@@ -246,8 +293,11 @@ fn select_element(
     typer.pass(place);
     let element = typer.element(selection.type_id, place)?;
     let (site, index) = index(typer, element, written)?;
-    let range = element.range;
-    let fits = RangeTest { site, range };
+    let fits = RangeTest {
+        site,
+        tests: Scalar::Ordinal,
+        range: element.range,
+    };
     let cells = element.cells;
     selection.selectors.push(Selector::Element { fits, cells })?;
     selection.indexes.push(index)?;
@@ -263,7 +313,8 @@ fn index(
     element: ArrayElement,
     written: &syntax::Expr,
 ) -> Result<(u32, Expr), TypeFault>
-    ensures { MakesIndex (spec.index element (spec.expression written.now) typer.old) result typer.new }
+    ensures made { MakesIndex (spec.index element (spec.expression written.now) typer.old) result typer.new }
+    ensures held { IfOk result (λ made. is_ordinal_expr made.1 ≡ true) }
 {
     let place = first_place(written);
     let site = typer.site(SiteKind::Index, place)?;
@@ -271,7 +322,7 @@ fn index(
     if !may_index(typer.types(), element, made.typed()) {
         return Err(TypeFault::Mismatch(place));
     }
-    Ok((site, made.value.into_ordinal()))
+    Ok((site, made.into_scalar()))
 }
 
 #[cycle(expressions)]
@@ -287,7 +338,8 @@ fn parenthesized(
     typer.pass(bracket);
     let site = typer.behind(lead, bracket)?;
     let inner = expression(typer, inner, None)?;
-    Ok(TypedExpr { site, ..inner })
+    let value = inner.value;
+    Ok(TypedExpr { value, site })
 }
 
 // `not` and its operand (6.7.2.3).
@@ -335,50 +387,54 @@ fn chain(
     ensures { MakesTyped (behind_marks (Begins ∷ look_value left.value) (spec.chain_behind place (map spec.written_link
         rest.now) (typed_of left) typer.old)) result typer.new }
 {
-    let rest = links(typer, left.typed(), rest)?;
     let site = left.site;
-    operators::chain(typer.alloc, left.ordinal(place)?, site, rest)
+    let rest = links(typer, left.typed(), rest)?;
+    if !rest.typed.value.is_scalar() {
+        return Err(TypeFault::Mismatch(place));
+    }
+    operators::chain(typer.alloc, left.into_scalar(), site, rest)
 }
 
 // The operators of a chain, behind what stands to their left.
 #[cycle(expressions)]
 fn links(typer: &mut Typer, left: Typed, rest: &[syntax::Link]) -> Result<TypedLinks, TypeFault>
-    ensures { MakesLinks (spec.links left (map spec.written_link rest.now) typer.old) result typer.new }
+    ensures made { MakesLinks (spec.links left (map spec.written_link rest.now) typer.old) result typer.new }
+    ensures held { IfOk result (λ made. AreHeldLinks left.value made.typed.value made.links.items) }
 {
     let mut links = Vec::with_capacity(typer.alloc, rest.len())?;
     let mut typed = left;
     for written in rest {
-        links.push_reserved(link(typer, typed, written)?);
-        typed = Typed {
-            type_id: operand_type(written.operator),
-            length: None,
-            source: None,
-            site: typed.site,
-        };
+        let (link, now) = link(typer, typed, written)?;
+        links.push_reserved(link);
+        typed = now;
     }
     Ok(TypedLinks { links, typed })
 }
 
-// An operator and its right operand, behind what stands to its left.
+// An operator and its right operand, and what they make of what stands to their left.
 #[cycle(expressions)]
 #[tactic(auto, using(typing::proofs::Written::typing_link), unfolding(typing::specs::Expressions::link))]
-fn link(typer: &mut Typer, left: Typed, written: &syntax::Link) -> Result<Link, TypeFault>
-    ensures { MakesLink left written.now (spec.written_link written.now left typer.old) result typer.new }
+fn link(typer: &mut Typer, left: Typed, written: &syntax::Link) -> Result<(Link, Typed), TypeFault>
+    ensures made { MakesLink (spec.written_link written.now left typer.old) result typer.new }
+    ensures held { IfOk result (λ made. AreHeldLinks left.value (made.1).value (made.0 ∷ [])) }
 {
-    let operation = typer.operation(written.operator, written.place)?;
+    let place = written.place;
+    let operation = typer.operation_behind(written.operator, place, left)?;
     let number = typer.enter()?;
     let right = expression(typer, &written.operand, None)?;
-    if !takes_operands(written.operator, left, right.typed()) {
-        return Err(TypeFault::Mismatch(written.place));
-    }
-    Ok(Link {
+    let value = result_of(written.operator, left.value, right.typed().value).ok_or(
+        TypeFault::Mismatch(place),
+    )?;
+    let link = Link {
         number,
         operation,
-        operand: right.value.into_ordinal(),
-    })
+        operand: right.into_scalar(),
+    };
+    let site = left.site;
+    Ok((link, Typed { value, site }))
 }
 
-// A relation behind its left operand (6.7.2.5): K1 at its operator where its operands can't be compared.
+// A relation behind its left operand (6.7.2.5): K1 at its operator where it doesn't relate its operands.
 #[cycle(expressions)]
 #[tactic(auto, using(crate::proofs::Operands::compares_look))]
 fn relation(
@@ -391,12 +447,144 @@ fn relation(
     ensures { MakesTyped (behind_marks (Begins ∷ look_value left.value) (spec.relation_behind operator place
         (spec.expression right.now) (typed_of left) typer.old)) result typer.new }
 {
+    let operation = relation_behind(operator, left.typed().value).ok_or(TypeFault::Mismatch(
+        place,
+    ))?;
     let number = typer.enter()?;
     let right = expression(typer, right, None)?;
-    if !may_compare(typer.types(), left.typed(), right.typed()) {
+    if !may_relate(typer.types(), operator, left.typed(), right.typed()) {
         return Err(TypeFault::Mismatch(place));
     }
-    operators::relation(typer.alloc, number, relation_of(operator), left, right)
+    operators::relation(typer.alloc, number, operation, left, right)
+}
+
+// A set constructor (6.7.1).
+#[cycle(expressions)]
+#[tactic(auto, unfolding(typing::specs::Expressions::constructed))]
+fn constructed(
+    typer: &mut Typer,
+    bracket: Place,
+    designators: &[syntax::Designator],
+    values: &[syntax::Expr],
+    lead: Option<SiteKind>,
+) -> Result<TypedExpr, TypeFault>
+    ensures { MakesTyped (spec.constructed bracket (members_of designators.now (map spec.expression values.now)) lead
+        typer.old) result typer.new }
+{
+    typer.pass(bracket);
+    let begun = begin(typer, lead, bracket)?;
+    let members = members(typer, designators, values)?;
+    Ok(set(begun, members))
+}
+
+// The members of a set constructor, one after another.
+#[cycle(expressions)]
+fn members(
+    typer: &mut Typer,
+    designators: &[syntax::Designator],
+    values: &[syntax::Expr],
+) -> Result<Members, TypeFault>
+    ensures made { MakesMembers (spec.members [] None (members_of designators.now (map spec.expression values.now))
+        typer.old) result typer.new }
+    ensures counted { IfOk result (λ made. members_wanted made.designators.items ≡ length made.values.items) }
+{
+    let mut made = Members::none(typer.alloc);
+    for designator in designators {
+        let taken = made.values.len();
+        let Some(first) = values.get(taken) else {
+            return Ok(made);
+        };
+        match designator {
+            syntax::Designator::Single => single(typer, first, &mut made)?,
+            syntax::Designator::Range => {
+                let Some(last) = values.get(taken + 1) else {
+                    return Ok(made);
+                };
+                let first = first_member(typer, made.host, first)?;
+                range(typer, first, last, &mut made)?;
+            }
+        }
+    }
+    Ok(made)
+}
+
+// A member by its value.
+#[cycle(expressions)]
+#[tactic(auto, unfolding(typing::specs::Expressions::member))]
+fn single(typer: &mut Typer, written: &syntax::Expr, made: &mut Members) -> Result<(), TypeFault>
+    ensures { TakesMember 1 (spec.member made.old.host (spec.expression written.now) None typer.old) made.old result
+        made.new typer.new }
+{
+    let SitedMember {
+        site,
+        type_id,
+        value,
+    } = first_member(typer, made.host, written)?;
+    made.values.push(value)?;
+    made.designators.push(Designator::Single { site })?;
+    made.host = Some(type_id);
+    Ok(())
+}
+
+// Members by the first and the last of their values.
+#[cycle(expressions)]
+fn range(
+    typer: &mut Typer,
+    first: SitedMember,
+    last: &syntax::Expr,
+    made: &mut Members,
+) -> Result<(), TypeFault>
+    ensures { TakesMember 2 (range_behind first (spec.expression last.now) typer.old) made.old result made.new
+        typer.new }
+{
+    let SitedMember {
+        site,
+        type_id,
+        value,
+    } = first;
+    let (type_id, last) = last_member(typer, Some(type_id), last)?;
+    made.values.push(value)?;
+    made.values.push(last)?;
+    made.designators.push(Designator::Range { site })?;
+    made.host = Some(type_id);
+    Ok(())
+}
+
+// A member that stands alone, or first in a range, by the host type of those before it: K1 at its first token where it
+// is no ordinal of that type.
+#[cycle(expressions)]
+#[tactic(auto, unfolding(typing::specs::Expressions::first_member))]
+fn first_member(
+    typer: &mut Typer,
+    host: Option<TypeId>,
+    written: &syntax::Expr,
+) -> Result<SitedMember, TypeFault>
+    ensures { MakesFirst (spec.first_member host (spec.expression written.now) typer.old) result typer.new }
+{
+    let made = expression(typer, written, Some(SiteKind::SetMember))?;
+    let (site, type_id) = member_with_site(host, first_place(written), made.typed())?;
+    let value = made.into_scalar();
+    Ok(SitedMember {
+        site,
+        type_id,
+        value,
+    })
+}
+
+// The last member of a range.
+#[cycle(expressions)]
+#[tactic(auto, unfolding(typing::specs::Expressions::last_member))]
+fn last_member(
+    typer: &mut Typer,
+    host: Option<TypeId>,
+    written: &syntax::Expr,
+) -> Result<(TypeId, Expr), TypeFault>
+    ensures made { MakesLast (spec.last_member host (spec.expression written.now) typer.old) result typer.new }
+    ensures held { IfOk result (λ made. is_ordinal_expr made.1 ≡ true) }
+{
+    let made = expression(typer, written, None)?;
+    let type_id = member_of(host, first_place(written), made.typed())?;
+    Ok((type_id, made.into_scalar()))
 }
 
 // The call of a function: of one that the program declares, or of a required one.
@@ -439,13 +627,13 @@ fn required_call(
     let place = first_place(actual);
     let argument = expression(typer, actual, None)?;
     let (operation, type_id) = typer.applied(function, does, place, argument.typed())?;
-    let operand = argument.value.into_ordinal();
+    let operand = argument.into_scalar();
     monadic(typer.alloc, begun, operation, operand, type_id)
 }
 
 // The value of a function that the program declares (6.7.3), which is of the host type: K3 at the name of a procedure.
 #[cycle(expressions)]
-#[tactic(auto, unfolding(typing::specs::Expressions::function_value))]
+#[tactic(auto, using(crate::proofs::HeldForms::held_call), unfolding(typing::specs::Expressions::function_value))]
 fn function_value(
     typer: &mut Typer,
     block: u32,
@@ -464,12 +652,12 @@ fn function_value(
     let site = typer.behind(lead, place)?;
     let made = routine_call(typer, true, block, place, actuals)?;
     let type_id = result_type(typer, place, made.root)?;
+    let value = Expr::Call {
+        call: made.call,
+        actuals: made.actuals,
+    };
     Ok(TypedExpr {
-        value: Value::Ordinal(Expr::Call {
-            call: made.call,
-            actuals: made.actuals,
-        }),
-        type_id,
+        value: Value::Ordinal { type_id, value },
         site,
     })
 }
@@ -525,6 +713,7 @@ fn actuals_for(
 ) -> Result<Vec<Passed>, TypeFault>
     requires { length actuals.now ≡ length roots.now }
     ensures counted { IfOk result (λ made. length made.items ≡ length actuals.now) }
+    ensures held { IfOk result (λ made. are_held_actuals made.items ≡ true) }
     ensures made { (callee : ℕ) → MakesActuals callee (spec.actuals_for roots.now (map spec.written_actual actuals.now)
         callee 0 typer.old) result typer.new }
 {
@@ -539,7 +728,8 @@ fn actuals_for(
 #[cycle(expressions)]
 #[tactic(auto, unfolding(typing::specs::Expressions::actual))]
 fn actual(typer: &mut Typer, root: u32, written: &syntax::Actual) -> Result<Passed, TypeFault>
-    ensures { MakesPassed (spec.actual (spec.written_actual written.now) root) typer.old result typer.new }
+    ensures made { MakesPassed (spec.actual (spec.written_actual written.now) root) typer.old result typer.new }
+    ensures held { IfOk result (λ made. is_held_passed made ≡ true) }
 {
     let place = first_place(&written.value);
     if written.width.is_some() {
@@ -564,7 +754,8 @@ fn passed_variable(
     wanted: TypeId,
     written: &syntax::Expr,
 ) -> Result<Passed, TypeFault>
-    ensures { MakesPassed ((spec.expression written.now).passing wanted) typer.old result typer.new }
+    ensures made { MakesPassed ((spec.expression written.now).passing wanted) typer.old result typer.new }
+    ensures held { IfOk result (λ made. is_held_passed made ≡ true) }
 {
     match written {
         syntax::Expr::Name(name) => passed_access(typer, wanted, name, &[], &[]),
@@ -577,6 +768,7 @@ fn passed_variable(
         | syntax::Expr::String { place, .. }
         | syntax::Expr::Not { place, .. }
         | syntax::Expr::Signed { place, .. } => Err(TypeFault::NotVariable(*place)),
+        syntax::Expr::Set { open, .. } => Err(TypeFault::NotVariable(*open)),
         syntax::Expr::Call { name, .. } => Err(TypeFault::NotVariable(name.place)),
         syntax::Expr::Parenthesized { open, .. } => Err(TypeFault::NotVariable(*open)),
         syntax::Expr::Chain { first, .. } => Err(TypeFault::NotVariable(first_place(first))),
@@ -586,7 +778,7 @@ fn passed_variable(
 
 // What is accessed for a variable parameter of a type.
 #[cycle(expressions)]
-#[tactic(auto, unfolding(typing::specs::Expressions::passed_variable))]
+#[tactic(auto, using(crate::proofs::HeldForms::held_access), unfolding(typing::specs::Expressions::passed_variable))]
 fn passed_access(
     typer: &mut Typer,
     wanted: TypeId,
@@ -594,13 +786,15 @@ fn passed_access(
     selectors: &[syntax::Selector],
     indexes: &[syntax::Expr],
 ) -> Result<Passed, TypeFault>
-    ensures { MakesPassed (spec.passed_variable name.now selectors.now (map spec.expression indexes.now) wanted)
+    ensures made { MakesPassed (spec.passed_variable name.now selectors.now (map spec.expression indexes.now) wanted)
         typer.old result typer.new }
+    ensures held { IfOk result (λ made. is_held_passed made ≡ true) }
 {
-    let (root, type_id) = variable(typer, name)?;
-    let reached = reach(typer, name.place, (root, type_id), selectors, indexes)?;
+    let variable = named_variable(typer, name)?;
+    let from = variable.from;
+    let reached = reach(typer, name.place, variable, selectors, indexes)?;
     let selected = &reached.access.selectors;
-    typer.passable(wanted, type_id, selected, reached.type_id, name.place)?;
+    typer.passable(wanted, from, selected, reached.type_id, name.place)?;
     Ok(Passed::Reference {
         type_id: wanted,
         access: reached.access,
@@ -608,33 +802,64 @@ fn passed_access(
     })
 }
 
-/// What is accessed of a variable that may be changed, by its root and its type, at the place of its name.
+/// What is accessed of a variable that may be changed, by what its name at the place denotes.
 #[cycle(expressions)]
 #[tactic(auto, unfolding(crate::specs::Accesses::reached))]
 pub fn reach(
     typer: &mut Typer,
     place: Place,
-    variable: (u32, TypeId),
+    variable: DenotedVariable,
     selectors: &[syntax::Selector],
     indexes: &[syntax::Expr],
 ) -> Result<Reached, TypeFault>
-    ensures made { MakesReached (reached place variable selectors.now (map spec.expression indexes.now) typer.old)
-        result typer.new }
-    ensures root { IfOk result (λ made. made.access.root ≡ variable.0) }
+    requires plain { index_count variable.selectors.items ≡ 0 }
+    ensures made { MakesReached (reached place (denoted_of variable) selectors.now (map spec.expression indexes.now)
+        typer.old) result typer.new }
+    ensures origin { IfOk result (λ made. origin_of made.access ≡ (denoted_of variable).origin) }
     ensures counted { IfOk result (λ made. index_count made.access.selectors.items ≡ length made.indexes.items) }
 {
-    let (root, type_id) = variable;
-    typer.may_change(place, root)?;
+    typer.may_change(place, variable.root)?;
+    access(typer, variable, selectors, indexes)
+}
+
+/// What is accessed of what a name denotes.
+#[cycle(expressions)]
+#[tactic(auto, unfolding(crate::specs::Accesses::component_of))]
+pub fn access(
+    typer: &mut Typer,
+    variable: DenotedVariable,
+    selectors: &[syntax::Selector],
+    indexes: &[syntax::Expr],
+) -> Result<Reached, TypeFault>
+    requires plain { index_count variable.selectors.items ≡ 0 }
+    ensures made { MakesReached (component_of (denoted_of variable) selectors.now (map spec.expression indexes.now)
+        typer.old) result typer.new }
+    ensures origin { IfOk result (λ made. origin_of made.access ≡ (denoted_of variable).origin) }
+    ensures counted { IfOk result (λ made. index_count made.access.selectors.items ≡ length made.indexes.items) }
+{
     let number = typer.enter()?;
-    let component = selected(typer, type_id, selectors, indexes)?;
+    let DenotedVariable {
+        root,
+        base,
+        selectors: before,
+        type_id,
+        ..
+    } = variable;
+    let Selection {
+        selectors,
+        indexes,
+        type_id,
+    } = selected(typer, before, type_id, selectors, indexes)?;
+    let access = Access {
+        number,
+        root,
+        base,
+        selectors,
+    };
     Ok(Reached {
-        access: Access {
-            number,
-            root,
-            selectors: component.selectors,
-        },
-        indexes: component.indexes,
-        type_id: component.type_id,
+        access,
+        indexes,
+        type_id,
     })
 }
 
@@ -646,23 +871,46 @@ fn passed_value(
     type_id: TypeId,
     written: &syntax::Expr,
 ) -> Result<Passed, TypeFault>
-    ensures { MakesPassed (spec.passed_value type_id (spec.expression written.now)) typer.old result typer.new }
+    ensures made { MakesPassed (spec.passed_value type_id (spec.expression written.now)) typer.old result typer.new }
+    ensures held { IfOk result (λ made. is_held_passed made ≡ true) }
 {
-    if typer.types().is_structured(type_id) {
-        passed_whole(typer, type_id, written)
-    } else {
-        passed_ordinal(typer, type_id, written)
+    match typer.types().kind(type_id) {
+        Some(TypeKind::Structured) => passed_whole(typer, type_id, written),
+        Some(TypeKind::Set { .. }) => passed_set(typer, type_id, written),
+        Some(TypeKind::Ordinal(_)) => passed_ordinal(typer, type_id, written),
+        None => passed_ordinal(typer, type_id, written),
     }
+}
+
+// A value of a set type, whose site is the leading one.
+#[cycle(expressions)]
+#[tactic(auto, using(crate::proofs::HeldForms::held_passed_value), unfolding(typing::specs::Expressions::passed_set))]
+fn passed_set(
+    typer: &mut Typer,
+    type_id: TypeId,
+    written: &syntax::Expr,
+) -> Result<Passed, TypeFault>
+    requires { tested_as (kind_of typer.old.types type_id) ≡ scalar.Set }
+    ensures made { MakesPassed (spec.passed_set type_id (spec.expression written.now)) typer.old result typer.new }
+    ensures held { IfOk result (λ made. is_held_passed made ≡ true) }
+{
+    let made = expression(typer, written, Some(SiteKind::SetMember))?;
+    let fits = members_test(typer.types(), type_id, first_place(written), made.typed())?;
+    let value = made.into_scalar();
+    Ok(Passed::Value { value, fits })
 }
 
 // A value of an ordinal type.
 #[cycle(expressions)]
+#[tactic(auto, using(crate::proofs::HeldForms::held_passed_value))]
 fn passed_ordinal(
     typer: &mut Typer,
     type_id: TypeId,
     written: &syntax::Expr,
 ) -> Result<Passed, TypeFault>
-    ensures { MakesPassed (spec.passed_ordinal type_id (spec.expression written.now)) typer.old result typer.new }
+    requires { tested_as (kind_of typer.old.types type_id) ≡ scalar.Ordinal }
+    ensures made { MakesPassed (spec.passed_ordinal type_id (spec.expression written.now)) typer.old result typer.new }
+    ensures held { IfOk result (λ made. is_held_passed made ≡ true) }
 {
     let Fitted { value, fits } = fitted(typer, type_id, first_place(written), written)?;
     Ok(Passed::Value { value, fits })
@@ -670,13 +918,14 @@ fn passed_ordinal(
 
 // A value of a structured type.
 #[cycle(expressions)]
-#[tactic(auto, unfolding(typing::specs::Expressions::passed_whole))]
+#[tactic(auto, using(crate::proofs::HeldForms::held_passed_whole), unfolding(typing::specs::Expressions::passed_whole))]
 fn passed_whole(
     typer: &mut Typer,
     type_id: TypeId,
     written: &syntax::Expr,
 ) -> Result<Passed, TypeFault>
-    ensures { MakesPassed (spec.passed_whole type_id (spec.expression written.now)) typer.old result typer.new }
+    ensures made { MakesPassed (spec.passed_whole type_id (spec.expression written.now)) typer.old result typer.new }
+    ensures held { IfOk result (λ made. is_held_passed made ≡ true) }
 {
     let (value, indexes) = copied(typer, type_id, first_place(written), written)?;
     Ok(Passed::Whole {
@@ -686,7 +935,7 @@ fn passed_whole(
     })
 }
 
-/// A value that is assigned to an ordinal type, with its test, whose site stands at the place (6.4.6).
+/// A value that is assigned to an ordinal type or a set type, with its test, whose site stands at the place (6.4.6).
 #[cycle(expressions)]
 #[tactic(auto, unfolding(crate::specs::Made::fitted))]
 pub fn fitted(
@@ -695,14 +944,29 @@ pub fn fitted(
     place: Place,
     written: &syntax::Expr,
 ) -> Result<Fitted, TypeFault>
-    ensures { MakesFitted (fitted type_id place (spec.expression written.now) typer.old) result typer.new }
+    ensures made { MakesFitted (fitted (tested_as (kind_of typer.old.types type_id)) type_id place
+        (spec.expression written.now) typer.old) result typer.new }
+    ensures tests { IfOk result (λ made. made.fits.tests ≡ tested_as (kind_of typer.old.types type_id)) }
+    ensures held { IfOk result (λ made. is_held made.fits.tests (held_by made.value) ≡ true) }
+    ensures kept { IfOk result (λ made. AreTestedAlike typer.old.types typer.new.types) }
 {
-    let site = typer.site(SiteKind::Subrange, place)?;
+    let tests = tested_as(typer.types().kind(type_id));
+    let site = typer.site(test_kind(tests), place)?;
     let made = expression(typer, written, None)?;
     let range = fitting(typer.types(), type_id, made.typed()).ok_or(TypeFault::Mismatch(place))?;
-    let value = made.value.into_ordinal();
-    let fits = RangeTest { site, range };
+    let value = made.into_scalar();
+    let fits = RangeTest { site, tests, range };
     Ok(Fitted { value, fits })
+}
+
+// What is assigned to a target of a kind.
+fn tested_as(kind: Option<TypeKind>) -> Scalar
+    ensures { result ≡ tested_as kind }
+{
+    match kind {
+        Some(TypeKind::Set { .. }) => Scalar::Set,
+        _ => Scalar::Ordinal,
+    }
 }
 
 /// A value that is copied to a structured type, with its index expressions: K1 at the place where it may not be
@@ -714,13 +978,14 @@ pub fn copied(
     place: Place,
     written: &syntax::Expr,
 ) -> Result<(Whole, Vec<Expr>), TypeFault>
-    ensures { MakesCopied (copied type_id place (spec.expression written.now) typer.old) result typer.new }
+    ensures made { MakesCopied (copied type_id place (spec.expression written.now) typer.old) result typer.new }
+    ensures held { IfOk result (λ made. is_held_value made.0 (made.1).items ≡ true) }
 {
     let made = expression(typer, written, None)?;
-    if !may_copy(typer.types(), type_id, made.typed()) {
+    if copying(typer.types(), type_id, made.typed()).is_none() {
         return Err(TypeFault::Mismatch(place));
     }
-    Ok(made.value.into_whole())
+    Ok(made.into_whole(typer.alloc))
 }
 
 // The one actual of a function, which has no width.
@@ -756,7 +1021,7 @@ pub fn first_place(written: &syntax::Expr) -> Place
         syntax::Expr::Name(name)
         | syntax::Expr::Component { name, .. }
         | syntax::Expr::Call { name, .. } => name.place,
-        syntax::Expr::Parenthesized { open, .. } => *open,
+        syntax::Expr::Parenthesized { open, .. } | syntax::Expr::Set { open, .. } => *open,
         syntax::Expr::Chain { first, .. } => first_place(first),
         syntax::Expr::Relation { left, .. } => first_place(left),
     }

@@ -5,6 +5,9 @@ mod accesses;
 mod expressions;
 mod operators;
 mod typed;
+mod value;
 
-pub use expressions::{copied, expression, first_place, fitted, reach, routine_call};
-pub use typed::{Reached, TypedCall, TypedExpr, Value};
+pub use accesses::named_variable;
+pub use expressions::{access, copied, expression, first_place, fitted, reach, routine_call};
+pub use typed::{Reached, TypedCall, TypedExpr};
+pub use value::Value;

@@ -1,17 +1,23 @@
-ghost use Rattle.std.specs.Prelude.{◌≡◌, MatchResult, true};
+ghost use Rattle.std.specs.Prelude.{◌≡◌, MatchResult, map, false, true};
 ghost use Rattle.typed_tree.specs.declared.fault.TypeFault.TheVariants.{Memory};
-ghost use Rattle.typing.specs.Expressions.{are_alike};
-ghost use Rattle.expression_resolver.specs.Made.{value_length};
-ghost use Rattle.expression_resolver.specs.Made.{IsMonadicOf, IsChainOf, IsRelationOf};
+ghost use Rattle.typed_tree.specs.Kinds.{held_by, is_held, is_ordinal_expr, links_held};
+ghost use Rattle.typed_tree.specs.Look.{look_expr};
+ghost use Rattle.types.specs.Types.{boolean};
+ghost use Rattle.typing.specs.Expressions.{is_scalar_value, typed};
+ghost use Rattle.expression_resolver.specs.Made.{IsMonadicOf, IsChainOf, IsRelationOf, held_behind, relates};
+ghost use Rattle.expression_resolver.specs.Made.{typed_of};
+ghost use Rattle.expression_resolver.specs.Values.{is_held_as_told, look_value, scalar_of, value_of};
 
-use crate::typed::{Begun, TypedExpr, TypedLinks, Value};
+use crate::typed::{Begun, TypedExpr, TypedLinks};
+use crate::value::Value;
 use std::alloc::Global;
 use typed_tree::fault::TypeFault;
-use typed_tree::tree::{Dyadic, Expr, Link, Monadic, Relation};
+use typed_tree::tree::{Dyadic, Expr, Link, Monadic};
 use types::{TypeId, TypeTable};
+use typing::TypedValue;
 
-/// An operation on an operand, with a result of a type.
-#[tactic(auto, using(typed_tree::proofs::Looks::look_monadic))]
+/// An operation on an operand, an ordinal, with a result of a type.
+#[tactic(auto, using(typed_tree::proofs::Looks::look_monadic, crate::proofs::HeldForms::held_monadic))]
 pub(crate) fn monadic(
     alloc: Global,
     begun: Begun,
@@ -19,84 +25,140 @@ pub(crate) fn monadic(
     operand: Expr,
     type_id: TypeId,
 ) -> Result<TypedExpr, TypeFault>
+    requires held { is_ordinal_expr operand ≡ true }
     ensures { MatchResult result (IsMonadicOf begun operation operand type_id) (λ why. why ≡ Memory) }
 {
+    let value = Expr::Monadic {
+        number: begun.number,
+        operation,
+        operand: Box::new(alloc, operand)?,
+    };
     Ok(TypedExpr {
-        value: Value::Ordinal(Expr::Monadic {
-            number: begun.number,
-            operation,
-            operand: Box::new(alloc, operand)?,
-        }),
-        type_id,
+        value: Value::Ordinal { type_id, value },
         site: begun.site,
     })
 }
 
+// What stands for an ordinal or a set.
+fn scalar(told: TypedValue, value: Expr) -> Value
+    requires scalar { is_scalar_value told ≡ true }
+    requires held { is_held (scalar_of told) (held_by value) ≡ true }
+    ensures is { value_of result ≡ told }
+    ensures looks { look_value result ≡ look_expr value }
+    ensures held { is_held_as_told result ≡ true }
+{
+    match told {
+        TypedValue::Ordinal(type_id) => Value::Ordinal { type_id, value },
+        TypedValue::Set(base) => Value::Set { base, value },
+        TypedValue::Text { .. } | TypedValue::Whole { .. } => unreachable!(),
+    }
+}
+
 /// Operators of one precedence behind a first operand.
-#[tactic(auto, using(typed_tree::proofs::Looks::look_chain))]
+#[tactic(auto, using(typed_tree::proofs::Looks::look_chain, crate::proofs::HeldForms::held_chain))]
 pub(crate) fn chain(
     alloc: Global,
     first: Expr,
     site: Option<u32>,
     rest: TypedLinks,
 ) -> Result<TypedExpr, TypeFault>
+    requires scalar { is_scalar_value rest.typed.value ≡ true }
+    requires held { is_held (scalar_of rest.typed.value)
+        (links_held (held_by first) (map held_behind rest.links.items)) ≡ true }
     ensures { MatchResult result (IsChainOf first site rest) (λ why. why ≡ Memory) }
 {
+    let TypedLinks { links, typed } = rest;
+    let value = Expr::Chain {
+        first: Box::new(alloc, first)?,
+        rest: links,
+    };
     Ok(TypedExpr {
-        value: Value::Ordinal(Expr::Chain {
-            first: Box::new(alloc, first)?,
-            rest: rest.links,
-        }),
-        type_id: rest.typed.type_id,
+        value: scalar(typed.value, value),
         site,
     })
 }
 
-/// The relation of two ordinals, or of two strings.
-#[tactic(auto, using(crate::proofs::Operands::look_relation))]
+/// The relation of two operands that it takes.
 pub(crate) fn relation(
     alloc: Global,
     number: u32,
-    relation: Relation,
+    operation: Dyadic,
     left: TypedExpr,
     right: TypedExpr,
 ) -> Result<TypedExpr, TypeFault>
-    requires alike { are_alike (value_length left.value) (value_length right.value) ≡ true }
-    ensures { MatchResult result (IsRelationOf number relation left right) (λ why. why ≡ Memory) }
+    requires related { relates operation (value_of left.value) (value_of right.value) ≡ true }
+    ensures { MatchResult result (IsRelationOf number operation left right) (λ why. why ≡ Memory) }
 {
-    let value = match (left.value, right.value) {
-        (Value::Ordinal(left), Value::Ordinal(right)) => Expr::Chain {
-            first: Box::new(alloc, left)?,
-            rest: vec![in alloc;
-                Link {
-                    number,
-                    operation: Dyadic::Relation(relation),
-                    operand: right
-                },
-            ]?,
-        },
-        (
-            Value::Whole {
-                value: left,
-                indexes: left_indexes,
-            },
-            Value::Whole {
-                value: right,
-                indexes: right_indexes,
-            },
-        ) => Expr::Compare {
-            number,
-            relation,
-            left,
-            left_indexes,
-            right,
-            right_indexes,
-        },
-        _ => unreachable!(),
+    if left.typed().value.is_scalar() {
+        linked(alloc, number, operation, left, right)
+    } else {
+        Ok(compared(alloc, number, operation, left, right))
+    }
+}
+
+// The relation of two operands, each an ordinal or a set.
+fn linked(
+    alloc: Global,
+    number: u32,
+    operation: Dyadic,
+    left: TypedExpr,
+    right: TypedExpr,
+) -> Result<TypedExpr, TypeFault>
+    requires related { relates operation (value_of left.value) (value_of right.value) ≡ true }
+    requires scalar { is_scalar_value (value_of left.value) ≡ true }
+    ensures { MatchResult result (IsRelationOf number operation left right) (λ why. why ≡ Memory) }
+{
+    let site = left.site;
+    let link = Link {
+        number,
+        operation,
+        operand: right.into_scalar(),
     };
-    Ok(TypedExpr {
-        value: Value::Ordinal(value),
-        type_id: TypeTable::BOOLEAN,
-        site: left.site,
-    })
+    let value = Expr::Chain {
+        first: Box::new(alloc, left.into_scalar())?,
+        rest: vec![in alloc; link]?,
+    };
+    Ok(truth(value, site))
+}
+
+// The relation of two structured operands.
+fn compared(
+    alloc: Global,
+    number: u32,
+    operation: Dyadic,
+    left: TypedExpr,
+    right: TypedExpr,
+) -> TypedExpr
+    requires related { relates operation (value_of left.value) (value_of right.value) ≡ true }
+    requires structured { is_scalar_value (value_of left.value) ≡ false }
+    ensures { IsRelationOf number operation left right result }
+{
+    let Dyadic::Relation(relation) = operation else {
+        unreachable!();
+    };
+    let site = left.site;
+    let (left, left_indexes) = left.into_whole(alloc);
+    let (right, right_indexes) = right.into_whole(alloc);
+    let value = Expr::Compare {
+        number,
+        relation,
+        left,
+        left_indexes,
+        right,
+        right_indexes,
+    };
+    truth(value, site)
+}
+
+// An ordinal of type Boolean.
+fn truth(value: Expr, site: Option<u32>) -> TypedExpr
+    requires held { is_ordinal_expr value ≡ true }
+    ensures is { typed_of result ≡ typed boolean site }
+    ensures looks { look_value result.value ≡ look_expr value }
+{
+    let type_id = TypeTable::BOOLEAN;
+    TypedExpr {
+        value: Value::Ordinal { type_id, value },
+        site,
+    }
 }

@@ -1,123 +1,122 @@
-ghost use Rattle.std.specs.Prelude.{◌≡◌, None, Some, MatchResult, is_none, true, false};
-ghost use Rattle.typed_tree.specs.declared.fault.TypeFault.TheVariants.{Mismatch};
-ghost use Rattle.typed_tree.specs.Look.{look_expr, look_whole};
-ghost use Rattle.typed_tree.specs.WellFormed.{length_of, source_of};
-ghost use Rattle.typing.specs.Expressions.{is_of};
-ghost use Rattle.expression_resolver.specs.Made.{typed_of, look_value, value_length, value_source};
+ghost use Rattle.std.specs.Prelude.{◌≡◌, true};
+ghost use Rattle.typed_tree.specs.Kinds.{are_ordinal_indexes, is_ordinal_expr};
+ghost use Rattle.expression_resolver.specs.Values.{are_held_actuals, is_held_as_told};
 
+use crate::value::Value;
 use place::Place;
+use std::alloc::Global;
 use typed_tree::fault::TypeFault;
-use typed_tree::tree::{Access, Call, Expr, Link, Passed, Selector, Whole};
+use typed_tree::tree::{Access, Base, Call, Designator, Expr, Link, Passed, Selector, Whole};
 use types::TypeId;
-use typing::Typed;
+use typing::{Typed, TypedValue};
 
-/// What stands for the value of an expression: an ordinal, or a value of a structured type (ISO 7185:1990, 6.4.3), with
-/// its index expressions.
-#[derive(Drop)]
-pub enum Value {
-    Ordinal(Expr),
-    Whole { value: Whole, indexes: Vec<Expr> },
-}
-
-impl Value {
-    // The type of the variable whose value it is, where it is structured; a string of its own has none.
-    fn source(&self) -> Option<TypeId>
-        ensures { result ≡ value_source self.now }
-    {
-        match self {
-            Value::Whole {
-                value: Whole::Variable { type_id, .. },
-                ..
-            } => Some(*type_id),
-            _ => None,
-        }
-    }
-
-    /// The ordinal that it is.
-    pub fn into_ordinal(self) -> Expr
-        requires ordinal { is_none (value_length self) ≡ true }
-        ensures { look_value self ≡ look_expr result }
-    {
-        match self {
-            Value::Ordinal(made) => made,
-            Value::Whole { .. } => unreachable!(),
-        }
-    }
-
-    /// The structured value that it is, with its index expressions.
-    pub(crate) fn into_whole(self) -> (Whole, Vec<Expr>)
-        requires structured { is_none (value_length self) ≡ false }
-        ensures length { value_length self ≡ Some (length_of result.0) }
-        ensures source { value_source self ≡ source_of result.0 }
-        ensures looks { look_value self ≡ look_whole result.0 (result.1).items }
-    {
-        match self {
-            Value::Ordinal(_) => unreachable!(),
-            Value::Whole { value, indexes } => (value, indexes),
-        }
-    }
-
-    // How many components it has, where it is structured.
-    fn length(&self) -> Option<usize>
-        ensures { result ≡ value_length self.now }
-    {
-        match self {
-            Value::Ordinal(_) => None,
-            Value::Whole {
-                value: Whole::Text { characters, .. },
-                ..
-            } => Some(characters.len()),
-            Value::Whole {
-                value: Whole::Variable { cells, .. },
-                ..
-            } => Some(*cells as usize),
-        }
-    }
-}
-
-/// An expression, the type of its value, and the id of its leading site.
+/// An expression, and the id of its leading site.
 #[derive(Drop)]
 pub struct TypedExpr {
     pub value: Value,
-    pub type_id: TypeId,
     pub site: Option<u32>,
+    pub ghost held: { is_held_as_told value ≡ true },
 }
 
 impl TypedExpr {
+    ghost use Rattle.std.specs.Prelude.{Some, IfOk, MatchResult, false, is_some};
+    ghost use Rattle.typed_tree.specs.declared.fault.TypeFault.TheVariants.{Mismatch};
+    ghost use Rattle.typed_tree.specs.Kinds.{held_by, is_held, is_held_value};
+    ghost use Rattle.typed_tree.specs.Look.{look_expr, look_whole};
+    ghost use Rattle.typing.specs.Expressions.{is_of, is_scalar_value, whole_copy};
+    ghost use Rattle.expression_resolver.specs.Made.{typed_of};
+    ghost use Rattle.expression_resolver.specs.Values.{copy_of, look_value, scalar_of, value_of};
+
     /// What it is.
     pub fn typed(&self) -> Typed
         ensures { result ≡ typed_of self.now }
     {
         Typed {
-            type_id: self.type_id,
-            length: self.value.length(),
-            source: self.value.source(),
+            value: self.typed_value(),
             site: self.site,
         }
     }
 
-    /// The ordinal that it is: K1 at the place where it is structured.
-    pub(crate) fn ordinal(self, place: Place) -> Result<Expr, TypeFault>
-        ensures { MatchResult result
-            (λ made. (is_none (value_length self.value) ≡ true) × (look_value self.value ≡ look_expr made))
-            (λ why. (is_none (value_length self.value) ≡ false) × (why ≡ Mismatch place)) }
+    // What its value is.
+    fn typed_value(&self) -> TypedValue
+        ensures { result ≡ value_of self.now.value }
     {
-        match self.value {
-            Value::Ordinal(made) => Ok(made),
-            Value::Whole { .. } => Err(TypeFault::Mismatch(place)),
+        match &self.value {
+            Value::Ordinal { type_id, .. } => TypedValue::Ordinal(*type_id),
+            Value::Set { base, .. } => TypedValue::Set(*base),
+            Value::Text {
+                type_id,
+                characters,
+                ..
+            } => TypedValue::Text {
+                type_id: *type_id,
+                length: characters.len(),
+            },
+            Value::Variable { type_id, cells, .. } => TypedValue::Whole {
+                type_id: *type_id,
+                cells: *cells as usize,
+            },
+        }
+    }
+
+    /// The ordinal or the set that it is.
+    pub fn into_scalar(self) -> Expr
+        requires scalar { is_scalar_value (value_of self.value) ≡ true }
+        ensures looks { look_value self.value ≡ look_expr result }
+        ensures held { is_held (scalar_of (value_of self.value)) (held_by result) ≡ true }
+    {
+        let TypedExpr { value, .. } = self;
+        match value {
+            Value::Ordinal { value, .. } => value,
+            Value::Set { value, .. } => value,
+            Value::Text { .. } | Value::Variable { .. } => unreachable!(),
+        }
+    }
+
+    /// The structured value that it is, with its index expressions.
+    pub fn into_whole(self, alloc: Global) -> (Whole, Vec<Expr>)
+        requires structured { is_some (whole_copy (value_of self.value)) ≡ true }
+        ensures copy { whole_copy (value_of self.value) ≡ Some (copy_of result) }
+        ensures looks { look_value self.value ≡ look_whole result.0 (result.1).items }
+        ensures held { is_held_value result.0 (result.1).items ≡ true }
+    {
+        let TypedExpr { value, .. } = self;
+        match value {
+            Value::Text {
+                number,
+                characters,
+                ..
+            } => (Whole::Text { number, characters }, Vec::new(alloc)),
+            Value::Variable {
+                type_id,
+                access,
+                indexes,
+                cells,
+                defined,
+            } => {
+                let value = Whole::Variable {
+                    access,
+                    type_id,
+                    cells,
+                    defined,
+                };
+                (value, indexes)
+            }
+            Value::Ordinal { .. } | Value::Set { .. } => unreachable!(),
         }
     }
 
     /// The ordinal that it is, of this type: K1 at the place where it is none.
     pub fn of(self, type_id: TypeId, place: Place) -> Result<Expr, TypeFault>
-        ensures { MatchResult result
+        ensures typed { MatchResult result
             (λ made. (is_of type_id (typed_of self) ≡ true) × (look_value self.value ≡ look_expr made))
             (λ why. (is_of type_id (typed_of self) ≡ false) × (why ≡ Mismatch place)) }
+        ensures held { IfOk result (λ made. is_ordinal_expr made ≡ true) }
     {
-        if !self.type_id.same(type_id) {
+        if !self.typed().is_of(type_id) {
             return Err(TypeFault::Mismatch(place));
         }
-        self.ordinal(place)
+        Ok(self.into_scalar())
     }
 }
 
@@ -127,6 +126,7 @@ pub struct TypedCall {
     pub call: Call,
     pub actuals: Vec<Passed>,
     pub root: Option<u32>,
+    pub ghost held: { are_held_actuals actuals.items ≡ true },
 }
 
 /// The operators of a chain with their right operands, and what they make of its first one.
@@ -143,15 +143,35 @@ pub(crate) struct Selection {
     pub(crate) selectors: Vec<Selector>,
     pub(crate) indexes: Vec<Expr>,
     pub(crate) type_id: TypeId,
+    ghost held: { are_ordinal_indexes indexes.items ≡ true },
 }
 
-/// What is accessed of a variable that may be changed: its access with its index expressions, and the type of what is
-/// accessed.
+/// The designators of a set constructor with the values of its members, and the host type of these, if there is one
+/// (6.7.1).
+#[derive(Drop)]
+pub(crate) struct Members {
+    pub(crate) designators: Vec<Designator>,
+    pub(crate) values: Vec<Expr>,
+    pub(crate) host: Option<TypeId>,
+    ghost held: { are_ordinal_indexes values.items ≡ true },
+}
+
+/// A member of a set that stands alone, or first in a range: the site of its test, its host type, and its value.
+#[derive(Drop)]
+pub(crate) struct SitedMember {
+    pub(crate) site: u32,
+    pub(crate) type_id: TypeId,
+    pub(crate) value: Expr,
+    ghost held: { is_ordinal_expr value ≡ true },
+}
+
+/// What is accessed: its access with its index expressions, and the type of what is accessed.
 #[derive(Drop)]
 pub struct Reached {
     pub access: Access,
     pub indexes: Vec<Expr>,
     pub type_id: TypeId,
+    pub ghost held: { are_ordinal_indexes indexes.items ≡ true },
 }
 
 /// An expression that is entered.
@@ -163,11 +183,12 @@ pub(crate) struct Begun {
 }
 
 /// A variable that is entered in an expression, before its selectors.
-#[derive(Clone, Copy)]
+#[derive(Drop)]
 pub(crate) struct Entered {
     pub(crate) number: u32,
-    /// The root number of the variable.
+    /// The root number of the variable, and at what the access begins.
     pub(crate) root: u32,
+    pub(crate) base: Base,
     /// The site of its test (undefined variable).
     pub(crate) defined: u32,
     /// The id of the leading site.

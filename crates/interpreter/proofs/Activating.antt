@@ -1,8 +1,7 @@
 -- How an activation begins and ends, as the work that is pending then.
-use Rattle.std.proofs.Common.{◌≡◌, ◌+◌, ◌-◌, ◌<◌, ℕ, suc, List, [], ◌∷◌, ◌++◌, Option, Some, None, Result, Ok, Err}
-use Rattle.std.proofs.Common.{OnOk, pos, length, reverse, filter, slice_get}
+use Rattle.std.proofs.Common.{◌≡◌, ◌+◌, ◌-◌, ◌<◌, ℕ, suc, List, [], ◌∷◌, ◌++◌, Option, Some, None, Result, Ok, Err, Vec, Global}
+use Rattle.std.proofs.Common.{OnOk, pos, reverse, filter, slice_get}
 use Rattle.std.proofs.Common.{arith, sym, ◌∙◌, ap, subst, refl}
-use Rattle.std.proofs.lemmas.List.{length-reverse}
 use Rattle.std.specs.declared.alloc.AllocError.{AllocError}
 use Rattle.typed_tree.specs.declared.tree.Tree.{Tree}
 use Rattle.typed_tree.specs.declared.tree.Block.{Block}
@@ -11,17 +10,20 @@ use Rattle.typed_tree.specs.WellFormed.{is_one_of}
 use Rattle.meaning.specs.declared.outcome.Ending.TheVariants as ending
 use Rattle.meaning.specs.declared.store.Value.{Value}
 use Rattle.meaning.specs.declared.store.Value.TheVariants.{Number}
-use Rattle.meaning.specs.Store.{Environment, Store}
+use Rattle.typed_tree.specs.Accesses.{Origin, AtVariable, AtRecord}
+use Rattle.meaning.specs.Store.{Environment, Place, Store}
 use Rattle.meaning.specs.Effect.{State, Reply, Gives, Stops, Action, ◌>>=◌, and_then, begin_with, end_with, give}
 use Rattle.meaning.specs.Meaning.{Activation, Argument, OfValue, Calls, Surroundings, activated, assign_all, calls_of, effect_of, environment_of}
-use Rattle.meaning.specs.Meaning.{executed, result_of}
+use Rattle.meaning.specs.Meaning.{begun, executed, place_at, result_of, with_record}
 use Rattle.interpreter_state.specs.declared.activation.Activation.{Activation as KeptActivation}
 use Rattle.interpreter_state.specs.declared.work.Caller.{Caller}
+use Rattle.interpreter_state.specs.declared.work.Caller.TheVariants as caller
 use Rattle.interpreter_state.specs.declared.work.Work.{Work}
-use Rattle.interpreter_state.specs.Views.{Visible, visible_in}
+use Rattle.interpreter_state.specs.Views.{Visible, records_in, start_of, visible_in}
 use Rattle.interpreter_state.proofs.Sees.{own_of, sees_inner}
 use Rattle.interpreter.specs.declared.interpreter.Run.{Run}
-use Rattle.interpreter.specs.Pending.{Agrees, Resumption, Sees, Waits, StoreAgrees, activating, beginning, left_below, operands_of, pending_of, returning}
+use Rattle.interpreter.specs.Pending.{Agrees, Continues, Resumption, Sees, Waits, StoreAgrees}
+use Rattle.interpreter.specs.Pending.{activating, beginning, left_below, operands_of, pending_of, returning}
 use Rattle.interpreter.specs.Pending.{taken_from}
 use Rattle.meaning.proofs.Replies.{and_then-and_then}
 use Rattle.interpreter.proofs.Resuming.{reverse_push}
@@ -33,7 +35,7 @@ begun_activation activation number block arguments caller =
 
 -- where its statement stands
 abbrev pub inside : Tree → ℕ → Activation → Surroundings
-inside tree depth activation = record { visible = environment_of tree activation; calls = calls_of tree depth }
+inside tree depth activation = record { visible = environment_of tree activation; records = []; calls = calls_of tree depth }
 
 -- the state when its statement begins
 abbrev pub after_begin : ℕ → ℕ → Store → State → State
@@ -114,12 +116,13 @@ abbrev pub behind : Surroundings → Resumption → Run → State → Surroundin
 behind env outer old s there activation = returning there activation s.living (pending_of env outer (reverse old.pending.items))
 
 -- a run whose caller waits for an activation that began
-pub agrees_begun : (old begun : Run) (caller : Caller) (env : Surroundings) (outer : Resumption) (s : State) (left number : ℕ) (block : Block)
+pub agrees_begun : (old begun : Run) (waiting : KeptActivation) (work : Vec Work Global) (env : Surroundings) (outer : Resumption) (s : State)
+    (left number : ℕ) (block : Block)
     (arguments : List Argument) (after : Store) → Agrees env outer old s → old.turns ≡ suc left → 0 < old.activation.depth →
     visible_in begun.activation ≡ own_of (begun_activation s.activations number block arguments env.visible)
     ∷ filter (λ (seen : Visible). is_one_of block.heading.around.items seen.block) (visible_in old.activation) →
-    begun.activation.depth ≡ old.activation.depth - 1 → begun.callers.items ≡ old.callers.items ++ caller ∷ [] →
-    caller.activation ≡ old.activation → caller.pending.items ≡ old.pending.items → StoreAgrees begun.store after →
+    begun.activation.depth ≡ old.activation.depth - 1 → begun.callers.items ≡ old.callers.items ++ caller.Call waiting work ∷ [] →
+    waiting ≡ old.activation → work.items ≡ old.pending.items → records_in begun.activation ≡ [] → StoreAgrees begun.store after →
     begun ≡ record old {
       turns = left;
       called = old.called + 1;
@@ -131,7 +134,7 @@ pub agrees_begun : (old begun : Run) (caller : Caller) (env : Surroundings) (out
     Agrees (inside old.tree.now old.activation.depth (begun_activation s.activations number block arguments env.visible))
     (behind env outer old s (inside old.tree.now old.activation.depth (begun_activation s.activations number block arguments env.visible))
     begun.activation) begun (after_begin left number after s)
-agrees_begun old begun caller env outer s left number block arguments after agrees some deep sees depth pushed waits_as pending store same =
+agrees_begun old begun waiting work env outer s left number block arguments after agrees some deep sees depth pushed waits_as pending none store same =
     let tree = old.tree.now in
     let activation = begun_activation s.activations number block arguments env.visible in
     let there = inside tree old.activation.depth activation in
@@ -140,11 +143,12 @@ agrees_begun old begun caller env outer s left number block arguments after agre
     Sees env.visible tree a × (env.calls ≡ calls_of tree (suc a.depth)) × (a.depth ≡ suc begun.activation.depth)
     × Waits tree env a outer (reverse old.callers.items)
     × ((operands : List Argument) (t : State) → outer_there operands t ≡
-    returning there begun.activation s.living (pending_of env outer (reverse works)) operands t) in
+    returning there begun.activation s.living (pending_of env outer (reverse works)) operands t)
+    × (records_in a ≡ env.records) in
     let waits : from_caller old.activation old.pending.items =
-    (agrees.visible, agrees.calls, omega (arith, deep, depth), agrees.waits, λ operands t. refl) in
-    let moved : from_caller caller.activation caller.pending.items =
-    subst (λ a. from_caller a caller.pending.items) (sym waits_as) (subst (λ l. from_caller old.activation l) (sym pending) waits) in
+    (agrees.visible, agrees.calls, omega (arith, deep, depth), agrees.waits, λ operands t. refl, agrees.records) in
+    let moved : from_caller waiting work.items =
+    subst (λ a. from_caller a work.items) (sym waits_as) (subst (λ l. from_caller old.activation l) (sym pending) waits) in
     let few_left = agrees.few in
     let deep_left = agrees.deep in
     let one_more : old.activation.depth ≡ suc begun.activation.depth = omega (arith, deep, depth) in
@@ -161,8 +165,9 @@ agrees_begun old begun caller env outer s left number block arguments after agre
         types = refl;
       };
       calls = ap (calls_of tree) one_more;
-      waits = subst (λ (l : List Caller). Waits tree there begun.activation outer_there l) (sym (ap reverse pushed ∙ reverse_push old.callers.items caller))
-          (env, outer, s.living, moved.0, moved.1, moved.2, moved.3, moved.4);
+      waits = subst (λ (l : List Caller). Waits tree there begun.activation outer_there l)
+          (sym (ap reverse pushed ∙ reverse_push old.callers.items (caller.Call waiting work)))
+          (env, outer, s.living, moved.0, moved.1, moved.2, moved.3, moved.4, moved.5);
       deep = omega (arith, deep_left, some, depth, deep);
       few = omega (arith, few_left, some);
       store = store;
@@ -170,29 +175,53 @@ agrees_begun old begun caller env outer s left number block arguments after agre
       output = agrees.output;
       turns = refl;
       activations = let one = agrees.activations in omega (arith, one);
+      records = none;
     } in
     subst (λ (r : Run). Agrees there outer_there r (after_begin left number after s)) (sym same) fields
 
--- a caller goes on behind an activation that gave its result
-pub goes_back : (old back : Run) (caller : Caller) (left : List Caller) (env : Surroundings) (outer : Resumption) (s : State) (v : Value) →
-    Agrees env outer old s → old.callers.items ≡ left ++ caller ∷ [] → result_of old.activation.result env.visible s ≡ Gives v s →
-    back ≡ record old { callers = back.callers; activation = caller.activation; pending = caller.pending } → back.callers.items ≡ left →
-    (there : Surroundings) × (next : Resumption) × (t : State) × Agrees there next back t
-    × (outer (operands_of old) s ≡ pending_of there next (reverse caller.pending.items) (OfValue v ∷ operands_of old) t)
-goes_back old back caller left env outer s v agrees popped gives same rest =
+-- what waits, waits for whatever has the same depth and the same result
+waits_alike : (tree : Tree) (env : Surroundings) (one other : KeptActivation) (outer : Resumption) (callers : List Caller) → one.depth ≡ other.depth →
+    one.result ≡ other.result → Waits tree env one outer callers → Waits tree env other outer callers
+waits_alike tree env one other outer [] deep told waits = waits
+waits_alike tree env one other outer (caller.Call waiting work ∷ callers) deep told waits = (
+  waits.0,
+  waits.1,
+  waits.2,
+  waits.3,
+  waits.4,
+  let deeper = waits.5 in omega (arith, deeper, deep),
+  waits.6,
+  λ operands s. waits.7 operands s
+      ∙ ap (λ (o : Option FunctionResult). and_then (result_of o env.visible s) (λ v. end_with waits.2 >>= λ _.
+      pending_of waits.0 waits.1 (reverse work.items) (OfValue v ∷ operands))) told,
+  waits.8,
+)
+waits_alike tree env one other outer (caller.With work ∷ callers) deep told waits =
+    (waits.0, waits.1, waits.2, waits.3, waits_alike tree waits.0 one other waits.1 callers deep told waits.4, waits.5)
+
+-- what the latest caller waits with, where it is an activation
+caller_waits : (old : Run) (waiting : KeptActivation) (work : Vec Work Global) (left : List Caller) (env : Surroundings) (outer : Resumption) (s : State) →
+    Agrees env outer old s → old.callers.items ≡ left ++ caller.Call waiting work ∷ [] →
+    Waits old.tree.now env old.activation outer (caller.Call waiting work ∷ reverse left)
+caller_waits old waiting work left env outer s agrees popped =
+    subst (λ (l : List Caller). Waits old.tree.now env old.activation outer l) (ap reverse popped ∙ reverse_push left (caller.Call waiting work)) agrees.waits
+
+-- it goes on as its own activation
+agrees_back : (old back : Run) (waiting : KeptActivation) (work : Vec Work Global) (left : List Caller) (env : Surroundings) (outer : Resumption)
+    (s : State) (living : List ℕ) → Agrees env outer old s → (waits : Waits old.tree.now env old.activation outer (caller.Call waiting work ∷ reverse left)) →
+    back ≡ record old { callers = back.callers; activation = waiting; pending = work } → back.callers.items ≡ left →
+    Agrees waits.0 waits.1 back (record s { living = living })
+agrees_back old back waiting work left env outer s living agrees waits same rest =
     let tree = old.tree.now in
-    let waits : Waits tree env old.activation outer (caller ∷ reverse left) =
-    subst (λ (l : List Caller). Waits tree env old.activation outer l) (ap reverse popped ∙ reverse_push left caller) agrees.waits in
     let there = waits.0 in
     let next = waits.1 in
-    let living = waits.2 in
     let t : State = record s { living = living } in
     let deeper = waits.5 in
     let deep_left = agrees.deep in
-    let fields : Agrees there next (record old { callers = back.callers; activation = caller.activation; pending = caller.pending }) t = record {
+    let fields : Agrees there next (record old { callers = back.callers; activation = waiting; pending = work }) t = record {
       visible = waits.3;
       calls = waits.4;
-      waits = subst (λ (l : List Caller). Waits tree there caller.activation next (reverse l)) (sym rest) waits.6;
+      waits = subst (λ (l : List Caller). Waits tree there waiting next (reverse l)) (sym rest) waits.6;
       deep = omega (arith, deeper, deep_left);
       few = agrees.few;
       store = agrees.store;
@@ -200,32 +229,120 @@ goes_back old back caller left env outer s v agrees popped gives same rest =
       output = agrees.output;
       turns = agrees.turns;
       activations = agrees.activations;
-    } in (
-      there,
-      next,
-      t,
-      subst (λ (r : Run). Agrees there next r t) (sym same) fields,
+      records = waits.8;
+    } in
+    subst (λ (r : Run). Agrees there next r t) (sym same) fields
+
+-- a caller goes on behind an activation that gave its result
+pub goes_back : (old back : Run) (waiting : KeptActivation) (work : Vec Work Global) (left : List Caller) (env : Surroundings) (outer : Resumption)
+    (s : State) (v : Value) → Agrees env outer old s → old.callers.items ≡ left ++ caller.Call waiting work ∷ [] →
+    result_of old.activation.result env.visible s ≡ Gives v s →
+    back ≡ record old { callers = back.callers; activation = waiting; pending = work } → back.callers.items ≡ left →
+    (there : Surroundings) × (next : Resumption) × (t : State) × Agrees there next back t
+    × (outer (operands_of old) s ≡ pending_of there next (reverse work.items) (OfValue v ∷ operands_of old) t)
+goes_back old back waiting work left env outer s v agrees popped gives same rest =
+    let waits = caller_waits old waiting work left env outer s agrees popped in
+    let living = waits.2 in (
+      waits.0,
+      waits.1,
+      record s { living = living },
+      agrees_back old back waiting work left env outer s living agrees waits same rest,
       waits.7 (operands_of old) s
           ∙ ap (λ (r : Reply Value). and_then r (λ w. end_with living >>= λ _.
-          pending_of there next (reverse caller.pending.items) (OfValue w ∷ operands_of old))) gives,
+          pending_of waits.0 waits.1 (reverse work.items) (OfValue w ∷ operands_of old))) gives,
     )
 
 -- a run that stops for want of the result of its activation
-waiting_stops : (tree : Tree) (env : Surroundings) (activation : KeptActivation) (outer : Resumption) (callers : List Caller)
-    (operands : List Argument) (s : State) (site : ℕ) → Waits tree env activation outer callers → 0 < length callers →
-    result_of activation.result env.visible s ≡ Stops (ending.Error site) s → outer operands s ≡ Stops (ending.Error site) s
-waiting_stops tree env activation outer [] operands s site waits some gives = let no : ⊥ = omega (arith, some) in absurd no
-waiting_stops tree env activation outer (caller ∷ callers) operands s site waits some gives =
-    waits.7 operands s
-    ∙ ap (λ (r : Reply Value). and_then r (λ w. end_with waits.2 >>= λ _.
-    pending_of waits.0 waits.1 (reverse caller.pending.items) (OfValue w ∷ operands))) gives
+pub stops_back : (old back : Run) (waiting : KeptActivation) (work : Vec Work Global) (left : List Caller) (env : Surroundings) (outer : Resumption)
+    (s : State) (site : ℕ) → Agrees env outer old s → old.callers.items ≡ left ++ caller.Call waiting work ∷ [] →
+    result_of old.activation.result env.visible s ≡ Stops (ending.Error site) s →
+    back ≡ record old { callers = back.callers; activation = waiting; pending = work } → back.callers.items ≡ left →
+    Continues (outer (operands_of old) s) (Ok (Some (ending.Error site))) back
+stops_back old back waiting work left env outer s site agrees popped gives same rest =
+    let waits = caller_waits old waiting work left env outer s agrees popped in (
+      waits.0,
+      waits.1,
+      s,
+      agrees_back old back waiting work left env outer s s.living agrees waits same rest,
+      waits.7 (operands_of old) s
+          ∙ ap (λ (r : Reply Value). and_then r (λ w. end_with waits.2 >>= λ _.
+          pending_of waits.0 waits.1 (reverse work.items) (OfValue w ∷ operands_of old))) gives,
+    )
 
-pub stops_without : (old : Run) (env : Surroundings) (outer : Resumption) (s : State) (site : ℕ) → Agrees env outer old s →
-    0 < length old.callers.items → result_of old.activation.result env.visible s ≡ Stops (ending.Error site) s →
-    outer (operands_of old) s ≡ Stops (ending.Error site) s
-stops_without old env outer s site agrees some gives =
-    let all = length-reverse old.callers.items in
-    waiting_stops old.tree.now env old.activation outer (reverse old.callers.items) (operands_of old) s site agrees.waits (omega (arith, all, some)) gives
+-- what stands behind the statement of a with goes on, where there is a record less
+pub closes : (old new : Run) (closed : KeptActivation) (work : Vec Work Global) (left : List Caller) (env : Surroundings) (outer : Resumption) (s : State) →
+    Agrees env outer old s → old.callers.items ≡ left ++ caller.With work ∷ [] → closed ≡ record old.activation { records = closed.records } →
+    ((others : List (Option Place)) (place : Option Place) → records_in old.activation ≡ others ++ place ∷ [] → records_in closed ≡ others) →
+    new ≡ record old { callers = new.callers; activation = closed; pending = work } → new.callers.items ≡ left →
+    Continues (outer (operands_of old) s) (Ok None) new
+closes old new closed work left env outer s agrees popped alike records same rest =
+    let tree = old.tree.now in
+    let waits : Waits tree env old.activation outer (caller.With work ∷ reverse left) =
+    subst (λ (l : List Caller). Waits tree env old.activation outer l) (ap reverse popped ∙ reverse_push left (caller.With work)) agrees.waits in
+    let there = waits.0 in
+    let next = waits.1 in
+    let is = waits.3 in
+    let shut : KeptActivation = record old.activation { records = closed.records } in
+    let behind_it : Waits tree there shut next (reverse left) = waits_alike tree there old.activation shut next (reverse left) refl refl waits.4 in
+    let seen : Sees there.visible tree shut = subst (λ (v : Environment). Sees v tree shut) (ap (λ (e : Surroundings). e.visible) is) agrees.visible in
+    let fields : Agrees there next (record old { callers = new.callers; activation = shut; pending = work }) s = record {
+      visible = seen;
+      calls = sym (ap (λ (e : Surroundings). e.calls) is) ∙ agrees.calls;
+      waits = subst (λ (l : List Caller). Waits tree there shut next (reverse l)) (sym rest) behind_it;
+      deep = agrees.deep;
+      few = agrees.few;
+      store = agrees.store;
+      input = agrees.input;
+      output = agrees.output;
+      turns = agrees.turns;
+      activations = agrees.activations;
+      records = sym (ap records_in alike) ∙ records there.records waits.2 (agrees.records ∙ ap (λ (e : Surroundings). e.records) is);
+    } in
+    let shut_is : new ≡ record old { callers = new.callers; activation = shut; pending = work } =
+    same ∙ ap (λ (a : KeptActivation). record old { callers = new.callers; activation = a; pending = work }) alike in (
+      there,
+      next,
+      s,
+      subst (λ (r : Run). Agrees there next r s) (sym shut_is) fields,
+      waits.5 (operands_of old) s ∙ ap (λ (r : Run). pending_of there next (reverse r.pending.items) (operands_of r) s) (sym same),
+    )
+
+-- a record more, while what was pending waits
+pub agrees_opened : (old new : Run) (wider : KeptActivation) (work : Vec Work Global) (place : Option Place) (env : Surroundings)
+    (outer : Resumption) (s : State) →
+    Agrees env outer old s → wider ≡ record old.activation { records = wider.records } → records_in wider ≡ records_in old.activation ++ place ∷ [] →
+    work.items ≡ old.pending.items → new.callers.items ≡ old.callers.items ++ caller.With work ∷ [] →
+    new ≡ record old { callers = new.callers; activation = wider; pending = new.pending } →
+    Agrees (with_record env place) (pending_of env outer (reverse old.pending.items)) new s
+agrees_opened old new wider work place env outer s agrees alike records kept pushed same =
+    let tree = old.tree.now in
+    let there = with_record env place in
+    let next = pending_of env outer (reverse old.pending.items) in
+    let now : KeptActivation = record old.activation { records = wider.records } in
+    let under : Waits tree env now outer (reverse old.callers.items) =
+    waits_alike tree env old.activation now outer (reverse old.callers.items) refl refl agrees.waits in
+    let fields : Agrees there next (record old { callers = new.callers; activation = now; pending = new.pending }) s = record {
+      visible = agrees.visible;
+      calls = agrees.calls;
+      waits = subst (λ (l : List Caller). Waits tree there now next l) (sym (ap reverse pushed ∙ reverse_push old.callers.items (caller.With work)))
+          (env, outer, place, refl, under, λ operands t. ap (λ (l : List Work). pending_of env outer (reverse l) operands t) (sym kept));
+      deep = agrees.deep;
+      few = agrees.few;
+      store = agrees.store;
+      input = agrees.input;
+      output = agrees.output;
+      turns = agrees.turns;
+      activations = agrees.activations;
+      records = sym (ap records_in alike) ∙ records ∙ ap (λ (l : List (Option Place)). l ++ place ∷ []) agrees.records;
+    } in
+    subst (λ (r : Run). Agrees there next r s)
+    (sym (same ∙ ap (λ (a : KeptActivation). record old { callers = new.callers; activation = a; pending = new.pending }) alike)) fields
+
+-- an access begins where the meaning has it
+pub starts_there : (env : Surroundings) (outer : Resumption) (run : Run) (s : State) (origin : Origin) → Agrees env outer run s →
+    begun origin env ≡ start_of run.activation run.tree.now.variables.items origin
+starts_there env outer run s (AtVariable root) agrees = agrees.visible.variables root
+starts_there env outer run s (AtRecord root slot path) agrees = ap (λ (l : List (Option Place)). place_at (slice_get l slot)) (sym agrees.records)
 
 -- what is said of a result that isn't an error follows from what is
 pub then_ok : {A B C : Type 0} (result : Result C AllocError) → OnOk result A → (A → B) → OnOk result B

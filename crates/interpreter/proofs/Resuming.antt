@@ -18,14 +18,14 @@ use Rattle.interpreter_state.specs.declared.work.Work.{Work}
 use Rattle.interpreter_state.specs.declared.work.Work.TheVariants as work
 use Rattle.types.specs.declared.form.Step.TheVariants as step
 use Rattle.meaning.specs.declared.outcome.Ending.TheVariants as ending
-use Rattle.meaning.specs.declared.store.Value.TheVariants.{Number}
+use Rattle.meaning.specs.declared.store.Value.TheVariants.{Number, Members}
 use Rattle.meaning.specs.Meaning.{Surroundings}
 use Rattle.meaning.specs.Store.{Place, held, kept, part}
 use Rattle.meaning.specs.Effect.{State, Reply, Stops, Action, ◌>>=◌, and_then, fetched, fetch, give, is_in, number_of, require, stop, store}
 use Rattle.meaning.specs.Meaning.{Calls, calls_of, effect_of, is_so}
 use Rattle.typed_tree.specs.declared.tree.Tree.{Tree}
 use Rattle.meaning.proofs.Turns.{ExtendedCalls, extended_calls}
-use Rattle.operations.specs.Answers.{answered, checked, number_tested}
+use Rattle.operations.specs.Answers.{answered, checked, index_tested}
 use Rattle.meaning.specs.Meaning.{Argument, OfValue}
 use Rattle.interpreter.specs.Pending.{Resumption, Agrees, Continues, Does, pending_of, resumed, rest_of, operands_of}
 use Rattle.interpreter.specs.Pending.{tested, with_top, chosen, top_of, top_place, below_top, indexed}
@@ -134,6 +134,10 @@ goes_on_by operand old taken new env outer s action answer below result same lef
     (ap (λ r. and_then r (λ a. pending_of env outer (reverse old.pending.items) (operand a ∷ below))) gives)
     agrees does
 
+-- a set in hand
+abbrev pub set_in_hand : ℕ → Argument
+set_in_hand set = OfValue (Members set)
+
 -- a number in hand
 abbrev pub number_in_hand : ℤ → Argument
 number_in_hand n = OfValue (Number n)
@@ -165,8 +169,8 @@ index_choice true site place n s = refl
 index_choice false site place n s = refl
 
 pub indexed_as : (fits : RangeTest) (place : Option Place) (v : Value) (s : State) →
-    indexed fits place v s ≡ index_answer place (number_tested fits (number_of v)) s
-indexed_as fits place (Number n) s = index_choice (is_in fits.range (Number n)) fits.site place n s
+    indexed fits place v s ≡ index_answer place (index_tested fits v) s
+indexed_as fits place v s = index_choice (is_in fits.range v) fits.site place (number_of v) s
 
 -- a value that passed the test
 choice_some : (b : Bool) (v u : Value) → (if b then Some v else None) ≡ Some u → (v ≡ u) × (b ≡ true)

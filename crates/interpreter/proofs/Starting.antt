@@ -19,7 +19,7 @@ use Rattle.interpreter_state.specs.declared.work.Caller.{Caller}
 use Rattle.interpreter_state.specs.declared.work.Work.{Work}
 use Rattle.interpreter_state.specs.declared.work.Work.TheVariants as work
 use Rattle.interpreter_state.specs.contracts.store.PlaceOrd.TheImpl.{ghosts}
-use Rattle.interpreter_state.specs.Views.{Visible, place_of, seen_as, visible_in}
+use Rattle.interpreter_state.specs.Views.{Visible, place_of, records_in, seen_as, visible_in}
 use Rattle.interpreter_state.proofs.Sees.{nowhere, own_of, sees_inner}
 use Rattle.interpreter.specs.declared.interpreter.Run.{Run}
 use Rattle.interpreter.specs.Pending.{Agrees, EndsAs, IsFresh, Resumption, StoreAgrees, Waits, pending_of}
@@ -43,9 +43,9 @@ ends_as_meant tree input turns done ending ends = (ends.output, sym ends.ending)
 pub agrees_first : (old begun : Run) (heading : Heading) (s : State) → IsFresh old s →
     visible_in begun.activation ≡ own_of (program_activation old.tree.now heading)
     ∷ filter (λ (seen : Visible). is_one_of heading.around.items seen.block) (visible_in old.activation) →
-    begun ≡ record old { activation = begun.activation; pending = begun.pending } → begun.activation.depth ≡ old.turns →
+    begun ≡ record old { activation = begun.activation; pending = begun.pending } → begun.activation.depth ≡ old.turns → records_in begun.activation ≡ [] →
     Agrees (program_surroundings old.tree.now (suc old.turns) heading) (λ operands. give tt) begun s
-agrees_first old begun heading s fresh sees same depth =
+agrees_first old begun heading s fresh sees same depth no_records =
     let tree = old.tree.now in
     let env = program_surroundings tree (suc old.turns) heading in
     let outer : Resumption = λ operands. give tt in
@@ -68,6 +68,7 @@ agrees_first old begun heading s fresh sees same depth =
       output = fresh.output;
       turns = fresh.turns;
       activations = let one = fresh.activations in omega (arith, one, called);
+      records = no_records;
     } in
     subst (λ (r : Run). Agrees env outer r s) (sym same) fields
 

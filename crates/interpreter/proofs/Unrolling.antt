@@ -4,6 +4,7 @@ use Rattle.std.proofs.Common.{if◌then◌else◌, Box, Vec, Global, map, length
 use Rattle.std.proofs.Common.{sym}
 use Rattle.std.proofs.Common.{◌∙◌, ap, refl}
 use Rattle.std.proofs.lemmas.List.{length-map}
+use Rattle.typed_tree.specs.declared.tree.Scalar.{Scalar}
 use Rattle.typed_tree.specs.declared.tree.Access.{Access}
 use Rattle.typed_tree.specs.declared.tree.Assignment.{Assignment}
 use Rattle.typed_tree.specs.declared.tree.CaseHead.{CaseHead}
@@ -32,18 +33,24 @@ use Rattle.typed_tree.specs.declared.tree.Expr.{Expr}
 use Rattle.typed_tree.specs.declared.tree.Link.{Link}
 use Rattle.typed_tree.specs.declared.tree.Stmt.{Stmt}
 use Rattle.typed_tree.specs.declared.tree.Call.{Call}
+use Rattle.typed_tree.specs.declared.tree.Designator.{Designator}
+use Rattle.typed_tree.specs.declared.tree.Designator.TheVariants.{Single, Range}
+use Rattle.typed_tree.specs.declared.tree.WithHead.{WithHead}
+use Rattle.typed_tree.specs.declared.tree.WithRecord.{WithRecord}
+use Rattle.typed_tree.specs.Accesses.{origin_of}
 use Rattle.typed_tree.specs.declared.tree.Passed.{Passed}
 use Rattle.typed_tree.specs.declared.tree.Passed.TheVariants as passed
 use Rattle.typed_tree.specs.declared.tree.Expr.TheVariants as expr
 use Rattle.typed_tree.specs.declared.tree.Stmt.TheVariants as stmt
 use Rattle.typed_tree.specs.declared.tree.Stmt.TheOpen.Stmt-F.{Empty as Empty-F, Assign as Assign-F, Copy as Copy-F, Write as Write-F}
 use Rattle.typed_tree.specs.declared.tree.Stmt.TheOpen.Stmt-F.{Compound as Compound-F, If as If-F}
-use Rattle.typed_tree.specs.declared.tree.Stmt.TheOpen.Stmt-F.{While as While-F, Repeat as Repeat-F, For as For-F, Case as Case-F, Call as Call-F}
+use Rattle.typed_tree.specs.declared.tree.Stmt.TheOpen.Stmt-F.{While as While-F, Repeat as Repeat-F, For as For-F}
+use Rattle.typed_tree.specs.declared.tree.Stmt.TheOpen.Stmt-F.{Case as Case-F, Call as Call-F, With as With-F}
 use Rattle.typed_tree.specs.declared.tree.Stmt.TheOpen.{Stmt-F}
 use Rattle.typed_tree.specs.declared.tree.Stmt.TheFolds.{fold-roll-Stmt, map-Stmt}
 use Rattle.typed_tree.specs.declared.tree.Stmt.TheViews.{roll-Stmt}
 use Rattle.meaning.specs.declared.store.Value.{Value}
-use Rattle.meaning.specs.declared.store.Value.TheVariants.{Number}
+use Rattle.meaning.specs.declared.store.Value.TheVariants.{Number, Members}
 use Rattle.interpreter_state.specs.declared.work.Rounds.TheVariants.{Behind}
 use Rattle.interpreter_state.specs.declared.work.Work.{Work}
 use Rattle.interpreter_state.specs.declared.work.Work.TheVariants as work
@@ -51,7 +58,8 @@ use Rattle.meaning.specs.Meaning.{Surroundings}
 use Rattle.meaning.specs.Store.{Place, kept, part}
 use Rattle.meaning.specs.Effect.{State, Reply, Action, ◌>>=◌, and_then, give, require, use_turn, another, looped}
 use Rattle.meaning.specs.Effect.{fetch, fetch_all, store, store_all, undefine, write, is_in, number_of, row_text, text_of}
-use Rattle.meaning.specs.Meaning.{Combination, Execution, effect_step, operated, combined, in_turn, all_of}
+use Rattle.meaning.specs.Meaning.{begun, gathered, opened, operated_both, with_one, with_range, with_record}
+use Rattle.meaning.specs.Meaning.{Combination, Execution, effect_step, operated, in_turn, all_of}
 use Rattle.meaning.specs.Meaning.{compared, selected, whole_of, default_width, written_of, width_of, parameter_of}
 use Rattle.meaning.specs.Meaning.{line_ended, is_so, turn_if, for_between, arm_of}
 use Rattle.meaning.specs.Meaning.{value_of, values_of, link_of, effect_of, Passing, all_passed, call_of, passing_of}
@@ -61,9 +69,10 @@ use Rattle.interpreter.specs.Pending.{Resumption, pending_of, resumed, chosen, f
 use Rattle.interpreter.specs.Pending.{forgetting, turning, turning_tested, whiling, repeating, counting_on, line_ending, linking}
 use Rattle.interpreter.specs.Pending.{giving, giving_number, giving_place, giving_row, with_top, with_row, top_of, top_place, top_row, below_top}
 use Rattle.interpreter.specs.Pending.{writing, writing_one, writing_row, placing, accessing, selecting, comparing}
+use Rattle.interpreter.specs.Pending.{constructing, gathering, opening}
 use Rattle.interpreter.specs.Pending.{assigning, assigning_row, calling, left_below, passing, performing, taken_from, tested, top_in_hand}
 use Rattle.meaning.proofs.Expressions.{value-Variable, value-Monadic, value-Chain, value-Compare, value-Call, combination-Link}
-use Rattle.meaning.proofs.Expressions.{passing-Value, passing-Whole, passing-Reference}
+use Rattle.meaning.proofs.Expressions.{passing-Value, passing-Whole, passing-Reference, value-Set}
 use Rattle.meaning.proofs.Replies.{and_then-and_then, and_then-same}
 use Rattle.meaning.proofs.Turns.{ExtendedCalls, extended_value, extended_effect, extended_statements}
 use Rattle.meaning.proofs.Loops.{looped-rounds, while_uses, repeat_uses, counted_uses}
@@ -77,14 +86,14 @@ entered number env s = record s { visited = s.visited ++ record { number = numbe
 abbrev pub evaluated : Surroundings → Resumption → Expr → List Work → List Argument → Action (Unit {0})
 evaluated env outer e works operands = giving (value_of e env) (pending_of env outer works) operands
 
-pub does-Variable : (a : Access) (indexes : Vec Expr Global) (defined : ℕ) (given : Expr) → given ≡ expr.Variable a indexes defined →
+pub does-Variable : (a : Access) (indexes : Vec Expr Global) (holds : Scalar) (defined : ℕ) (given : Expr) → given ≡ expr.Variable a indexes holds defined →
     (all : List Expr) → all ≡ indexes.items → (env : Surroundings) (outer : Resumption) (works : List Work) (operands : List Argument) (s : State) →
     evaluated env outer given works operands s ≡ accessing env a all (work.Fetch defined) (pending_of env outer works) operands (entered a.number env s)
-does-Variable a indexes defined given is all same env outer works operands s =
+does-Variable a indexes holds defined given is all same env outer works operands s =
     let then_rest : Value → Action (Unit {0}) = λ v. pending_of env outer works (OfValue v ∷ operands) in
-    let place : List Expr → Reply (Option Place) = λ l. selected a.selectors.items (values_of l) env (env.visible.variables a.root) (entered a.number env s) in
+    let place : List Expr → Reply (Option Place) = λ l. selected a.selectors.items (values_of l) env (begun (origin_of a) env) (entered a.number env s) in
     ap (λ (e : Expr). evaluated env outer e works operands s) is
-    ∙ ap (λ (a : Action Value). giving a (pending_of env outer works) operands s) (value-Variable a indexes defined env)
+    ∙ ap (λ (a : Action Value). giving a (pending_of env outer works) operands s) (value-Variable a indexes holds defined env)
     ∙ and_then-and_then (place indexes.items) (λ p. fetch p defined) then_rest
     ∙ ap (λ l. and_then (place l) (λ p. fetch p defined >>= then_rest)) (sym same)
 
@@ -131,11 +140,10 @@ does-Links first rest all is env outer works operands s =
     let left = top_of operands in
     let then_rest : Value → Action (Unit {0}) = λ w. linking env (map link_of rest.now) (pending_of env outer works) (OfValue w ∷ below_top operands) in
     let value : Reply Value = value_of first.operand env (entered first.number env s) in
-    let combination : Value → Action ℤ = λ right. combined first.operation (number_of left) (number_of right) in
+    let combination : Value → Action Value = λ right. operated_both first.operation left right in
     ap (λ (l : List Link). linking env (map link_of l) (pending_of env outer works) operands s) is
     ∙ ap (λ (a : Action Value). and_then (a s) then_rest) (combination-Link first env left)
-    ∙ and_then-and_then value (λ right. combination right >>= λ n. give (Number n)) then_rest
-    ∙ and_then-same value _ _ (λ right t. and_then-and_then (combination right t) (λ n. give (Number n)) then_rest)
+    ∙ and_then-and_then value combination then_rest
 
 -- what is pending after a statement
 abbrev executed : Surroundings → Resumption → Stmt → List Work → List Argument → Action (Unit {0})
@@ -164,7 +172,7 @@ does-Assign assignment given is env outer works operands s =
     let target = assignment.target in
     let fits = assignment.fits in
     let value : Action Value = value_of assignment.value env in
-    let place : Reply (Option Place) = selected target.selectors.items (values_of assignment.indexes.items) env (env.visible.variables target.root)
+    let place : Reply (Option Place) = selected target.selectors.items (values_of assignment.indexes.items) env (begun (origin_of target) env)
     (entered target.number env (entered assignment.number env s)) in
     let stored : Option Place → Value → Action (Unit {0}) = λ p v. require (is_in fits.range v) fits.site >>= λ _. store p v in
     executed-rolled (Assign-F assignment) given (stmt.Assign assignment) is (stmt.rolls-Assign assignment) env outer works operands s
@@ -179,7 +187,7 @@ pub does-Copy : (copying : Copying) (given : Stmt) → given ≡ stmt.Copy copyi
 does-Copy copying given is env outer works operands s =
     let then_rest : Unit {0} → Action (Unit {0}) = λ _. pending_of env outer works operands in
     let target = copying.target in
-    let place : Reply (Option Place) = selected target.selectors.items (values_of copying.indexes.items) env (env.visible.variables target.root)
+    let place : Reply (Option Place) = selected target.selectors.items (values_of copying.indexes.items) env (begun (origin_of target) env)
     (entered target.number env (entered copying.number env s)) in
     let row : Action (List Value) = whole_of copying.value (values_of copying.value_indexes.items) env in
     let stored : Option Place → List Value → Action (Unit {0}) = λ p values. store_all p (components_of env.visible.types copying.type_id) values in
@@ -279,33 +287,35 @@ does-Repeat head statements given is all same env outer works operands s =
     executed-rolled (Repeat-F head statements) given (stmt.Repeat head statements) is (stmt.rolls-Repeat head statements) env outer works operands s
     ∙ ap (λ (l : List Stmt). repeating env head l (pending_of env outer works) operands (entered head.number env s)) (sym same)
 
-pub does-repeat-round : (env : Surroundings) (outer : Resumption) (calls : ExtendedCalls env.calls) (head : Bor LoopHead) (statements : Bor (List Stmt))
-    (works : List Work) (operands : List Argument) (s : State) →
-    repeating env head.now statements.now (pending_of env outer works) operands s ≡
-    turning_tested env (work.Statements statements) head.now.condition (work.Unless head statements) (pending_of env outer works) operands s
-does-repeat-round env outer calls head statements works operands s =
+pub does-repeat-round : (env : Surroundings) (outer : Resumption) (calls : ExtendedCalls env.calls) (head : Bor LoopHead) (statements : Bor (Vec Stmt Global))
+    (inner : Bor (List Stmt)) (works : List Work) (operands : List Argument) (s : State) → inner.now ≡ statements.now.items →
+    repeating env head.now statements.now.items (pending_of env outer works) operands s ≡
+    turning_tested env (work.Statements inner) head.now.condition (work.Unless head statements) (pending_of env outer works) operands s
+does-repeat-round env outer calls head statements inner works operands s same =
     let then_rest : Unit {0} → Action (Unit {0}) = λ _. pending_of env outer works operands in
     let condition = head.now.condition in
-    let round = repeat_rounds env head.now statements.now in
+    let round = repeat_rounds env head.now statements.now.items in
     let again : Option (Unit {0}) → Action (Unit {0}) = λ more. another more (looped round) in
-    let all : Action (Unit {0}) = all_of (map effect_of statements.now) env in
+    let all : Action (Unit {0}) = all_of (map effect_of statements.now.items) env in
     let tested : Action Value = value_of condition env in
     let until : Value → Action (Option (Unit {0})) = λ v. give (if is_so v then None else Some tt) in
     let rest : Option (Unit {0}) → Action (Unit {0}) = λ more. again more >>= then_rest in
-    let uses = repeat_uses (all_of (map effect_of statements.now)) (value_of condition) env (extended_statements env calls statements.now)
+    let uses = repeat_uses (all_of (map effect_of statements.now.items)) (value_of condition) env (extended_statements env calls statements.now.items)
     (extended_value env calls condition) in
     ap (λ (r : Reply (Unit {0})). and_then r then_rest) (looped-rounds round uses tt s)
     ∙ and_then-and_then (round tt s) again then_rest
     ∙ and_then-and_then (use_turn s) (λ _. all >>= λ _. tested >>= until) rest
     ∙ and_then-same (use_turn s) _ _ (λ _ t. and_then-and_then (all t) (λ _. tested >>= until) rest
     ∙ and_then-same (all t) _ _ (λ _ u. and_then-and_then (tested u) until rest))
+    ∙ ap (λ (l : List Stmt). and_then (use_turn s) (λ _. all_of (map effect_of l) env >>= λ _.
+    giving tested (resumed env (work.Unless head statements) (pending_of env outer works)) operands)) (sym same)
 
-pub does-unless : (env : Surroundings) (outer : Resumption) (head : Bor LoopHead) (statements : Bor (List Stmt)) (works : List Work)
+pub does-unless : (env : Surroundings) (outer : Resumption) (head : Bor LoopHead) (statements : Bor (Vec Stmt Global)) (works : List Work)
     (operands : List Argument) (s : State) →
     is_so (top_of operands) ≡ false → resumed env (work.Unless head statements) (pending_of env outer works) operands s ≡
-    repeating env head.now statements.now (pending_of env outer works) (below_top operands) s
+    repeating env head.now statements.now.items (pending_of env outer works) (below_top operands) s
 does-unless env outer head statements works operands s so =
-    ap (λ (b : Bool). and_then (further (repeat_rounds env head.now statements.now) (give (if b then None else Some tt)) s)
+    ap (λ (b : Bool). and_then (further (repeat_rounds env head.now statements.now.items) (give (if b then None else Some tt)) s)
     (λ _. pending_of env outer works (below_top operands))) so
 
 -- what is pending after the bounds of a for
@@ -443,7 +453,7 @@ pub does-whole-Variable : (access : Access) (type_id : TypeId) (cells defined : 
 does-whole-Variable access type_id cells defined given is indexes env outer works operands s =
     let then_rest : List Value → Action (Unit {0}) = λ row. pending_of env outer works (OfRow row ∷ operands) in
     ap (λ (w : Whole). giving_row (whole_of w (values_of indexes) env) (pending_of env outer works) operands s) is
-    ∙ and_then-and_then (selected access.selectors.items (values_of indexes) env (env.visible.variables access.root) (entered access.number env s))
+    ∙ and_then-and_then (selected access.selectors.items (values_of indexes) env (begun (origin_of access) env) (entered access.number env s))
     (λ place. fetch_all place (components_of env.visible.types type_id) defined) then_rest
 
 -- the selectors that lead on from a place
@@ -610,8 +620,74 @@ pub does-passed-Reference : (type_id : TypeId) (access : Access) (indexes : Vec 
 does-passed-Reference type_id access indexes given is all same env next operands s =
     let then_rest : Argument → Action (Unit {0}) = λ argument. next (argument ∷ operands) in
     let place : List Expr → Reply (Option Place) =
-    λ l. selected access.selectors.items (values_of l) env (env.visible.variables access.root) (entered access.number env s) in
+    λ l. selected access.selectors.items (values_of l) env (begun (origin_of access) env) (entered access.number env s) in
     ap (λ (p : Passed). and_then (passing_of p env s) then_rest) is
     ∙ ap (λ (a : Action Argument). and_then (a s) then_rest) (passing-Reference type_id access indexes env)
     ∙ and_then-and_then (place indexes.items) (λ p. give (OfPlace p)) then_rest
     ∙ ap (λ l. and_then (place l) (λ p. next (OfPlace p ∷ operands))) (sym same)
+
+-- the set that designators make, with the members so far in hand
+gathered-on : (env : Surroundings) (designators : List Designator) (members : List Expr) (next : Resumption) (set : ℕ) (operands : List Argument) (s : State) →
+    and_then (gathered designators (values_of members) env set s) (λ more. next (OfValue (Members more) ∷ operands)) ≡
+    gathering env designators members next (OfValue (Members set) ∷ operands) s
+gathered-on env [] members next set operands s = refl
+gathered-on env (Single site ∷ designators) [] next set operands s = refl
+gathered-on env (Single site ∷ designators) (member ∷ members) next set operands s =
+    let then_rest : ℕ → Action (Unit {0}) = λ more. next (OfValue (Members more) ∷ operands) in
+    let others : ℕ → Action ℕ = λ more. gathered designators (values_of members) env more in
+    and_then-and_then (value_of member env s) (λ v. with_one site v set >>= others) then_rest
+    ∙ and_then-same (value_of member env s) _ _ (λ v t. and_then-and_then (with_one site v set t) others then_rest
+    ∙ and_then-same (with_one site v set t) _ _ (λ more u. gathered-on env designators members next more operands u))
+gathered-on env (Range site ∷ designators) [] next set operands s = refl
+gathered-on env (Range site ∷ designators) (first ∷ []) next set operands s = refl
+gathered-on env (Range site ∷ designators) (first ∷ last ∷ members) next set operands s =
+    let then_rest : ℕ → Action (Unit {0}) = λ more. next (OfValue (Members more) ∷ operands) in
+    let others : ℕ → Action ℕ = λ more. gathered designators (values_of members) env more in
+    and_then-and_then (value_of first env s) (λ a. value_of last env >>= λ b. with_range site a b set >>= others) then_rest
+    ∙ and_then-same (value_of first env s) _ _ (λ a t. and_then-and_then (value_of last env t) (λ b. with_range site a b set >>= others) then_rest
+    ∙ and_then-same (value_of last env t) _ _ (λ b u. and_then-and_then (with_range site a b set u) others then_rest
+    ∙ and_then-same (with_range site a b set u) _ _ (λ more w. gathered-on env designators members next more operands w)))
+
+pub does-Set : (n : ℕ) (designators : Vec Designator Global) (members : Vec Expr Global) (given : Expr) → given ≡ expr.Set n designators members →
+    (all : List Designator) → all ≡ designators.items → (each : List Expr) → each ≡ members.items →
+    (env : Surroundings) (outer : Resumption) (works : List Work) (operands : List Argument) (s : State) →
+    evaluated env outer given works operands s ≡ constructing env all each (pending_of env outer works) operands (entered n env s)
+does-Set n designators members given is all same each alike env outer works operands s =
+    let then_rest : Value → Action (Unit {0}) = λ v. pending_of env outer works (OfValue v ∷ operands) in
+    let there = entered n env s in
+    ap (λ (e : Expr). evaluated env outer e works operands s) is
+    ∙ ap (λ (a : Action Value). and_then (a s) then_rest) (value-Set n designators members env)
+    ∙ and_then-and_then (gathered designators.items (values_of members.items) env 0 there) (λ set. give (Members set)) then_rest
+    ∙ gathered-on env designators.items members.items (pending_of env outer works) 0 operands there
+    ∙ ap (λ (l : List Designator). constructing env l members.items (pending_of env outer works) operands there) (sym same)
+    ∙ ap (λ (l : List Expr). constructing env all l (pending_of env outer works) operands there) (sym alike)
+
+-- a with, and its records one after another
+pub does-With : (head : WithHead) (body : Box Stmt Global) (given : Stmt) → given ≡ stmt.With head body → (all : List WithRecord) → all ≡ head.records.items →
+    (inner : Stmt) → inner ≡ body.value → (env : Surroundings) (outer : Resumption) (works : List Work) (operands : List Argument) (s : State) →
+    executed env outer given works operands s ≡ opening env all inner (pending_of env outer works) operands (entered head.number env s)
+does-With head body given is all same inner alike env outer works operands s =
+    let then_rest : Unit {0} → Action (Unit {0}) = λ _. pending_of env outer works operands in
+    let there = entered head.number env s in
+    executed-rolled (With-F head body) given (stmt.With head body) is (stmt.rolls-With head body) env outer works operands s
+    ∙ and_then-and_then (opened head.records.items env there) (λ records. effect_of body.value (record env { records = records })) then_rest
+    ∙ ap (λ (l : List WithRecord). opening env l body.value (pending_of env outer works) operands there) (sym same)
+    ∙ ap (λ (e : Stmt). opening env all e (pending_of env outer works) operands there) (sym alike)
+
+pub does-opening : (first : Bor WithRecord) (rest : Bor (List WithRecord)) (all : List WithRecord) → all ≡ first.now ∷ rest.now → (body : Bor (Box Stmt Global))
+    (indexes : List Expr) → indexes ≡ first.now.indexes.items → (env : Surroundings) (next : Resumption) (operands : List Argument) (s : State) →
+    opening env all body.now.value next operands s ≡
+    accessing env first.now.access indexes (work.Within rest body) next operands (entered first.now.access.number env s)
+does-opening first rest all is body indexes same env next operands s =
+    let access = first.now.access in
+    let there = entered access.number env s in
+    let place : List Expr → Reply (Option Place) = λ l. selected access.selectors.items (values_of l) env (begun (origin_of access) env) there in
+    let inside : List (Option Place) → Action (Unit {0}) =
+    λ records. effect_of body.now.value (record env { records = records }) >>= λ _. next operands in
+    ap (λ (l : List WithRecord). opening env l body.now.value next operands s) is
+    ∙ and_then-and_then (place first.now.indexes.items) (λ p. opened rest.now (with_record env p)) inside
+    ∙ ap (λ (l : List Expr). and_then (place l) (λ p. opened rest.now (with_record env p) >>= inside)) (sym same)
+
+pub does-opened : (all : List WithRecord) → all ≡ [] → (body : Stmt) (env : Surroundings) (next : Resumption) (operands : List Argument) (s : State) →
+    opening env all body next operands s ≡ and_then (effect_of body env s) (λ _. next operands)
+does-opened all is body env next operands s = ap (λ (l : List WithRecord). opening env l body next operands s) is

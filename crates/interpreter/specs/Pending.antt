@@ -13,6 +13,8 @@ use Rattle.types.specs.Components.{components_of}
 use Rattle.typed_tree.specs.declared.tree.Tree.{Tree}
 use Rattle.typed_tree.specs.declared.tree.Block.{Block}
 use Rattle.typed_tree.specs.declared.tree.Call.{Call}
+use Rattle.typed_tree.specs.declared.tree.Designator.{Designator}
+use Rattle.typed_tree.specs.declared.tree.Designator.TheVariants.{Single, Range}
 use Rattle.typed_tree.specs.declared.tree.Passed.{Passed}
 use Rattle.typed_tree.specs.declared.tree.WriteParameter.{WriteParameter}
 use Rattle.typed_tree.specs.declared.tree.Access.{Access}
@@ -29,26 +31,30 @@ use Rattle.typed_tree.specs.declared.tree.Whole.{Whole}
 use Rattle.typed_tree.specs.declared.tree.Relation.{Relation}
 use Rattle.typed_tree.specs.declared.tree.Representation.{Representation}
 use Rattle.typed_tree.specs.declared.tree.Width.{Width}
+use Rattle.typed_tree.specs.declared.tree.WithRecord.{WithRecord}
+use Rattle.typed_tree.specs.Accesses.{origin_of}
 use Rattle.typed_tree.specs.WellFormed.{length_of}
 use Rattle.meaning.specs.declared.outcome.Ending.{Ending}
 use Rattle.meaning.specs.declared.store.Value.{Value}
-use Rattle.meaning.specs.declared.store.Value.TheVariants.{Number}
+use Rattle.meaning.specs.declared.store.Value.TheVariants.{Number, Members}
 use Rattle.operations.specs.Answers.{positive, value_before}
 use Rattle.interpreter_state.specs.declared.activation.Activation.{Activation as KeptActivation}
 use Rattle.interpreter_state.specs.declared.store.Place.{Place as KeptPlace}
 use Rattle.interpreter_state.specs.declared.work.Caller.{Caller}
+use Rattle.interpreter_state.specs.declared.work.Caller.TheVariants as caller
 use Rattle.interpreter_state.specs.declared.work.Rounds.TheVariants.{Between, Behind}
 use Rattle.interpreter_state.specs.declared.work.Work.{Work}
 use Rattle.interpreter_state.specs.declared.work.Work.TheVariants as work
 use Rattle.interpreter_state.specs.contracts.store.PlaceOrd.TheImpl.{ghosts as places}
-use Rattle.interpreter_state.specs.Views.{operand_seen, place_of, place_seen, row_in, value_in, visible_in}
+use Rattle.interpreter_state.specs.Views.{operand_seen, place_of, place_seen, records_in, row_in, value_in, visible_in}
 use Rattle.interpreter.specs.declared.interpreter.Run.{Run}
 use Rattle.meaning.specs.Store.{Environment, Place, Store, held, kept, part, stored}
 use Rattle.meaning.specs.Effect.{State, Reply, Gives, Stops, Action, Round, ◌>>=◌, give, require, enter, use_turn}
 use Rattle.meaning.specs.Effect.{another, fetch, fetch_all, looped, number_of, store, store_all, undefine, write, is_in}
-use Rattle.meaning.specs.Effect.{end_with, row_text, text_of}
+use Rattle.meaning.specs.Effect.{end_with, members_of, row_text, text_of}
 use Rattle.meaning.specs.Meaning.{Argument, OfValue, OfPlace, OfRow, Surroundings, Combination, Execution, Passing}
-use Rattle.meaning.specs.Meaning.{activated, calls_of, completed, ended, operated, combined, compared, passing_of}
+use Rattle.meaning.specs.Meaning.{activated, begun, calls_of, completed, ended, operated, compared, passing_of}
+use Rattle.meaning.specs.Meaning.{opened, operated_both, with_one, with_range, with_record}
 use Rattle.meaning.specs.Meaning.{place_passed, result_of, run_of}
 use Rattle.meaning.specs.Meaning.{default_width, link_of, selected, value_of, values_of, whole_of}
 use Rattle.meaning.specs.Meaning.{effect_of, all_of, width_of, parameter_of, line_ended, is_so, turn_if, while_round}
@@ -218,6 +224,42 @@ abbrev pub activating : Surroundings → ℕ → ℕ → Resumption → Resumpti
 activating env block count next operands =
     giving (env.calls block (taken_from count operands) env.visible) next (left_below count operands)
 
+-- goes on with the set that an action gives as the topmost operand
+abbrev pub giving_set : Action ℕ → Resumption → Resumption
+giving_set action next operands = action >>= λ set. next (OfValue (Members set) ∷ operands)
+
+-- the topmost value, or all from the next one to it, are members of the set below as well
+abbrev pub adding_one : ℕ → Resumption → Resumption
+adding_one site next = with_top (λ v. with_top (λ set. giving_set (with_one site v (members_of set)) next))
+
+abbrev pub adding_range : ℕ → Resumption → Resumption
+adding_range site next =
+    with_top (λ b. with_top (λ a. with_top (λ set. giving_set (with_range site a b (members_of set)) next)))
+
+-- what designators give is added to the topmost set, and then comes the rest
+abbrev pub gathering : Surroundings → List Designator → List Expr → Resumption → Resumption
+gathering env [] members next = next
+gathering env (Single site ∷ designators) [] next = next
+gathering env (Single site ∷ designators) (member ∷ members) next =
+    giving (value_of member env) (adding_one site (gathering env designators members next))
+gathering env (Range site ∷ designators) [] next = next
+gathering env (Range site ∷ designators) (first ∷ []) next = next
+gathering env (Range site ∷ designators) (first ∷ last ∷ members) next =
+    giving (value_of first env)
+    (giving (value_of last env) (adding_range site (gathering env designators members next)))
+
+-- the set that designators give is the topmost operand, and then comes the rest
+abbrev pub constructing : Surroundings → List Designator → List Expr → Resumption → Resumption
+constructing env designators members next operands =
+    gathering env designators members next (OfValue (Members 0) ∷ operands)
+
+-- the records of a with are accessed, then comes its statement in them, and then the rest
+abbrev pub opening : Surroundings → List WithRecord → Stmt → Resumption → Resumption
+opening env records body next operands = do
+  inner ← opened records env
+  _ ← effect_of body (record env { records = inner })
+  next operands
+
 -- a piece of work, and then the rest
 abbrev pub resumed : Surroundings → Work → Resumption → Resumption
 resumed env (work.Statements statements) next operands = do
@@ -235,7 +277,7 @@ resumed env (work.WhileTurn head body) next operands =
     (λ v below. further (while_rounds env head.now body.now) (turn_if (is_so v) (effect_of body.now env))
     >>= λ _. next below)
     operands
-resumed env (work.Unless head statements) next operands = unless_so env head.now statements.now next operands
+resumed env (work.Unless head statements) next operands = unless_so env head.now statements.now.items next operands
 resumed env (work.For head Between body) next operands =
     with_top
     (λ last rest. with_top
@@ -248,7 +290,7 @@ resumed env (work.For head (Behind value last) body) next operands = do
   forgetting (env.visible.variables head.now.control) next operands
 resumed env (work.Case head arms) next operands =
     with_top
-    (λ v below. arm_of head.now.site head.now.constants.items (map effect_of arms.now) (number_of v) env
+    (λ v below. arm_of head.now.site head.now.constants.items (map effect_of arms.now.items) (number_of v) env
     >>= λ _. next below)
     operands
 resumed env (work.Parameters parameters ends_line) next operands = do
@@ -298,9 +340,7 @@ resumed env (work.Monadic operation) next operands =
 resumed env (work.Links links) next operands = linking env (map link_of links.now) next operands
 resumed env (work.Combine operation) next operands =
     with_top
-    (λ right rest. with_top
-    (λ left. giving_number (combined operation (number_of left) (number_of right)) next)
-    rest)
+    (λ right rest. with_top (λ left. giving (operated_both operation left right) next) rest)
     operands
 resumed env (work.RightSide number relation right indexes) next operands =
     with_row (λ row. giving (comparing env number relation right.now indexes.now row) next) operands
@@ -310,6 +350,12 @@ resumed env (work.Pass actuals) next operands = passing env (map passing_of actu
 resumed env (work.Test fits) next operands = with_top (λ v. giving (tested fits v) next) operands
 resumed env (work.Activate block count) next operands = activating env block count next operands
 resumed env work.Discard next operands = next (below_top operands)
+resumed env (work.Gather designators members) next operands = gathering env designators.now members.now next operands
+resumed env (work.AddMember site) next operands = adding_one site next operands
+resumed env (work.AddRange site) next operands = adding_range site next operands
+resumed env (work.With records body) next operands = opening env records.now body.now.value next operands
+resumed env (work.Within records body) next operands =
+    with_place (λ place. opening (with_record env place) records.now body.now.value next) operands
 
 -- two values, a piece of work with them, and then the rest
 abbrev pub evaluating : Surroundings → Expr → Expr → Work → Resumption → Resumption
@@ -341,7 +387,7 @@ writing_row env value indexes width next operands = do
 -- the place of an access that was entered, and then the rest
 abbrev pub placing : Surroundings → Access → List Expr → Resumption → Resumption
 placing env access indexes =
-    giving_place (selected access.selectors.items (values_of indexes) env (env.visible.variables access.root))
+    giving_place (selected access.selectors.items (values_of indexes) env (begun (origin_of access) env))
 
 -- the same, a piece of work with the place, and then the rest
 abbrev pub accessing : Surroundings → Access → List Expr → Work → Resumption → Resumption
@@ -432,19 +478,27 @@ returning env activation living next operands = do
   _ ← end_with living
   next (OfValue v ∷ operands)
 
--- what goes on behind an activation: its callers wait for it, the latest first; behind the program's nothing is done
+-- what goes on behind the work in hand: the latest first, callers that wait for its activation, and what stands behind
+-- the statement of a with, where there is a record less; behind the program's statement nothing is done
 abbrev pub Waits : Tree → Surroundings → KeptActivation → Resumption → List Caller → Type 0
 Waits tree env activation outer [] = (operands : List Argument) (s : State) → outer operands s ≡ give tt s
-Waits tree env activation outer (caller ∷ callers) =
+Waits tree env activation outer (caller.Call waiting pending ∷ callers) =
     (there : Surroundings) × (behind : Resumption) × (living : List ℕ)
-    × Sees there.visible tree caller.activation
-    × (there.calls ≡ calls_of tree (suc caller.activation.depth))
-    × (caller.activation.depth ≡ suc activation.depth)
-    × Waits tree there caller.activation behind callers
+    × Sees there.visible tree waiting
+    × (there.calls ≡ calls_of tree (suc waiting.depth))
+    × (waiting.depth ≡ suc activation.depth)
+    × Waits tree there waiting behind callers
     × ((operands : List Argument) (s : State) → outer operands s ≡
-    returning env activation living (pending_of there behind (reverse caller.pending.items)) operands s)
+    returning env activation living (pending_of there behind (reverse pending.items)) operands s)
+    × (records_in waiting ≡ there.records)
+Waits tree env activation outer (caller.With pending ∷ callers) =
+    (there : Surroundings) × (behind : Resumption) × (place : Option Place)
+    × (env ≡ with_record there place)
+    × Waits tree there activation behind callers
+    × ((operands : List Argument) (s : State) → outer operands s ≡
+    pending_of there behind (reverse pending.items) operands s)
 
--- the interpreter has what a state has, but for its entries and what lasts, finds the variables of an environment, and
+-- the interpreter has what a state has, but for its entries and what lasts, finds the variables and the records, and
 -- its callers are those that wait; an activation may hold as many others as turns are left, and each used one
 abbrev pub Agrees : Surroundings → Resumption → Run → State → Type 0
 Agrees env outer run s = record {
@@ -458,6 +512,7 @@ Agrees env outer run s = record {
   output : run.output.items ≡ s.output;
   turns : run.turns ≡ s.turns;
   activations : suc run.called ≡ s.activations;
+  records : records_in run.activation ≡ env.records;
 }
 
 -- what a run has still to do, from a state

@@ -8,8 +8,10 @@ use Rattle.std.specs.declared.alloc.Global.{Global}
 use Rattle.std.specs.declared.boxed.Box.{Box}
 use Rattle.typed_tree.specs.declared.tree.Assignment.{Assignment}
 use Rattle.typed_tree.specs.declared.tree.Copying.{Copying}
+use Rattle.typed_tree.specs.declared.tree.Designator.{Designator}
 use Rattle.typed_tree.specs.declared.tree.ProcedureCall.{ProcedureCall}
 use Rattle.typed_tree.specs.declared.tree.Width.{Width}
+use Rattle.typed_tree.specs.declared.tree.WithRecord.{WithRecord}
 use Rattle.typed_tree.specs.declared.tree.WriteParameter.{WriteParameter}
 use Rattle.typed_tree.specs.declared.tree.Written.{Written}
 use Rattle.typed_tree.specs.declared.tree.Written.TheVariants.{Ordinal, String}
@@ -21,17 +23,18 @@ use Rattle.typed_tree.specs.declared.tree.Link.{Link}
 use Rattle.typed_tree.specs.declared.tree.Passed.{Passed}
 use Rattle.typed_tree.specs.declared.tree.Expr.TheOpen.{Expr-F, Passed-F, Link-F}
 use Rattle.typed_tree.specs.declared.tree.Expr.TheOpen.Expr-F.{Constant, Variable, Monadic, Chain, Compare}
-use Rattle.typed_tree.specs.declared.tree.Expr.TheOpen.Expr-F.{Call as CallOf}
+use Rattle.typed_tree.specs.declared.tree.Expr.TheOpen.Expr-F.{Call as CallOf, Set}
 use Rattle.typed_tree.specs.declared.tree.Expr.TheOpen.Passed-F.{Value as PassedValue, Whole as PassedWhole, Reference}
 use Rattle.typed_tree.specs.declared.tree.Expr.TheFolds.{fold-Expr, fold-Passed, fold-Link}
 use Rattle.typed_tree.specs.declared.tree.Stmt.{Stmt}
 use Rattle.typed_tree.specs.declared.tree.Stmt.TheOpen.{Stmt-F}
 use Rattle.typed_tree.specs.declared.tree.Stmt.TheOpen.Stmt-F.{Empty, Assign, Write, Compound, If, While, Repeat, For}
-use Rattle.typed_tree.specs.declared.tree.Stmt.TheOpen.Stmt-F.{Case, Copy, Call as Calling}
+use Rattle.typed_tree.specs.declared.tree.Stmt.TheOpen.Stmt-F.{Case, Copy, Call as Calling, With}
 use Rattle.typed_tree.specs.declared.tree.Stmt.TheFolds.{fold-Stmt}
 use Rattle.meaning.specs.declared.outcome.Ending.{Ending}
 use Rattle.interpreter.specs.declared.interpreter.Run.{Run}
 use Rattle.interpreter_state.specs.declared.work.Caller.{Caller}
+use Rattle.interpreter_state.specs.declared.work.Caller.TheVariants as caller
 use Rattle.interpreter_state.specs.declared.work.Work.{Work}
 use Rattle.interpreter_state.specs.declared.work.Work.TheVariants as work
 
@@ -47,6 +50,10 @@ abbrev pub whole_size : Whole → List ℕ → ℕ
 whole_size (Text n characters) indexes = 0
 whole_size (VariableOf a type_id cells defined) indexes = 2 + access_size a.selectors.items indexes
 
+-- the designators of a set constructor: two are made for each of them, and one for each expression
+abbrev pub gather_size : List Designator → List ℕ → ℕ
+gather_size designators members = length designators + length designators + row_size 1 members
+
 abbrev pub call_size : List ℕ → ℕ
 call_size actuals = 2 + row_size 1 actuals
 
@@ -60,11 +67,12 @@ passed_size (Reference type_id a indexes) = 1 + access_size a.selectors.items in
 
 abbrev pub expression_size : Expr-F ℕ ℕ ℕ → ℕ
 expression_size (Constant n v) = 0
-expression_size (Variable a indexes d) = 2 + access_size a.selectors.items indexes.items
+expression_size (Variable a indexes holds d) = 2 + access_size a.selectors.items indexes.items
 expression_size (Monadic n operation operand) = 2 + operand.value
 expression_size (Chain first rest) = 2 + first.value + row_size 3 rest.items
 expression_size (Compare n relation left left_indexes right right_indexes) =
     4 + whole_size left left_indexes.items + whole_size right right_indexes.items
+expression_size (Set n designators members) = 1 + gather_size designators.items members.items
 expression_size (CallOf call actuals) = call_size actuals.items
 
 abbrev pub size_of_expression : Expr → ℕ
@@ -106,6 +114,16 @@ size_of_copying copying =
 abbrev pub size_of_procedure : ProcedureCall → ℕ
 size_of_procedure procedure = 1 + call_size (map size_of_passed procedure.actuals.items)
 
+abbrev pub size_of_gather : List Designator → List Expr → ℕ
+size_of_gather designators members = gather_size designators (map size_of_expression members)
+
+-- the records of a with, and its statement
+abbrev pub size_of_record : WithRecord → ℕ
+size_of_record one = size_of_selectors one.access.selectors.items one.indexes.items
+
+abbrev pub with_size : List ℕ → ℕ → ℕ
+with_size records body = 1 + body + row_size 4 records
+
 -- the statement behind `else`, or nothing
 abbrev pub alternative_size : Option (Box ℕ Global) → ℕ
 alternative_size None = 0
@@ -124,6 +142,7 @@ statement_size (While head body) = 2 + size_of_expression head.condition
 statement_size (Repeat head statements) = 0
 statement_size (For head body) = 3 + size_of_expression head.first.value + size_of_expression head.last.value
 statement_size (Case head arms) = 2 + size_of_expression head.index + row_size 1 arms.items
+statement_size (With head body) = with_size (map size_of_record head.records.items) body.value
 
 abbrev pub size_of_statement : Stmt → ℕ
 size_of_statement = fold-Stmt ℕ statement_size
@@ -132,12 +151,15 @@ abbrev pub size_of_alternative : Option (Box Stmt Global) → ℕ
 size_of_alternative None = 0
 size_of_alternative (Some statement) = size_of_statement statement.value
 
+abbrev pub size_of_with : List WithRecord → Stmt → ℕ
+size_of_with records body = with_size (map size_of_record records) (size_of_statement body)
+
 abbrev pub size_of : Work → ℕ
 size_of (work.Statements statements) = row_size 2 (map size_of_statement statements.now)
 size_of (work.Statement statement) = size_of_statement statement.now
 size_of (work.Choose consequence alternative) =
     1 + size_of_statement consequence.now + size_of_alternative alternative.now
-size_of (work.Case head arms) = row_size 1 (map size_of_statement arms.now)
+size_of (work.Case head arms) = row_size 1 (map size_of_statement arms.now.items)
 size_of (work.Parameters parameters ends_line) = row_size 1 (map size_of_parameter parameters.now)
 size_of (work.Width width representation) = size_of_width width.now
 size_of (work.Select selectors indexes) = size_of_selectors selectors.now indexes.now
@@ -146,15 +168,19 @@ size_of (work.Value expression) = size_of_expression expression.now
 size_of (work.Links links) = row_size 3 (map size_of_link links.now)
 size_of (work.RightSide number relation right indexes) = 2 + size_of_whole right.now indexes.now
 size_of (work.Pass actuals) = row_size 1 (map size_of_passed actuals.now)
+size_of (work.Gather designators members) = size_of_gather designators.now members.now
+size_of (work.With records body) = size_of_with records.now body.now.value
+size_of (work.Within records body) = 2 + size_of_with records.now body.now.value
 size_of other = 0
 
 -- pieces of work, each counted with those that it makes
 abbrev pub works_size : List Work → ℕ
 works_size works = sum_by (λ piece. 1 + size_of piece) works
 
--- an activation that waits, counted with the work that is left in it
+-- what waits, counted with the work that is left in it
 abbrev pub caller_size : Caller → ℕ
-caller_size caller = 1 + works_size caller.pending.items
+caller_size (caller.Call activation pending) = 1 + works_size pending.items
+caller_size (caller.With pending) = 1 + works_size pending.items
 
 -- all that a run has still to do before a turn is used
 abbrev pub pending_size : Run → ℕ

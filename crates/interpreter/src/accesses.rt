@@ -10,7 +10,7 @@ use interpreter_state::operand::Operand;
 use interpreter_state::store::part;
 use interpreter_state::work::{Work, put};
 use meaning::outcome::Ending;
-use operations::ordinals::{tested_number, value_in};
+use operations::ordinals::{tested_index, value_in};
 use operations::rows::row_of;
 use std::alloc::AllocError;
 use typed_tree::tree::{Access, Expr, RangeTest, Selector, Whole};
@@ -29,7 +29,7 @@ impl<'t> Run<'t, '_> {
             self.old result self.new }
         ensures does { Does (λ env. accessing env access.now indexes.now later.entry) self.old result self.new }
     {
-        let place = self.place(access.root)?;
+        let place = self.start(access)?;
         self.push(Operand::Place(place))?;
         self.plan(
             Work::Select {
@@ -96,8 +96,8 @@ impl<'t> Run<'t, '_> {
         ensures fewer { Lightens (Work.Index fits) self.old result self.new }
         ensures does { Does (λ env. resumed env (Work.Index fits)) self.old result self.new }
     {
-        let index = self.popped_number();
-        match tested_number(fits, index) {
+        let index = self.popped();
+        match tested_index(fits, index) {
             Ok(number) => {
                 self.extend(Step::Element(number))?;
                 Ok(None)

@@ -131,7 +131,7 @@ impl<'t> Run<'t, '_> {
         self.called = called;
         let activation = mem::replace(&mut self.activation, activation);
         let pending = mem::replace(&mut self.pending, Vec::new(self.alloc));
-        self.callers.push(Caller {
+        self.callers.push(Caller::Call {
             activation,
             pending,
         })?;
@@ -179,21 +179,33 @@ impl<'t> Run<'t, '_> {
         }
     }
 
-    // The activation ends, and the one that called it goes on with its result.
+    // The activation ends, and the one that called it goes on with its result; or the statement of a with ends, and
+    // what stands behind it follows.
     pub(crate) fn leave(&mut self) -> Result<Option<Ending>, AllocError>
         ensures fewer { Shrinks self.old result self.new }
         ensures does { Leaves self.old result self.new }
     {
-        match self.result()? {
-            Ok(value) => match self.callers.pop() {
-                Some(caller) => {
-                    self.activation = caller.activation;
-                    self.pending = caller.pending;
-                    self.go_on(Ok(value))
+        match self.callers.pop() {
+            Some(
+                Caller::Call {
+                    activation,
+                    pending,
+                },
+            ) => {
+                let answer = self.result()?;
+                self.activation = activation;
+                self.pending = pending;
+                match answer {
+                    Ok(value) => self.go_on(Ok(value)),
+                    Err(site) => Ok(Some(Ending::Error(site))),
                 }
-                None => Ok(Some(Ending::Finished)),
-            },
-            Err(site) => Ok(Some(Ending::Error(site))),
+            }
+            Some(Caller::With { pending }) => {
+                self.activation.close();
+                self.pending = pending;
+                Ok(None)
+            }
+            None => Ok(Some(Ending::Finished)),
         }
     }
 

@@ -1,14 +1,17 @@
-ghost use Rattle.interpreter.specs.Pending.{Does, resumed};
-ghost use Rattle.interpreter.specs.Size.{Lightens};
+ghost use Rattle.std.specs.Prelude.{◌+◌, ◌∷◌};
+ghost use Rattle.interpreter.specs.Pending.{Does, constructing, gathering, resumed};
+ghost use Rattle.interpreter.specs.Size.{Adds, Lightens, size_of_gather};
 
 use crate::interpreter::Run;
+use interpreter_state::operand::Operand;
 use interpreter_state::work::{Work, put};
 use meaning::outcome::Ending;
 use meaning::store::{Ordinal, Value};
-use operations::ordinals::{combined_number, operated_number};
+use operations::ordinals::operated_number;
 use operations::rows::compared_number;
+use operations::sets::{operated_value, with_one, with_range};
 use std::alloc::AllocError;
-use typed_tree::tree::{Dyadic, Expr, Link, Monadic, Relation, Whole};
+use typed_tree::tree::{Designator, Dyadic, Expr, Link, Monadic, Relation, Whole};
 
 // The steps of expressions.
 impl<'t> Run<'t, '_> {
@@ -22,6 +25,7 @@ impl<'t> Run<'t, '_> {
                 access,
                 indexes,
                 defined,
+                ..
             } => self.access(access, indexes, Work::Fetch { defined: *defined }),
             Expr::Monadic {
                 operation,
@@ -48,6 +52,11 @@ impl<'t> Run<'t, '_> {
                     indexes: right_indexes,
                 },
             ),
+            Expr::Set {
+                designators,
+                members,
+                ..
+            } => self.constructor(designators, members),
             Expr::Call { call, actuals } => self.call(call, actuals),
         }
     }
@@ -77,9 +86,117 @@ impl<'t> Run<'t, '_> {
         ensures fewer { Lightens (Work.Combine operation) self.old result self.new }
         ensures does { Does (λ env. resumed env (Work.Combine operation)) self.old result self.new }
     {
-        let right = self.popped_number();
-        let left = self.popped_number();
-        self.go_on_with(combined_number(operation, left, right))
+        let right = self.popped();
+        let left = self.popped();
+        self.go_on(operated_value(operation, left, right))
+    }
+
+    // A set constructor, whose members are added to the empty set.
+    fn constructor(
+        &mut self,
+        designators: &'t [Designator],
+        members: &'t [Expr],
+    ) -> Result<Option<Ending>, AllocError>
+        ensures size { Adds (1 + size_of_gather designators.now members.now) self.old result self.new }
+        ensures does { Does (λ env. constructing env designators.now members.now) self.old result self.new }
+    {
+        self.push(Operand::Value(Value::Members(0)))?;
+        self.do_next(Work::Gather {
+            designators,
+            members,
+        })
+    }
+
+    pub(crate) fn gather(
+        &mut self,
+        designators: &'t [Designator],
+        members: &'t [Expr],
+    ) -> Result<Option<Ending>, AllocError>
+        ensures fewer { Lightens (Work.Gather designators.entry members.entry) self.old result self.new }
+        ensures does { Does (λ env. resumed env (Work.Gather designators.entry members.entry))
+            self.old result self.new }
+    {
+        match designators.split_first() {
+            Some((Designator::Single { site }, rest)) => self.single(*site, rest, members),
+            Some((Designator::Range { site }, rest)) => self.range(*site, rest, members),
+            None => Ok(None),
+        }
+    }
+
+    // A single member, and then the rest of the designators.
+    fn single(
+        &mut self,
+        site: u32,
+        rest: &'t [Designator],
+        members: &'t [Expr],
+    ) -> Result<Option<Ending>, AllocError>
+        ensures size { Adds (2 + size_of_gather rest.now members.now) self.old result self.new }
+        ensures does { Does (λ env. gathering env (Designator.Single site ∷ rest.now) members.now)
+            self.old result self.new }
+    {
+        match members.split_first() {
+            Some((member, others)) => {
+                put(
+                    &mut self.pending,
+                    Work::Gather {
+                        designators: rest,
+                        members: others,
+                    },
+                )?;
+                self.plan(Work::Value(member), Work::AddMember { site })
+            }
+            None => Ok(None),
+        }
+    }
+
+    // Several members, and then the rest of the designators.
+    fn range(
+        &mut self,
+        site: u32,
+        rest: &'t [Designator],
+        members: &'t [Expr],
+    ) -> Result<Option<Ending>, AllocError>
+        ensures size { Adds (2 + size_of_gather rest.now members.now) self.old result self.new }
+        ensures does { Does (λ env. gathering env (Designator.Range site ∷ rest.now) members.now)
+            self.old result self.new }
+    {
+        let Some((first, behind)) = members.split_first() else {
+            return Ok(None);
+        };
+        match behind.split_first() {
+            Some((last, others)) => {
+                put(
+                    &mut self.pending,
+                    Work::Gather {
+                        designators: rest,
+                        members: others,
+                    },
+                )?;
+                self.plan_values(first, last, Work::AddRange { site })
+            }
+            None => Ok(None),
+        }
+    }
+
+    // Adds the topmost value to the set below it.
+    pub(crate) fn add_member(&mut self, site: u32) -> Result<Option<Ending>, AllocError>
+        ensures fewer { Lightens (Work.AddMember site) self.old result self.new }
+        ensures does { Does (λ env. resumed env (Work.AddMember site)) self.old result self.new }
+    {
+        let member = self.popped_number();
+        let set = self.popped_set();
+        self.go_on_with_set(with_one(site, member, set))
+    }
+
+    // Adds all from the second topmost value to the topmost one to the set below them.
+    pub(crate) fn add_range(&mut self, site: u32) -> Result<Option<Ending>, AllocError>
+        ensures fewer { Lightens (Work.AddRange site) self.old result self.new }
+        ensures does { Does (λ env. resumed env (Work.AddRange site)) self.old result self.new }
+    {
+        let last = self.popped_number();
+        let first = self.popped_number();
+        let set = self.popped_set();
+        self.go_on_with_set(with_range(site, first, last, set))
     }
 
     // The right side of a relation whose left side is topmost.

@@ -63,7 +63,7 @@ pub(crate) struct Run<'t, 'i> {
     pub(crate) called: u64,
     // The activation whose work is done.
     pub(crate) activation: Activation,
-    // Those that wait for it, the one that called it last.
+    // What waits for the work that is pending, the latest last.
     pub(crate) callers: Vec<Caller<'t>>,
     pub(crate) operands: Vec<Operand>,
     pub(crate) pending: Vec<Work<'t>>,
@@ -179,6 +179,14 @@ impl<'t> Run<'t, '_> {
             Work::Test(fits) => self.test(fits),
             Work::Activate { block, count } => self.activate(block, count),
             Work::Discard => self.discard(),
+            Work::Gather {
+                designators,
+                members,
+            } => self.gather(designators, members),
+            Work::AddMember { site } => self.add_member(site),
+            Work::AddRange { site } => self.add_range(site),
+            Work::With { records, body } => self.with(records, body),
+            Work::Within { records, body } => self.within(records, body),
         }
     }
 

@@ -1,8 +1,9 @@
 ghost use Rattle.std.specs.Prelude.{◌≡◌, ◌∷◌, OnOk, option_map};
-ghost use Rattle.meaning.specs.Effect.{number_of};
+ghost use Rattle.meaning.specs.Effect.{members_of, number_of};
 ghost use Rattle.operations.specs.Answers.{answered};
 ghost use Rattle.interpreter_state.specs.Views.{operand_seen, place_seen};
-ghost use Rattle.interpreter.specs.Pending.{Does, below_top, giving, giving_number, operands_of, top_in_hand, top_of};
+ghost use Rattle.interpreter.specs.Pending.{Does, below_top, giving, giving_number, giving_set, operands_of};
+ghost use Rattle.interpreter.specs.Pending.{top_in_hand, top_of};
 ghost use Rattle.interpreter.specs.Pending.{top_place, top_row};
 ghost use Rattle.interpreter.specs.Size.{Adds};
 
@@ -12,6 +13,7 @@ use interpreter_state::store::Place;
 use meaning::outcome::Ending;
 use meaning::store::{Ordinal, Value};
 use operations::ordinals::number_of;
+use operations::sets::members_of;
 use std::alloc::AllocError;
 
 // The stack of operands. Each piece of work that takes one follows work that left it.
@@ -47,6 +49,23 @@ impl Run<'_, '_> {
         }
     }
 
+    // Goes on with a set, or stops at the site of its error.
+    pub(crate) fn go_on_with_set(
+        &mut self,
+        set: Result<u128, u32>,
+    ) -> Result<Option<Ending>, AllocError>
+        ensures size { Adds 0 self.old result self.new }
+        ensures does { Does (λ env. giving_set (answered set)) self.old result self.new }
+    {
+        match set {
+            Ok(set) => {
+                self.push(Operand::Value(Value::Members(set)))?;
+                Ok(None)
+            }
+            Err(site) => Ok(Some(Ending::Error(site))),
+        }
+    }
+
     pub(crate) fn push(&mut self, operand: Operand) -> Result<(), AllocError>
         ensures same { self.new ≡ record self.old { operands = self.new.operands } }
         ensures top { OnOk result (operands_of self.new ≡ operand_seen operand ∷ operands_of self.old) }
@@ -74,6 +93,15 @@ impl Run<'_, '_> {
         ensures below { operands_of self.new ≡ below_top (operands_of self.old) }
     {
         number_of(self.popped())
+    }
+
+    // The set that the topmost value is.
+    pub(crate) fn popped_set(&mut self) -> u128
+        ensures same { self.new ≡ record self.old { operands = self.new.operands } }
+        ensures top { result ≡ members_of (top_of (operands_of self.old)) }
+        ensures below { operands_of self.new ≡ below_top (operands_of self.old) }
+    {
+        members_of(self.popped())
     }
 
     // The topmost place.

@@ -6,7 +6,7 @@ ghost use Rattle.interpreter.specs.Size.{Adds, Lightens, size_of_assignment, siz
 ghost use Rattle.interpreter.specs.Size.{size_of_parameter, size_of_procedure, size_of_whole, size_of_width};
 
 use crate::interpreter::Run;
-use interpreter_state::work::{Rounds, Work, put};
+use interpreter_state::work::{Caller, Rounds, Work, put};
 use meaning::outcome::Ending;
 use meaning::store::{Ordinal, Value};
 use operations::arms::arm_at;
@@ -16,9 +16,10 @@ use operations::ordinals::{
 use operations::rows::length_of;
 use operations::text::{write_ordinal, write_row, write_row_in};
 use std::alloc::AllocError;
+use std::mem;
 use typed_tree::tree::{
     Assignment, CaseHead, Copying, Expr, ForHead, LoopHead, ProcedureCall, Representation, Stmt,
-    Whole, Width, WriteParameter, Written,
+    Whole, Width, WithRecord, WriteParameter, Written,
 };
 
 // The steps of statements.
@@ -73,6 +74,7 @@ impl<'t> Run<'t, '_> {
             Stmt::Case { head, arms } => {
                 self.plan(Work::Value(&head.index), Work::Case { head, arms })
             }
+            Stmt::With { head, body } => self.with(&head.records, body),
         }
     }
 
@@ -167,10 +169,10 @@ impl<'t> Run<'t, '_> {
     fn repeat_round(
         &mut self,
         head: &'t LoopHead,
-        statements: &'t [Stmt],
+        statements: &'t Vec<Stmt>,
     ) -> Result<Option<Ending>, AllocError>
         ensures size { Adds 0 self.old result self.new }
-        ensures does { Does (λ env. repeating env head.now statements.now) self.old result self.new }
+        ensures does { Does (λ env. repeating env head.now statements.now.items) self.old result self.new }
     {
         self.tested_turn(
             Work::Statements(statements),
@@ -182,7 +184,7 @@ impl<'t> Run<'t, '_> {
     pub(crate) fn unless(
         &mut self,
         head: &'t LoopHead,
-        statements: &'t [Stmt],
+        statements: &'t Vec<Stmt>,
     ) -> Result<Option<Ending>, AllocError>
         ensures fewer { Lightens (Work.Unless head.entry statements.entry) self.old result self.new }
         ensures does { Does (λ env. resumed env (Work.Unless head.entry statements.entry)) self.old result self.new }
@@ -277,7 +279,7 @@ impl<'t> Run<'t, '_> {
     pub(crate) fn case(
         &mut self,
         head: &'t CaseHead,
-        arms: &'t [Stmt],
+        arms: &'t Vec<Stmt>,
     ) -> Result<Option<Ending>, AllocError>
         ensures fewer { Lightens (Work.Case head.entry arms.entry) self.old result self.new }
         ensures does { Does (λ env. resumed env (Work.Case head.entry arms.entry)) self.old result self.new }
@@ -287,6 +289,44 @@ impl<'t> Run<'t, '_> {
             Some(arm) => self.do_next(Work::Statement(arm)),
             None => Ok(Some(Ending::Error(head.site))),
         }
+    }
+
+    // The records of a with, one after another, and then its statement.
+    pub(crate) fn with(
+        &mut self,
+        records: &'t [WithRecord],
+        body: &'t Box<Stmt>,
+    ) -> Result<Option<Ending>, AllocError>
+        ensures fewer { Lightens (Work.With records.entry body.entry) self.old result self.new }
+        ensures does { Does (λ env. resumed env (Work.With records.entry body.entry)) self.old result self.new }
+    {
+        match records.split_first() {
+            Some((first, rest)) => self.access(
+                &first.access,
+                &first.indexes,
+                Work::Within {
+                    records: rest,
+                    body,
+                },
+            ),
+            None => self.do_next(Work::Statement(body)),
+        }
+    }
+
+    // The record whose place is topmost, and in it further ones and the statement; what is pending waits for these.
+    pub(crate) fn within(
+        &mut self,
+        records: &'t [WithRecord],
+        body: &'t Box<Stmt>,
+    ) -> Result<Option<Ending>, AllocError>
+        ensures fewer { Lightens (Work.Within records.entry body.entry) self.old result self.new }
+        ensures does { Does (λ env. resumed env (Work.Within records.entry body.entry)) self.old result self.new }
+    {
+        let place = self.popped_place();
+        self.activation.open(place)?;
+        let pending = mem::replace(&mut self.pending, Vec::new(self.alloc));
+        self.callers.push(Caller::With { pending })?;
+        self.do_next(Work::With { records, body })
     }
 
     pub(crate) fn parameters(

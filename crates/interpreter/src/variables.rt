@@ -1,13 +1,15 @@
 ghost use Rattle.std.specs.Prelude.{◌≡◌, IfOk, OnOk, option_map, slice_get};
 ghost use Rattle.types.specs.Components.{components_of};
 ghost use Rattle.meaning.specs.Store.{Store, forgotten, held, kept};
-ghost use Rattle.interpreter_state.specs.Views.{place_of, place_seen, visible_in};
+ghost use Rattle.typed_tree.specs.Accesses.{origin_of};
+ghost use Rattle.interpreter_state.specs.Views.{place_of, place_seen, start_of, visible_in};
 ghost use Rattle.interpreter.specs.Pending.{StoreAgrees, held_all, items_of, kept_all};
 
 use crate::interpreter::Run;
 use interpreter_state::store::{Place, component as component_of};
 use meaning::store::Value;
 use std::alloc::AllocError;
+use typed_tree::tree::Access;
 use types::TypeId;
 
 // The variables and their components.
@@ -19,6 +21,15 @@ impl Run<'_, '_> {
     {
         self.activation
             .place(self.alloc, &self.tree.variables, root)
+    }
+
+    // The place at which an access begins, if there is one.
+    pub(crate) fn start(&self, access: &Access) -> Result<Option<Place>, AllocError>
+        ensures { IfOk result (λ place. option_map place_seen place
+            ≡ start_of self.now.activation self.now.tree.now.variables.items (origin_of access.now)) }
+    {
+        self.activation
+            .start(self.alloc, &self.tree.variables, access)
     }
 
     // What a place holds, if there is one and it is defined.

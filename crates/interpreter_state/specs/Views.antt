@@ -2,13 +2,15 @@
 -- variables lie that are visible in an activation.
 -- It says nothing of when activations begin and end.
 use Rattle.std.specs.Prelude.{ℕ, pos, List, [], ◌∷◌, Option, Some, None, if◌then◌else◌, map, nat_eq, option_map}
+use Rattle.std.specs.Prelude.{slice_get}
+use Rattle.typed_tree.specs.Accesses.{Origin, AtVariable, AtRecord}
 use Rattle.typed_tree.specs.declared.tree.Variable.{Variable as DeclaredVariable}
 use Rattle.typed_tree.specs.declared.tree.VariableKind.{VariableKind}
 use Rattle.typed_tree.specs.declared.tree.VariableKind.TheVariants as kind
 use Rattle.meaning.specs.declared.store.Value.{Value}
 use Rattle.meaning.specs.declared.store.Value.TheVariants.{Number}
 use Rattle.meaning.specs.Store.{Place}
-use Rattle.meaning.specs.Meaning.{Argument, OfValue, OfRow, OfPlace, own_place, place_passed}
+use Rattle.meaning.specs.Meaning.{Argument, OfValue, OfRow, OfPlace, own_place, place_at, place_passed}
 use Rattle.interpreter_state.specs.declared.store.Place.{Place as KeptPlace}
 use Rattle.interpreter_state.specs.declared.operand.Operand.{Operand}
 use Rattle.interpreter_state.specs.declared.operand.Operand.TheVariants as operand
@@ -54,6 +56,10 @@ seen_as seen =
 abbrev pub visible_in : Activation → List Visible
 visible_in activation = map seen_as activation.visible.items
 
+-- where the records lie of the with statements that are executed in an activation
+abbrev pub records_in : Activation → List (Option Place)
+records_in activation = map (option_map place_seen) activation.records.items
+
 -- the places that are passed for formal parameters; each argument stands at the place of its parameter
 abbrev pub pairs_passed : List ℕ → List Argument → List (ℕ × Option Place)
 pairs_passed [] arguments = []
@@ -83,3 +89,9 @@ declared_in (seen ∷ others) root variable =
 abbrev pub place_of : List Visible → ℕ → Option DeclaredVariable → Option Place
 place_of visible root None = None
 place_of visible root (Some variable) = declared_in visible root variable
+
+-- the place at which an access begins in an activation, if there is one
+abbrev pub start_of : Activation → List DeclaredVariable → Origin → Option Place
+start_of activation variables (AtVariable root) =
+    place_of (visible_in activation) root (slice_get variables root)
+start_of activation variables (AtRecord root slot path) = place_at (slice_get (records_in activation) slot)

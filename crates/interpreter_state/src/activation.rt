@@ -1,12 +1,16 @@
-ghost use Rattle.std.specs.Prelude.{◌≡◌, [], ◌∷◌, ◌++◌, ◌-◌, IfOk, None, OnOk, filter, map, option_map, slice_get};
+ghost use Rattle.std.specs.Prelude.{◌≡◌, [], ◌∷◌, ◌++◌, ◌-◌, IfOk, List, None, OnOk, Option, filter, map, option_map};
+ghost use Rattle.std.specs.Prelude.{slice_get};
+ghost use Rattle.typed_tree.specs.Accesses.{origin_of};
 ghost use Rattle.typed_tree.specs.WellFormed.{is_one_of};
 ghost use Rattle.interpreter_state.specs.Views.{declared_in, home_in, operand_seen, pairs_passed, passed_at, place_of};
-ghost use Rattle.interpreter_state.specs.Views.{place_seen, reference_seen, seen_as, visible_in};
+ghost use Rattle.meaning.specs.Meaning.{place_at};
+ghost use Rattle.meaning.specs.Store.{Place as MeantPlace};
+ghost use Rattle.interpreter_state.specs.Views.{place_seen, records_in, reference_seen, seen_as, start_of, visible_in};
 
 use crate::operand::Operand;
 use crate::store::{Place, copied};
 use std::alloc::{AllocError, Global};
-use typed_tree::tree::{FunctionResult, Heading, Variable, VariableKind};
+use typed_tree::tree::{Access, Base, FunctionResult, Heading, Variable, VariableKind};
 
 /// What was passed for a formal parameter.
 #[derive(Drop)]
@@ -37,6 +41,8 @@ pub struct Activation {
     pub depth: u64,
     /// The result of its block, which is defined at its end.
     pub result: Option<FunctionResult>,
+    /// Where the records lie of the with statements that are executed in it, by their slots (6.8.3.10).
+    pub records: Vec<Option<Place>>,
 }
 
 impl Reference {
@@ -91,11 +97,13 @@ impl Activation {
         ensures visible { result.visible.items ≡ [] }
         ensures depth { result.depth ≡ depth }
         ensures told { result.result ≡ None }
+        ensures records { records_in result ≡ [] }
     {
         Activation {
             visible: Vec::new(alloc),
             depth,
             result: None,
+            records: Vec::new(alloc),
         }
     }
 
@@ -133,6 +141,7 @@ impl Activation {
             } ∷ filter (λ seen. is_one_of heading.now.around.items seen.block) (visible_in self.now)) }
         ensures depth { IfOk result (λ inner. inner.depth ≡ self.now.depth - 1) }
         ensures told { IfOk result (λ inner. inner.result ≡ heading.now.result) }
+        ensures records { IfOk result (λ inner. records_in inner ≡ []) }
     {
         let references = references_of(alloc, &heading.parameters, arguments)?;
         let mut visible = Vec::new(alloc);
@@ -146,7 +155,54 @@ impl Activation {
             visible,
             depth: self.depth.saturating_sub(1),
             result: heading.result,
+            records: Vec::new(alloc),
         })
+    }
+
+    /// The place at which an access begins, if there is one.
+    pub fn start(
+        &self,
+        alloc: Global,
+        variables: &[Variable],
+        access: &Access,
+    ) -> Result<Option<Place>, AllocError>
+        ensures { IfOk result (λ place. option_map place_seen place
+            ≡ start_of self.now variables.now (origin_of access.now)) }
+    {
+        match &access.base {
+            Base::Variable => self.place(alloc, variables, access.root),
+            Base::Record { slot, .. } => self.record(alloc, *slot),
+        }
+    }
+
+    // Where the record of a slot lies, if there is one.
+    fn record(&self, alloc: Global, slot: u32) -> Result<Option<Place>, AllocError>
+        ensures { IfOk result (λ place. option_map place_seen place
+            ≡ place_at (slice_get (records_in self.now) slot)) }
+    {
+        match self.records.get(slot as usize) {
+            Some(place) => copied(alloc, place),
+            None => Ok(None),
+        }
+    }
+
+    /// A record more, in whose with statement what follows is executed.
+    pub fn open(&mut self, place: Option<Place>) -> Result<(), AllocError>
+        ensures same { self.new ≡ record self.old { records = self.new.records } }
+        ensures records { OnOk result (records_in self.new
+            ≡ records_in self.old ++ option_map place_seen place ∷ []) }
+    {
+        self.records.push(place)?;
+        Ok(())
+    }
+
+    /// The latest record goes.
+    pub fn close(&mut self)
+        ensures same { self.new ≡ record self.old { records = self.new.records } }
+        ensures records { (others : List (Option MeantPlace)) (place : Option MeantPlace)
+            → records_in self.old ≡ others ++ place ∷ [] → records_in self.new ≡ others }
+    {
+        self.records.pop();
     }
 }
 

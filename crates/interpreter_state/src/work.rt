@@ -3,8 +3,8 @@ ghost use Rattle.std.specs.Prelude.{◌≡◌, [], ◌∷◌, ◌++◌, OnOk};
 use crate::activation::Activation;
 use std::alloc::AllocError;
 use typed_tree::tree::{
-    CaseHead, Dyadic, Expr, ForHead, Link, LoopHead, Monadic, Passed, RangeTest, Relation,
-    Representation, Selector, Stmt, Whole, Width, WriteParameter,
+    CaseHead, Designator, Dyadic, Expr, ForHead, Link, LoopHead, Monadic, Passed, RangeTest,
+    Relation, Representation, Selector, Stmt, Whole, Width, WithRecord, WriteParameter,
 };
 use types::TypeId;
 
@@ -27,7 +27,7 @@ pub enum Work<'t> {
     /// Further rounds of a repeat, unless the topmost value ends it.
     Unless {
         head: &'t LoopHead,
-        statements: &'t [Stmt],
+        statements: &'t Vec<Stmt>,
     },
     /// The rounds of a for that are left.
     For {
@@ -38,7 +38,7 @@ pub enum Work<'t> {
     /// The arms of a case, whose index is topmost.
     Case {
         head: &'t CaseHead,
-        arms: &'t [Stmt],
+        arms: &'t Vec<Stmt>,
     },
     /// The parameters of a write, one after another, and behind them the line end of a writeln.
     Parameters {
@@ -113,6 +113,29 @@ pub enum Work<'t> {
     },
     /// Drops the topmost value.
     Discard,
+    /// Further members of the set that is topmost, by their designators.
+    Gather {
+        designators: &'t [Designator],
+        members: &'t [Expr],
+    },
+    /// Tests the topmost value as a member of a set, and adds it to the one below it.
+    AddMember {
+        site: u32,
+    },
+    /// Tests the two topmost values as the first and the last member, and adds all between them to the set below them.
+    AddRange {
+        site: u32,
+    },
+    /// The records of a with that are left, and its statement.
+    With {
+        records: &'t [WithRecord],
+        body: &'t Box<Stmt>,
+    },
+    /// The record whose place is topmost, and then further ones and the statement.
+    Within {
+        records: &'t [WithRecord],
+        body: &'t Box<Stmt>,
+    },
 }
 
 /// Which rounds of a for are left.
@@ -124,11 +147,18 @@ pub enum Rounds {
     Behind { value: i32, last: i32 },
 }
 
-/// An activation that waits for one inside it, with the work that is left in it, the next on top.
+/// What waits for the work in hand, with the work that is left in it, the next on top.
 #[derive(Drop)]
-pub struct Caller<'t> {
-    pub activation: Activation,
-    pub pending: Vec<Work<'t>>,
+pub enum Caller<'t> {
+    /// An activation, for one that it called.
+    Call {
+        activation: Activation,
+        pending: Vec<Work<'t>>,
+    },
+    /// What stands behind a statement of a with, in the same activation.
+    With {
+        pending: Vec<Work<'t>>,
+    },
 }
 
 /// Puts a piece of work on top of what is left.

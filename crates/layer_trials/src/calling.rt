@@ -1,9 +1,9 @@
 //! Calls and returns of routines on the machine. What each row has to give was worked out by hand from the machine's
 //! table.
 
-use crate::assembling::{RunRow, assembled, row_told};
 use std::alloc::Global;
 use std::test::Fail;
+use test_words::assembling::{RunRow, assembled, row_told};
 use test_words::machines::run_told;
 use test_words::rows::all_hold;
 

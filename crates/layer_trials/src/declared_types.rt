@@ -121,7 +121,7 @@ fn components_lie_as_they_should(rt: HostRuntime) -> Result<(), Fail> {
 fn laws_of_types_are_called(_rt: HostRuntime) -> Result<(), Fail> {
     laws::components_are_cells();
     laws::components_stand_once();
-    laws::ordinals_have_one_component();
+    laws::scalars_have_one_component();
     laws::elements_lie_in_order();
     laws::fields_lie_in_order();
     Ok(())

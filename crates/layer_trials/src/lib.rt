@@ -5,8 +5,6 @@
 #![tactic(auto)]
 
 #[cfg(test)]
-mod assembling;
-#[cfg(test)]
 mod calling;
 #[cfg(test)]
 mod checking;
@@ -25,10 +23,11 @@ mod removal;
 #[cfg(test)]
 mod rows_of_cells;
 #[cfg(test)]
+mod rows_of_sets;
+#[cfg(test)]
 mod running;
 #[cfg(test)]
 mod sources;
-#[cfg(test)]
 #[cfg(test)]
 mod stretches;
 #[cfg(test)]

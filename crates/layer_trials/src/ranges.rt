@@ -1,4 +1,5 @@
 use domain::Domain;
+use domain::hull::Hull;
 use domain::interval::Interval;
 use std::alloc::{AllocError, Global};
 use std::test::Fail;
@@ -129,6 +130,21 @@ fn tells_members_and_inclusion(rt: HostRuntime) {
     assert!(rt; Interval::EMPTY.leq(&range) && !range.leq(&Interval::between(1, 9)));
 }
 
+fn ends(hull: &Hull) -> (i64, i64) {
+    (hull.range().first(), hull.range().last())
+}
+
+#[test]
+fn tells_hulls_of_sets(rt: HostRuntime) {
+    let digits = Hull::of(&Interval::between(-1, 9));
+    let from_five = Hull::between(&Interval::between(5, 7), &Interval::between(3, 200));
+    assert!(rt; ends(&digits) == (0, 9) && ends(&from_five) == (5, 127));
+    assert!(rt; ends(&digits.union(&from_five)) == (0, 127));
+    assert!(rt; ends(&digits.intersection(&from_five)) == (5, 9));
+    assert!(rt; ends(&digits.difference(&from_five)) == (0, 9));
+    assert!(rt; !Hull::of(&Interval::EMPTY).is_empty());
+}
+
 fn least_both<D: Domain + Drop>(a: &D, b: &D) -> bool {
     let both = a.join(b);
     a.leq(&both) && a.meet(b).leq(&both)
@@ -137,4 +153,6 @@ fn least_both<D: Domain + Drop>(a: &D, b: &D) -> bool {
 #[test]
 fn is_a_domain(rt: HostRuntime) {
     assert!(rt; least_both(&Interval::between(1, 9), &Interval::INTEGER));
+    let digits = Hull::of(&Interval::between(0, 9));
+    assert!(rt; least_both(&digits, &Hull::of(&Interval::MEMBERS)));
 }

@@ -1,9 +1,9 @@
-use crate::assembling::instructions;
 use check_remover::remove::remove;
 use pcode_assembler::code::{Code, Site};
 use pcode_assembler::instr::Instr;
 use std::alloc::Global;
 use std::test::Fail;
+use test_words::assembling::instructions;
 use test_words::machines::run_told;
 use test_words::rows::all_hold;
 
@@ -57,6 +57,29 @@ static RUNS: [(&[Site], &str); 4] = [
 #[test]
 fn checks_of_open_sites_stay(rt: HostRuntime) -> Result<(), Fail> {
     all_hold(rt.alloc(), &RUNS, rest_told)
+}
+
+/// A range whose end can't be a member, and a set that is too large: with the first check gone the second stops the
+/// run, and with both gone the set is that of the members alone.
+const SETS: &str = "ent 0 2; ldc 1; ldc 200; ckr 0; srg; ckb 1 0 9; \
+    lds fffffffffffffffffffffffffffffffe; seq; ldc 1; wri; stp";
+
+fn sets_told(alloc: Global, open_sites: &&[Site]) -> Result<String, Fail> {
+    let code = rest(alloc, SETS, open_sites)?;
+    let told = run_told(alloc, &code, 6, 100)?;
+    Ok(format!(in alloc; "{} {told}", code.instructions.len())?)
+}
+
+static SET_RUNS: [(&[Site], &str); 4] = [
+    (&[OVERFLOW, FITS], "11 error"),
+    (&[FITS], "10 another stop"),
+    (&[OVERFLOW], "10 error"),
+    (&[], "9 1"),
+];
+
+#[test]
+fn checks_of_sets_are_removed(rt: HostRuntime) -> Result<(), Fail> {
+    all_hold(rt.alloc(), &SET_RUNS, sets_told)
 }
 
 /// A jump to a check at the end, behind a check of the other site.

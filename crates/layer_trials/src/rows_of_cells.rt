@@ -1,8 +1,8 @@
 //! Characters, strings and rows of numbers on the machine; cells by their addresses.
 
-use crate::assembling::assembled;
 use std::alloc::Global;
 use std::test::Fail;
+use test_words::assembling::assembled;
 use test_words::machines::run_told;
 use test_words::rows::all_hold;
 

@@ -1,10 +1,10 @@
-use crate::assembling::{RunRow, assembled, row_told};
 use stack_machine::bytes::{Counted, Feed};
 use stack_machine::laws;
 use stack_machine::machine::Machine;
 use std::alloc::{AllocError, Global};
 use std::io;
 use std::test::Fail;
+use test_words::assembling::{RunRow, assembled, row_told};
 use test_words::machines::{run_told, word_of};
 use test_words::rows::all_hold;
 

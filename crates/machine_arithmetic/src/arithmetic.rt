@@ -78,7 +78,7 @@ pub fn is_true(number: i32) -> bool
 }
 
 /// The number of a Boolean value.
-fn truth(holds: bool) -> i32
+pub fn truth(holds: bool) -> i32
     ensures { result ≡ words.truth holds }
 {
     i32::from(holds)

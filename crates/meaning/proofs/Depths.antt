@@ -1,17 +1,17 @@
 -- How deep activations may stand in one another: each uses a turn, so where the bound is greater than the turns that are
 -- left, a greater one changes nothing, and a call is what an activation is that makes such calls itself. And so more turns
 -- only extend whole runs.
-use Rattle.std.proofs.Common.{◌≡◌, ℕ, zero, suc, ◌+◌, ◌≤◌, ◌<◌, arith, List, ◌∷◌, Option, Some, None, map, slice_get, sym, ◌∙◌, ap, subst, refl}
+use Rattle.std.proofs.Common.{◌≡◌, ℕ, zero, suc, ◌+◌, ◌≤◌, ◌<◌, arith, List, [], ◌∷◌, Option, Some, None, map, slice_get, sym, ◌∙◌, ap, subst, refl}
 use Rattle.typed_tree.specs.declared.tree.Tree.{Tree}
 use Rattle.typed_tree.specs.declared.tree.Block.{Block}
 use Rattle.typed_tree.specs.declared.tree.Expr.{Expr}
 use Rattle.typed_tree.specs.declared.tree.Stmt.{Stmt}
 use Rattle.meaning.specs.declared.outcome.Ending.TheVariants as ending
 use Rattle.meaning.specs.declared.store.Value.{Value}
-use Rattle.meaning.specs.Store.{Environment}
+use Rattle.meaning.specs.Store.{Environment, Place}
 use Rattle.meaning.specs.Effect.{State, Reply, Gives, Stops, Action, Round, ◌>>=◌, and_then, give, stop, another, looping, looped, begin_with, end_with}
 use Rattle.meaning.specs.Meaning.{Argument, Calls, all_of, value_of, effect_of, activated, calls_of, run_of, run, first_state}
-use Rattle.meaning.specs.Laws.{state_after, Extends, TurnsGoOn, TurnsExtendTheOutput, EndingsStay, DepthsAreEnough}
+use Rattle.meaning.specs.Laws.{state_after, Extends, TurnsGoOn, TurnsExtendTheOutput, EndingsStay, DepthsAreEnough, standing}
 use Rattle.meaning.proofs.Walks.{Closed, closed_by_rounds, RelatedCalls, of_value, of_effect, of_statements, of_executed}
 use Rattle.meaning.proofs.Turns.{Extended, extended_give, extended_stop, extended_enter, extended_fetch, extended_store, extended_undefine, extended_write}
 use Rattle.meaning.proofs.Turns.{extended_use_turn, extended_end_with, extended_run, activation_of, output_extended, ending_kept}
@@ -117,29 +117,29 @@ module _ (tree : Tree) where
 
   -- ---- pieces that stand where calls are of a depth, or of a greater one
 
-  pub deep_value : (depth more : ℕ) (visible : Environment) (e : Expr) (s : State) → s.turns < depth
-      → value_of e (record { visible = visible; calls = calls_of tree depth }) s
-      ≡ value_of e (record { visible = visible; calls = calls_of tree (depth + more) }) s
-  deep_value depth more visible e s below =
-      (of_value (Agree depth) (agreed_closed depth) visible (calls_of tree depth) (calls_of tree (depth + more)) (agreed_calls depth more) e s below).0
+  pub deep_value : (depth more : ℕ) (visible : Environment) (records : List (Option Place)) (e : Expr) (s : State) → s.turns < depth
+      → value_of e (standing tree depth visible records) s
+      ≡ value_of e (standing tree (depth + more) visible records) s
+  deep_value depth more visible records e s below =
+      (of_value (Agree depth) (agreed_closed depth) visible (calls_of tree depth) (calls_of tree (depth + more)) (agreed_calls depth more) e records s below).0
 
-  pub deep_effect : (depth more : ℕ) (visible : Environment) (e : Stmt) (s : State) → s.turns < depth
-      → effect_of e (record { visible = visible; calls = calls_of tree depth }) s
-      ≡ effect_of e (record { visible = visible; calls = calls_of tree (depth + more) }) s
-  deep_effect depth more visible e s below =
-      (of_effect (Agree depth) (agreed_closed depth) visible (calls_of tree depth) (calls_of tree (depth + more)) (agreed_calls depth more) e s below).0
+  pub deep_effect : (depth more : ℕ) (visible : Environment) (records : List (Option Place)) (e : Stmt) (s : State) → s.turns < depth
+      → effect_of e (standing tree depth visible records) s
+      ≡ effect_of e (standing tree (depth + more) visible records) s
+  deep_effect depth more visible records e s below =
+      (of_effect (Agree depth) (agreed_closed depth) visible (calls_of tree depth) (calls_of tree (depth + more)) (agreed_calls depth more) e records s below).0
 
-  pub deep_statements : (depth more : ℕ) (visible : Environment) (statements : List Stmt) (s : State) → s.turns < depth
-      → all_of (map effect_of statements) (record { visible = visible; calls = calls_of tree depth }) s
-      ≡ all_of (map effect_of statements) (record { visible = visible; calls = calls_of tree (depth + more) }) s
-  deep_statements depth more visible statements s below =
+  pub deep_statements : (depth more : ℕ) (visible : Environment) (records : List (Option Place)) (statements : List Stmt) (s : State) → s.turns < depth
+      → all_of (map effect_of statements) (standing tree depth visible records) s
+      ≡ all_of (map effect_of statements) (standing tree (depth + more) visible records) s
+  deep_statements depth more visible records statements s below =
       (of_statements (Agree depth) (agreed_closed depth) visible (calls_of tree depth) (calls_of tree (depth + more)) (agreed_calls depth more)
-      statements s below).0
+      statements records s below).0
 
   -- the run of a block
   pub deep_run : (depth more : ℕ) (block : Option Block) (s : State) → s.turns < depth → run_of tree depth block s ≡ run_of tree (depth + more) block s
   deep_run depth more None s below = refl
-  deep_run depth more (Some block) s below = deep_effect depth more _ block.body s below
+  deep_run depth more (Some block) s below = deep_effect depth more _ [] block.body s below
 
 -- a greater bound changes nothing
 pub depths_are_enough : DepthsAreEnough

@@ -1,8 +1,12 @@
 -- The definitions on small rows, worked out by hand.
 use Rattle.std.proofs.Common.{◌≡◌, inl, inr, ℕ, ℤ, ap, refl, true, false, pos, negsuc, List, [], ◌∷◌, Option, Some, None, Box, Vec, Global, codes, map}
 use Rattle.std.proofs.Common.{if◌then◌else◌}
+use Rattle.typed_tree.specs.declared.tree.Designator.{Designator}
+use Rattle.typed_tree.specs.declared.tree.Designator.TheVariants.{Single, Range}
 use Rattle.typed_tree.specs.declared.tree.Dyadic.{Dyadic}
 use Rattle.typed_tree.specs.declared.tree.Relation.{Relation}
+use Rattle.typed_tree.specs.declared.tree.SetRelation.TheVariants as set_relation
+use Rattle.typed_tree.specs.Accesses.{AtRecord}
 use Rattle.typed_tree.specs.declared.tree.Direction.{Direction}
 use Rattle.typed_tree.specs.declared.tree.Direction.TheVariants.{To, DownTo}
 use Rattle.typed_tree.specs.declared.tree.Dyadic.TheVariants as dyadic
@@ -17,6 +21,7 @@ use Rattle.typed_tree.specs.declared.tree.Selector.TheVariants.{Element as Selec
 use Rattle.typed_tree.specs.declared.tree.Expr.{Expr}
 use Rattle.typed_tree.specs.declared.tree.Stmt.TheOpen.Stmt-F.{If}
 use Rattle.typed_tree.specs.declared.tree.Representation.{Representation}
+use Rattle.typed_tree.specs.declared.tree.Scalar.TheVariants as scalar
 use Rattle.typed_tree.specs.declared.tree.Width.{Width}
 use Rattle.typed_tree.specs.declared.tree.Written.TheVariants.{Ordinal}
 use Rattle.types.specs.declared.form.OrdinalRange.{OrdinalRange}
@@ -28,7 +33,7 @@ use Rattle.typed_tree.specs.declared.tree.VariableKind.TheVariants as kind
 use Rattle.meaning.specs.declared.outcome.Ending.{Ending}
 use Rattle.meaning.specs.declared.outcome.Ending.TheVariants.{Error, Finished, More}
 use Rattle.meaning.specs.declared.store.Value.{Value}
-use Rattle.meaning.specs.declared.store.Value.TheVariants.{Number}
+use Rattle.meaning.specs.declared.store.Value.TheVariants.{Number, Members}
 use Rattle.types.specs.declared.form.Step.{Step}
 use Rattle.types.specs.declared.form.Step.TheVariants.{Element, Field}
 use Rattle.meaning.specs.Store.{Place, stored, written, undefined, overlap}
@@ -40,6 +45,7 @@ use Rattle.meaning.specs.Meaning.{Evaluation, Combination, Execution, effect_ste
 use Rattle.meaning.specs.Meaning.{selected, arm_of, Meaning, ended, link_step, in_turn, operated}
 use Rattle.meaning.specs.Meaning.{value_of, compared, order_of, default_width, width_of, written_of, completed, first_state}
 use Rattle.meaning.specs.Meaning.{Surroundings, OfValue, OfPlace, Activation, seen_from, own_place}
+use Rattle.meaning.specs.Meaning.{begun, gathered}
 use Rattle.meaning.specs.Laws.{Extends}
 
 abbrev place : ℕ → List Step → Place
@@ -122,7 +128,7 @@ no_line = refl
 
 -- where no variable is visible and nothing can be called
 nowhere : Surroundings
-nowhere = record { visible = record { variables = λ root. None; types = [] }; calls = λ number arguments caller. stop More }
+nowhere = record { visible = record { variables = λ root. None; types = [] }; records = []; calls = λ number arguments caller. stop More }
 
 -- an activation of the routine of block 3, in the block 2 of the program's; its two parameters have the roots 5 and 6, and
 -- it is called with a value and with the place of root 8, where root 1 lies in the program's activation
@@ -197,7 +203,7 @@ number_told reply = told (and_then reply (λ n. give (Number n)))
 
 -- an operation on one operand with a test for a range, at the site 4
 abbrev tested_for : ℤ → ℤ → Shift → Monadic
-tested_for first last does = monadic.Tested (record { site = 4; range = record { first = first; last = last } }) does
+tested_for first last does = monadic.Tested (record { site = 4; tests = scalar.Ordinal; range = record { first = first; last = last } }) does
 
 -- what an operation on a number tells
 abbrev of_one : Monadic → ℤ → Told
@@ -434,6 +440,7 @@ repeat_wants_more = refl
 everywhere : Surroundings
 everywhere = record {
   visible = record { variables = λ root. Some (place 0 []); types = [] };
+  records = [];
   calls = λ number arguments caller. stop More;
 }
 
@@ -455,9 +462,9 @@ module _ (some : ForHead) where
   abbrev counting : OrdinalRange → Direction → ForHead
   counting range direction = record some {
     control = 0;
-    first = record some.first { fits = record { site = 8; range = range } };
+    first = record some.first { fits = record { site = 8; tests = scalar.Ordinal; range = range } };
     direction = direction;
-    last = record some.last { fits = record { site = 9; range = range } };
+    last = record some.last { fits = record { site = 9; tests = scalar.Ordinal; range = range } };
   }
 
   abbrev counts_out : OrdinalRange → Direction → ℤ → ℤ → Action (Unit {0})
@@ -539,7 +546,7 @@ module _ (one other : Vec ℤ Global) (first : one.items ≡ pos 1 ∷ pos 2 ∷
 
 -- an index within 0 to 1, tested at the site 8
 abbrev element : Selector
-element = SelectElement (record { site = 8; range = booleans }) 2
+element = SelectElement (record { site = 8; tests = scalar.Ordinal; range = booleans }) 2
 
 -- x[1].g[0], where g is the field at place 3: each index leads further
 abbrev access_of : List Evaluation → Reply (Option Place)
@@ -582,3 +589,82 @@ one_stored = record (first_state [] 0) { store = written [] (place 0 (Element (p
 
 one_undefined : read_back (store (Some (place 0 (Element (pos 1) ∷ []))) (Number (pos 5))) ≡ Stops (Error 7) one_stored
 one_undefined = refl
+
+-- a set constructor whose members are these, each tested at the site 5
+abbrev members_told : List Designator → List Evaluation → Told
+members_told designators members = told (and_then (gathered designators members nowhere 0 (first_state [] 0)) (λ set. give (Members set)))
+
+abbrev number : ℤ → Evaluation
+number n = operand (Number n)
+
+-- [1, 3..5] has the bits 1, 3, 4 and 5
+of_one_and_three : members_told (Single 5 ∷ Range 5 ∷ []) (number (pos 1) ∷ number (pos 3) ∷ number (pos 5) ∷ []) ≡ Value_of (Members 58)
+unfolding nowhere
+of_one_and_three = refl
+
+-- [200..-1] is empty, and errs nowhere; [0..128] errs
+nothing_between : members_told (Range 5 ∷ []) (number (pos 200) ∷ number (negsuc 0) ∷ []) ≡ Value_of (Members 0)
+unfolding nowhere
+nothing_between = refl
+
+last_outside : members_told (Range 5 ∷ []) (number (pos 0) ∷ number (pos 128) ∷ []) ≡ End_of (Error 5)
+unfolding nowhere
+last_outside = refl
+
+-- a member is tested before the next one is evaluated, and both ends of a range are evaluated before its test
+first_member_tested : members_told (Single 5 ∷ Single 6 ∷ []) (number (negsuc 0) ∷ nothing_there ∷ []) ≡ End_of (Error 5)
+unfolding nowhere
+first_member_tested = refl
+
+last_end_undefined : members_told (Range 5 ∷ []) (number (pos 128) ∷ nothing_there ∷ []) ≡ End_of (Error 7)
+unfolding nowhere
+last_end_undefined = refl
+
+-- [1, 2] + [2, 3], [1, 2] - [2, 3] and [1, 2] * [2, 3]
+either : of_two dyadic.Union (Members 6) (Members 12) ≡ Value_of (Members 14)
+unfolding nowhere
+either = refl
+
+first_alone : of_two dyadic.Difference (Members 6) (Members 12) ≡ Value_of (Members 2)
+unfolding nowhere
+first_alone = refl
+
+in_both : of_two dyadic.Intersection (Members 6) (Members 12) ≡ Value_of (Members 4)
+unfolding nowhere
+in_both = refl
+
+-- [1] <= [1, 2], but [1, 2] <= [1] is false; 2 is in [1, 2], and 200 and -1 are in no set
+inside : of_two (dyadic.SetRelation set_relation.Included) (Members 2) (Members 6) ≡ Value_of (Number (pos 1))
+unfolding nowhere
+inside = refl
+
+not_inside : of_two (dyadic.SetRelation set_relation.Included) (Members 6) (Members 2) ≡ Value_of (Number (pos 0))
+unfolding nowhere
+not_inside = refl
+
+is_there : of_two dyadic.In (Number (pos 2)) (Members 6) ≡ Value_of (Number (pos 1))
+unfolding nowhere
+is_there = refl
+
+too_large : of_two dyadic.In (Number (pos 200)) (Members 6) ≡ Value_of (Number (pos 0))
+unfolding nowhere
+too_large = refl
+
+too_small : of_two dyadic.In (Number (negsuc 0)) (Members 6) ≡ Value_of (Number (pos 0))
+unfolding nowhere
+too_small = refl
+
+-- [0, 1] fits a set of Booleans, and [1, 2] doesn't
+fits_booleans : is_in booleans (Members 3) ≡ true
+fits_booleans = refl
+
+not_booleans : is_in booleans (Members 6) ≡ false
+not_booleans = refl
+
+-- an access in two with statements begins at the record of its slot, and nowhere where there is none
+in_with : begun (AtRecord 0 1 []) (record nowhere { records = Some (place 0 []) ∷ Some (place 0 (Field 2 ∷ [])) ∷ [] }) ≡ Some (place 0 (Field 2 ∷ []))
+in_with = refl
+
+no_record : begun (AtRecord 0 1 []) nowhere ≡ None
+unfolding nowhere
+no_record = refl

@@ -1,5 +1,6 @@
 -- Each form of an expression, by its own equation.
 use Rattle.std.proofs.Common.{◌≡◌, ℕ, Box, Vec, Global, map, sym, ◌∙◌, ap}
+use Rattle.members.specs.Members as sets
 use Rattle.typed_tree.specs.declared.tree.Access.{Access}
 use Rattle.typed_tree.specs.declared.tree.Monadic.{Monadic}
 use Rattle.typed_tree.specs.declared.tree.Relation.{Relation}
@@ -8,25 +9,27 @@ use Rattle.typed_tree.specs.declared.tree.Expr.{Expr}
 use Rattle.typed_tree.specs.declared.tree.Link.{Link}
 use Rattle.typed_tree.specs.declared.tree.Passed.{Passed}
 use Rattle.typed_tree.specs.declared.tree.Call.{Call}
+use Rattle.typed_tree.specs.declared.tree.Designator.{Designator}
 use Rattle.typed_tree.specs.declared.tree.RangeTest.{RangeTest}
 use Rattle.types.specs.declared.form.TypeId.{TypeId}
+use Rattle.typed_tree.specs.declared.tree.Scalar.{Scalar}
 use Rattle.typed_tree.specs.declared.tree.Expr.TheVariants as expr
 use Rattle.typed_tree.specs.declared.tree.Passed.TheVariants as actual
 use Rattle.typed_tree.specs.declared.tree.Expr.TheOpen.Expr-F.{Variable as Variable-F, Monadic as Monadic-F, Chain as Chain-F, Compare as Compare-F}
-use Rattle.typed_tree.specs.declared.tree.Expr.TheOpen.Expr-F.{Call as Call-F}
+use Rattle.typed_tree.specs.declared.tree.Expr.TheOpen.Expr-F.{Call as Call-F, Set as Set-F}
 use Rattle.typed_tree.specs.declared.tree.Expr.TheOpen.Passed-F.{Value as Value-F, Whole as Whole-F, Reference as Reference-F}
 use Rattle.typed_tree.specs.declared.tree.Expr.TheFolds.{fold-roll-Expr, fold-roll-Passed, fold_out-Link}
 use Rattle.meaning.specs.declared.store.Value.{Value}
-use Rattle.meaning.specs.declared.store.Value.TheVariants.{Number}
+use Rattle.meaning.specs.declared.store.Value.TheVariants.{Number, Members}
 use Rattle.meaning.specs.Effect.{◌>>=◌, give, enter, fetch, is_in, number_of, require}
 use Rattle.meaning.specs.Meaning.{Surroundings, Evaluation, Passing, Combination, OfValue, OfRow, OfPlace, value_step, passed_step, link_step, operated}
-use Rattle.meaning.specs.Meaning.{combined, compared, in_turn, accessed, whole_of}
+use Rattle.meaning.specs.Meaning.{compared, gathered, in_turn, accessed, operated_both, whole_of}
 use Rattle.meaning.specs.Meaning.{value_of, values_of, passing_of, link_of, call_of}
 
-pub value-Variable : (a : Access) (indexes : Vec Expr Global) (defined : ℕ) (env : Surroundings) →
-    value_of (expr.Variable a indexes defined) env ≡ (accessed a (values_of indexes.items) env >>= λ place. fetch place defined)
-value-Variable a indexes defined env = ap (λ (e : Expr). value_of e env) (sym (expr.rolls-Variable a indexes defined))
-    ∙ ap (λ (f : Evaluation). f env) (fold-roll-Expr Evaluation Passing Combination value_step passed_step link_step (Variable-F a indexes defined))
+pub value-Variable : (a : Access) (indexes : Vec Expr Global) (holds : Scalar) (defined : ℕ) (env : Surroundings) →
+    value_of (expr.Variable a indexes holds defined) env ≡ (accessed a (values_of indexes.items) env >>= λ place. fetch place defined)
+value-Variable a indexes holds defined env = ap (λ (e : Expr). value_of e env) (sym (expr.rolls-Variable a indexes holds defined))
+    ∙ ap (λ (f : Evaluation). f env) (fold-roll-Expr Evaluation Passing Combination value_step passed_step link_step (Variable-F a indexes holds defined))
 
 pub value-Monadic : (n : ℕ) (operation : Monadic) (operand : Box Expr Global) (env : Surroundings) →
     value_of (expr.Monadic n operation operand) env ≡ (enter n env.visible >>= λ _. value_of operand.value env >>= λ v. operated operation (number_of v)
@@ -48,9 +51,14 @@ pub value-Chain : (first : Box Expr Global) (rest : Vec Link Global) (env : Surr
 value-Chain first rest env = ap (λ (e : Expr). value_of e env) (sym (expr.rolls-Chain first rest))
     ∙ ap (λ (f : Evaluation). f env) (fold-roll-Expr Evaluation Passing Combination value_step passed_step link_step (Chain-F first rest))
 
+pub value-Set : (n : ℕ) (designators : Vec Designator Global) (members : Vec Expr Global) (env : Surroundings) →
+    value_of (expr.Set n designators members) env ≡ (enter n env.visible >>= λ _.
+    gathered designators.items (values_of members.items) env sets.empty >>= λ set. give (Members set))
+value-Set n designators members env = ap (λ (e : Expr). value_of e env) (sym (expr.rolls-Set n designators members))
+    ∙ ap (λ (f : Evaluation). f env) (fold-roll-Expr Evaluation Passing Combination value_step passed_step link_step (Set-F n designators members))
+
 pub combination-Link : (link : Link) (env : Surroundings) (left : Value) →
-    link_of link env left ≡ (enter link.number env.visible >>= λ _. value_of link.operand env >>= λ right.
-    combined link.operation (number_of left) (number_of right) >>= λ n. give (Number n))
+    link_of link env left ≡ (enter link.number env.visible >>= λ _. value_of link.operand env >>= λ right. operated_both link.operation left right)
 combination-Link link env left = ap (λ (f : Combination). f env left) (fold_out-Link Evaluation Passing Combination value_step passed_step link_step link)
 
 pub value-Call : (call : Call) (actuals : Vec Passed Global) (env : Surroundings) →

@@ -2,6 +2,7 @@ pub mod Depths
 mod Examples
 pub mod Expressions
 mod LeftToRight
+pub mod KindsTypes
 pub mod Loops
 pub mod Pieces
 pub mod Replies

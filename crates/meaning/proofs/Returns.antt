@@ -103,10 +103,10 @@ calls_last tree depth number arguments caller s = lasting_calls tree depth numbe
 
 module _ (env : Surroundings) (lasting : LastingCalls env.calls) where
   pub value_lasts : (e : Expr) (s : State) → Lasting s.living (value_of e env s)
-  value_lasts = of_value Lasts lasts_closed env.visible env.calls env.calls lasting
+  value_lasts e = of_value Lasts lasts_closed env.visible env.calls env.calls lasting e env.records
 
   pub effect_lasts : (e : Stmt) (s : State) → Lasting s.living (effect_of e env s)
-  effect_lasts = of_effect Lasts lasts_closed env.visible env.calls env.calls lasting
+  effect_lasts e = of_effect Lasts lasts_closed env.visible env.calls env.calls lasting e env.records
 
   pub statements_last : (statements : List Stmt) (s : State) → Lasting s.living (all_of (map effect_of statements) env s)
-  statements_last = of_statements Lasts lasts_closed env.visible env.calls env.calls lasting
+  statements_last statements = of_statements Lasts lasts_closed env.visible env.calls env.calls lasting statements env.records

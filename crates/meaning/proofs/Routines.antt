@@ -10,6 +10,7 @@ use Rattle.typed_tree.specs.declared.tree.Heading.{Heading}
 use Rattle.typed_tree.specs.declared.tree.FunctionResult.{FunctionResult}
 use Rattle.typed_tree.specs.declared.tree.Call.{Call}
 use Rattle.typed_tree.specs.declared.tree.Access.{Access}
+use Rattle.typed_tree.specs.declared.tree.Base.TheVariants as base
 use Rattle.typed_tree.specs.declared.tree.Selector.TheVariants.{Element}
 use Rattle.typed_tree.specs.declared.tree.RangeTest.{RangeTest}
 use Rattle.typed_tree.specs.declared.tree.Variable.{Variable as DeclaredVariable}
@@ -22,6 +23,7 @@ use Rattle.typed_tree.specs.declared.tree.Dyadic.{Dyadic}
 use Rattle.typed_tree.specs.declared.tree.Dyadic.TheVariants as dyadic
 use Rattle.typed_tree.specs.declared.tree.Relation.TheVariants as relation
 use Rattle.typed_tree.specs.declared.tree.Representation.TheVariants as representation
+use Rattle.typed_tree.specs.declared.tree.Scalar.TheVariants as scalar
 use Rattle.typed_tree.specs.declared.tree.Written.TheVariants.{Ordinal}
 use Rattle.typed_tree.specs.declared.tree.WriteParameter.{WriteParameter}
 use Rattle.typed_tree.specs.declared.tree.Expr.{Expr}
@@ -82,10 +84,10 @@ module _ (heap : Vec ℕ Global) (some_call : Call) where
   constant number value = roll-Expr (Constant number value)
 
   abbrev access : ℕ → ℕ → Access
-  access number root = record { number = number; root = root; selectors = vec [] (omega arith) }
+  access number root = record { number = number; root = root; base = base.Variable; selectors = vec [] (omega arith) }
 
   abbrev variable : ℕ → ℕ → ℕ → Expr
-  variable number root site = roll-Expr (Variable (access number root) (vec [] (omega arith)) site)
+  variable number root site = roll-Expr (Variable (access number root) (vec [] (omega arith)) scalar.Ordinal site)
 
   abbrev two : Expr → ℕ → Dyadic → Expr → Expr
   two left number operation right =
@@ -93,13 +95,13 @@ module _ (heap : Vec ℕ Global) (some_call : Call) where
 
   -- pred of a char, and chr
   abbrev before : ℕ → Monadic
-  before site = monadic.Tested (record { site = site; range = record { first = pos 1; last = pos 127 } }) shift.Previous
+  before site = monadic.Tested (record { site = site; tests = scalar.Ordinal; range = record { first = pos 1; last = pos 127 } }) shift.Previous
 
   abbrev to_char : ℕ → Monadic
-  to_char site = monadic.Tested (record { site = site; range = record { first = pos 0; last = pos 127 } }) shift.Same
+  to_char site = monadic.Tested (record { site = site; tests = scalar.Ordinal; range = record { first = pos 0; last = pos 127 } }) shift.Same
 
   abbrev any_integer : ℕ → RangeTest
-  any_integer site = record { site = site; range = record { first = negsuc 2147483646; last = pos 2147483647 } }
+  any_integer site = record { site = site; tests = scalar.Ordinal; range = record { first = negsuc 2147483646; last = pos 2147483647 } }
 
   abbrev written : Expr → WriteParameter
   written value = record { value = Ordinal value representation.Char; width = None }
@@ -138,7 +140,8 @@ module _ (heap : Vec ℕ Global) (some_call : Call) where
   element_access = record {
     number = 0;
     root = 0;
-    selectors = vec (Element (record { site = 7; range = record { first = pos 1; last = pos 2 } }) 1 ∷ []) (omega arith);
+    base = base.Variable;
+    selectors = vec (Element (record { site = 7; tests = scalar.Ordinal; range = record { first = pos 1; last = pos 2 } }) 1 ∷ []) (omega arith);
   }
 
   abbrev to_element : ℕ → Expr → Expr → Stmt
@@ -153,7 +156,7 @@ module _ (heap : Vec ℕ Global) (some_call : Call) where
       }))
 
   abbrev of_element : Expr → Expr
-  of_element index = roll-Expr (Variable element_access (vec (index ∷ []) (omega arith)) 9)
+  of_element index = roll-Expr (Variable element_access (vec (index ∷ []) (omega arith)) scalar.Ordinal 9)
 
   abbrev element : Expr → Passed
   element index = roll-Passed (Reference char element_access (vec (index ∷ []) (omega arith)))

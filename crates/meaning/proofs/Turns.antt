@@ -238,25 +238,28 @@ ExtendedCalls calls = (number : ℕ) (arguments : List Argument) (caller : Envir
 
 module _ (env : Surroundings) (extended : ExtendedCalls env.calls) where
   pub extended_value : (e : Expr) → Extended (value_of e env)
-  extended_value = of_value (λ A action other. Extended action) extended_closed env.visible env.calls env.calls extended
+  extended_value e = of_value (λ A action other. Extended action) extended_closed env.visible env.calls env.calls extended e env.records
 
   pub extended_passing : (p : Passed) → Extended (passing_of p env)
-  extended_passing = of_passing (λ A action other. Extended action) extended_closed env.visible env.calls env.calls extended
+  extended_passing p = of_passing (λ A action other. Extended action) extended_closed env.visible env.calls env.calls extended p env.records
 
   pub extended_access : (access : Access) (indexes : List Expr) → Extended (accessed access (values_of indexes) env)
-  extended_access = of_access (λ A action other. Extended action) extended_closed env.visible env.calls env.calls extended
+  extended_access access indexes = of_access
+      (λ A action other. Extended action) extended_closed env.visible env.calls env.calls extended access indexes env.records
 
   pub extended_whole_of : (value : Whole) (indexes : List Expr) → Extended (whole_of value (values_of indexes) env)
-  extended_whole_of = of_whole_value (λ A action other. Extended action) extended_closed env.visible env.calls env.calls extended
+  extended_whole_of value indexes = of_whole_value
+      (λ A action other. Extended action) extended_closed env.visible env.calls env.calls extended value indexes env.records
 
   pub extended_call : (call : Call) (actuals : List Passed) → Extended (call_of call (map passing_of actuals) env)
-  extended_call = of_called (λ A action other. Extended action) extended_closed env.visible env.calls env.calls extended
+  extended_call call actuals = of_called (λ A action other. Extended action) extended_closed env.visible env.calls env.calls extended call actuals env.records
 
   pub extended_effect : (e : Stmt) → Extended (effect_of e env)
-  extended_effect = of_effect (λ A action other. Extended action) extended_closed env.visible env.calls env.calls extended
+  extended_effect e = of_effect (λ A action other. Extended action) extended_closed env.visible env.calls env.calls extended e env.records
 
   pub extended_statements : (statements : List Stmt) → Extended (all_of (map effect_of statements) env)
-  extended_statements = of_statements (λ A action other. Extended action) extended_closed env.visible env.calls env.calls extended
+  extended_statements statements = of_statements
+      (λ A action other. Extended action) extended_closed env.visible env.calls env.calls extended statements env.records
 
 -- ---- calls
 

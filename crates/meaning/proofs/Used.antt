@@ -15,7 +15,7 @@ use Rattle.meaning.specs.Counting.{value_behind}
 use Rattle.meaning.specs.Effect.{State, Reply, Gives, Stops, Action, Round, ◌>>=◌, and_then, give, stop, another, looped, take_turn, use_turn}
 use Rattle.meaning.specs.Effect.{fetched, fetch, store, begin_with, begin, living_now, end_with}
 use Rattle.meaning.specs.Meaning.{Argument, Calls, Surroundings, Activation, all_of, value_of, effect_of, executed, activated, calls_of, is_so, turn_if}
-use Rattle.meaning.specs.Laws.{state_after, UsedTurns, UsesTurnsExactly, StatementsUseTurnsExactly}
+use Rattle.meaning.specs.Laws.{state_after, UsedTurns, UsesTurnsExactly, StatementsUseTurnsExactly, standing}
 use Rattle.meaning.proofs.Walks.{Closed, while_again, repeat_again, for_again, of_value, of_effect, of_statements, of_executed}
 use Rattle.meaning.proofs.Turns.{Extended, extended_then, extended_give, extended_stop, extended_enter, extended_fetch, extended_store, extended_undefine}
 use Rattle.meaning.proofs.Turns.{extended_write, extended_use_turn, extended_closed, activation_of, extended_calls}
@@ -164,7 +164,7 @@ exact_turn_if true body done = exact_then use_turn _ exact_turn (λ _. exact_the
 
 -- where nothing is visible and nothing can be called
 nowhere : Surroundings
-nowhere = record { visible = record { variables = λ root. None; types = [] }; calls = λ number arguments caller. stop ending.More }
+nowhere = record { visible = record { variables = λ root. None; types = [] }; records = []; calls = λ number arguments caller. stop ending.More }
 
 exact_while : (condition : Action Value) (body : Action (Unit {0})) → Exact Value condition condition → Exact (Unit {0}) body body
     → UsesTurnsExactly (looped (while_again condition body) tt)
@@ -182,7 +182,7 @@ exact_repeat body condition done tested =
 exact_for : (place : Option Place) (direction : Direction) (last : ℤ) (body : Action (Unit {0})) → Exact (Unit {0}) body body → (first : ℤ)
     → UsesTurnsExactly (looped (for_again place direction last body) first)
 exact_for place direction last body done first =
-    let lies : Surroundings = record { visible = record { variables = λ root. place; types = [] }; calls = nowhere.calls } in
+    let lies : Surroundings = record { visible = record { variables = λ root. place; types = [] }; records = []; calls = nowhere.calls } in
     exact_looped (for_again place direction last body) (counted_uses 0 (λ env. body) lies (value_behind direction last) done.0)
     (λ n. exact_then (store place (Number n)) _ (exact_plain (store place (Number n)) (λ s. refl) (λ s left. refl))
     (λ _. exact_then use_turn _ exact_turn (λ _. exact_then body _ done.1 (λ _. exact_give (value_behind direction last n))))) first
@@ -216,13 +216,13 @@ ExactCalls calls =
 
 module _ (env : Surroundings) (exact : ExactCalls env.calls) where
   pub exact_value : (e : Expr) → UsesTurnsExactly (value_of e env)
-  exact_value e = (of_value Exact exact_closed env.visible env.calls env.calls exact e).1
+  exact_value e = (of_value Exact exact_closed env.visible env.calls env.calls exact e env.records).1
 
   pub exact_effect : (e : Stmt) → UsesTurnsExactly (effect_of e env)
-  exact_effect e = (of_effect Exact exact_closed env.visible env.calls env.calls exact e).1
+  exact_effect e = (of_effect Exact exact_closed env.visible env.calls env.calls exact e env.records).1
 
   pub exact_statements : (statements : List Stmt) → UsesTurnsExactly (all_of (map effect_of statements) env)
-  exact_statements statements = (of_statements Exact exact_closed env.visible env.calls env.calls exact statements).1
+  exact_statements statements = (of_statements Exact exact_closed env.visible env.calls env.calls exact statements env.records).1
 
 -- ---- calls
 
@@ -249,4 +249,4 @@ module _ (tree : Tree) where
   )
 
 pub statements_use_turns : StatementsUseTurnsExactly
-statements_use_turns tree depth visible statement = exact_effect (record { visible = visible; calls = calls_of tree depth }) (exact_calls tree depth) statement
+statements_use_turns tree depth visible records statement = exact_effect (standing tree depth visible records) (exact_calls tree depth) statement

@@ -2,12 +2,13 @@
 -- does where calls do something else, if actions that are made of related ones are related, and what the calls do is.
 use Rattle.std.specs.Prelude.{int_le, not, if◌then◌else◌}
 use Rattle.std.specs.Ordering.{int_eq}
-use Rattle.std.proofs.Common.{◌≡◌, ℕ, ℤ, pos, List, [], ◌∷◌, Bool, true, false, Option, Some, None, Vec, Global, map, slice_get}
+use Rattle.std.proofs.Common.{◌≡◌, ℕ, ℤ, pos, List, [], ◌∷◌, ◌++◌, Bool, true, false, Option, Some, None, Vec, Global, map, slice_get}
 use Rattle.std.proofs.Common.{sym, ◌∙◌, ap, subst, refl}
 use Rattle.types.specs.Forms.{Form}
 use Rattle.types.specs.declared.form.Step.{Step}
 use Rattle.types.specs.declared.form.Step.TheVariants as step
 use Rattle.types.specs.Components.{components_of}
+use Rattle.members.specs.Members as sets
 use Rattle.typed_tree.specs.declared.tree.Tree.{Tree}
 use Rattle.typed_tree.specs.declared.tree.Block.{Block}
 use Rattle.typed_tree.specs.declared.tree.Call.{Call}
@@ -15,11 +16,14 @@ use Rattle.typed_tree.specs.declared.tree.FunctionResult.{FunctionResult}
 use Rattle.typed_tree.specs.declared.tree.Variable.{Variable as DeclaredVariable}
 use Rattle.typed_tree.specs.declared.tree.Direction.{Direction}
 use Rattle.typed_tree.specs.declared.tree.ForHead.{ForHead}
+use Rattle.typed_tree.specs.declared.tree.Designator.{Designator}
+use Rattle.typed_tree.specs.declared.tree.Designator.TheVariants.{Single, Range}
 use Rattle.typed_tree.specs.declared.tree.Dyadic.{Dyadic}
 use Rattle.typed_tree.specs.declared.tree.Dyadic.TheVariants as dyadic
 use Rattle.typed_tree.specs.declared.tree.Monadic.TheVariants as monadic
 use Rattle.typed_tree.specs.declared.tree.Monadic.{Monadic}
 use Rattle.typed_tree.specs.declared.tree.Width.{Width}
+use Rattle.typed_tree.specs.declared.tree.WithRecord.{WithRecord}
 use Rattle.typed_tree.specs.declared.tree.WriteParameter.{WriteParameter}
 use Rattle.typed_tree.specs.declared.tree.Written.{Written}
 use Rattle.typed_tree.specs.declared.tree.Written.TheVariants.{Ordinal, String}
@@ -28,23 +32,24 @@ use Rattle.typed_tree.specs.declared.tree.Whole.TheVariants.{Text, Variable as V
 use Rattle.typed_tree.specs.declared.tree.Access.{Access}
 use Rattle.typed_tree.specs.declared.tree.Selector.{Selector}
 use Rattle.typed_tree.specs.declared.tree.Selector.TheVariants.{Element, Field}
+use Rattle.typed_tree.specs.Accesses.{Origin, AtVariable, AtRecord, origin_of}
 use Rattle.typed_tree.specs.WellFormed.{length_of}
 use Rattle.typed_tree.specs.declared.tree.Expr.{Expr}
 use Rattle.typed_tree.specs.declared.tree.Passed.{Passed}
 use Rattle.typed_tree.specs.declared.tree.Link.{Link}
 use Rattle.typed_tree.specs.declared.tree.Stmt.{Stmt}
 use Rattle.typed_tree.specs.declared.tree.Expr.TheOpen.{Expr-F, Passed-F, Link-F}
-use Rattle.typed_tree.specs.declared.tree.Expr.TheOpen.Expr-F.{Constant, Variable, Monadic as MonadicOf, Chain, Compare, Call as CallOf}
+use Rattle.typed_tree.specs.declared.tree.Expr.TheOpen.Expr-F.{Constant, Variable, Monadic as MonadicOf, Chain, Compare, Call as CallOf, Set}
 use Rattle.typed_tree.specs.declared.tree.Expr.TheOpen.Passed-F.{Value as PassedValue, Whole as PassedWhole, Reference}
 use Rattle.typed_tree.specs.declared.tree.Expr.TheFolds.{map-Expr, map-Passed, map-Link, fold-roll-Expr, fold-roll-Passed, fold-roll-Link}
 use Rattle.typed_tree.specs.declared.tree.Expr.TheFolds.{ind-Expr, ind-Passed}
 use Rattle.typed_tree.specs.declared.tree.Expr.TheViews.{roll-Expr, roll-Passed, roll-Link}
 use Rattle.typed_tree.specs.declared.tree.Stmt.TheOpen.{Stmt-F}
-use Rattle.typed_tree.specs.declared.tree.Stmt.TheOpen.Stmt-F.{Empty, Assign, Copy, Write, Compound, If, While, Repeat, For, Case, Call as Calling}
+use Rattle.typed_tree.specs.declared.tree.Stmt.TheOpen.Stmt-F.{Empty, Assign, Copy, Write, Compound, If, While, Repeat, For, Case, Call as Calling, With}
 use Rattle.typed_tree.specs.declared.tree.Stmt.TheFolds.{map-Stmt, fold-roll-Stmt, ind-Stmt}
 use Rattle.meaning.specs.declared.outcome.Ending.TheVariants as ending
 use Rattle.meaning.specs.declared.store.Value.{Value}
-use Rattle.meaning.specs.declared.store.Value.TheVariants.{Number}
+use Rattle.meaning.specs.declared.store.Value.TheVariants.{Number, Members}
 use Rattle.meaning.specs.Integers.{is_integer_number}
 use Rattle.meaning.specs.Store.{Environment, Place, part}
 use Rattle.meaning.specs.Counting.{has_values, value_behind}
@@ -55,6 +60,7 @@ use Rattle.meaning.specs.Meaning.{value_step, passed_step, link_step, effect_ste
 use Rattle.meaning.specs.Meaning.{calculated, divides, of_both, overflow_of, overflow_of_both, shifted, unless_overflow}
 use Rattle.meaning.specs.Meaning.{compared, selected, accessed, whole_of, values_of, default_width, width_of, written_of, parameter_of}
 use Rattle.meaning.specs.Meaning.{line_ended, is_so, turn_if, for_rounds, for_between, is_among, arm_of}
+use Rattle.meaning.specs.Meaning.{begun, gathered, opened, operated_both, with_one, with_range}
 use Rattle.meaning.specs.Meaning.{value_of, passing_of, link_of, effect_of, assign, assign_all, result_of, Activation, environment_of, executed}
 
 -- a relation of what actions do that holds of those of which pieces are made, and of one after the other
@@ -169,11 +175,44 @@ module _ (R : (A : Type 0) → Action A → Action A → Type 0) (closed : Close
   of_divides dyadic.And b = closed.gives tt
   of_divides dyadic.Or b = closed.gives tt
   of_divides (dyadic.Relation r) b = closed.gives tt
+  of_divides dyadic.Union b = closed.gives tt
+  of_divides dyadic.Difference b = closed.gives tt
+  of_divides dyadic.Intersection b = closed.gives tt
+  of_divides (dyadic.SetRelation r) b = closed.gives tt
+  of_divides dyadic.In b = closed.gives tt
 
   pub of_combined : (operation : Dyadic) (a b : ℤ) → R ℤ (combined operation a b) (combined operation a b)
   of_combined operation a b =
       closed.follows _ _ _ _ (of_divides operation b)
       (λ _. of_unless_overflow (overflow_of_both operation) (of_both operation a b))
+
+  -- an operation on two numbers gives a value
+  of_numbers : (operation : Dyadic) (a b : Value)
+      → R Value (combined operation (number_of a) (number_of b) >>= λ n. give (Number n))
+      (combined operation (number_of a) (number_of b) >>= λ n. give (Number n))
+  of_numbers operation a b = closed.follows _ _ _ _ (of_combined operation (number_of a) (number_of b)) (λ n. closed.gives (Number n))
+
+  pub of_operated_both : (operation : Dyadic) (a b : Value) → R Value (operated_both operation a b) (operated_both operation a b)
+  of_operated_both (dyadic.Plus overflow) a b = of_numbers (dyadic.Plus overflow) a b
+  of_operated_both (dyadic.Minus overflow) a b = of_numbers (dyadic.Minus overflow) a b
+  of_operated_both (dyadic.Times overflow) a b = of_numbers (dyadic.Times overflow) a b
+  of_operated_both (dyadic.Div by_zero) a b = of_numbers (dyadic.Div by_zero) a b
+  of_operated_both (dyadic.Mod by_zero_or_less) a b = of_numbers (dyadic.Mod by_zero_or_less) a b
+  of_operated_both dyadic.And a b = of_numbers dyadic.And a b
+  of_operated_both dyadic.Or a b = of_numbers dyadic.Or a b
+  of_operated_both (dyadic.Relation r) a b = of_numbers (dyadic.Relation r) a b
+  of_operated_both dyadic.Union a b = closed.gives _
+  of_operated_both dyadic.Difference a b = closed.gives _
+  of_operated_both dyadic.Intersection a b = closed.gives _
+  of_operated_both (dyadic.SetRelation r) a b = closed.gives _
+  of_operated_both dyadic.In a b = closed.gives _
+
+  -- a set with the members of one designator more
+  of_one : (site : ℕ) (v : Value) (set : ℕ) → R ℕ (with_one site v set) (with_one site v set)
+  of_one site v set = closed.follows _ _ _ _ (of_require (sets.can_be_member (number_of v)) site) (λ _. closed.gives _)
+
+  of_range : (site : ℕ) (a b : Value) (set : ℕ) → R ℕ (with_range site a b set) (with_range site a b set)
+  of_range site a b set = closed.follows _ _ _ _ (of_require (sets.range_fits (number_of a) (number_of b)) site) (λ _. closed.gives _)
 
   pub of_line_ended : (ends_line : Bool) → R (Unit {0}) (line_ended ends_line) (line_ended ends_line)
   of_line_ended true = closed.writes (10 ∷ [])
@@ -214,20 +253,20 @@ module _ (R : (A : Type 0) → Action A → Action A → Type 0) (closed : Close
   -- ---- pieces that stand where these calls are done, or those
 
   module _ (visible : Environment) (calls others : Calls) (related : RelatedCalls calls others) where
-    abbrev here : Surroundings
-    here = record { visible = visible; calls = calls }
+    abbrev here : List (Option Place) → Surroundings
+    here records = record { visible = visible; records = records; calls = calls }
 
-    abbrev there : Surroundings
-    there = record { visible = visible; calls = others }
+    abbrev there : List (Option Place) → Surroundings
+    there records = record { visible = visible; records = records; calls = others }
 
     abbrev IsRelated : Expr → Type 0
-    IsRelated e = R Value (value_of e here) (value_of e there)
+    IsRelated e = (records : List (Option Place)) → R Value (value_of e (here records)) (value_of e (there records))
 
     abbrev IsRelatedPassed : Passed → Type 0
-    IsRelatedPassed p = R Argument (passing_of p here) (passing_of p there)
+    IsRelatedPassed p = (records : List (Option Place)) → R Argument (passing_of p (here records)) (passing_of p (there records))
 
     abbrev IsRelatedLink : Link → Type 0
-    IsRelatedLink l = (v : Value) → R Value (link_of l here v) (link_of l there v)
+    IsRelatedLink l = (records : List (Option Place)) (v : Value) → R Value (link_of l (here records) v) (link_of l (there records) v)
 
     abbrev RelatedExpr : Type 0
     RelatedExpr = (e : Expr) × IsRelated e
@@ -238,50 +277,79 @@ module _ (R : (A : Type 0) → Action A → Action A → Type 0) (closed : Close
     abbrev RelatedLink : Type 0
     RelatedLink = (l : Link) × IsRelatedLink l
 
-    pub of_in_turn : (links : List RelatedLink) (v : Value)
-        → R Value (in_turn (map link_of (map (λ l. l.0) links)) here v) (in_turn (map link_of (map (λ l. l.0) links)) there v)
-    of_in_turn [] v = closed.gives v
-    of_in_turn (link ∷ links) v = closed.follows _ _ _ _ (link.1 v) (λ w. of_in_turn links w)
+    -- an access begins at the same place
+    begun_same : (origin : Origin) (records : List (Option Place)) → begun origin (here records) ≡ begun origin (there records)
+    begun_same (AtVariable root) records = refl
+    begun_same (AtRecord root slot path) records = refl
+
+    pub of_in_turn : (links : List RelatedLink) (records : List (Option Place)) (v : Value)
+        → R Value (in_turn (map link_of (map (λ l. l.0) links)) (here records) v) (in_turn (map link_of (map (λ l. l.0) links)) (there records) v)
+    of_in_turn [] records v = closed.gives v
+    of_in_turn (link ∷ links) records v = closed.follows _ _ _ _ (link.1 records v) (λ w. of_in_turn links records w)
+
+    -- the set that designators make
+    pub of_gathered : (designators : List Designator) (members : List RelatedExpr) (records : List (Option Place)) (set : ℕ)
+        → R ℕ (gathered designators (values_of (map (λ e. e.0) members)) (here records) set)
+        (gathered designators (values_of (map (λ e. e.0) members)) (there records) set)
+    of_gathered [] members records set = closed.gives set
+    of_gathered (Single site ∷ designators) [] records set = closed.gives set
+    of_gathered (Single site ∷ designators) (member ∷ members) records set =
+        closed.follows _ _ _ _ (member.1 records)
+        (λ v. closed.follows _ _ _ _ (of_one site v set) (λ more. of_gathered designators members records more))
+    of_gathered (Range site ∷ designators) [] records set = closed.gives set
+    of_gathered (Range site ∷ designators) (first ∷ []) records set = closed.gives set
+    of_gathered (Range site ∷ designators) (first ∷ last ∷ members) records set =
+        closed.follows _ _ _ _ (first.1 records)
+        (λ a. closed.follows _ _ _ _ (last.1 records)
+        (λ b. closed.follows _ _ _ _ (of_range site a b set) (λ more. of_gathered designators members records more)))
 
     -- the place to which selectors lead
-    pub of_selected : (selectors : List Selector) (indexes : List RelatedExpr) (p : Option Place)
-        → R (Option Place) (selected selectors (values_of (map (λ e. e.0) indexes)) here p)
-        (selected selectors (values_of (map (λ e. e.0) indexes)) there p)
-    of_selected [] indexes p = closed.gives p
-    of_selected (Field position offset ∷ selectors) indexes p = of_selected selectors indexes (part p (step.Field position ∷ []))
-    of_selected (Element fits cells ∷ selectors) [] p = closed.gives None
-    of_selected (Element fits cells ∷ selectors) (index ∷ indexes) p =
-        closed.follows _ _ _ _ index.1
+    pub of_selected : (selectors : List Selector) (indexes : List RelatedExpr) (records : List (Option Place)) (p : Option Place)
+        → R (Option Place) (selected selectors (values_of (map (λ e. e.0) indexes)) (here records) p)
+        (selected selectors (values_of (map (λ e. e.0) indexes)) (there records) p)
+    of_selected [] indexes records p = closed.gives p
+    of_selected (Field position offset ∷ selectors) indexes records p = of_selected selectors indexes records (part p (step.Field position ∷ []))
+    of_selected (Element fits cells ∷ selectors) [] records p = closed.gives None
+    of_selected (Element fits cells ∷ selectors) (index ∷ indexes) records p =
+        closed.follows _ _ _ _ (index.1 records)
         (λ v. closed.follows _ _ _ _ (of_require (is_in fits.range v) fits.site)
-        (λ _. of_selected selectors indexes (part p (step.Element (number_of v) ∷ []))))
+        (λ _. of_selected selectors indexes records (part p (step.Element (number_of v) ∷ []))))
 
     -- the place that is accessed
-    pub of_accessed : (access : Access) (indexes : List RelatedExpr)
-        → R (Option Place) (accessed access (values_of (map (λ e. e.0) indexes)) here) (accessed access (values_of (map (λ e. e.0) indexes)) there)
-    of_accessed access indexes =
+    pub of_accessed : (access : Access) (indexes : List RelatedExpr) (records : List (Option Place))
+        → R (Option Place) (accessed access (values_of (map (λ e. e.0) indexes)) (here records))
+        (accessed access (values_of (map (λ e. e.0) indexes)) (there records))
+    of_accessed access indexes records =
         closed.follows _ _ _ _ (closed.enters access.number visible)
-        (λ _. of_selected access.selectors.items indexes (visible.variables access.root))
+        (λ _. subst (λ p. R (Option Place)
+        (selected access.selectors.items (values_of (map (λ e. e.0) indexes)) (here records) (begun (origin_of access) (here records)))
+        (selected access.selectors.items (values_of (map (λ e. e.0) indexes)) (there records) p)) (begun_same (origin_of access) records)
+        (of_selected access.selectors.items indexes records (begun (origin_of access) (here records))))
 
     -- the components of a whole value
-    pub of_components : (value : Whole) (indexes : List RelatedExpr)
-        → R (List Value) (whole_of value (values_of (map (λ e. e.0) indexes)) here) (whole_of value (values_of (map (λ e. e.0) indexes)) there)
-    of_components (Text number characters) indexes =
+    pub of_components : (value : Whole) (indexes : List RelatedExpr) (records : List (Option Place))
+        → R (List Value) (whole_of value (values_of (map (λ e. e.0) indexes)) (here records))
+        (whole_of value (values_of (map (λ e. e.0) indexes)) (there records))
+    of_components (Text number characters) indexes records =
         closed.follows _ _ _ _ (closed.enters number visible) (λ _. closed.gives (map (λ c. Number (pos c)) characters.items))
-    of_components (VariableOf access type_id cells defined) indexes =
-        closed.follows _ _ _ _ (of_accessed access indexes) (λ p. of_fetch_all p (components_of visible.types type_id) defined)
+    of_components (VariableOf access type_id cells defined) indexes records =
+        closed.follows _ _ _ _ (of_accessed access indexes records) (λ p. of_fetch_all p (components_of visible.types type_id) defined)
 
     -- actual parameters, from left to right
-    pub of_all_passed : (actuals : List RelatedPassed)
-        → R (List Argument) (all_passed (map passing_of (map (λ p. p.0) actuals)) here) (all_passed (map passing_of (map (λ p. p.0) actuals)) there)
-    of_all_passed [] = closed.gives []
-    of_all_passed (one ∷ rest) =
-        closed.follows _ _ _ _ one.1 (λ argument. closed.follows _ _ _ _ (of_all_passed rest) (λ arguments. closed.gives (argument ∷ arguments)))
+    pub of_all_passed : (actuals : List RelatedPassed) (records : List (Option Place))
+        → R (List Argument) (all_passed (map passing_of (map (λ p. p.0) actuals)) (here records))
+        (all_passed (map passing_of (map (λ p. p.0) actuals)) (there records))
+    of_all_passed [] records = closed.gives []
+    of_all_passed (one ∷ rest) records =
+        closed.follows _ _ _ _ (one.1 records)
+        (λ argument. closed.follows _ _ _ _ (of_all_passed rest records) (λ arguments. closed.gives (argument ∷ arguments)))
 
-    pub of_call : (call : Call) (actuals : List RelatedPassed)
-        → R Value (call_of call (map passing_of (map (λ p. p.0) actuals)) here) (call_of call (map passing_of (map (λ p. p.0) actuals)) there)
-    of_call call actuals =
+    pub of_call : (call : Call) (actuals : List RelatedPassed) (records : List (Option Place))
+        → R Value (call_of call (map passing_of (map (λ p. p.0) actuals)) (here records))
+        (call_of call (map passing_of (map (λ p. p.0) actuals)) (there records))
+    of_call call actuals records =
         closed.follows _ _ _ _ (closed.enters call.number visible)
-        (λ _. closed.follows _ _ _ _ (of_all_passed actuals) (λ arguments. related call.block arguments visible))
+        (λ _. closed.follows _ _ _ _ (of_all_passed actuals records) (λ arguments. related call.block arguments visible))
 
     -- the expressions of one layer
     abbrev valued : Expr-F Expr Passed Link → Evaluation
@@ -302,51 +370,55 @@ module _ (R : (A : Type 0) → Action A → Action A → Type 0) (closed : Close
     abbrev bare_link : Link-F RelatedExpr RelatedPassed RelatedLink → Link-F Expr Passed Link
     bare_link = map-Link RelatedExpr RelatedPassed RelatedLink Expr Passed Link (λ e. e.0) (λ p. p.0) (λ l. l.0)
 
-    pub of_layer : (y : Expr-F RelatedExpr RelatedPassed RelatedLink) → R Value (valued (bare y) here) (valued (bare y) there)
-    of_layer (Constant number value) = closed.follows _ _ _ _ (closed.enters number visible) (λ _. closed.gives (Number value))
-    of_layer (Variable access indexes defined) =
-        closed.follows _ _ _ _ (of_accessed access indexes.items) (λ p. closed.fetches p defined)
-    of_layer (MonadicOf number operation operand) =
-        closed.follows _ _ _ _ (closed.enters number visible) (λ _. closed.follows _ _ _ _ operand.value.1
+    pub of_layer : (y : Expr-F RelatedExpr RelatedPassed RelatedLink) (records : List (Option Place))
+        → R Value (valued (bare y) (here records)) (valued (bare y) (there records))
+    of_layer (Constant number value) records = closed.follows _ _ _ _ (closed.enters number visible) (λ _. closed.gives (Number value))
+    of_layer (Variable access indexes holds defined) records =
+        closed.follows _ _ _ _ (of_accessed access indexes.items records) (λ p. closed.fetches p defined)
+    of_layer (MonadicOf number operation operand) records =
+        closed.follows _ _ _ _ (closed.enters number visible) (λ _. closed.follows _ _ _ _ (operand.value.1 records)
         (λ v. closed.follows _ _ _ _ (of_operated operation (number_of v)) (λ n. closed.gives (Number n))))
-    of_layer (Chain first rest) = closed.follows _ _ _ _ first.value.1 (λ v. of_in_turn rest.items v)
-    of_layer (Compare number relation left left_indexes right right_indexes) =
-        closed.follows _ _ _ _ (of_components left left_indexes.items)
+    of_layer (Chain first rest) records = closed.follows _ _ _ _ (first.value.1 records) (λ v. of_in_turn rest.items records v)
+    of_layer (Compare number relation left left_indexes right right_indexes) records =
+        closed.follows _ _ _ _ (of_components left left_indexes.items records)
         (λ a. closed.follows _ _ _ _ (closed.enters number visible)
-        (λ _. closed.follows _ _ _ _ (of_components right right_indexes.items) (λ b. closed.gives (Number (compared relation a b)))))
-    of_layer (CallOf call actuals) = of_call call actuals.items
+        (λ _. closed.follows _ _ _ _ (of_components right right_indexes.items records) (λ b. closed.gives (Number (compared relation a b)))))
+    of_layer (Set number designators members) records =
+        closed.follows _ _ _ _ (closed.enters number visible)
+        (λ _. closed.follows _ _ _ _ (of_gathered designators.items members.items records sets.empty) (λ set. closed.gives (Members set)))
+    of_layer (CallOf call actuals) records = of_call call actuals.items records
 
-    pub of_passed_layer : (y : Passed-F RelatedExpr RelatedPassed RelatedLink) → R Argument (passed_on (bare_passed y) here) (passed_on (bare_passed y) there)
-    of_passed_layer (PassedValue value fits) =
-        closed.follows _ _ _ _ value.1
+    pub of_passed_layer : (y : Passed-F RelatedExpr RelatedPassed RelatedLink) (records : List (Option Place))
+        → R Argument (passed_on (bare_passed y) (here records)) (passed_on (bare_passed y) (there records))
+    of_passed_layer (PassedValue value fits) records =
+        closed.follows _ _ _ _ (value.1 records)
         (λ v. closed.follows _ _ _ _ (of_require (is_in fits.range v) fits.site) (λ _. closed.gives (OfValue v)))
-    of_passed_layer (PassedWhole type_id value indexes) =
-        closed.follows _ _ _ _ (of_components value indexes.items) (λ values. closed.gives (OfRow values))
-    of_passed_layer (Reference type_id access indexes) =
-        closed.follows _ _ _ _ (of_accessed access indexes.items) (λ place. closed.gives (OfPlace place))
+    of_passed_layer (PassedWhole type_id value indexes) records =
+        closed.follows _ _ _ _ (of_components value indexes.items records) (λ values. closed.gives (OfRow values))
+    of_passed_layer (Reference type_id access indexes) records =
+        closed.follows _ _ _ _ (of_accessed access indexes.items records) (λ place. closed.gives (OfPlace place))
 
-    pub of_link_layer : (y : Link-F RelatedExpr RelatedPassed RelatedLink) (left : Value)
-        → R Value (linked (bare_link y) here left) (linked (bare_link y) there left)
-    of_link_layer y left =
+    pub of_link_layer : (y : Link-F RelatedExpr RelatedPassed RelatedLink) (records : List (Option Place)) (left : Value)
+        → R Value (linked (bare_link y) (here records) left) (linked (bare_link y) (there records) left)
+    of_link_layer y records left =
         closed.follows _ _ _ _ (closed.enters y.number visible)
-        (λ _. closed.follows _ _ _ _ y.operand.1
-        (λ v. closed.follows _ _ _ _ (of_combined y.operation (number_of left) (number_of v)) (λ n. closed.gives (Number n))))
+        (λ _. closed.follows _ _ _ _ (y.operand.1 records) (λ v. of_operated_both y.operation left v))
 
     pub of_rolled : (x : Expr-F Expr Passed Link) (y : Expr-F RelatedExpr RelatedPassed RelatedLink) → bare y ≡ x → IsRelated (roll-Expr x)
-    of_rolled x y is =
-        subst (λ (f : Evaluation). R Value (f here) (f there))
-        (sym (fold-roll-Expr Evaluation Passing Combination value_step passed_step link_step x ∙ ap valued (sym is))) (of_layer y)
+    of_rolled x y is records =
+        subst (λ (f : Evaluation). R Value (f (here records)) (f (there records)))
+        (sym (fold-roll-Expr Evaluation Passing Combination value_step passed_step link_step x ∙ ap valued (sym is))) (of_layer y records)
 
     pub of_rolled_passed : (x : Passed-F Expr Passed Link) (y : Passed-F RelatedExpr RelatedPassed RelatedLink) → bare_passed y ≡ x
         → IsRelatedPassed (roll-Passed x)
-    of_rolled_passed x y is =
-        subst (λ (f : Passing). R Argument (f here) (f there))
-        (sym (fold-roll-Passed Evaluation Passing Combination value_step passed_step link_step x ∙ ap passed_on (sym is))) (of_passed_layer y)
+    of_rolled_passed x y is records =
+        subst (λ (f : Passing). R Argument (f (here records)) (f (there records)))
+        (sym (fold-roll-Passed Evaluation Passing Combination value_step passed_step link_step x ∙ ap passed_on (sym is))) (of_passed_layer y records)
 
     pub of_rolled_link : (x : Link-F Expr Passed Link) (y : Link-F RelatedExpr RelatedPassed RelatedLink) → bare_link y ≡ x → IsRelatedLink (roll-Link x)
-    of_rolled_link x y is left =
-        subst (λ (f : Combination). R Value (f here left) (f there left))
-        (sym (fold-roll-Link Evaluation Passing Combination value_step passed_step link_step x ∙ ap linked (sym is))) (of_link_layer y left)
+    of_rolled_link x y is records left =
+        subst (λ (f : Combination). R Value (f (here records) left) (f (there records) left))
+        (sym (fold-roll-Link Evaluation Passing Combination value_step passed_step link_step x ∙ ap linked (sym is))) (of_link_layer y records left)
 
     pub of_value : (e : Expr) → IsRelated e
     of_value = ind-Expr IsRelated IsRelatedPassed IsRelatedLink of_rolled of_rolled_passed of_rolled_link
@@ -371,80 +443,94 @@ module _ (R : (A : Type 0) → Action A → Action A → Type 0) (closed : Close
     all_actuals [] = refl
     all_actuals (one ∷ rest) = ap (λ others. one ∷ others) (all_actuals rest)
 
-    pub of_access : (access : Access) (indexes : List Expr)
-        → R (Option Place) (accessed access (values_of indexes) here) (accessed access (values_of indexes) there)
-    of_access access indexes =
-        subst (λ all. R (Option Place) (accessed access (values_of all) here) (accessed access (values_of all) there)) (all_indexes indexes)
-        (of_accessed access (all_related indexes))
+    pub of_access : (access : Access) (indexes : List Expr) (records : List (Option Place))
+        → R (Option Place) (accessed access (values_of indexes) (here records)) (accessed access (values_of indexes) (there records))
+    of_access access indexes records =
+        subst (λ all. R (Option Place) (accessed access (values_of all) (here records)) (accessed access (values_of all) (there records))) (all_indexes indexes)
+        (of_accessed access (all_related indexes) records)
 
-    pub of_whole_value : (value : Whole) (indexes : List Expr)
-        → R (List Value) (whole_of value (values_of indexes) here) (whole_of value (values_of indexes) there)
-    of_whole_value value indexes =
-        subst (λ all. R (List Value) (whole_of value (values_of all) here) (whole_of value (values_of all) there)) (all_indexes indexes)
-        (of_components value (all_related indexes))
+    pub of_whole_value : (value : Whole) (indexes : List Expr) (records : List (Option Place))
+        → R (List Value) (whole_of value (values_of indexes) (here records)) (whole_of value (values_of indexes) (there records))
+    of_whole_value value indexes records =
+        subst (λ all. R (List Value) (whole_of value (values_of all) (here records)) (whole_of value (values_of all) (there records))) (all_indexes indexes)
+        (of_components value (all_related indexes) records)
 
-    pub of_called : (call : Call) (actuals : List Passed) → R Value (call_of call (map passing_of actuals) here) (call_of call (map passing_of actuals) there)
-    of_called call actuals =
-        subst (λ all. R Value (call_of call (map passing_of all) here) (call_of call (map passing_of all) there)) (all_actuals actuals)
-        (of_call call (actuals_related actuals))
+    pub of_called : (call : Call) (actuals : List Passed) (records : List (Option Place))
+        → R Value (call_of call (map passing_of actuals) (here records)) (call_of call (map passing_of actuals) (there records))
+    of_called call actuals records =
+        subst (λ all. R Value (call_of call (map passing_of all) (here records)) (call_of call (map passing_of all) (there records))) (all_actuals actuals)
+        (of_call call (actuals_related actuals) records)
 
-    pub of_width : (width : Option Width) (default : ℤ) → R ℤ (width_of width default here) (width_of width default there)
-    of_width None default = closed.gives default
-    of_width (Some width) default =
-        closed.follows _ _ _ _ (of_value width.value)
+    pub of_designated : (designators : List Designator) (members : List Expr) (records : List (Option Place)) (set : ℕ)
+        → R ℕ (gathered designators (values_of members) (here records) set) (gathered designators (values_of members) (there records) set)
+    of_designated designators members records set =
+        subst (λ all. R ℕ (gathered designators (values_of all) (here records) set) (gathered designators (values_of all) (there records) set))
+        (all_indexes members)
+        (of_gathered designators (all_related members) records set)
+
+    pub of_width : (width : Option Width) (default : ℤ) (records : List (Option Place))
+        → R ℤ (width_of width default (here records)) (width_of width default (there records))
+    of_width None default records = closed.gives default
+    of_width (Some width) default records =
+        closed.follows _ _ _ _ (of_value width.value records)
         (λ w. closed.follows _ _ _ _ (of_require (is_positive (number_of w)) width.site) (λ _. closed.gives (number_of w)))
 
-    pub of_written : (value : Written) (width : Option Width) → R (Unit {0}) (written_of value width here) (written_of value width there)
-    of_written (Ordinal value representation) width =
-        closed.follows _ _ _ _ (of_value value)
-        (λ v. closed.follows _ _ _ _ (of_width width (default_width representation)) (λ w. closed.writes (text_of representation (number_of v) w)))
-    of_written (String value indexes) width =
-        closed.follows _ _ _ _ (of_whole_value value indexes.items)
-        (λ components. closed.follows _ _ _ _ (of_width width (pos (length_of value))) (λ w. closed.writes (row_text components w)))
+    pub of_written : (value : Written) (width : Option Width) (records : List (Option Place))
+        → R (Unit {0}) (written_of value width (here records)) (written_of value width (there records))
+    of_written (Ordinal value representation) width records =
+        closed.follows _ _ _ _ (of_value value records)
+        (λ v. closed.follows _ _ _ _ (of_width width (default_width representation) records) (λ w. closed.writes (text_of representation (number_of v) w)))
+    of_written (String value indexes) width records =
+        closed.follows _ _ _ _ (of_whole_value value indexes.items records)
+        (λ components. closed.follows _ _ _ _ (of_width width (pos (length_of value)) records) (λ w. closed.writes (row_text components w)))
 
-    pub of_parameters : (parameters : List WriteParameter)
-        → R (Unit {0}) (all_of (map parameter_of parameters) here) (all_of (map parameter_of parameters) there)
-    of_parameters [] = closed.gives tt
-    of_parameters (parameter ∷ parameters) =
-        closed.follows _ _ _ _ (of_written parameter.value parameter.width) (λ _. of_parameters parameters)
+    pub of_parameters : (parameters : List WriteParameter) (records : List (Option Place))
+        → R (Unit {0}) (all_of (map parameter_of parameters) (here records)) (all_of (map parameter_of parameters) (there records))
+    of_parameters [] records = closed.gives tt
+    of_parameters (parameter ∷ parameters) records =
+        closed.follows _ _ _ _ (of_written parameter.value parameter.width records) (λ _. of_parameters parameters records)
 
     -- ---- the rounds of a for
 
-    pub of_for_rounds : (head : ForHead) (body : Execution) → R (Unit {0}) (body here) (body there) → (first last : ℤ)
-        → R (Unit {0}) (for_rounds head body here first last) (for_rounds head body there first last)
-    of_for_rounds head body done first last =
+    pub of_for_rounds : (head : ForHead) (body : Execution) (records : List (Option Place))
+        → R (Unit {0}) (body (here records)) (body (there records)) → (first last : ℤ)
+        → R (Unit {0}) (for_rounds head body (here records) first last) (for_rounds head body (there records) first last)
+    of_for_rounds head body records done first last =
         closed.follows _ _ _ _ (of_require (is_in head.first.fits.range (Number first)) head.first.fits.site)
         (λ _. closed.follows _ _ _ _ (of_require (is_in head.last.fits.range (Number last)) head.last.fits.site)
-        (λ _. closed.fors (visible.variables head.control) head.direction last (body here) (body there) done first))
+        (λ _. closed.fors (visible.variables head.control) head.direction last (body (here records)) (body (there records)) done first))
 
-    pub of_for_between : (head : ForHead) (body : Execution) → R (Unit {0}) (body here) (body there) → (first last : ℤ)
-        → R (Unit {0}) (for_between head body here first last) (for_between head body there first last)
-    of_for_between head body done first last =
-        of_chosen (has_values head.direction first last) (for_rounds head body here first last) (for_rounds head body there first last) (give tt) (give tt)
-        (of_for_rounds head body done first last) (closed.gives tt)
+    pub of_for_between : (head : ForHead) (body : Execution) (records : List (Option Place))
+        → R (Unit {0}) (body (here records)) (body (there records)) → (first last : ℤ)
+        → R (Unit {0}) (for_between head body (here records) first last) (for_between head body (there records) first last)
+    of_for_between head body records done first last =
+        of_chosen (has_values head.direction first last) (for_rounds head body (here records) first last)
+        (for_rounds head body (there records) first last) (give tt) (give tt)
+        (of_for_rounds head body records done first last) (closed.gives tt)
 
     -- ---- statements
 
     abbrev IsRelatedStmt : Stmt → Type 0
-    IsRelatedStmt e = R (Unit {0}) (effect_of e here) (effect_of e there)
+    IsRelatedStmt e = (records : List (Option Place)) → R (Unit {0}) (effect_of e (here records)) (effect_of e (there records))
 
     abbrev RelatedStmt : Type 0
     RelatedStmt = (e : Stmt) × IsRelatedStmt e
 
-    pub of_all : (statements : List RelatedStmt)
-        → R (Unit {0}) (all_of (map effect_of (map (λ e. e.0) statements)) here) (all_of (map effect_of (map (λ e. e.0) statements)) there)
-    of_all [] = closed.gives tt
-    of_all (statement ∷ statements) = closed.follows _ _ _ _ statement.1 (λ _. of_all statements)
+    pub of_all : (statements : List RelatedStmt) (records : List (Option Place))
+        → R (Unit {0}) (all_of (map effect_of (map (λ e. e.0) statements)) (here records)) (all_of (map effect_of (map (λ e. e.0) statements)) (there records))
+    of_all [] records = closed.gives tt
+    of_all (statement ∷ statements) records = closed.follows _ _ _ _ (statement.1 records) (λ _. of_all statements records)
 
     -- the arm of a case at a value, or its error
-    pub of_arm : (site : ℕ) (rows : List (Vec ℤ Global)) (arms : List RelatedStmt) (n : ℤ)
-        → R (Unit {0}) (arm_of site rows (map effect_of (map (λ e. e.0) arms)) n here) (arm_of site rows (map effect_of (map (λ e. e.0) arms)) n there)
-    of_arm site [] arms n = closed.errs site
-    of_arm site (row ∷ rows) [] n = closed.errs site
-    of_arm site (row ∷ rows) (arm ∷ arms) n =
-        of_chosen (is_among row.items n) (effect_of arm.0 here) (effect_of arm.0 there)
-        (arm_of site rows (map effect_of (map (λ e. e.0) arms)) n here) (arm_of site rows (map effect_of (map (λ e. e.0) arms)) n there) arm.1
-        (of_arm site rows arms n)
+    pub of_arm : (site : ℕ) (rows : List (Vec ℤ Global)) (arms : List RelatedStmt) (n : ℤ) (records : List (Option Place))
+        → R (Unit {0}) (arm_of site rows (map effect_of (map (λ e. e.0) arms)) n (here records))
+        (arm_of site rows (map effect_of (map (λ e. e.0) arms)) n (there records))
+    of_arm site [] arms n records = closed.errs site
+    of_arm site (row ∷ rows) [] n records = closed.errs site
+    of_arm site (row ∷ rows) (arm ∷ arms) n records =
+        of_chosen (is_among row.items n) (effect_of arm.0 (here records)) (effect_of arm.0 (there records))
+        (arm_of site rows (map effect_of (map (λ e. e.0) arms)) n (here records)) (arm_of site rows (map effect_of (map (λ e. e.0) arms)) n (there records))
+        (arm.1 records) (of_arm site rows arms n records)
 
     -- the statements of one layer
     abbrev done : Stmt-F Stmt → Execution
@@ -453,60 +539,75 @@ module _ (R : (A : Type 0) → Action A → Action A → Type 0) (closed : Close
     abbrev bare_stmt : Stmt-F RelatedStmt → Stmt-F Stmt
     bare_stmt = map-Stmt RelatedStmt Stmt (λ e. e.0)
 
-    pub of_stmt_layer : (y : Stmt-F RelatedStmt) → R (Unit {0}) (done (bare_stmt y) here) (done (bare_stmt y) there)
-    of_stmt_layer (Empty number) = closed.enters number visible
-    of_stmt_layer (Assign assignment) =
+    pub of_opened : (with : List WithRecord) (records : List (Option Place))
+        → R (List (Option Place)) (opened with (here records)) (opened with (there records))
+    of_opened [] records = closed.gives records
+    of_opened (one ∷ others) records =
+        closed.follows _ _ _ _ (of_access one.access one.indexes.items records) (λ place. of_opened others (records ++ place ∷ []))
+
+    pub of_stmt_layer : (y : Stmt-F RelatedStmt) (records : List (Option Place))
+        → R (Unit {0}) (done (bare_stmt y) (here records)) (done (bare_stmt y) (there records))
+    of_stmt_layer (Empty number) records = closed.enters number visible
+    of_stmt_layer (Assign assignment) records =
         closed.follows _ _ _ _ (closed.enters assignment.number visible)
-        (λ _. closed.follows _ _ _ _ (of_access assignment.target assignment.indexes.items)
-        (λ p. closed.follows _ _ _ _ (of_value assignment.value)
+        (λ _. closed.follows _ _ _ _ (of_access assignment.target assignment.indexes.items records)
+        (λ p. closed.follows _ _ _ _ (of_value assignment.value records)
         (λ v. closed.follows _ _ _ _ (of_require (is_in assignment.fits.range v) assignment.fits.site) (λ _. closed.stores p v))))
-    of_stmt_layer (Copy copying) =
+    of_stmt_layer (Copy copying) records =
         closed.follows _ _ _ _ (closed.enters copying.number visible)
-        (λ _. closed.follows _ _ _ _ (of_access copying.target copying.indexes.items)
-        (λ p. closed.follows _ _ _ _ (of_whole_value copying.value copying.value_indexes.items)
+        (λ _. closed.follows _ _ _ _ (of_access copying.target copying.indexes.items records)
+        (λ p. closed.follows _ _ _ _ (of_whole_value copying.value copying.value_indexes.items records)
         (λ numbers. of_store_all p (components_of visible.types copying.type_id) numbers)))
-    of_stmt_layer (Write writing) =
+    of_stmt_layer (Write writing) records =
         closed.follows _ _ _ _ (closed.enters writing.number visible)
-        (λ _. closed.follows _ _ _ _ (of_parameters writing.parameters.items) (λ _. of_line_ended writing.ends_line))
-    of_stmt_layer (Calling calling) = closed.follows _ _ _ _ (of_called calling.call calling.actuals.items) (λ _. closed.gives tt)
-    of_stmt_layer (Compound number statements) = closed.follows _ _ _ _ (closed.enters number visible) (λ _. of_all statements.items)
-    of_stmt_layer (If number condition consequence None) =
+        (λ _. closed.follows _ _ _ _ (of_parameters writing.parameters.items records) (λ _. of_line_ended writing.ends_line))
+    of_stmt_layer (Calling calling) records = closed.follows _ _ _ _ (of_called calling.call calling.actuals.items records) (λ _. closed.gives tt)
+    of_stmt_layer (Compound number statements) records = closed.follows _ _ _ _ (closed.enters number visible) (λ _. of_all statements.items records)
+    of_stmt_layer (If number condition consequence None) records =
         closed.follows _ _ _ _ (closed.enters number visible)
-        (λ _. closed.follows _ _ _ _ (of_value condition)
-        (λ v. of_chosen (is_so v) (effect_of consequence.value.0 here) (effect_of consequence.value.0 there) (give tt) (give tt) consequence.value.1
+        (λ _. closed.follows _ _ _ _ (of_value condition records)
+        (λ v. of_chosen (is_so v) (effect_of consequence.value.0 (here records)) (effect_of consequence.value.0 (there records)) (give tt) (give tt)
+        (consequence.value.1 records)
         (closed.gives tt)))
-    of_stmt_layer (If number condition consequence (Some alternative)) =
+    of_stmt_layer (If number condition consequence (Some alternative)) records =
         closed.follows _ _ _ _ (closed.enters number visible)
-        (λ _. closed.follows _ _ _ _ (of_value condition)
-        (λ v. of_chosen (is_so v) (effect_of consequence.value.0 here) (effect_of consequence.value.0 there) (effect_of alternative.value.0 here)
-        (effect_of alternative.value.0 there) consequence.value.1 alternative.value.1))
-    of_stmt_layer (While head body) =
+        (λ _. closed.follows _ _ _ _ (of_value condition records)
+        (λ v. of_chosen (is_so v) (effect_of consequence.value.0 (here records)) (effect_of consequence.value.0 (there records))
+        (effect_of alternative.value.0 (here records))
+        (effect_of alternative.value.0 (there records)) (consequence.value.1 records) (alternative.value.1 records)))
+    of_stmt_layer (While head body) records =
         closed.follows _ _ _ _ (closed.enters head.number visible)
-        (λ _. closed.whiles (value_of head.condition here) (value_of head.condition there) (effect_of body.value.0 here) (effect_of body.value.0 there)
-        (of_value head.condition) body.value.1)
-    of_stmt_layer (Repeat head statements) =
+        (λ _. closed.whiles (value_of head.condition (here records)) (value_of head.condition (there records))
+        (effect_of body.value.0 (here records)) (effect_of body.value.0 (there records))
+        (of_value head.condition records) (body.value.1 records))
+    of_stmt_layer (Repeat head statements) records =
         let all : Execution = all_of (map effect_of (map (λ e. e.0) statements.items)) in
         closed.follows _ _ _ _ (closed.enters head.number visible)
-        (λ _. closed.repeats (all here) (all there) (value_of head.condition here) (value_of head.condition there) (of_all statements.items)
-        (of_value head.condition))
-    of_stmt_layer (For head body) =
+        (λ _. closed.repeats (all (here records)) (all (there records)) (value_of head.condition (here records))
+        (value_of head.condition (there records)) (of_all statements.items records)
+        (of_value head.condition records))
+    of_stmt_layer (For head body) records =
         closed.follows _ _ _ _ (closed.enters head.number visible)
-        (λ _. closed.follows _ _ _ _ (of_value head.first.value)
-        (λ a. closed.follows _ _ _ _ (of_value head.last.value)
-        (λ b. closed.follows _ _ _ _ (of_for_between head (effect_of body.value.0) body.value.1 (number_of a) (number_of b))
+        (λ _. closed.follows _ _ _ _ (of_value head.first.value records)
+        (λ a. closed.follows _ _ _ _ (of_value head.last.value records)
+        (λ b. closed.follows _ _ _ _ (of_for_between head (effect_of body.value.0) records (body.value.1 records) (number_of a) (number_of b))
         (λ _. closed.undefines (visible.variables head.control)))))
-    of_stmt_layer (Case head arms) =
+    of_stmt_layer (Case head arms) records =
         closed.follows _ _ _ _ (closed.enters head.number visible)
-        (λ _. closed.follows _ _ _ _ (of_value head.index) (λ v. of_arm head.site head.constants.items arms.items (number_of v)))
+        (λ _. closed.follows _ _ _ _ (of_value head.index records) (λ v. of_arm head.site head.constants.items arms.items (number_of v) records))
+    of_stmt_layer (With head body) records =
+        closed.follows _ _ _ _ (closed.enters head.number visible)
+        (λ _. closed.follows _ _ _ _ (of_opened head.records.items records) (λ inner. body.value.1 inner))
 
     pub of_effect : (e : Stmt) → IsRelatedStmt e
     of_effect = ind-Stmt IsRelatedStmt
-        (λ x y is. subst (λ (f : Execution). R (Unit {0}) (f here) (f there))
-        (sym (fold-roll-Stmt Execution effect_step x ∙ ap done (sym is))) (of_stmt_layer y))
+        (λ x y is records. subst (λ (f : Execution). R (Unit {0}) (f (here records)) (f (there records)))
+        (sym (fold-roll-Stmt Execution effect_step x ∙ ap done (sym is))) (of_stmt_layer y records))
 
-    pub of_statements : (statements : List Stmt) → R (Unit {0}) (all_of (map effect_of statements) here) (all_of (map effect_of statements) there)
-    of_statements [] = closed.gives tt
-    of_statements (statement ∷ statements) = closed.follows _ _ _ _ (of_effect statement) (λ _. of_statements statements)
+    pub of_statements : (statements : List Stmt) (records : List (Option Place))
+        → R (Unit {0}) (all_of (map effect_of statements) (here records)) (all_of (map effect_of statements) (there records))
+    of_statements [] records = closed.gives tt
+    of_statements (statement ∷ statements) records = closed.follows _ _ _ _ (of_effect statement records) (λ _. of_statements statements records)
 
   -- an activation of a block, but for its begin and its end
   pub of_executed : (tree : Tree) (calls others : Calls) → RelatedCalls calls others → (block : Block) (activation : Activation)
@@ -514,4 +615,4 @@ module _ (R : (A : Type 0) → Action A → Action A → Type 0) (closed : Close
   of_executed tree calls others related block activation =
       let visible = environment_of tree activation in
       closed.follows _ _ _ _ (of_assign_all tree visible block.heading.parameters.items activation.arguments)
-      (λ _. closed.follows _ _ _ _ (of_effect visible calls others related block.body) (λ _. of_result block.heading.result visible))
+      (λ _. closed.follows _ _ _ _ (of_effect visible calls others related block.body []) (λ _. of_result block.heading.result visible))

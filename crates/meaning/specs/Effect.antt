@@ -3,6 +3,7 @@
 use Rattle.std.specs.Prelude.{ℕ, zero, suc, ℤ, pos, negsuc, ◌-◌, ◌++◌, ◌&&◌, Bool, List, [], ◌∷◌, Option, Some, None}
 use Rattle.std.specs.Prelude.{if◌then◌else◌, int_le, length, map, replicate, take, codes}
 use Rattle.std.specs.Fmt.{signed_decimal}
+use Rattle.members.specs.Members as sets
 use Rattle.types.specs.declared.form.OrdinalRange.{OrdinalRange}
 use Rattle.types.specs.declared.form.Step.{Step}
 use Rattle.typed_tree.specs.declared.tree.Representation.{Representation}
@@ -10,7 +11,7 @@ use Rattle.typed_tree.specs.declared.tree.Representation.TheVariants as represen
 use Rattle.meaning.specs.declared.outcome.Ending.{Ending}
 use Rattle.meaning.specs.declared.outcome.Ending.TheVariants as ending
 use Rattle.meaning.specs.declared.store.Value.{Value}
-use Rattle.meaning.specs.declared.store.Value.TheVariants.{Number}
+use Rattle.meaning.specs.declared.store.Value.TheVariants.{Number, Members}
 use Rattle.meaning.specs.Integers.{byte_of, is_integer_number, is_true, is_within}
 use Rattle.meaning.specs.Store.{Environment, Place, Store, held, kept, forgotten, part}
 
@@ -130,9 +131,14 @@ fetched (Some v) site = give v
 abbrev pub fetch : Option Place → ℕ → Action Value
 fetch place site s = fetched (held s.store place) site s
 
--- the number of a value
+-- the number of a value, and the set that it is; what is no number counts as 0, what is no set as the empty one
 abbrev pub number_of : Value → ℤ
 number_of (Number n) = n
+number_of (Members set) = pos 0
+
+abbrev pub members_of : Value → ℕ
+members_of (Number n) = sets.empty
+members_of (Members set) = set
 
 -- the values at the components of a place, in their order, or an error at the site where one of them is undefined
 abbrev pub fetch_all : Option Place → List (List Step) → ℕ → Action (List Value)
@@ -162,9 +168,11 @@ undefine place s = Gives tt (record s { store = forgotten s.store place })
 abbrev pub write : List ℕ → Action (Unit {0})
 write bytes s = Gives tt (record s { output = s.output ++ bytes })
 
--- a value in the range of an ordinal type (6.4.2); each range lies in that of integer
+-- a value in the range of an ordinal type (6.4.2), and a set of which each member is (6.4.6); each range lies in that
+-- of integer
 abbrev pub is_in : OrdinalRange → Value → Bool
 is_in range (Number n) = is_integer_number n && is_within range.first range.last n
+is_in range (Members set) = sets.is_within set range.first range.last
 
 -- a width that may be (6.9.3.1): at least 1
 abbrev pub is_positive : ℤ → Bool

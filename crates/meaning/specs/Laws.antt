@@ -8,6 +8,7 @@ use Rattle.std.specs.declared.boxed.Box.{Box}
 use Rattle.std.specs.declared.vec.Vec.{Vec}
 use Rattle.typed_tree.specs.declared.tree.Tree.{Tree}
 use Rattle.typed_tree.specs.declared.tree.Call.{Call}
+use Rattle.typed_tree.specs.declared.tree.Designator.{Designator}
 use Rattle.typed_tree.specs.declared.tree.Dyadic.{Dyadic}
 use Rattle.typed_tree.specs.declared.tree.Expr.{Expr}
 use Rattle.typed_tree.specs.declared.tree.ForHead.{ForHead}
@@ -16,6 +17,7 @@ use Rattle.typed_tree.specs.declared.tree.Passed.{Passed}
 use Rattle.typed_tree.specs.declared.tree.Stmt.{Stmt}
 use Rattle.typed_tree.specs.declared.tree.Whole.{Whole}
 use Rattle.typed_tree.specs.declared.tree.Width.{Width}
+use Rattle.typed_tree.specs.declared.tree.WithRecord.{WithRecord}
 use Rattle.typed_tree.specs.declared.tree.WriteParameter.{WriteParameter}
 use Rattle.typed_tree.specs.declared.tree.Expr.TheVariants.{Chain}
 use Rattle.meaning.specs.declared.outcome.Ending.{Ending}
@@ -26,7 +28,7 @@ use Rattle.meaning.specs.Effect.{State, Reply, Gives, Stops, Action, Round, and_
 use Rattle.meaning.specs.Effect.{store, use_turn}
 use Rattle.meaning.specs.Meaning.{Argument, Surroundings, all_of, assign_all, call_of, calls_of, combined, effect_of}
 use Rattle.meaning.specs.Meaning.{for_round, for_rounds, meaning, parameter_of, passing_of, repeat_round, run, value_of}
-use Rattle.meaning.specs.Meaning.{while_round, whole_of, width_of}
+use Rattle.meaning.specs.Meaning.{gathered, opened, operated_both, while_round, whole_of, width_of}
 
 -- the same state with more turns left
 abbrev pub with_turns : ℕ → State → State
@@ -95,15 +97,15 @@ UsedTurns action s t a =
 abbrev pub UsesTurnsExactly : {A : Type 0} → Action A → Type 0
 UsesTurnsExactly {A} action = (s t : State) (a : A) → action s ≡ Gives a t → UsedTurns action s t a
 
+-- where so much is visible, in statements of these records, and calls may stand so deep in one another
+abbrev pub standing : Tree → ℕ → Environment → List (Option Place) → Surroundings
+standing tree depth visible records = record { visible = visible; records = records; calls = calls_of tree depth }
+
 -- each statement does so, wherever it stands
 abbrev pub StatementsUseTurnsExactly : Type 0
 StatementsUseTurnsExactly =
-    (tree : Tree) (depth : ℕ) (visible : Environment) (statement : Stmt) →
-    UsesTurnsExactly (effect_of statement (record { visible = visible; calls = calls_of tree depth }))
-
--- where so much is visible, and calls may stand so deep in one another
-abbrev pub standing : Tree → ℕ → Environment → Surroundings
-standing tree depth visible = record { visible = visible; calls = calls_of tree depth }
+    (tree : Tree) (depth : ℕ) (visible : Environment) (records : List (Option Place)) (statement : Stmt) →
+    UsesTurnsExactly (effect_of statement (standing tree depth visible records))
 
 -- all pieces do so that stand here
 pub record AllUseTurnsExactly (env : Surroundings) : Type 0 where
@@ -113,16 +115,20 @@ pub record AllUseTurnsExactly (env : Surroundings) : Type 0 where
   pub tests : (holds : Bool) (site : ℕ) → UsesTurnsExactly (require holds site)
   pub stores : (place : Option Place) (v : Value) → UsesTurnsExactly (store place v)
   pub operators : (operation : Dyadic) (left right : ℤ) → UsesTurnsExactly (combined operation left right)
-  -- expressions, whole values, actual parameters and how they are assigned, and calls
+  pub operations : (operation : Dyadic) (left right : Value) → UsesTurnsExactly (operated_both operation left right)
+  -- expressions, the members of a set constructor, whole values, actual parameters and how they are assigned, and calls
   pub values : (e : Expr) → UsesTurnsExactly (value_of e env)
+  pub gathering : (designators : List Designator) (members : List Expr) (set : ℕ)
+      → UsesTurnsExactly (gathered designators (map value_of members) env set)
   pub wholes : (value : Whole) (indexes : List Expr) → UsesTurnsExactly (whole_of value (map value_of indexes) env)
   pub actuals : (actual : Passed) → UsesTurnsExactly (passing_of actual env)
   pub assigned : (tree : Tree) (roots : List ℕ) (arguments : List Argument)
       → UsesTurnsExactly (assign_all tree env.visible roots arguments)
   pub calls : (call : Call) (actuals : List Passed) → UsesTurnsExactly (call_of call (map passing_of actuals) env)
-  -- what is written, statements, and the rounds of a for statement
+  -- what is written, the records of a with statement, statements, and the rounds of a for statement
   pub widths : (width : Option Width) (default : ℤ) → UsesTurnsExactly (width_of width default env)
   pub written : (parameter : WriteParameter) → UsesTurnsExactly (parameter_of parameter env)
+  pub records : (records : List WithRecord) → UsesTurnsExactly (opened records env)
   pub statements : (statement : Stmt) → UsesTurnsExactly (effect_of statement env)
   pub counted : (head : ForHead) (body : Stmt) (first last : ℤ)
       → UsesTurnsExactly (for_rounds head (effect_of body) env first last)
@@ -130,7 +136,8 @@ pub record AllUseTurnsExactly (env : Surroundings) : Type 0 where
 -- each piece does so, wherever it stands
 abbrev pub PiecesUseTurnsExactly : Type 0
 PiecesUseTurnsExactly =
-    (tree : Tree) (depth : ℕ) (visible : Environment) → AllUseTurnsExactly (standing tree depth visible)
+    (tree : Tree) (depth : ℕ) (visible : Environment) (records : List (Option Place)) →
+    AllUseTurnsExactly (standing tree depth visible records)
 
 -- a loop is its first round, and then the loop again, if another round follows
 abbrev pub GoesRoundByRound : {A : Type 0} → Round A → Type 0
@@ -148,14 +155,17 @@ pub record AllGoRoundByRound (env : Surroundings) : Type 0 where
 -- each loop is, wherever it stands
 abbrev pub LoopsGoRoundByRound : Type 0
 LoopsGoRoundByRound =
-    (tree : Tree) (depth : ℕ) (visible : Environment) → AllGoRoundByRound (standing tree depth visible)
+    (tree : Tree) (depth : ℕ) (visible : Environment) (records : List (Option Place)) →
+    AllGoRoundByRound (standing tree depth visible records)
 
 -- where the bound on how deep activations stand in one another is greater than the turns that are left, a statement
 -- does the same under a greater bound
 abbrev pub DeeperCallsChangeNothing : Type 0
 DeeperCallsChangeNothing =
-    (tree : Tree) (depth more : ℕ) (visible : Environment) (statement : Stmt) (s : State) → s.turns < depth →
-    effect_of statement (standing tree depth visible) s ≡ effect_of statement (standing tree (depth + more) visible) s
+    (tree : Tree) (depth more : ℕ) (visible : Environment) (records : List (Option Place)) (statement : Stmt)
+    (s : State) → s.turns < depth →
+    effect_of statement (standing tree depth visible records) s
+    ≡ effect_of statement (standing tree (depth + more) visible records) s
 
 -- where the beginning of a chain stops, the chain stops there, whatever stands to the right
 abbrev pub ChainsGoLeftToRight : Type 0

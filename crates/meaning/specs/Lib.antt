@@ -3,4 +3,5 @@ pub mod Store
 pub mod Counting
 pub mod Effect
 pub mod Meaning
+pub mod Kinds
 pub mod Laws

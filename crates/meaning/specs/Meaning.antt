@@ -3,11 +3,15 @@
 -- after their operand, an operator after its right one.
 -- It says nothing of code, of cells, or of what an implementation does where memory runs out.
 use Rattle.std.specs.Prelude.{ℕ, ℤ, pos, ◌+ℤ◌, ◌-ℤ◌, ◌*ℤ◌, neg_ℤ, int_div, int_le, int_lt, Bool, true, false, ◌&&◌}
-use Rattle.std.specs.Prelude.{◌||◌, zero, suc, negsuc, not, List, [], ◌∷◌, Option, Some, None, Vec, if◌then◌else◌, map}
-use Rattle.std.specs.Prelude.{nat_eq, slice_get}
+use Rattle.std.specs.Prelude.{◌||◌, ◌++◌, zero, suc, negsuc, not, List, [], ◌∷◌, Option, Some, None, Vec, map}
+use Rattle.std.specs.Prelude.{if◌then◌else◌, nat_eq, slice_get}
 use Rattle.std.specs.List.{list_any}
 use Rattle.std.specs.declared.alloc.Global.{Global}
 use Rattle.std.specs.declared.boxed.Box.{Box}
+use Rattle.members.specs.Members as sets
+use Rattle.members.specs.declared.sets.Operator.TheVariants.{Union, Intersection, Difference}
+use Rattle.members.specs.declared.sets.Relation.{Relation as RelationOfSets}
+use Rattle.members.specs.declared.sets.Relation.TheVariants as way
 use Rattle.types.specs.declared.form.Step.TheVariants as step
 use Rattle.types.specs.Components.{components_of}
 use Rattle.types.specs.Forms.{Form}
@@ -16,6 +20,8 @@ use Rattle.typed_tree.specs.declared.tree.Access.{Access}
 use Rattle.typed_tree.specs.declared.tree.Selector.{Selector}
 use Rattle.typed_tree.specs.declared.tree.Selector.TheVariants.{Element, Field}
 use Rattle.typed_tree.specs.declared.tree.Block.{Block}
+use Rattle.typed_tree.specs.declared.tree.Designator.{Designator}
+use Rattle.typed_tree.specs.declared.tree.Designator.TheVariants.{Single, Range}
 use Rattle.typed_tree.specs.declared.tree.Heading.{Heading}
 use Rattle.typed_tree.specs.declared.tree.FunctionResult.{FunctionResult}
 use Rattle.typed_tree.specs.declared.tree.Call.{Call}
@@ -34,10 +40,13 @@ use Rattle.typed_tree.specs.declared.tree.Dyadic.{Dyadic}
 use Rattle.typed_tree.specs.declared.tree.Dyadic.TheVariants as dyadic
 use Rattle.typed_tree.specs.declared.tree.Relation.{Relation}
 use Rattle.typed_tree.specs.declared.tree.Relation.TheVariants as relation
+use Rattle.typed_tree.specs.declared.tree.SetRelation.{SetRelation}
+use Rattle.typed_tree.specs.declared.tree.SetRelation.TheVariants as set_relation
 use Rattle.typed_tree.specs.declared.tree.Representation.{Representation}
 use Rattle.typed_tree.specs.declared.tree.Representation.TheVariants as representation
 use Rattle.typed_tree.specs.declared.tree.ForHead.{ForHead}
 use Rattle.typed_tree.specs.declared.tree.Width.{Width}
+use Rattle.typed_tree.specs.declared.tree.WithRecord.{WithRecord}
 use Rattle.typed_tree.specs.declared.tree.WriteParameter.{WriteParameter}
 use Rattle.typed_tree.specs.declared.tree.Written.{Written}
 use Rattle.typed_tree.specs.declared.tree.Written.TheVariants.{Ordinal, String}
@@ -48,28 +57,29 @@ use Rattle.typed_tree.specs.declared.tree.Link.{Link}
 use Rattle.typed_tree.specs.declared.tree.Passed.{Passed}
 use Rattle.typed_tree.specs.declared.tree.Expr.TheOpen.{Expr-F, Passed-F, Link-F}
 use Rattle.typed_tree.specs.declared.tree.Expr.TheOpen.Expr-F.{Constant, Variable, Monadic as MonadicOf, Chain}
-use Rattle.typed_tree.specs.declared.tree.Expr.TheOpen.Expr-F.{Compare, Call as CallOf}
+use Rattle.typed_tree.specs.declared.tree.Expr.TheOpen.Expr-F.{Compare, Call as CallOf, Set}
 use Rattle.typed_tree.specs.declared.tree.Expr.TheOpen.Passed-F.{Value as PassedValue, Whole as PassedWhole, Reference}
 use Rattle.typed_tree.specs.declared.tree.Expr.TheFolds.{fold-Expr, fold-Passed, fold-Link}
 use Rattle.typed_tree.specs.declared.tree.Stmt.{Stmt}
 use Rattle.typed_tree.specs.declared.tree.Stmt.TheOpen.{Stmt-F}
 use Rattle.typed_tree.specs.declared.tree.Stmt.TheOpen.Stmt-F.{Empty, Assign, Write, Compound, If, While, Repeat, For}
-use Rattle.typed_tree.specs.declared.tree.Stmt.TheOpen.Stmt-F.{Case, Copy, Call as Calling}
+use Rattle.typed_tree.specs.declared.tree.Stmt.TheOpen.Stmt-F.{Case, Copy, Call as Calling, With}
 use Rattle.typed_tree.specs.declared.tree.Stmt.TheFolds.{fold-Stmt}
+use Rattle.typed_tree.specs.Accesses.{Origin, AtVariable, AtRecord, origin_of}
 use Rattle.typed_tree.specs.WellFormed.{is_one_of, length_of}
 use Rattle.meaning.specs.declared.outcome.Ending.{Ending}
 use Rattle.meaning.specs.declared.outcome.Ending.TheVariants as ending
 use Rattle.meaning.specs.declared.store.Value.{Value}
-use Rattle.meaning.specs.declared.store.Value.TheVariants.{Number}
+use Rattle.meaning.specs.declared.store.Value.TheVariants.{Number, Members}
 use Rattle.meaning.specs.Integers.{is_integer_number, truth, is_true, is_odd, magnitude}
 use Rattle.meaning.specs.Store.{Environment, Place, part}
 use Rattle.meaning.specs.Counting.{has_values, value_behind}
 use Rattle.meaning.specs.Effect.{State, Reply, Gives, Stops, Action, Round, ◌>>=◌, give, stop, require, enter, use_turn}
 use Rattle.meaning.specs.Effect.{looped, begin, living_now, end_with}
 use Rattle.meaning.specs.Effect.{fetch, fetch_all, store, store_all, undefine, write, is_in, is_positive, number_of}
-use Rattle.meaning.specs.Effect.{row_text, text_of}
+use Rattle.meaning.specs.Effect.{members_of, row_text, text_of}
 
--- what is passed to a formal parameter: an ordinal, the components of a structured value, or a place (6.6.3)
+-- what is passed to a formal parameter: an ordinal or a set, the components of a structured value, or a place (6.6.3)
 pub data Argument : Type 0 where
   OfValue : Value → Argument
   OfRow : List Value → Argument
@@ -80,9 +90,11 @@ pub data Argument : Type 0 where
 abbrev pub Calls : Type 0
 Calls = ℕ → List Argument → Environment → Action Value
 
--- where a piece of a program stands in a run: what is visible there, and what calls do
+-- where a piece of a program stands in a run: what is visible there, where the records lie of the with statements round
+-- it, by their slots (6.8.3.10), and what calls do
 pub record Surroundings : Type 0 where
   pub visible : Environment
+  pub records : List (Option Place)
   pub calls : Calls
 
 -- what an expression does where it stands: it gives its value
@@ -166,11 +178,21 @@ selected (Element fits cells ∷ selectors) (index ∷ indexes) env place = do
   _ ← require (is_in fits.range v) fits.site
   selected selectors indexes env (part place (step.Element (number_of v) ∷ []))
 
+-- the place of a slot, if there is one
+abbrev pub place_at : Option (Option Place) → Option Place
+place_at None = None
+place_at (Some place) = place
+
+-- the place at which an access begins: that of a variable, or of a record of a with statement (6.8.3.10)
+abbrev pub begun : Origin → Surroundings → Option Place
+begun (AtVariable root) env = env.visible.variables root
+begun (AtRecord root slot path) env = place_at (slice_get env.records slot)
+
 -- the place that is accessed (6.5.1)
 abbrev pub accessed : Access → List Evaluation → Surroundings → Action (Option Place)
 accessed access indexes env = do
   _ ← enter access.number env.visible
-  selected access.selectors.items indexes env (env.visible.variables access.root)
+  selected access.selectors.items indexes env (begun (origin_of access) env)
 
 -- the values of the scalar components of a whole value
 abbrev pub whole_of : Whole → List Evaluation → Surroundings → Action (List Value)
@@ -187,8 +209,8 @@ divides (dyadic.Div by_zero) b = require (not (int_eq b (pos 0))) by_zero
 divides (dyadic.Mod by_zero_or_less) b = require (int_le (pos 1) b) by_zero_or_less
 divides other b = give tt
 
--- what is calculated from two operands: `div` cuts toward zero, and `mod` gives the remainder that is not negative
--- (6.7.2.2); `and`, `or` (6.7.2.3)
+-- what is calculated from two numbers: `div` cuts toward zero, and `mod` gives the remainder that is not negative
+-- (6.7.2.2); `and`, `or` (6.7.2.3). The operations of sets calculate none
 abbrev pub of_both : Dyadic → ℤ → ℤ → ℤ
 of_both (dyadic.Plus overflow) a b = a +ℤ b
 of_both (dyadic.Minus overflow) a b = a -ℤ b
@@ -198,6 +220,7 @@ of_both (dyadic.Mod by_zero_or_less) a b = int_rem_euclid a b
 of_both dyadic.And a b = truth (is_true a && is_true b)
 of_both dyadic.Or a b = truth (is_true a || is_true b)
 of_both (dyadic.Relation r) a b = truth (relates r a b)
+of_both operation_of_sets a b = pos 0
 
 -- the site of an operation whose result has to be of type integer
 abbrev pub overflow_of_both : Dyadic → Option ℕ
@@ -206,19 +229,67 @@ overflow_of_both (dyadic.Minus overflow) = Some overflow
 overflow_of_both (dyadic.Times overflow) = Some overflow
 overflow_of_both other = None
 
--- an operation on two operands
+-- an operation on two numbers
 abbrev pub combined : Dyadic → ℤ → ℤ → Action ℤ
 combined operation a b = do
   _ ← divides operation b
   unless_overflow (overflow_of_both operation) (of_both operation a b)
+
+-- how one set has to stand to another in a relation of sets (6.7.2.5)
+abbrev pub way_of : SetRelation → RelationOfSets
+way_of set_relation.Equal = way.Equal
+way_of set_relation.NotEqual = way.NotEqual
+way_of set_relation.Included = way.Inside
+way_of set_relation.Includes = way.Around
+
+-- an operation on two operands: of two sets (6.7.2.4), a relation of them, or whether a number is a member of a set
+-- (6.7.2.5), none of which errs; else of two numbers
+abbrev pub operated_both : Dyadic → Value → Value → Action Value
+operated_both dyadic.Union a b = give (Members (sets.of_two Union (members_of a) (members_of b)))
+operated_both dyadic.Difference a b = give (Members (sets.of_two Difference (members_of a) (members_of b)))
+operated_both dyadic.Intersection a b = give (Members (sets.of_two Intersection (members_of a) (members_of b)))
+operated_both (dyadic.SetRelation r) a b =
+    give (Number (truth (sets.stand (way_of r) (members_of a) (members_of b))))
+operated_both dyadic.In a b = give (Number (truth (sets.has (members_of b) (number_of a))))
+operated_both of_numbers a b = do
+  n ← combined of_numbers (number_of a) (number_of b)
+  give (Number n)
 
 -- the right operand, and then the operation
 abbrev pub link_step : Link-F Evaluation Passing Combination → Combination
 link_step link env left = do
   _ ← enter link.number env.visible
   right ← link.operand env
-  n ← combined link.operation (number_of left) (number_of right)
-  give (Number n)
+  operated_both link.operation left right
+
+-- a set with one member more, which is tested (6.7.1)
+abbrev pub with_one : ℕ → Value → ℕ → Action ℕ
+with_one site v set = do
+  _ ← require (sets.can_be_member (number_of v)) site
+  give (sets.of_two Union set (sets.of_one (number_of v)))
+
+-- a set with all members from a first to a last one, which are tested if there are any (6.7.1)
+abbrev pub with_range : ℕ → Value → Value → ℕ → Action ℕ
+with_range site a b set = do
+  _ ← require (sets.range_fits (number_of a) (number_of b)) site
+  give (sets.of_two Union set (sets.of_range (number_of a) (number_of b)))
+
+-- a set with the members that designators give, from left to right: those of one are tested before the next are
+-- evaluated; a designator without its expressions ends it
+abbrev pub gathered : List Designator → List Evaluation → Surroundings → ℕ → Action ℕ
+gathered [] members env set = give set
+gathered (Single site ∷ designators) [] env set = give set
+gathered (Single site ∷ designators) (member ∷ members) env set = do
+  v ← member env
+  more ← with_one site v set
+  gathered designators members env more
+gathered (Range site ∷ designators) [] env set = give set
+gathered (Range site ∷ designators) (first ∷ []) env set = give set
+gathered (Range site ∷ designators) (first ∷ last ∷ members) env set = do
+  a ← first env
+  b ← last env
+  more ← with_range site a b set
+  gathered designators members env more
 
 -- the operators of a chain, from left to right
 abbrev pub in_turn : List Combination → Combination
@@ -260,7 +331,7 @@ abbrev pub value_step : Expr-F Evaluation Passing Combination → Evaluation
 value_step (Constant number value) env = do
   _ ← enter number env.visible
   give (Number value)
-value_step (Variable access indexes defined) env = do
+value_step (Variable access indexes holds defined) env = do
   place ← accessed access indexes.items env
   fetch place defined
 value_step (MonadicOf number operation operand) env = do
@@ -276,6 +347,10 @@ value_step (Compare number relation left left_indexes right right_indexes) env =
   _ ← enter number env.visible
   b ← whole_of right right_indexes.items env
   give (Number (compared relation a b))
+value_step (Set number designators members) env = do
+  _ ← enter number env.visible
+  set ← gathered designators.items members.items env sets.empty
+  give (Members set)
 value_step (CallOf call actuals) env = call_of call actuals.items env
 
 -- the value of an expression
@@ -401,6 +476,18 @@ arm_of site (row ∷ rows) [] n env = stop (ending.Error site)
 arm_of site (row ∷ rows) (arm ∷ arms) n env =
     if is_among row.items n then arm env else arm_of site rows arms n env
 
+-- where a piece stands with one more record round it
+abbrev pub with_record : Surroundings → Option Place → Surroundings
+with_record env place = record env { records = env.records ++ place ∷ [] }
+
+-- the records round a statement in which these stand as well: each is accessed once, in their order (6.8.3.10), and has
+-- the slot behind those before it
+abbrev pub opened : List WithRecord → Surroundings → Action (List (Option Place))
+opened [] env = give env.records
+opened (one ∷ others) env = do
+  place ← accessed one.access (values_of one.indexes.items) env
+  opened others (with_record env place)
+
 -- one layer of a statement
 abbrev pub effect_step : Stmt-F Execution → Execution
 effect_step (Empty number) env = enter number env.visible
@@ -445,6 +532,10 @@ effect_step (Case head arms) env = do
   _ ← enter head.number env.visible
   v ← value_of head.index env
   arm_of head.site head.constants.items arms.items (number_of v) env
+effect_step (With head body) env = do
+  _ ← enter head.number env.visible
+  records ← opened head.records.items env
+  body.value (record env { records = records })
 
 -- what a statement does
 abbrev pub effect_of : Stmt → Execution
@@ -544,7 +635,7 @@ abbrev pub executed : Tree → Calls → Block → Activation → Action Value
 executed tree calls block activation =
     let visible = environment_of tree activation in do
       _ ← assign_all tree visible block.heading.parameters.items activation.arguments
-      _ ← effect_of block.body (record { visible = visible; calls = calls })
+      _ ← effect_of block.body (record { visible = visible; records = []; calls = calls })
       result_of block.heading.result visible
 
 -- an activation of a routine, from its begin to its end
@@ -581,8 +672,11 @@ program_activation tree heading =
 
 -- where the statement of the program's block stands, for so many activations in one another
 abbrev pub program_surroundings : Tree → ℕ → Heading → Surroundings
-program_surroundings tree depth heading =
-    record { visible = environment_of tree (program_activation tree heading); calls = calls_of tree depth }
+program_surroundings tree depth heading = record {
+  visible = environment_of tree (program_activation tree heading);
+  records = [];
+  calls = calls_of tree depth;
+}
 
 -- what a program writes, and how it ends
 pub record Meaning : Type 0 where

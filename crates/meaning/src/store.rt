@@ -7,10 +7,11 @@ ghost use Rattle.meaning.specs.Integers.{magnitude, truth};
 
 use std::marker::Model;
 
-/// A value: an ordinal by its number.
+/// A value: an ordinal by its number, or a set by the number whose bits tell its members, from 0 to 127.
 #[derive(Clone, Copy)]
 pub enum Value {
     Number(Ordinal),
+    Members(u128),
 }
 
 /// The number of an ordinal, or of one whose sign was changed: -2147483648 to 2147483648.

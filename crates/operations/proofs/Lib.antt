@@ -1,2 +1,3 @@
 mod FoundArms
+pub mod Members
 mod RowOrder

@@ -4,17 +4,19 @@
 use Rattle.std.specs.Prelude.{◌≡◌, ℕ, ℤ, List, [], ◌∷◌, Option, Some, None, Result, Ok, Err, Vec}
 use Rattle.std.specs.Prelude.{int_lt, if◌then◌else◌}
 use Rattle.std.specs.declared.alloc.Global.{Global}
+use Rattle.members.specs.Members as sets
 use Rattle.types.specs.declared.form.OrdinalRange.{OrdinalRange}
 use Rattle.typed_tree.specs.declared.tree.Direction.{Direction}
 use Rattle.typed_tree.specs.declared.tree.Direction.TheVariants.{To, DownTo}
+use Rattle.typed_tree.specs.declared.tree.Dyadic.{Dyadic}
 use Rattle.typed_tree.specs.declared.tree.ForHead.{ForHead}
 use Rattle.typed_tree.specs.declared.tree.RangeTest.{RangeTest}
 use Rattle.typed_tree.specs.declared.tree.Stmt.{Stmt}
 use Rattle.meaning.specs.declared.outcome.Ending.TheVariants as ending
 use Rattle.meaning.specs.declared.store.Value.{Value}
 use Rattle.meaning.specs.declared.store.Value.TheVariants.{Number}
-use Rattle.meaning.specs.Effect.{State, Action, ◌>>=◌, give, stop, require, is_in, is_positive}
-use Rattle.meaning.specs.Meaning.{is_among}
+use Rattle.meaning.specs.Effect.{State, Action, ◌>>=◌, give, stop, require, is_in, is_positive, number_of}
+use Rattle.meaning.specs.Meaning.{combined, is_among}
 use Rattle.meaning.specs.Counting.{has_values, next_value}
 
 -- a value or a number, or an error at a site
@@ -29,6 +31,10 @@ Answers action result = (s : State) → action s ≡ answered result s
 -- a number in a range, or the site of its test
 abbrev pub number_tested : RangeTest → ℤ → Result ℤ ℕ
 number_tested fits n = if is_in fits.range (Number n) then Ok n else Err fits.site
+
+-- an index in a range, by its number, or the site of its test
+abbrev pub index_tested : RangeTest → Value → Result ℤ ℕ
+index_tested fits v = if is_in fits.range v then Ok (number_of v) else Err fits.site
 
 -- two bounds, the first tested first
 abbrev pub both_bounds : Result ℤ ℕ → Result ℤ ℕ → Result (Option (ℤ × ℤ)) ℕ
@@ -57,6 +63,14 @@ value_before DownTo last n = if int_lt last n then Some (next_value DownTo n) el
 -- a value, if it lies in a range
 abbrev pub checked : OrdinalRange → Value → Option Value
 checked range v = if is_in range v then Some v else None
+
+-- an operation on two numbers, as values
+abbrev pub numbers_both : Dyadic → Value → Value → Action Value
+numbers_both operation a b = combined operation (number_of a) (number_of b) >>= λ n. give (Number n)
+
+-- a number, if it can be a member of a set
+abbrev pub member_at : ℤ → Option ℤ
+member_at n = if sets.can_be_member n then Some n else None
 
 -- a width, tested at a site
 abbrev pub positive : ℕ → ℤ → Action ℤ

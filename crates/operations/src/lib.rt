@@ -5,4 +5,5 @@
 pub mod arms;
 pub mod ordinals;
 pub mod rows;
+pub mod sets;
 pub mod text;

@@ -2,9 +2,11 @@ ghost use Rattle.std.specs.Prelude.{◌≡◌};
 ghost use Rattle.meaning.specs.Effect.{is_in, is_positive, number_of};
 ghost use Rattle.meaning.specs.Meaning.{calculated, combined, default_width, is_so, operated, overflow_of, relates};
 ghost use Rattle.meaning.specs.Meaning.{unless_overflow};
-ghost use Rattle.operations.specs.Answers.{Answers, bounds_tested, checked, number_tested, positive, value_before};
+ghost use Rattle.operations.specs.Answers.{Answers, bounds_tested, checked, index_tested, number_tested, positive};
+ghost use Rattle.operations.specs.Answers.{value_before};
 
 use meaning::store::{Ordinal, Value};
+use members::sets::is_within;
 use typed_tree::tree::{
     Calculation, Direction, Dyadic, ForHead, Monadic, RangeTest, Relation, Representation, Shift,
 };
@@ -58,7 +60,7 @@ fn shifted_number(fits: RangeTest, does: Shift, number: Ordinal) -> Result<Ordin
     })
 }
 
-/// The number of an operation on two operands, or the site of its error (ISO 7185:1990, 6.7.2).
+/// The number of an operation on two numbers, or the site of its error (ISO 7185:1990, 6.7.2).
 pub fn combined_number(operation: Dyadic, left: Ordinal, right: Ordinal) -> Result<Ordinal, u32>
     ensures { Answers (combined operation left right) result }
 {
@@ -71,6 +73,11 @@ pub fn combined_number(operation: Dyadic, left: Ordinal, right: Ordinal) -> Resu
         Dyadic::And => Ok(Ordinal::truth(left.is_true() && right.is_true())),
         Dyadic::Or => Ok(Ordinal::truth(left.is_true() || right.is_true())),
         Dyadic::Relation(relation) => Ok(Ordinal::truth(is_related(relation, left, right))),
+        Dyadic::Union
+        | Dyadic::Difference
+        | Dyadic::Intersection
+        | Dyadic::SetRelation(_)
+        | Dyadic::In => Ok(Ordinal::new(0)),
     }
 }
 
@@ -119,8 +126,12 @@ pub fn value_in(range: OrdinalRange, value: Value) -> Option<Value>
 fn is_in(range: OrdinalRange, value: &Value) -> bool
     ensures { result ≡ is_in range value.now }
 {
-    let Value::Number(number) = value;
-    number.is_integer() && number.is_within(range.first, range.last)
+    match value {
+        Value::Number(number) => {
+            number.is_integer() && number.is_within(range.first, range.last)
+        }
+        Value::Members(set) => is_within(*set, range.first, range.last),
+    }
 }
 
 /// The bounds of a for, or nothing where they leave no value between them; or the site at which one of them is outside
@@ -155,6 +166,17 @@ pub fn tested_number(fits: RangeTest, number: Ordinal) -> Result<i32, u32>
     }
 }
 
+/// The number of an index in the range of a type, or the site of its test.
+pub fn tested_index(fits: RangeTest, index: Value) -> Result<i32, u32>
+    ensures { result ≡ index_tested fits index }
+{
+    match index {
+        Value::Number(number) => tested_number(fits, number),
+        Value::Members(_) if is_in(fits.range, &index) => Ok(0),
+        Value::Members(_) => Err(fits.site),
+    }
+}
+
 /// The next value of a control variable, on its way to the last one.
 pub fn value_toward(direction: Direction, last: i32, value: i32) -> Option<i32>
     ensures { result ≡ value_before direction last value }
@@ -170,8 +192,10 @@ pub fn value_toward(direction: Direction, last: i32, value: i32) -> Option<i32>
 pub fn number_of(value: Value) -> Ordinal
     ensures { result ≡ number_of value }
 {
-    let Value::Number(number) = value;
-    number
+    match value {
+        Value::Number(number) => number,
+        Value::Members(_) => Ordinal::new(0),
+    }
 }
 
 /// The truth value that a value is.

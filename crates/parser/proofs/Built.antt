@@ -9,6 +9,7 @@ use Rattle.syntax_tree.specs.declared.Constant.{Constant}
 use Rattle.syntax_tree.specs.declared.Direction.{Direction}
 use Rattle.syntax_tree.specs.declared.Expr.{Expr}
 use Rattle.syntax_tree.specs.declared.Name.{Name}
+use Rattle.syntax_tree.specs.declared.RecordVariable.{RecordVariable}
 use Rattle.syntax_tree.specs.declared.Selector.{Selector}
 use Rattle.syntax_tree.specs.declared.Stmt.{Stmt}
 use Rattle.syntax_tree.specs.declared.Stmt.TheOpen as layer
@@ -17,7 +18,7 @@ use Rattle.syntax_tree.specs.declared.Stmt.TheViews.{roll-Stmt}
 use Rattle.reading.specs.Lexemes.{identifier}
 use Rattle.reading.specs.Outline as form
 use Rattle.reading.specs.Outline.{only_if}
-use Rattle.reading.specs.Trees.{actual_outline, expr_outline, selector_rows, stmt_outline}
+use Rattle.reading.specs.Trees.{actual_outline, expr_outline, record_outline, selector_rows, stmt_outline}
 use Rattle.reading.proofs.Outlines.{stmt_is, stmt_layer}
 use Rattle.parser.specs.Built.{arms_outlines}
 
@@ -70,6 +71,11 @@ built_for place variable first direction last body =
     rolled (syntax.For place variable first direction last body) (layer.For place variable first direction last body)
     (syntax.rolls-For place variable first direction last body)
 
+pub built_with : (place : Place) (records : Vec RecordVariable Global) (body : Box Stmt Global)
+    → stmt_outline (syntax.With place records body) ≡ form.with_fields place (map record_outline records.items) (stmt_outline body.value)
+built_with place records body =
+    rolled (syntax.With place records body) (layer.With place records body) (syntax.rolls-With place records body)
+
 pub built_case : (place : Place) (index : Expr) (constants : Vec (Vec Constant Global) Global) (arms : Vec Stmt Global) (semicolon : Bool)
     → length constants.items ≡ length arms.items
     → stmt_outline (syntax.Case place index constants arms semicolon)
@@ -81,4 +87,4 @@ built_case place index constants arms semicolon each =
     (eq-eqb (length constants.items) (length (map stmt_outline arms.items)) (each ∙ sym (length-map arms.items stmt_outline)))
 
 pub ruleset built_statements =
-    (built_empty, built_assignment, built_call, built_compound, built_if, built_else, built_while, built_repeat, built_for, built_case)
+    (built_empty, built_assignment, built_call, built_compound, built_if, built_else, built_while, built_repeat, built_for, built_case, built_with)

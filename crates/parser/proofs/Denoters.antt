@@ -47,7 +47,11 @@ pub built_record : (packed : Bool) (place : Place) (names : Vec (Vec Name Global
 built_record packed place names denoters semicolon =
     ap denoter_outline (sym (denoter.rolls-Record packed place names denoters semicolon)) ∙ denoter_is (layer.Record packed place names denoters semicolon)
 
-pub ruleset built_denoters = (built_name, built_enumerated, built_subrange, built_array, built_record)
+pub built_set : (packed : Bool) (place : Place) (base : Box TypeDenoter Global)
+    → denoter_outline (denoter.Set packed place base) ≡ form.set_type packed place (denoter_outline base.value)
+built_set packed place base = ap denoter_outline (sym (denoter.rolls-Set packed place base)) ∙ denoter_is (layer.Set packed place base)
+
+pub ruleset built_denoters = (built_name, built_enumerated, built_subrange, built_array, built_record, built_set)
 
 pub ruleset subranges = (built_name, built_subrange)
 

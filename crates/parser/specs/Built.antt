@@ -11,10 +11,11 @@ use Rattle.syntax_tree.specs.declared.Constant.{Constant}
 use Rattle.syntax_tree.specs.declared.Direction.{Direction}
 use Rattle.syntax_tree.specs.declared.Expr.{Expr}
 use Rattle.syntax_tree.specs.declared.Name.{Name}
+use Rattle.syntax_tree.specs.declared.RecordVariable.{RecordVariable}
 use Rattle.syntax_tree.specs.declared.Stmt.{Stmt}
 use Rattle.reading.specs.Lexemes.{Lexeme, identifier}
 use Rattle.reading.specs.Outline.{Outline}
-use Rattle.reading.specs.Trees.{arm_outline, constant_outline, expr_outline, stmt_outline}
+use Rattle.reading.specs.Trees.{arm_outline, constant_outline, expr_outline, record_outline, stmt_outline}
 
 -- the constants before an arm of a case
 abbrev pub constants_outlines : Vec Constant Global → List Outline
@@ -33,6 +34,10 @@ statements_outlines statements = map stmt_outline statements.items
 
 abbrev pub compound_outlines : Vec Stmt Global × Place → List Outline × Place
 compound_outlines found = (statements_outlines found.0, found.1)
+
+-- the variables of records behind `with`
+abbrev pub records_outlines : Vec RecordVariable Global → List Outline
+records_outlines records = map record_outline records.items
 
 -- the head of a for statement, and its first bound with its direction
 abbrev pub control_lexeme : Place × Name → Place × Lexeme

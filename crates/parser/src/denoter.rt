@@ -4,7 +4,7 @@ ghost use Rattle.reading.specs.Reading.{separated};
 ghost use Rattle.reading.specs.Statements.{parts_to_end};
 ghost use Rattle.reading.specs.Trees.{denoter_outline};
 ghost use Rattle.token_cursor.specs.Cursor.{Makes};
-ghost use Rattle.parser.specs.Denoters.{array_type, record_type};
+ghost use Rattle.parser.specs.Denoters.{array_type, record_type, set_type};
 ghost use Rattle.token_cursor.specs.Rows.{MakesRows};
 ghost use Rattle.parser.specs.Fields.{fields_look};
 
@@ -50,6 +50,7 @@ fn structured<'a>(
     let packed = cursor.take_word(Word::Packed).is_some();
     match cursor.peek() {
         Some(Kind::Word(Word::Array)) => array(alloc, cursor, levels, packed),
+        Some(Kind::Word(Word::Set)) => set(alloc, cursor, levels, packed),
         _ => record(alloc, cursor, levels, packed),
     }
 }
@@ -70,7 +71,7 @@ fn array<'a>(
     let indexes = indexes(alloc, cursor, levels);
     let indexes = cursor.followed_by(indexes, Kind::Symbol(Symbol::CloseBracket))?;
     cursor.expect_word(Word::Of)?;
-    let element = element(alloc, cursor, levels)?;
+    let element = part(alloc, cursor, levels)?;
     Ok(TypeDenoter::Array {
         packed,
         place,
@@ -79,15 +80,14 @@ fn array<'a>(
     })
 }
 
-/// The element type of an array.
+/// The element type of an array, or the base type of a set.
 #[cycle(denoter)]
-fn element<'a>(
+fn part<'a>(
     alloc: Global,
     cursor: &mut Cursor<'_, 'a>,
     levels: u32,
 ) -> Result<Box<TypeDenoter<'a>>, Refusal>
-    ensures { Makes (λ element. denoter_outline element.value) (spec.denoter levels cursor.old.rest.now)
-        result cursor.new }
+    ensures { Makes (λ part. denoter_outline part.value) (spec.denoter levels cursor.old.rest.now) result cursor.new }
 {
     boxed(alloc, denoter(alloc, cursor, levels))
 }
@@ -110,6 +110,27 @@ fn indexes<'a>(
             return Ok(indexes);
         };
     }
+}
+
+/// A set type behind `packed` (6.4.3.4), below which `levels` levels are left.
+#[cycle(denoter)]
+#[tactic(auto, using(crate::proofs::Denoters::built_denoters), unfolding(reading::specs::Declarations::set_type))]
+fn set<'a>(
+    alloc: Global,
+    cursor: &mut Cursor<'_, 'a>,
+    levels: u32,
+    packed: bool,
+) -> Result<TypeDenoter<'a>, Refusal>
+    ensures { Makes denoter_outline (set_type packed (spec.denoter levels) cursor.old.rest.now) result cursor.new }
+{
+    let place = cursor.expect_word(Word::Set);
+    let place = cursor.followed_by(place, Kind::Word(Word::Of))?;
+    let base = part(alloc, cursor, levels)?;
+    Ok(TypeDenoter::Set {
+        packed,
+        place,
+        base,
+    })
 }
 
 /// A record type behind `packed` (6.4.3.3), below which `levels` levels are left.

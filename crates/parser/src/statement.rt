@@ -1,10 +1,10 @@
 ghost use Rattle.reading.specs.Reading.{separated};
 ghost use Rattle.reading.specs.Statements as spec;
-ghost use Rattle.reading.specs.Trees.{expr_outline, stmt_outline};
+ghost use Rattle.reading.specs.Trees.{expr_outline, record_outline, stmt_outline};
 ghost use Rattle.token_cursor.specs.Cursor.{Makes};
 ghost use Rattle.token_cursor.specs.Rows.{MakesRows};
 ghost use Rattle.parser.specs.Built.{alternative_outline, body_outline, case_outlines, compound_outlines};
-ghost use Rattle.parser.specs.Built.{control_lexeme, initial_outline, statements_outlines};
+ghost use Rattle.parser.specs.Built.{control_lexeme, initial_outline, records_outlines, statements_outlines};
 
 use crate::constants::row;
 use crate::lists::behind_arm;
@@ -13,7 +13,7 @@ use lexer::token::{Kind, Symbol, Word};
 use place::Place;
 use reading::refusal::Refusal;
 use std::alloc::Global;
-use syntax_tree::{Constant, Direction, Expr, Name, Stmt};
+use syntax_tree::{Constant, Direction, Expr, Name, RecordVariable, Stmt};
 use token_cursor::cursor::Cursor;
 use token_cursor::memory::{boxed, put};
 use token_cursor::nesting::inside;
@@ -75,6 +75,7 @@ fn statement<'a>(
         Some(Kind::Word(Word::Repeat)) => repeat_loop(alloc, cursor, levels),
         Some(Kind::Word(Word::For)) => for_loop(alloc, cursor, levels),
         Some(Kind::Word(Word::Case)) => case_of(alloc, cursor, levels),
+        Some(Kind::Word(Word::With)) => with_fields(alloc, cursor, levels),
         _ => Ok(Stmt::Empty),
     }
 }
@@ -274,6 +275,65 @@ fn arms<'a>(
             return Ok((constants, arms, semicolon));
         }
     }
+}
+
+/// A with statement (6.8.3.10), below which `levels` levels are left.
+#[cycle(statement)]
+#[tactic(auto, using(crate::proofs::Built::built_statements), unfolding(reading::specs::Statements::with_fields))]
+fn with_fields<'a>(
+    alloc: Global,
+    cursor: &mut Cursor<'_, 'a>,
+    levels: u32,
+) -> Result<Stmt<'a>, Refusal>
+    ensures { Makes stmt_outline (spec.with_fields levels (spec.statement levels) cursor.old.rest.now)
+        result cursor.new }
+{
+    let place = cursor.expect_word(Word::With)?;
+    let records = records(alloc, cursor, levels);
+    let records = cursor.followed_by(records, Kind::Word(Word::Do))?;
+    let body = body(alloc, cursor, levels)?;
+    Ok(Stmt::With {
+        place,
+        records,
+        body,
+    })
+}
+
+/// The variables of records behind `with`.
+fn records<'a>(
+    alloc: Global,
+    cursor: &mut Cursor<'_, 'a>,
+    levels: u32,
+) -> Result<Vec<RecordVariable<'a>>, Refusal>
+    ensures { Makes records_outlines (separated Symbol.Comma (spec.record_variable levels) cursor.old.rest.now) result
+        cursor.new }
+{
+    // Most have one.
+    let mut records = Vec::with_capacity(alloc, 1)?;
+    loop {
+        put(&mut records, record_variable(alloc, cursor, levels))?;
+        let Some(_) = cursor.take_symbol(Symbol::Comma) else {
+            return Ok(records);
+        };
+    }
+}
+
+/// A variable of a record: a name and its selectors.
+#[tactic(auto, unfolding(reading::specs::Statements::record_variable))]
+fn record_variable<'a>(
+    alloc: Global,
+    cursor: &mut Cursor<'_, 'a>,
+    levels: u32,
+) -> Result<RecordVariable<'a>, Refusal>
+    ensures { Makes record_outline (spec.record_variable levels cursor.old.rest.now) result cursor.new }
+{
+    let name = cursor.expect_name()?;
+    let (selectors, indexes) = selectors(alloc, cursor, levels)?;
+    Ok(RecordVariable {
+        name,
+        selectors,
+        indexes,
+    })
 }
 
 /// A statement that is part of another one, below which `levels` levels are left.

@@ -26,7 +26,7 @@ is_result_count results = nat_le results 1
 
 abbrev pub in_bounds : Instr → Bool
 in_bounds (instr.LoadConstant value) = true
-in_bounds (instr.LoadSet high low) = true
+in_bounds (instr.LoadSet members) = true
 in_bounds (instr.LoadAddress level offset) = is_level level && is_offset offset
 in_bounds (instr.Load level offset) = is_level level && is_offset offset
 in_bounds (instr.Store level offset) = is_level level && is_offset offset

@@ -6,8 +6,8 @@
 pub enum Instr {
     /// `ldc c`: push a number.
     LoadConstant { value: i32 },
-    /// `lds h`: push a set, a bit for each member: m is bit m of `low`, or bit m - 64 of `high`.
-    LoadSet { high: u64, low: u64 },
+    /// `lds h`: push a set, a bit for each member: m is bit m of `members`.
+    LoadSet { members: u128 },
     /// `lda d o`: push base(d) + o.
     LoadAddress { level: u8, offset: u32 },
     /// `lod d o`: push the cell at base(d) + o.

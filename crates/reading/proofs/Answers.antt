@@ -7,6 +7,7 @@ use Rattle.std.proofs.lemmas.Bool.Decides.{nat_tests}
 use Rattle.place.specs.declared.Place.{Place}
 use Rattle.lexer.specs.declared.token.Kind.{Kind}
 use Rattle.lexer.specs.declared.token.Kind.TheVariants as kind
+use Rattle.lexer.specs.declared.token.Word.TheVariants as word
 use Rattle.lexer.specs.declared.token.Symbol.TheVariants as symbol
 use Rattle.lexer.specs.declared.token.Token.{Token}
 use Rattle.syntax_tree.specs.declared.Operator.{Operator}
@@ -150,6 +151,7 @@ relational_operates relational.Less place = refl
 relational_operates relational.Greater place = refl
 relational_operates relational.LessOrEqual place = refl
 relational_operates relational.GreaterOrEqual place = refl
+relational_operates relational.In place = refl
 
 pub takes_relational : {token : Token} {behind tokens : List Token} (o : RelationalOperator) (place : Place) → tokens ≡ token ∷ behind
     → IsSpelledBy (of_kind_at (relational_kind o) place) token → relational_taken tokens ≡ Ok (Some (o, place), behind)
@@ -190,6 +192,7 @@ follows (Some (kind.Symbol symbol.Less)) = 1
 follows (Some (kind.Symbol symbol.Greater)) = 1
 follows (Some (kind.Symbol symbol.LessOrEqual)) = 1
 follows (Some (kind.Symbol symbol.GreaterOrEqual)) = 1
+follows (Some (kind.Word word.In)) = 1
 follows (Some k) = tightness (operator_in k)
 
 in_tightness : (k : Kind) (level : ℕ) → follows (Some k) ≤ level → level ≤ 4 → tightness (operator_in k) ≤ level
@@ -202,6 +205,7 @@ in_tightness (kind.Symbol symbol.Less) level h f = omega arith
 in_tightness (kind.Symbol symbol.Greater) level h f = omega arith
 in_tightness (kind.Symbol symbol.LessOrEqual) level h f = omega arith
 in_tightness (kind.Symbol symbol.GreaterOrEqual) level h f = omega arith
+in_tightness (kind.Word word.In) level h f = omega arith
 in_tightness k level h f = h
 
 no_operator : (level : ℕ) (found : Option Operator) (place : Place) → tightness found ≤ level → of_level level found place ≡ None
@@ -224,6 +228,7 @@ no_relational (kind.Symbol symbol.Less) place h = absurd (omega arith)
 no_relational (kind.Symbol symbol.Greater) place h = absurd (omega arith)
 no_relational (kind.Symbol symbol.LessOrEqual) place h = absurd (omega arith)
 no_relational (kind.Symbol symbol.GreaterOrEqual) place h = absurd (omega arith)
+no_relational (kind.Word word.In) place h = absurd (omega arith)
 no_relational k place h = refl
 
 pub misses_relational : (tokens : List Token) → follows (next_kind tokens) ≤ 0 → relational_taken tokens ≡ Ok (None, tokens)
@@ -259,3 +264,4 @@ follows_relational relational.Less = refl
 follows_relational relational.Greater = refl
 follows_relational relational.LessOrEqual = refl
 follows_relational relational.GreaterOrEqual = refl
+follows_relational relational.In = refl

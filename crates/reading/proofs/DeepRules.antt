@@ -54,6 +54,18 @@ module _ (limit : ℕ) (inner : Below) (index_nests : Nests limit (here >>= inne
       nests_pure found)))
       (nests_pure [])
 
+  member_nests : Nests limit (read.member inner)
+  unfolding read.member
+  member_nests =
+      nests_then indexed (λ first. nests_on (nests_taken (kind.Symbol symbol.Range)) (λ p. nests_then indexed (λ last. nests_pure (form.range first last)))
+      (nests_pure (form.single first)))
+
+  set_nests : (place : Place) → Nests limit (read.set inner place)
+  unfolding read.set read.members
+  set_nests place =
+      nests_then (nests_on (nests_taken (kind.Symbol symbol.CloseBracket)) (λ p. nests_pure []) (nests_then (nests_separated symbol.Comma member_nests)
+      (λ found. nests_then (nests_expect (kind.Symbol symbol.CloseBracket)) (λ end. nests_pure found)))) (λ found. nests_pure (form.set place found))
+
   -- where brackets are open the first of them opened a level
   abbrev left_in : Bool → ℕ
   left_in false = suc limit
@@ -116,7 +128,8 @@ module _ (limit : ℕ) (inner : Below) (index_nests : Nests limit (here >>= inne
   factor_nests operand below parenthesized =
       nests_on nests_number (λ n. nests_pure (form.number n.0 n.1)) (nests_on (nests_text kind.Text) (λ text. nests_pure (form.string text))
       (nests_then nests_peek (λ next. nests_if (is_kind kind.Identifier next) named_nests
-      (on_opening (kind.Word word.Not) refl (λ place. nests_then below (λ o. nests_pure (form.negated place o))) parenthesized))))
+      (on_opening (kind.Word word.Not) refl (λ place. nests_then below (λ o. nests_pure (form.negated place o)))
+      (on_opening (kind.Symbol symbol.OpenBracket) refl set_nests parenthesized)))))
 
 -- a parenthesis below which no level is left
 parenthesized_zero : Nests 1 (read.parenthesized too_deep)
@@ -225,6 +238,13 @@ simple_nests levels =
     (nests_if (has_items found.0) nests_refuse (nests_then (actuals_nest levels (expression_below levels) below) (λ given. nests_pure (form.procedure_call
     name given))))))
 
+-- a variable of a record, whose indexes are below it
+record_nests : (levels : ℕ) → Nests levels (state.record_variable levels)
+unfolding state.record_variable
+record_nests levels =
+    nests_then nests_name (λ name. nests_then (fewer_levels levels (omega arith) (selectors_nest levels (expression_below levels) (below_deep levels)))
+    (λ found. nests_pure (form.record_variable name found)))
+
 module _ (levels : ℕ) (inner : Reading Outline) (h : Nests levels inner) where
   guarded : (w : Word) → Nests levels (state.guard levels w)
   guarded w = fewer_levels levels (omega arith) (guard_nests levels w)
@@ -250,6 +270,12 @@ module _ (levels : ℕ) (inner : Reading Outline) (h : Nests levels inner) where
   while_nests : Nests (suc levels) (state.while_loop levels inner)
   unfolding state.while_loop
   while_nests = opening (kind.Word word.While) refl (λ place. nests_then (guarded word.Do) (λ c. nests_then h (λ s. nests_pure (form.while_loop place c s))))
+
+  with_nests : Nests (suc levels) (state.with_fields levels inner)
+  unfolding state.with_fields
+  with_nests =
+      opening (kind.Word word.With) refl (λ place. nests_then (nests_separated symbol.Comma (record_nests levels)) (λ records.
+      nests_then (nests_expect (kind.Word word.Do)) (λ p. nests_then h (λ s. nests_pure (form.with_fields place records s)))))
 
   repeat_nests : Nests (suc levels) (state.repeat_loop levels inner)
   unfolding state.repeat_loop
@@ -293,6 +319,7 @@ module _ (levels : ℕ) (inner : Reading Outline) (h : Nests levels inner) where
   word_nests word.Repeat = repeat_nests
   word_nests word.For = for_nests
   word_nests word.Case = case_nests
+  word_nests word.With = with_nests
   word_nests _ = nests_pure form.empty
 
   statement_nests : (next : Option Kind) → Nests (suc levels) (statement_by levels inner next)
@@ -359,9 +386,9 @@ module _ (levels : ℕ) (inner : Reading Outline) (h : Nests levels inner) where
       nests_then (nests_expect (kind.Symbol symbol.CloseBracket)) (λ q. nests_then (nests_expect (kind.Word word.Of)) (λ r. nests_then h (λ d. nests_pure
       (place, found, d)))))))
 
-  record_nests : Nests (suc levels) (declare.record_type inner)
+  record_type_nests : Nests (suc levels) (declare.record_type inner)
   unfolding declare.record_type declare.fields
-  record_nests =
+  record_type_nests =
       opening (kind.Word word.Record) refl (λ place. nests_on (nests_taken (kind.Word word.End)) (λ p. nests_pure (place, [], false))
       (nests_then (parts_nest (nests_then field_names_nest (λ found. nests_then h (λ d. nests_pure (form.fields found d))))) (λ found. nests_pure (
         place,
@@ -369,12 +396,18 @@ module _ (levels : ℕ) (inner : Reading Outline) (h : Nests levels inner) where
         found.1,
       ))))
 
+  set_type_nests : Nests (suc levels) (declare.set_type inner)
+  unfolding declare.set_type
+  set_type_nests =
+      opening (kind.Word word.Set) refl (λ place. nests_then (nests_expect (kind.Word word.Of)) (λ p. nests_then h (λ d. nests_pure (place, d))))
+
   structured_nests : Nests (suc levels) (declare.structured inner)
   unfolding declare.structured declare.packed
   structured_nests =
       nests_then (nests_then (nests_taken (kind.Word word.Packed)) (λ place. nests_pure (is_some place))) (λ p. nests_then nests_peek (λ next.
       nests_if (is_kind (kind.Word word.Array) next) (nests_then array_nests (λ a. nests_pure (form.array p a.0 a.1 a.2)))
-      (nests_then record_nests (λ r. nests_pure (form.record_type p r.0 r.1 r.2)))))
+      (nests_if (is_kind (kind.Word word.Set) next) (nests_then set_type_nests (λ s. nests_pure (form.set_type p s.0 s.1)))
+      (nests_then record_type_nests (λ r. nests_pure (form.record_type p r.0 r.1 r.2))))))
 
   symbol_nests : (s : Symbol) → Nests (suc levels) (denoter_by inner (Some (kind.Symbol s)))
   symbol_nests symbol.OpenParenthesis = enumerated_nests

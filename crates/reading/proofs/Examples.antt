@@ -16,7 +16,9 @@ use Rattle.reading.specs.Lexemes.{of_text}
 use Rattle.reading.specs.Outline.{Outline}
 use Rattle.reading.specs.Outline as form
 use Rattle.reading.specs.Reading.{taken, text_taken, number_taken, sign_taken, operator_taken, relational_taken, loop}
+use Rattle.reading.specs.Reading.{separated, led_turn}
 use Rattle.reading.specs.Expressions.{expression, index, unjoined, selectors, actuals, named, parenthesized, any_factor, link_turn, chain, signed, relation_of}
+use Rattle.reading.specs.Expressions.{member, members, set}
 use Rattle.reading.specs.Statements.{statement, guard, alternative, conditional}
 
 module _ (a b c d e f g : Place) (t : Bor (List ℕ)) where
@@ -77,3 +79,28 @@ module _ (a b c d e f g : Place) (t : Bor (List ℕ)) where
       link_turn chain
       signed relation_of
   no_level = refl
+
+  -- a set of one member and of a range; each of its members is a level, which is told at its first token
+  set_of_two : expression 1
+      (symbol_at symbol.OpenBracket a ∷ x_at b ∷ symbol_at symbol.Comma c ∷ x_at d ∷ symbol_at symbol.Range e ∷ x_at f ∷ symbol_at symbol.CloseBracket g ∷ [])
+      ≡ Ok (form.set a (form.single (x b) ∷ form.range (x d) (x f) ∷ []), [])
+  unfolding at symbol_at x_at x taken text_taken number_taken sign_taken operator_taken
+      relational_taken loop separated led_turn index unjoined selectors actuals named member members set parenthesized any_factor
+      link_turn chain
+      signed relation_of
+  set_of_two = refl
+
+  empty_set : expression 0 (symbol_at symbol.OpenBracket a ∷ symbol_at symbol.CloseBracket b ∷ []) ≡ Ok (form.set a [], [])
+  unfolding at symbol_at x_at x taken text_taken number_taken sign_taken operator_taken
+      relational_taken loop separated led_turn index unjoined selectors actuals named member members set parenthesized any_factor
+      link_turn chain
+      signed relation_of
+  empty_set = refl
+
+  no_level_in_set : expression 0 (symbol_at symbol.OpenBracket a ∷ x_at b ∷ symbol_at symbol.CloseBracket c ∷ [])
+      ≡ Err (TooDeep (Some b), x_at b ∷ symbol_at symbol.CloseBracket c ∷ [])
+  unfolding at symbol_at x_at x taken text_taken number_taken sign_taken operator_taken
+      relational_taken loop separated led_turn index unjoined selectors actuals named member members set parenthesized any_factor
+      link_turn chain
+      signed relation_of
+  no_level_in_set = refl

@@ -154,6 +154,11 @@ pub parenthesized_good : {limit : ℕ} {a b : List Token} (s : Symbol) (parts : 
 parenthesized_good s [] is g = absurd cc
 parenthesized_good s (one ∷ others) is g = g
 
+pub perhaps_good : {limit : ℕ} {a b : List Token} (s : Symbol) (parts : List Outline) → has_items parts ≡ true → Good limit a (form.separated s parts) b
+    → Good limit a (form.perhaps s parts) b
+perhaps_good s [] is g = absurd cc
+perhaps_good s (one ∷ others) is g = g
+
 module _ (test : Option Kind → Bool) (limit : ℕ) (part : Reading Outline) (part_makes : (tokens : List Token) → Makes part tokens (Good limit tokens)) where
   abbrev InRow : Unit {0} → List Token → List Outline × Unit {0} → List Token → Type 0
   InRow state tokens r others = Good limit tokens (row r.0) others

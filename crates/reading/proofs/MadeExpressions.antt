@@ -15,6 +15,7 @@ use Rattle.reading.specs.Outline.{Outline, ◌⧺◌, kept, nested, only_if, bin
 use Rattle.reading.specs.Outline.{relation_level, sum_level, signed_level, product_level, factor_level, first_level, operand_level}
 use Rattle.reading.specs.Reading.{Reading, too_deep, is_kind}
 use Rattle.reading.specs.Expressions.{Below, index, unjoined, selector, selectors, actual, actuals, named, parenthesized, negated, any_factor, link_turn, chain}
+use Rattle.reading.specs.Expressions.{member, members, set}
 use Rattle.reading.specs.Expressions.{term_of, signed, simple_of, relation_of, expression_of, factor, expression, expression_below}
 use Rattle.reading.proofs.Makes.{Makes, thence, gives, deep_makes, weaker, expect_makes, name_makes, number_makes, text_makes, sign_makes, operator_makes}
 use Rattle.reading.proofs.Makes.{relational_makes}
@@ -22,7 +23,7 @@ use Rattle.reading.proofs.Loops.{Turned, loop_makes}
 use Rattle.reading.proofs.Tests.{and_true, at_least, is_at_least}
 use Rattle.reading.proofs.Good.{Good, ◌⊕◌, none_good, kept_good, mark_good, form_good, nested_form, nested_good, if_good, binding_good}
 use Rattle.reading.proofs.Good.{nested_before, nested_behind, nested_both, looks_here, looks_ahead, either_here, either_kind, if_makes, listed_makes}
-use Rattle.reading.proofs.Good.{parenthesized_good}
+use Rattle.reading.proofs.Good.{parenthesized_good, perhaps_good}
 
 -- an operand of at least this level
 pub record Operand (level limit : ℕ) (tokens : List Token) (o : Outline) (others : List Token) : Type 0 where
@@ -101,6 +102,26 @@ module _ (limit : ℕ) (inner : Below) (nests : NestsIn limit inner) where
       (mark_good symbol.OpenParenthesis place r ⊕ (g.0 ⊕ mark_good symbol.CloseParenthesis end e))))
       (λ _. gives none_good)
 
+  pub member_makes : (tokens : List Token) → Makes (member inner) tokens (Good limit tokens)
+  unfolding member
+  member_makes tokens =
+      thence (index_makes tokens) λ first a g.
+      either_kind (kind.Symbol symbol.Range) a
+      (λ place b r. thence (index_makes b) λ last c h.
+      gives (nested_form (first ⧺ form.mark symbol.Range ⧺ last) shape.member
+      (nested_both first (form.mark symbol.Range ⧺ last) g (nested_before last (mark_good symbol.Range place r) refl h))))
+      (λ _. gives (nested_form first shape.member g))
+
+  members_makes : (tokens : List Token) → Makes (members inner) tokens
+      (λ found others. Good limit tokens (form.perhaps symbol.Comma found ⧺ form.mark symbol.CloseBracket) others)
+  unfolding members
+  members_makes tokens =
+      either_kind (kind.Symbol symbol.CloseBracket) tokens
+      (λ place a r. gives (none_good ⊕ mark_good symbol.CloseBracket place r))
+      (λ _. thence (listed_makes symbol.Comma limit (member inner) member_makes tokens) λ found a g.
+      thence (expect_makes (kind.Symbol symbol.CloseBracket) a) λ end b e.
+      gives (perhaps_good symbol.Comma found g.1 g.0 ⊕ mark_good symbol.CloseBracket end e))
+
   -- a factor, by how it is made
   pub is_factor : {a b : List Token} {o : Outline} → Good limit a o b → binds factor_level o ≡ true → Operand factor_level limit a o b
   is_factor g h = record { good = g; binding = h }
@@ -136,6 +157,13 @@ module _ (limit : ℕ) (inner : Below) (nests : NestsIn limit inner) where
       (nested_before (e ⧺ form.mark symbol.CloseParenthesis) (kept_good (symbol_at symbol.OpenParenthesis place) r) refl
       (nested_behind e g refl (mark_good symbol.CloseParenthesis end s)))) refl)
 
+  set_makes : (start tokens : List Token) (place : Place) → Reads start (symbol_at symbol.OpenBracket place ∷ []) tokens
+      → Makes (set inner place) tokens (Operand factor_level limit start)
+  unfolding set
+  set_makes start tokens place r =
+      thence (members_makes tokens) λ found a g.
+      gives (is_factor (form_good shape.set (kept_good (symbol_at symbol.OpenBracket place) r ⊕ g)) refl)
+
   module _ (operand : Below)
       (below : (at : Option Place) (tokens : List Token) → Makes (operand at) tokens (λ o others. Good limit tokens (nested o) others × (binds factor_level
       o ≡ true))) where
@@ -158,7 +186,8 @@ module _ (limit : ℕ) (inner : Below) (nests : NestsIn limit inner) where
         (λ _. either_here (text_makes kind.Text tokens) (λ mid q. q)
         (λ l a r. gives (is_factor (form_good shape.string (kept_good l r)) refl))
         (λ _. looks_ahead (λ next. if_makes (is_kind kind.Identifier next) (λ _. named_makes tokens)
-        (λ _. either_kind (kind.Word word.Not) tokens (λ place a r. negated_makes tokens a place r) (λ _. parenthesized_makes tokens)))))
+        (λ _. either_kind (kind.Word word.Not) tokens (λ place a r. negated_makes tokens a place r)
+        (λ _. either_kind (kind.Symbol symbol.OpenBracket) tokens (λ place a r. set_makes tokens a place r) (λ _. parenthesized_makes tokens))))))
 
 -- ---- chains
 

@@ -154,12 +154,22 @@ module _ (limit : ℕ) (denoter : Reading Outline) (makes : (tokens : List Token
       (λ _. thence (parts_made limit (read.fields denoter) fields_made a) λ found b g.
       gives (nested_good (form_good shape.fields (packed ⊕ (kept_good (word_at word.Record place) r ⊕ listed_fields found.0 found.1 g.1 g.0)))))
 
+  set_made : (start tokens : List Token) (p : Bool) → Good limit start (packing p) tokens
+      → Makes (read.set_type denoter) tokens (λ s others. Good (suc limit) start (form.set_type p s.0 s.1) others)
+  unfolding read.set_type
+  set_made start tokens p packed =
+      thence (expect_makes (kind.Word word.Set) tokens) λ place a r.
+      thence (expect_makes (kind.Word word.Of) a) λ of b w.
+      thence (makes b) λ base c x.
+      gives (nested_good (form_good shape.set_type (packed ⊕ (kept_good (word_at word.Set place) r ⊕ (word_good word.Of of w ⊕ x)))))
+
   structured_made : (tokens : List Token) → Makes (read.structured denoter) tokens (Good (suc limit) tokens)
   unfolding read.structured
   structured_made tokens =
       thence (packed_made limit tokens) λ p a g.
       looks_ahead (λ next. if_makes (is_kind (kind.Word word.Array) next) (λ _. thence (array_made tokens a p g) λ x b h. gives h)
-      (λ _. thence (record_made tokens a p g) λ x b h. gives h))
+      (λ _. if_makes (is_kind (kind.Word word.Set) next) (λ _. thence (set_made tokens a p g) λ x b h. gives h)
+      (λ _. thence (record_made tokens a p g) λ x b h. gives h)))
 
   by_symbol : (s : Symbol) (tokens : List Token) → Makes (denoter_by denoter (Some (kind.Symbol s))) tokens (Good (suc limit) tokens)
   by_symbol symbol.OpenParenthesis tokens = enumerated_made limit tokens

@@ -16,7 +16,7 @@ use Rattle.reading.specs.Outline.{Outline, ◌⧺◌, kept, nothing, nested, has
 use Rattle.reading.specs.Reading.{Reading, ◌>>=◌, pure, next_kind, more, ends, choose}
 use Rattle.reading.specs.Expressions.{expression_below}
 use Rattle.reading.specs.Statements.{sign, value, constant, row, behind_arm, arm_turn, parts_to_end, guard, control, initial, simple, compound, alternative}
-use Rattle.reading.specs.Statements.{conditional, while_loop, repeat_loop, for_loop, arm, case_of, statement_by, statement}
+use Rattle.reading.specs.Statements.{conditional, while_loop, repeat_loop, for_loop, arm, case_of, record_variable, with_fields, statement_by, statement}
 use Rattle.reading.proofs.Makes.{Makes, thence, gives, deep_makes, refused, weaker, wanted, expect_makes, name_makes, number_makes, text_makes}
 use Rattle.reading.proofs.Makes.{sign_makes, direction_makes}
 use Rattle.reading.proofs.Loops.{Turned, loop_makes}
@@ -144,6 +144,13 @@ simple_made levels tokens =
     gives (ended_so refl (closed_good (nested_good (form_good shape.procedure_call
     (kept_good name (subst (λ t. Reads tokens (name ∷ []) t) (none_selected levels (expression_below levels) (below_made levels) found s none) r) ⊕ g)))))))
 
+pub record_variable_made : (levels : ℕ) (tokens : List Token) → Makes (record_variable levels) tokens (Good levels tokens)
+unfolding record_variable
+record_variable_made levels tokens =
+    thence (name_makes tokens) λ name a r.
+    thence (selectors_makes levels (expression_below levels) (below_made levels) a) λ found b s.
+    gives (form_good shape.record_variable (kept_good name r ⊕ s.good))
+
 module _ (levels : ℕ) (inner : Reading Outline) (makes : (tokens : List Token) → Makes inner tokens (Stated levels tokens)) where
   good_makes : (tokens : List Token) → Makes inner tokens (Good levels tokens)
   good_makes tokens = weaker (λ o others g. g.good) (makes tokens)
@@ -217,6 +224,18 @@ module _ (levels : ℕ) (inner : Reading Outline) (makes : (tokens : List Token)
         whole = x.whole;
       })
 
+  with_made : (tokens : List Token) → Makes (with_fields levels inner) tokens (Stated (suc levels) tokens)
+  unfolding with_fields
+  with_made tokens =
+      thence (expect_makes (kind.Word word.With) tokens) λ place a r.
+      thence (listed_makes symbol.Comma levels (record_variable levels) (record_variable_made levels) a) λ records b g.
+      thence (expect_makes (kind.Word word.Do) b) λ at c d.
+      thence (makes c) λ body e x.
+      gives (record {
+        good = nested_good (form_good shape.with_fields (kept_good (word_at word.With place) r ⊕ (g.0 ⊕ (word_good word.Do at d ⊕ x.good))));
+        whole = x.whole;
+      })
+
   repeat_made : (tokens : List Token) → Makes (repeat_loop levels inner) tokens (Stated (suc levels) tokens)
   unfolding repeat_loop
   repeat_made tokens =
@@ -272,6 +291,7 @@ module _ (levels : ℕ) (inner : Reading Outline) (makes : (tokens : List Token)
   by_word word.Repeat tokens = repeat_made tokens
   by_word word.For tokens = for_made tokens
   by_word word.Case tokens = case_made tokens
+  by_word word.With tokens = with_made tokens
   by_word _ tokens = empty_made tokens
 
   pub by_next : (next : Option Kind) (tokens : List Token) → Makes (statement_by levels inner next) tokens (Stated (suc levels) tokens)

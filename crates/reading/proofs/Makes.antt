@@ -260,6 +260,7 @@ relational_is (kind.Symbol symbol.Less) place o h = of_both relational.Less plac
 relational_is (kind.Symbol symbol.Greater) place o h = of_both relational.Greater place o h
 relational_is (kind.Symbol symbol.LessOrEqual) place o h = of_both relational.LessOrEqual place o h
 relational_is (kind.Symbol symbol.GreaterOrEqual) place o h = of_both relational.GreaterOrEqual place o h
+relational_is (kind.Word word.In) place o h = of_both relational.In place o h
 relational_is k place o h = absurd cc
 
 pub relational_makes : (tokens : List Token) → Makes relational_taken tokens (Spelled (λ o. of_kind_at (relational_kind o.0) o.1) tokens)

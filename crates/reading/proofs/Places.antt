@@ -13,6 +13,7 @@ use Rattle.lexer.specs.declared.token.Symbol.TheVariants as symbol
 use Rattle.lexer.specs.declared.token.Word.{Word}
 use Rattle.lexer.specs.declared.token.Word.TheVariants as word
 use Rattle.lexer.specs.declared.token.Token.{Token}
+use Rattle.syntax_tree.specs.Places.{members_of}
 use Rattle.syntax_tree.specs.Places.{Places, arms_of, fields_of, expr_places, actual_places, link_places, stmt_places, name_places, denoter_places}
 use Rattle.syntax_tree.specs.Places.{group_places, block_places}
 use Rattle.syntax_tree.specs.Places.{program_places}
@@ -23,6 +24,8 @@ use Rattle.syntax_tree.specs.declared.Sign.TheVariants.{Plus, Minus}
 use Rattle.syntax_tree.specs.declared.SignAt.{SignAt}
 use Rattle.syntax_tree.specs.declared.Selector.{Selector}
 use Rattle.syntax_tree.specs.declared.Selector.TheVariants.{Index, Field}
+use Rattle.syntax_tree.specs.declared.Designator.{Designator}
+use Rattle.syntax_tree.specs.declared.Designator.TheVariants.{Single, Range}
 use Rattle.syntax_tree.specs.declared.Constant.{Constant}
 use Rattle.syntax_tree.specs.declared.ConstantValue.{ConstantValue}
 use Rattle.syntax_tree.specs.declared.ConstantValue.TheVariants as constant
@@ -33,6 +36,7 @@ use Rattle.syntax_tree.specs.declared.Actual.{Actual}
 use Rattle.syntax_tree.specs.declared.Expr.TheOpen as expr
 use Rattle.syntax_tree.specs.declared.Expr.TheViews.{roll-Expr, roll-Link, roll-Actual}
 use Rattle.syntax_tree.specs.declared.Expr.TheFolds.{map-Expr, map-Actual, map-Link, fold-roll-Expr, fold-roll-Link, fold-roll-Actual, ind-Expr, ind-Actual}
+use Rattle.syntax_tree.specs.declared.RecordVariable.{RecordVariable}
 use Rattle.syntax_tree.specs.declared.Stmt.{Stmt}
 use Rattle.syntax_tree.specs.declared.Stmt.TheOpen as stmt
 use Rattle.syntax_tree.specs.declared.Stmt.TheViews.{roll-Stmt}
@@ -59,7 +63,7 @@ use Rattle.reading.specs.Outline.{Outline, ◌⧺◌, nothing, row, row_then, le
 use Rattle.reading.specs.Outline as form
 use Rattle.reading.specs.Trees as tree
 use Rattle.reading.specs.Trees.{name_outline, selector_rows, expr_outline, link_outline, actual_outline, sign_outline, value_lexeme, constant_outline}
-use Rattle.reading.specs.Trees.{arm_outline, stmt_outline}
+use Rattle.reading.specs.Trees.{arm_outline, stmt_outline, member_outline, record_outline}
 use Rattle.reading.specs.Trees.{definition_outline, fields_outline, denoter_outline, type_outline, group_outline, is_variable, formal_outline}
 use Rattle.reading.specs.Trees.{heading_outline, takes_directive}
 use Rattle.reading.specs.Trees.{body_outline, block_outline, routine_outline, program_outline, program_spelling}
@@ -127,6 +131,11 @@ parenthesized_kept : (A : Type 0) (s : Symbol) (f : A → Outline) (places : A �
 parenthesized_kept A s f places [] h = refl
 parenthesized_kept A s f places (x ∷ xs) h =
     alone (form.separated s (map f (x ∷ xs))) (form.mark symbol.CloseParenthesis) (separated_kept A s f places (x ∷ xs) h) refl
+
+perhaps_kept : (A : Type 0) (s : Symbol) (f : A → Outline) (places : A → Places) (xs : List A) → AllKept A f places xs
+    → flat_map places xs ≡ places_in (form.perhaps s (map f xs))
+perhaps_kept A s f places [] h = refl
+perhaps_kept A s f places (x ∷ xs) h = separated_kept A s f places (x ∷ xs) h
 
 part_kept : (A : Type 0) (w : Word) (f : A → Outline) (places : A → Places) (xs : List A) → AllKept A f places xs
     → flat_map places xs ≡ places_in (form.part w (map f xs))
@@ -204,6 +213,49 @@ signed_kept : (s : Sign) (p : Place) (o : Outline) {a : Places} → a ≡ places
 signed_kept Plus p o e = ap (λ ps. p ∷ ps) e
 signed_kept Minus p o e = ap (λ ps. p ∷ ps) e
 
+-- a member of a set: its value, or its first and its last
+abbrev KeptMember : Type 0
+KeptMember = KeptExpr × Option KeptExpr
+
+abbrev member_look : KeptMember → Outline
+member_look (a, None) = form.single (expr_outline a.0)
+member_look (a, Some b) = form.range (expr_outline a.0) (expr_outline b.0)
+
+abbrev places_of_member : KeptMember → Places
+places_of_member (a, None) = expr_places a.0 ++ []
+places_of_member (a, Some b) = expr_places a.0 ++ expr_places b.0
+
+member_kept : (m : KeptMember) → places_of_member m ≡ places_in (member_look m)
+member_kept (a, None) = append-nil (expr_places a.0) ∙ a.1
+member_kept (a, Some b) = both (expr_outline a.0) (form.mark symbol.Range ⧺ expr_outline b.0) a.1 b.1
+
+members_outlined : (ds : List Designator) (v : List KeptExpr)
+    → map member_outline (members_of ds (map expr_outline (map (λ e. e.0) v))) ≡ map member_look (members_of ds v)
+members_outlined [] v = refl
+members_outlined (Single ∷ ds) [] = refl
+members_outlined (Single ∷ ds) (a ∷ v) = ap (λ x. form.single (expr_outline a.0) ∷ x) (members_outlined ds v)
+members_outlined (Range ∷ ds) [] = refl
+members_outlined (Range ∷ ds) (a ∷ []) = refl
+members_outlined (Range ∷ ds) (a ∷ b ∷ v) = ap (λ x. form.range (expr_outline a.0) (expr_outline b.0) ∷ x) (members_outlined ds v)
+
+members_placed : (ds : List Designator) (v : List KeptExpr)
+    → flat_map place.member_places (members_of ds (map expr_places (map (λ e. e.0) v))) ≡ flat_map places_of_member (members_of ds v)
+members_placed [] v = refl
+members_placed (Single ∷ ds) [] = refl
+members_placed (Single ∷ ds) (a ∷ v) = ap (λ x. (expr_places a.0 ++ []) ++ x) (members_placed ds v)
+members_placed (Range ∷ ds) [] = refl
+members_placed (Range ∷ ds) (a ∷ []) = refl
+members_placed (Range ∷ ds) (a ∷ b ∷ v) = ap (λ x. (expr_places a.0 ++ expr_places b.0) ++ x) (members_placed ds v)
+
+members_kept : (ds : List Designator) (v : List KeptExpr)
+    → flat_map place.member_places (members_of ds (map expr_places (map (λ e. e.0) v)))
+    ≡ places_in (form.perhaps symbol.Comma (map member_outline (members_of ds (map expr_outline (map (λ e. e.0) v)))))
+members_kept ds v =
+    members_placed ds v
+    ∙ perhaps_kept KeptMember symbol.Comma member_look places_of_member (members_of ds v)
+    (each_kept KeptMember member_look places_of_member (members_of ds v) member_kept)
+    ∙ ap (λ x. places_in (form.perhaps symbol.Comma x)) (sym (members_outlined ds v))
+
 expr_layer : (y : expr.Expr-F KeptExpr KeptActual KeptLink)
     → place.expression_step (map-Expr Expr Actual Link Places Places Places expr_places actual_places link_places (expr_parts y))
     ≡ places_in (tree.expr_step (map-Expr Expr Actual Link Outline Outline Outline expr_outline actual_outline link_outline (expr_parts y)))
@@ -219,6 +271,10 @@ expr_layer (expr.Call n v) =
     (joined_rows Actual actual_places actuals
     ∙ parenthesized_kept Actual symbol.Comma actual_outline actual_places actuals (all_kept Actual actual_outline actual_places v.items))
 expr_layer (expr.Parenthesized p b) = ap (λ ps. p ∷ ps) (alone (expr_outline b.value.0) (form.mark symbol.CloseParenthesis) b.value.1 refl)
+expr_layer (expr.Set p ds v) =
+    ap (λ ps. p ∷ ps)
+    (alone (form.perhaps symbol.Comma (map member_outline (members_of ds.items (map expr_outline (map (λ (e : KeptExpr). e.0) v.items)))))
+    (form.mark symbol.CloseBracket) (members_kept ds.items v.items) refl)
 expr_layer (expr.Not p b) = ap (λ ps. p ∷ ps) b.value.1
 expr_layer (expr.Signed s p b) = signed_kept s p (expr_outline b.value.0) b.value.1
 expr_layer (expr.Chain b v) =
@@ -334,6 +390,11 @@ end_kept : (b : Bool) → places_in (ending b) ≡ []
 end_kept false = refl
 end_kept true = refl
 
+record_kept : (r : RecordVariable) → place.record_places r ≡ places_in (record_outline r)
+record_kept r =
+    ap (λ ps. r.name.place ∷ ps)
+    (selectors_kept Expr expr_outline expr_places false r.selectors.items r.indexes.items (each_kept Expr expr_outline expr_places r.indexes.items expr_kept))
+
 stmt_layer : (y : stmt.Stmt-F KeptStmt)
     → place.statement_step (map-Stmt Stmt Places stmt_places (stmt_parts y)) ≡ places_in (tree.stmt_step (map-Stmt Stmt Outline stmt_outline (stmt_parts y)))
 stmt_layer stmt.Empty = refl
@@ -372,6 +433,11 @@ stmt_layer (stmt.Case p e rows v b) =
     let arms = form.separated symbol.Semicolon (map arm_outline (arms_of rows.items (map stmt_outline (map (λ (s : KeptStmt). s.0) v.items)))) in
     ap (λ ps. p ∷ ps)
     (both (expr_outline e) (form.word_symbol word.Of ⧺ arms ⧺ ending b) (expr_kept e) (alone arms (ending b) (arms_kept rows.items v.items) (end_kept b)))
+stmt_layer (stmt.With p rs b) =
+    ap (λ ps. p ∷ ps)
+    (both (form.separated symbol.Comma (map record_outline rs.items)) (form.word_symbol word.Do ⧺ stmt_outline b.value.0)
+    (separated_kept RecordVariable symbol.Comma record_outline place.record_places rs.items
+    (each_kept RecordVariable record_outline place.record_places rs.items record_kept)) b.value.1)
 
 stmt_rolled : (y : stmt.Stmt-F KeptStmt) → StmtKept (roll-Stmt (stmt_parts y))
 stmt_rolled y = fold-roll-Stmt Places place.statement_step (stmt_parts y) ∙ stmt_layer y ∙ sym (ap places_in (stmt_is (stmt_parts y)))
@@ -463,6 +529,8 @@ denoter_layer (denoter.Record b p rows v last) =
     (fields_of rows.items v.items)
     (fields_all_kept rows.items v.items)
     ∙ ap (λ x. places_in (form.separated symbol.Semicolon x)) (sym (fields_outlined rows.items v.items)))))
+denoter_layer (denoter.Set b p e) =
+    packed_kept b (form.kept (word_at word.Set p) ⧺ form.word_symbol word.Of ⧺ denoter_outline e.value.0) (ap (λ ps. p ∷ ps) e.value.1)
 
 denoter_rolled : (y : denoter.TypeDenoter-F KeptDenoter) → DenoterKept (roll-TypeDenoter (denoter_parts y))
 denoter_rolled y = fold-roll-TypeDenoter Places place.denoter_step (denoter_parts y) ∙ denoter_layer y ∙ sym (ap places_in (denoter_is (denoter_parts y)))

@@ -300,6 +300,10 @@ module _ (levels : ℕ) (inner : Reading Outline) (fewer : NeverMore inner) (fie
       flat true = refl
       flat false = refl
 
+  packing_flat : (b : Bool) → (form.packing b).depth ≡ 0
+  packing_flat true = refl
+  packing_flat false = refl
+
   packs : (p : Bool) (k : Word) (place : Place) (s : Spelling) (tokens others : List Token) → ¬ (k ≡ word.Packed)
       → Reads tokens ((form.packing p).spelling ++ word_at k place ∷ s) others
       → (mid : List Token) × (read.packed tokens ≡ Ok (p, mid)) × (next_kind mid ≡ Some (kind.Word k)) × Reads mid (word_at k place ∷ s) others
@@ -325,6 +329,13 @@ module _ (levels : ℕ) (inner : Reading Outline) (fewer : NeverMore inner) (fie
         next_first (kind.Word word.Packed) h.2 h.3.kind,
       )
 
+  -- what stands behind `packed` or none, by what comes next
+  abbrev structured_by : Bool → Option Kind → Reading Outline
+  structured_by p next =
+      if is_kind (kind.Word word.Array) next then (read.array inner >>= (λ a. pure (form.array p a.0 a.1 a.2)))
+      else (if is_kind (kind.Word word.Set) next then (read.set_type inner >>= (λ s. pure (form.set_type p s.0 s.1)))
+      else (read.record_type inner >>= (λ r. pure (form.record_type p r.0 r.1 r.2))))
+
   array_reads : (p : Bool) (place : Place) (ds : List TypeDenoter) (d : TypeDenoter)
       → ReadsHere (form.array p place (map denoter_outline ds) (denoter_outline d))
   unfolding read.structured
@@ -338,13 +349,8 @@ module _ (levels : ℕ) (inner : Reading Outline) (fewer : NeverMore inner) (fie
       of_depth _ (omega arith)
       (begun {p = read.structured inner} (kind.Word x.4) x.5 refl
       (says read.packed _ x.1 (answers_same {q = read.array inner >>= (λ a. pure (form.array p a.0 a.1 a.2))}
-      (ap (λ k. (if is_kind (kind.Word word.Array) k then (read.array inner >>= (λ a. pure (form.array p a.0 a.1 a.2)))
-      else (read.record_type inner >>= (λ r. pure (form.record_type p r.0 r.1 r.2)))) x.0) x.2)
+      (ap (λ k. structured_by p k x.0) x.2)
       (answered _ (array_behind p place ds d x.0 others x.3 wp f) done))))
-    where
-      packing_flat : (b : Bool) → (form.packing b).depth ≡ 0
-      packing_flat true = refl
-      packing_flat false = refl
 
   record_reads : (p : Bool) (place : Place) (xs : List Field) (semicolon : Bool) → ReadsHere (form.record_type p place (map fields_of_one xs) semicolon)
   unfolding read.structured
@@ -356,19 +362,38 @@ module _ (levels : ℕ) (inner : Reading Outline) (fewer : NeverMore inner) (fie
       of_depth _ (omega arith)
       (begun {p = read.structured inner} (kind.Word x.4) x.5 refl
       (says read.packed _ x.1 (answers_same {q = read.record_type inner >>= (λ r. pure (form.record_type p r.0 r.1 r.2))}
-      (ap (λ k. (if is_kind (kind.Word word.Array) k then (read.array inner >>= (λ a. pure (form.array p a.0 a.1 a.2)))
-      else (read.record_type inner >>= (λ r. pure (form.record_type p r.0 r.1 r.2)))) x.0) x.2)
+      (ap (λ k. structured_by p k x.0) x.2)
       (answered _ (record_behind place xs semicolon x.0 others x.3 wp) done))))
-    where
-      packing_flat : (b : Bool) → (form.packing b).depth ≡ 0
-      packing_flat true = refl
-      packing_flat false = refl
+
+  set_behind : (place : Place) (d : TypeDenoter) (tokens others : List Token)
+      → Reads tokens (kept (word_at word.Set place) ⧺ form.word_symbol word.Of ⧺ denoter_outline d).spelling others → (denoter_outline d).well ≡ true
+      → NoRange (next_kind others) → Answers levels (denoter_outline d).depth (read.set_type inner) tokens (place, denoter_outline d) others
+  unfolding read.set_type
+  set_behind place d tokens others h w f =
+      let u = h.4 in
+      says (expect (kind.Word word.Set)) _ (expects_at (kind.Word word.Set) place h.2 h.3)
+      (says (expect (kind.Word word.Of)) _ (expects_of (kind.Word word.Of) u.2 u.3)
+      (of_depth _ (omega arith) (answered _ (all d u.1 others u.4 w f) done)))
+
+  set_reads : (p : Bool) (place : Place) (d : TypeDenoter) → ReadsHere (form.set_type p place (denoter_outline d))
+  unfolding read.structured
+  set_reads p place d tokens others h w f =
+      let y = denoter_outline d in
+      let x = packs p word.Set place (of_kind (kind.Word word.Of) ∷ y.spelling) tokens others (λ e. absurd cc) h in
+      let wp = and_right (form.packing p).well y.well w in
+      let flat = packing_flat p in
+      of_depth _ (omega arith)
+      (begun {p = read.structured inner} (kind.Word x.4) x.5 refl
+      (says read.packed _ x.1 (answers_same {q = read.set_type inner >>= (λ s. pure (form.set_type p s.0 s.1))}
+      (ap (λ k. structured_by p k x.0) x.2)
+      (answered _ (set_behind place d x.0 others x.3 wp f) done))))
 
   layer_reads : (d : denoter.TypeDenoter-F TypeDenoter) → ReadsHere (denoter_layer d)
   layer_reads (denoter.Name n) = named_reads n
   layer_reads (denoter.Enumerated ns) = enumerated_reads ns.items
   layer_reads (denoter.Subrange a p b) = subrange_reads a p b
   layer_reads (denoter.Array p place ds d) = array_reads p place ds.items d.value
+  layer_reads (denoter.Set p place d) = set_reads p place d.value
   layer_reads (denoter.Record p place rows ds semicolon) =
       tested (nat_eq (length rows.items) (length (map denoter_outline ds.items)))
       (form.record_type p place (map fields_outline (fields_of rows.items (map denoter_outline ds.items))) semicolon)
@@ -388,6 +413,7 @@ layer_depth (denoter.Enumerated ns) = omega arith
 layer_depth (denoter.Subrange a p b) = omega arith
 layer_depth (denoter.Array p place ds d) = omega arith
 layer_depth (denoter.Record p place rows ds semicolon) = omega arith
+layer_depth (denoter.Set p place d) = omega arith
 
 pub denoter_read : (levels : ℕ) (d : TypeDenoter) → ReadsForm NoRange levels (read.denoter levels) (denoter_outline d)
 denoter_read zero d tokens others h w f =

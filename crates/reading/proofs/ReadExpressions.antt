@@ -1,6 +1,6 @@
 -- What well formed expressions spell is read so.
-use Rattle.std.proofs.Common.{◌≡◌, ℕ, zero, suc, ◌+◌, ◌≤◌, max, Bool, true, false, ◌&&◌, nat_eq, nat_le, if◌then◌else◌, List, [], ◌∷◌}
-use Rattle.std.proofs.Common.{◌++◌, map}
+use Rattle.std.proofs.Common.{◌≡◌, ℕ, zero, suc, ◌+◌, ◌≤◌, max, Bool, true, false, ◌&&◌, not, nat_eq, nat_le, if◌then◌else◌, List, [], ◌∷◌}
+use Rattle.std.proofs.Common.{◌++◌, length, map}
 use Rattle.std.proofs.Common.{Option, Some, None, Ok, refl, sym, ap, subst, ◌∙◌, arith}
 use Rattle.std.proofs.lemmas.List.{append-nil}
 use Rattle.std.specs.Option.{option_map}
@@ -12,37 +12,107 @@ use Rattle.lexer.specs.declared.token.Symbol.{Symbol}
 use Rattle.lexer.specs.declared.token.Symbol.TheVariants as symbol
 use Rattle.lexer.specs.declared.token.Word.TheVariants as word
 use Rattle.lexer.specs.declared.token.Token.{Token}
+use Rattle.syntax_tree.specs.Places.{members_of}
 use Rattle.syntax_tree.specs.declared.Name.{Name}
+use Rattle.syntax_tree.specs.declared.Designator.{Designator}
+use Rattle.syntax_tree.specs.declared.Designator.TheVariants as designate
 use Rattle.syntax_tree.specs.declared.Selector.{Selector}
 use Rattle.syntax_tree.specs.declared.Selector.TheVariants as select
 use Rattle.syntax_tree.specs.declared.Operator.{Operator}
 use Rattle.syntax_tree.specs.declared.Operator.TheVariants as op
 use Rattle.syntax_tree.specs.declared.RelationalOperator.{RelationalOperator}
 use Rattle.syntax_tree.specs.declared.Sign.{Sign}
+use Rattle.syntax_tree.specs.declared.Sign.TheVariants as sign
 use Rattle.syntax_tree.specs.declared.Expr.{Expr}
 use Rattle.syntax_tree.specs.declared.Link.{Link}
 use Rattle.syntax_tree.specs.declared.Actual.{Actual}
 use Rattle.syntax_tree.specs.declared.Expr.TheOpen as expr
-use Rattle.syntax_tree.specs.declared.Expr.TheViews.{out-Expr, roll-out-Expr, out-Link, out-Actual}
-use Rattle.reading.specs.Lexemes.{Spelling, Reads, character_string, of_kind, of_kind_at, identifier, operator_kind, relational_kind}
+use Rattle.syntax_tree.specs.declared.Expr.TheViews.{roll-Expr, out-Expr, roll-out-Expr, out-Link, out-Actual}
+use Rattle.syntax_tree.specs.declared.Expr.TheFolds.{map-Expr, ind-Expr}
+use Rattle.reading.specs.Lexemes.{Spelling, Reads, character_string, of_kind, of_kind_at, identifier, sign_kind, operator_kind, relational_kind}
 use Rattle.reading.specs.Outline as form
 use Rattle.reading.specs.Outline.{Outline, ◌⧺◌, nothing, kept, mark, nested, only_if, binds, has_items, row_then, row, led, in_parentheses, are_of_level}
 use Rattle.reading.specs.Outline.{operator_level}
 use Rattle.reading.specs.Outline.{relation_level, sum_level, signed_level, product_level, factor_level, first_level, operand_level}
-use Rattle.reading.specs.Trees.{expr_outline, link_outline, actual_outline, actual_of, selector_rows}
+use Rattle.reading.specs.Trees.{expr_outline, link_outline, actual_outline, actual_of, selector_rows, member_of, member_outline, values_of}
 use Rattle.reading.specs.Reading.{Reading, and_then, ◌>>=◌, ◌>>◌, pure, too_deep, here, next_kind, next_place, on, choose, taken}
 use Rattle.reading.specs.Reading.{Turn, more, ends, loop, led_turn, separated, expect, expect_name, or_refuse, number_taken, text_taken, sign_in, sign_taken}
-use Rattle.reading.specs.Reading.{operator_taken, relational_taken, take_if}
+use Rattle.reading.specs.Reading.{operator_taken, relational_taken, take_if, same_kind}
 use Rattle.reading.specs.Expressions.{Below, index, unjoined, selector, selectors, actual, actuals, named, parenthesized, negated, any_factor, link_turn, chain}
+use Rattle.reading.specs.Expressions.{member, members, set}
 use Rattle.reading.specs.Expressions.{term_of, signed, simple_of, relation_of, expression_of, factor, expression, expression_below, factor_below}
 use Rattle.reading.proofs.Loops.{Uses, loop_ends, loop_stops, loop_goes, behind}
 use Rattle.reading.proofs.Tests.{and_left, and_right, at_least, is_at_least}
-use Rattle.reading.proofs.Uses.{NeverMore, actual_no_more, led_uses, selector_uses, link_uses, below_no_more, factor_no_more, term_no_more}
+use Rattle.reading.proofs.Uses.{NeverMore, actual_no_more, member_no_more, led_uses, selector_uses, link_uses, below_no_more, factor_no_more, term_no_more}
 use Rattle.reading.proofs.Outlines.{expr_is, expr_layer, link_is, actual_is}
 use Rattle.reading.proofs.Answers.{Answers, reads, stops, answered, says, done, answers_same, of_depth, deeper, parted}
 use Rattle.reading.proofs.Answers.{takes_at, takes_of, expects_at, expects_of, misses, expects_name, takes_operator, takes_sign}
 use Rattle.reading.proofs.Answers.{misses_operator, follows, no_more_name, follows_first, follows_operator, next_first}
 use Rattle.reading.proofs.Answers.{takes_relational, misses_relational, follows_relational}
+
+-- ---- how expressions begin
+
+-- a spelling that begins with another token than a closing bracket
+abbrev begins : Spelling → Bool
+begins [] = false
+begins (l ∷ s) = not (same_kind l.kind (kind.Symbol symbol.CloseBracket))
+
+begins_before : (s t : Spelling) → begins s ≡ true → begins (s ++ t) ≡ true
+begins_before [] t h = absurd cc
+begins_before (l ∷ s) t h = h
+
+not_closing : (s : Spelling) (tokens others : List Token) → begins s ≡ true → Reads tokens s others
+    → ¬ (next_kind tokens ≡ Some (kind.Symbol symbol.CloseBracket))
+not_closing [] tokens others b h e = absurd cc
+not_closing (l ∷ s) tokens others b h e =
+    let f : Some l.kind ≡ Some (kind.Symbol symbol.CloseBracket) = sym (next_first l.kind h.2 h.3.kind) ∙ e in
+    let is : l.kind ≡ kind.Symbol symbol.CloseBracket = cc in
+    let clash : true ≡ false = sym b ∙ ap (λ k. not (same_kind k (kind.Symbol symbol.CloseBracket))) is in
+    absurd cc
+
+abbrev Begins : Expr → Type 0
+Begins e = begins (expr_outline e).spelling ≡ true
+
+abbrev Begun : Type 0
+Begun = (e : Expr) × Begins e
+
+abbrev SomeActual : Type 0
+SomeActual = Actual × Unit {0}
+
+abbrev SomeLink : Type 0
+SomeLink = Link × Unit {0}
+
+abbrev begun_parts : expr.Expr-F Begun SomeActual SomeLink → expr.Expr-F Expr Actual Link
+begun_parts = map-Expr Begun SomeActual SomeLink Expr Actual Link (λ e. e.0) (λ a. a.0) (λ l. l.0)
+
+begun_layer : (y : expr.Expr-F Begun SomeActual SomeLink) → begins (expr_layer (begun_parts y)).spelling ≡ true
+begun_layer (expr.Number v p) = refl
+begun_layer (expr.Name n) = refl
+begun_layer (expr.Component n ss es) = refl
+begun_layer (expr.String t p) = refl
+begun_layer (expr.Call n xs) = refl
+begun_layer (expr.Parenthesized p e) = refl
+begun_layer (expr.Set p ds es) = refl
+begun_layer (expr.Not p e) = refl
+begun_layer (expr.Signed s p e) = by s
+  where
+    by : (s : Sign) → not (same_kind (sign_kind s) (kind.Symbol symbol.CloseBracket)) ≡ true
+    by sign.Plus = refl
+    by sign.Minus = refl
+begun_layer (expr.Chain f ls) = by (map link_outline (map (λ (l : SomeLink). l.0) ls.items))
+  where
+    by : (links : List Outline) → begins (form.chain (expr_outline f.value.0) links).spelling ≡ true
+    by [] = f.value.1
+    by (l ∷ links) = begins_before (expr_outline f.value.0).spelling (row (l ∷ links)).spelling f.value.1
+begun_layer (expr.Relation l o p r) =
+    begins_before (expr_outline l.value.0).spelling (of_kind_at (relational_kind o) p ∷ (expr_outline r.value.0).spelling) l.value.1
+
+begun_rolled : (y : expr.Expr-F Begun SomeActual SomeLink) → Begins (roll-Expr (begun_parts y))
+begun_rolled y = ap (λ (o : Outline). begins o.spelling) (expr_is (begun_parts y)) ∙ begun_layer y
+
+expr_begins : (e : Expr) → Begins e
+expr_begins = ind-Expr Begins (λ a. Unit {0}) (λ l. Unit {0})
+    (λ x y is. subst (λ z. Begins (roll-Expr z)) is (begun_rolled y)) (λ x y is. tt) (λ x y is. tt)
 
 -- a rule reads an outline, where what comes next can't go on with it
 abbrev pub ReadsAs : {A : Type 0} → (Option Kind → Type 0) → ℕ → Reading A → A → ℕ → Spelling → Bool → Type 0
@@ -129,6 +199,21 @@ NoSelector next = ¬ (next ≡ Some (kind.Symbol symbol.OpenBracket)) × ¬ (nex
 -- what comes next behind an actual
 abbrev pub EndsActual : Option Kind → Type 0
 EndsActual next = (follows next ≤ 0) × ¬ (next ≡ Some (kind.Symbol symbol.Colon))
+
+-- what comes next behind a member of a set
+abbrev pub EndsMember : Option Kind → Type 0
+EndsMember next = (follows next ≤ 0) × ¬ (next ≡ Some (kind.Symbol symbol.Range))
+
+-- a member of a set: its value, or its first and its last
+abbrev pub Member : Type 0
+Member = Expr × Option Expr
+
+abbrev pub member_form : Member → Outline
+member_form m = member_of (expr_outline m.0) (option_map expr_outline m.1)
+
+member_begins : (m : Member) → begins (member_form m).spelling ≡ true
+member_begins (a, None) = expr_begins a
+member_begins (a, Some b) = begins_before (expr_outline a).spelling (of_kind (kind.Symbol symbol.Range) ∷ (expr_outline b).spelling) (expr_begins a)
 
 module _ (limit : ℕ) (inner : Below) (fewer : (at : Option Place) → NeverMore (inner at)) (nests : (e : Expr) → InnerReads limit inner (expr_outline e)) where
   index_reads : (e : Expr) → ReadsAs (Looser 0) limit (index inner) (expr_outline e) (1 + (expr_outline e).depth) (expr_outline e).spelling (expr_outline
@@ -306,6 +391,50 @@ module _ (limit : ℕ) (inner : Below) (fewer : (at : Option Place) → NeverMor
       (says (expect (kind.Symbol symbol.CloseParenthesis)) _ (expects_of (kind.Symbol symbol.CloseParenthesis) c.2 c.3)
       (subst (λ t. Answers limit 0 (pure (map actual_outline (a ∷ xs))) c.1 (map actual_outline (a ∷ xs)) t) c.4 done))))
 
+  -- ---- sets
+
+  member_by : (first : Expr) (last : Option Expr)
+      → ReadsForm EndsMember limit (member inner) (member_of (expr_outline first) (option_map expr_outline last))
+  unfolding member
+  member_by first None tokens others h w f =
+      of_depth _ (omega arith)
+      (answered _ (index_reads first tokens others h w f.0) (says (taken (kind.Symbol symbol.Range)) _ (misses (kind.Symbol symbol.Range) others f.1) done))
+  member_by first (Some last) tokens others h w f =
+      let v = expr_outline first in
+      let u = expr_outline last in
+      let x = parted v.spelling (of_kind (kind.Symbol symbol.Range) ∷ u.spelling) tokens others h in
+      let c = x.2 in
+      of_depth _ (omega arith)
+      (answered _ (index_reads first tokens x.0 x.1 (and_left v.well u.well w) (let z = follows_first (kind.Symbol symbol.Range) c.2 c.3.kind in omega arith))
+      (says (taken (kind.Symbol symbol.Range)) _ (takes_of (kind.Symbol symbol.Range) c.2 c.3) (answered _ (index_reads last c.1 others c.4 (and_right
+      v.well u.well w) f.0) done)))
+
+  pub members_read : (ms : List Member) (tokens others : List Token)
+      → Reads tokens (form.perhaps symbol.Comma (map member_form ms) ⧺ mark symbol.CloseBracket).spelling others
+      → (form.perhaps symbol.Comma (map member_form ms)).well ≡ true
+      → Answers limit (form.perhaps symbol.Comma (map member_form ms)).depth (members inner) tokens (map member_form ms) others
+  unfolding members
+  members_read [] tokens others h w =
+      says (taken (kind.Symbol symbol.CloseBracket)) _ (takes_of (kind.Symbol symbol.CloseBracket) h.2 h.3)
+      (subst (λ t. Answers {A = List Outline} limit 0 (pure []) h.1 [] t) h.4 done)
+  members_read (m ∷ ms) tokens others h w =
+      let l = led symbol.Comma (map member_form ms) in
+      let o = form.separated symbol.Comma (map member_form (m ∷ ms)) in
+      let x = parted o.spelling (of_kind (kind.Symbol symbol.CloseBracket) ∷ []) tokens others h in
+      let c = x.2 in
+      says (taken (kind.Symbol symbol.CloseBracket)) _
+      (misses (kind.Symbol symbol.CloseBracket) tokens
+      (not_closing o.spelling tokens x.0 (begins_before (member_form m).spelling l.spelling (member_begins m)) x.1))
+      (of_depth _ (omega arith)
+      (answered _ (listed_reads EndsMember symbol.Comma limit (member inner) (member_no_more inner fewer) (omega arith, λ e. absurd cc) member_form
+      (λ a. member_by a.0 a.1) m ms tokens x.0 x.1 w (
+        let z = follows_first (kind.Symbol symbol.CloseBracket) c.2 c.3.kind in omega arith,
+        other_first (kind.Symbol symbol.CloseBracket) (kind.Symbol symbol.Range) c.2 c.3.kind (λ e. absurd cc),
+      )
+      (other_first (kind.Symbol symbol.CloseBracket) (kind.Symbol symbol.Comma) c.2 c.3.kind (λ e. absurd cc)))
+      (says (expect (kind.Symbol symbol.CloseBracket)) _ (expects_of (kind.Symbol symbol.CloseBracket) c.2 c.3)
+      (subst (λ t. Answers limit 0 (pure (map member_form (m ∷ ms))) c.1 (map member_form (m ∷ ms)) t) c.4 done))))
+
 -- ---- factors
 
 pub first_is : {token : Token} {behind tokens : List Token} (k : Kind) → tokens ≡ token ∷ behind → token.kind ≡ k
@@ -334,6 +463,7 @@ pub data IsExpr : Outline → Type 0 where
   is_string : (t : List ℕ) (p : Place) → IsExpr (form.string (character_string t p))
   is_call : (n : Name) (xs : List Actual) → IsExpr (form.call (identifier n) (map actual_outline xs))
   is_parenthesized : (p : Place) (e : Expr) → IsExpr (form.parenthesized p (expr_outline e))
+  is_set : (p : Place) (ms : List Member) → IsExpr (form.set p (map member_form ms))
   is_negated : (p : Place) (e : Expr) → IsExpr (form.negated p (expr_outline e))
   is_signed : (s : Sign) (p : Place) (e : Expr) → IsExpr (form.signed s p (expr_outline e))
   is_chain : (f : Expr) (o : Operator) (p : Place) (e : Expr) (ls : List Link)
@@ -347,6 +477,20 @@ chain_class f (l ∷ ls) w =
     subst (λ k. IsExpr (form.chain (expr_outline f) (k ∷ map link_outline ls))) (sym (link_is l))
     (is_chain f (out-Link l).operator (out-Link l).place (out-Link l).operand ls)
 
+members_are : (ds : List Designator) (es : List Expr)
+    → map member_outline (members_of ds (map expr_outline es)) ≡ map member_form (members_of ds es)
+members_are [] es = refl
+members_are (designate.Single ∷ ds) [] = refl
+members_are (designate.Single ∷ ds) (a ∷ es) = ap (λ xs. form.single (expr_outline a) ∷ xs) (members_are ds es)
+members_are (designate.Range ∷ ds) [] = refl
+members_are (designate.Range ∷ ds) (a ∷ []) = refl
+members_are (designate.Range ∷ ds) (a ∷ b ∷ es) = ap (λ xs. form.range (expr_outline a) (expr_outline b) ∷ xs) (members_are ds es)
+
+set_class : (p : Place) (test : Bool) (os : List Outline) (ms : List Member) → os ≡ map member_form ms → (only_if test (form.set p os)).well ≡ true
+    → IsExpr (only_if test (form.set p os))
+set_class p true os ms e w = subst (λ xs. IsExpr (form.set p xs)) (sym e) (is_set p ms)
+set_class p false os ms e w = absurd cc
+
 layer_class : (d : expr.Expr-F Expr Actual Link) → (expr_layer d).well ≡ true → IsExpr (expr_layer d)
 layer_class (expr.Number v p) w = is_number v p
 layer_class (expr.Name n) w = is_name n
@@ -354,6 +498,9 @@ layer_class (expr.Component n ss es) w = is_component n ss.items es.items
 layer_class (expr.String t p) w = is_string t.now p
 layer_class (expr.Call n xs) w = is_call n xs.items
 layer_class (expr.Parenthesized p e) w = is_parenthesized p e.value
+layer_class (expr.Set p ds es) w =
+    set_class p (nat_eq (values_of ds.items) (length (map expr_outline es.items))) (map member_outline (members_of ds.items (map expr_outline es.items)))
+    (members_of ds.items es.items) (members_are ds.items es.items) w
 layer_class (expr.Not p e) w = is_negated p e.value
 layer_class (expr.Signed s p e) w = is_signed s p e.value
 layer_class (expr.Chain f ls) w = chain_class f.value ls.items w
@@ -408,6 +555,12 @@ module _ (limit : ℕ) (inner operand : Below) (fewer : (at : Option Place) → 
   unfolding any_factor number_taken text_taken taken
   factor_open are is = let e = first_is (kind.Symbol symbol.OpenParenthesis) are is in ap (any_factor inner operand) e ∙ ap (parenthesized inner) (sym e)
 
+  factor_set : {token : Token} {behind tokens : List Token} (p : Place) → tokens ≡ token ∷ behind → token.kind ≡ kind.Symbol symbol.OpenBracket
+      → token.place ≡ p → any_factor inner operand tokens ≡ set inner p behind
+  unfolding any_factor number_taken text_taken taken
+  factor_set {token} {behind} p are is at =
+      ap (any_factor inner operand) (first_is (kind.Symbol symbol.OpenBracket) are is) ∙ ap (λ q. set inner q behind) at
+
   factor_not : {token : Token} {behind tokens : List Token} (p : Place) → tokens ≡ token ∷ behind → token.kind ≡ kind.Word word.Not → token.place ≡ p
       → any_factor inner operand tokens ≡ negated inner operand p behind
   unfolding any_factor number_taken text_taken taken
@@ -420,7 +573,7 @@ module _ (limit : ℕ) (inner operand : Below) (fewer : (at : Option Place) → 
   )
 
   factor_reads : (o : Outline) → IsExpr o → binds factor_level o ≡ true → ReadsForm (Looser factor_level) limit (any_factor inner operand) o
-  unfolding any_factor named parenthesized negated number_taken text_taken selectors
+  unfolding any_factor named parenthesized set negated number_taken text_taken selectors
   factor_reads _ (is_number v p) b tokens others h w f =
       reads (omega arith) (ap (any_factor inner operand) (first_is (kind.Number v) h.2 h.3.kind)
       ∙ ap (λ q. Ok (form.number v q, h.1)) h.3.place ∙ ap (λ t. Ok (form.number v p, t)) h.4)
@@ -467,6 +620,10 @@ module _ (limit : ℕ) (inner operand : Below) (fewer : (at : Option Place) → 
       arith))
       (says (expect (kind.Symbol symbol.CloseParenthesis)) _ (expects_of (kind.Symbol symbol.CloseParenthesis) c.2 c.3)
       (subst (λ t. Answers limit 0 (pure (form.parenthesized p o)) c.1 (form.parenthesized p o) t) c.4 done)))))
+  factor_reads _ (is_set p ms) b tokens others h w f =
+      let o = form.perhaps symbol.Comma (map member_form ms) in
+      answers_same (factor_set p h.2 h.3.kind h.3.place)
+      (of_depth _ (omega arith) (answered _ (members_read limit inner fewer nests ms h.1 others h.4 (and_left o.well true w)) done))
   factor_reads _ (is_negated p e) b tokens others h w f =
       let o = expr_outline e in
       answers_same (factor_not p h.2 h.3.kind h.3.place)
@@ -595,6 +752,7 @@ module _ (limit : ℕ) (inner operand : Below) (fewer : (at : Option Place) → 
   term_by _ (is_string t p) w b = alone product_level any any _ (omega arith) (factor_reads _ (is_string t p) refl)
   term_by _ (is_call n xs) w b = alone product_level any any _ (omega arith) (factor_reads _ (is_call n xs) refl)
   term_by _ (is_parenthesized p e) w b = alone product_level any any _ (omega arith) (factor_reads _ (is_parenthesized p e) refl)
+  term_by _ (is_set p ms) w b = alone product_level any any _ (omega arith) (factor_reads _ (is_set p ms) refl)
   term_by _ (is_negated p e) w b = alone product_level any any _ (omega arith) (factor_reads _ (is_negated p e) refl)
   term_by _ (is_signed s p e) w b = absurd cc
   term_by _ (is_chain f o p e ls) w b =
@@ -614,6 +772,7 @@ module _ (limit : ℕ) (inner operand : Below) (fewer : (at : Option Place) → 
   factor_unsigned _ (is_string t p) b s tokens others h = unsigned kind.Text h.2 h.3.kind (λ p. refl)
   factor_unsigned _ (is_call n xs) b s tokens others h = unsigned kind.Identifier h.2 h.3.kind (λ p. refl)
   factor_unsigned _ (is_parenthesized p e) b s tokens others h = unsigned (kind.Symbol symbol.OpenParenthesis) h.2 h.3.kind (λ p. refl)
+  factor_unsigned _ (is_set p ms) b s tokens others h = unsigned (kind.Symbol symbol.OpenBracket) h.2 h.3.kind (λ p. refl)
   factor_unsigned _ (is_negated p e) b s tokens others h = unsigned (kind.Word word.Not) h.2 h.3.kind (λ p. refl)
   factor_unsigned _ (is_signed g p e) b s tokens others h = absurd cc
   factor_unsigned _ (is_chain f o p e ls) b s tokens others h = absurd (let z = operator_at_most o in let k = at_least factor_level (operator_level o) b in
@@ -667,6 +826,7 @@ module _ (limit : ℕ) (inner operand : Below) (fewer : (at : Option Place) → 
   signed_by _ (is_string t p) w b = lone_signed _ (is_string t p) refl w
   signed_by _ (is_call n xs) w b = lone_signed _ (is_call n xs) refl w
   signed_by _ (is_parenthesized p e) w b = lone_signed _ (is_parenthesized p e) refl w
+  signed_by _ (is_set p ms) w b = lone_signed _ (is_set p ms) refl w
   signed_by _ (is_negated p e) w b = lone_signed _ (is_negated p e) refl w
   signed_by _ (is_signed s p e) w b = one_signed s p e
   signed_by _ (is_relation l o p r) w b = absurd cc
@@ -696,6 +856,7 @@ module _ (limit : ℕ) (inner operand : Below) (fewer : (at : Option Place) → 
   simple_by _ (is_string t p) w b = alone sum_level (signed (term_of any)) (term_of any) _ (omega arith) (signed_by _ (is_string t p) w refl)
   simple_by _ (is_call n xs) w b = alone sum_level (signed (term_of any)) (term_of any) _ (omega arith) (signed_by _ (is_call n xs) w refl)
   simple_by _ (is_parenthesized p e) w b = alone sum_level (signed (term_of any)) (term_of any) _ (omega arith) (signed_by _ (is_parenthesized p e) w refl)
+  simple_by _ (is_set p ms) w b = alone sum_level (signed (term_of any)) (term_of any) _ (omega arith) (signed_by _ (is_set p ms) w refl)
   simple_by _ (is_negated p e) w b = alone sum_level (signed (term_of any)) (term_of any) _ (omega arith) (signed_by _ (is_negated p e) w refl)
   simple_by _ (is_signed s p e) w b = alone sum_level (signed (term_of any)) (term_of any) _ (omega arith) (signed_by _ (is_signed s p e) w refl)
   simple_by _ (is_relation l o p r) w b = absurd cc
@@ -740,6 +901,7 @@ module _ (limit : ℕ) (inner operand : Below) (fewer : (at : Option Place) → 
   expression_by _ (is_string t p) w = unrelated _ (simple_by _ (is_string t p) w refl)
   expression_by _ (is_call n xs) w = unrelated _ (simple_by _ (is_call n xs) w refl)
   expression_by _ (is_parenthesized p e) w = unrelated _ (simple_by _ (is_parenthesized p e) w refl)
+  expression_by _ (is_set p ms) w = unrelated _ (simple_by _ (is_set p ms) w refl)
   expression_by _ (is_negated p e) w = unrelated _ (simple_by _ (is_negated p e) w refl)
   expression_by _ (is_signed s p e) w = unrelated _ (simple_by _ (is_signed s p e) w refl)
   expression_by _ (is_relation l o p r) w = related l o p r

@@ -23,6 +23,7 @@ use Rattle.syntax_tree.specs.declared.Direction.{Direction}
 use Rattle.syntax_tree.specs.declared.Direction.TheVariants as direction
 use Rattle.syntax_tree.specs.declared.Expr.{Expr}
 use Rattle.syntax_tree.specs.declared.Actual.{Actual}
+use Rattle.syntax_tree.specs.declared.RecordVariable.{RecordVariable}
 use Rattle.syntax_tree.specs.declared.Stmt.{Stmt}
 use Rattle.syntax_tree.specs.declared.Stmt.TheOpen as stmt
 use Rattle.syntax_tree.specs.declared.Stmt.TheViews.{out-Stmt, roll-out-Stmt}
@@ -30,6 +31,7 @@ use Rattle.reading.specs.Lexemes.{Lexeme, Spelling, Reads, character_string, of_
 use Rattle.reading.specs.Outline as form
 use Rattle.reading.specs.Outline.{Outline, ◌⧺◌, nothing, kept, mark, nested, only_if, has_items, row_then, led, in_parentheses, ending}
 use Rattle.reading.specs.Trees.{expr_outline, actual_outline, constant_outline, sign_outline, value_lexeme, may_stand, stmt_outline, arm_outline, selector_rows}
+use Rattle.reading.specs.Trees.{record_outline}
 use Rattle.reading.specs.Reading.{Reading, and_then, ◌>>=◌, ◌>>◌, pure, peek, next_kind, next_place, on, choose, taken, text_taken}
 use Rattle.reading.specs.Reading.{number_taken, sign_taken, direction_taken, token_by, take_if, direction_in, or_refuse, more, ends, loop, separated}
 use Rattle.reading.specs.Reading.{expect, expect_name}
@@ -37,7 +39,7 @@ use Rattle.reading.specs.Expressions.{expression_below, selectors}
 use Rattle.reading.specs.Statements as read
 use Rattle.reading.specs.Statements.{constant, behind_arm, arm_turn, parts_to_end, guard, control, initial, simple, compound, statement, statement_by}
 use Rattle.reading.proofs.Tests.{and_left, and_right}
-use Rattle.reading.proofs.Uses.{NeverMore, arm_uses, arm_no_more, below_no_more, statement_no_more, constant_no_more}
+use Rattle.reading.proofs.Uses.{NeverMore, arm_uses, arm_no_more, below_no_more, statement_no_more, constant_no_more, record_variable_no_more}
 use Rattle.reading.proofs.Outlines.{stmt_is, stmt_layer}
 use Rattle.reading.proofs.Answers.{Answers, reads, stops, answered, says, done, answers_same, of_depth, deeper, parted}
 use Rattle.reading.proofs.Answers.{takes_at, takes_of, expects_at, expects_of, misses, expects_name, follows, follows_first, next_first}
@@ -231,6 +233,14 @@ guard_reads levels e w s tokens others h ew f =
       c.4,
     )
 
+record_reads : (levels : ℕ) (r : RecordVariable) → ReadsForm NoSelector levels (read.record_variable levels) (record_outline r)
+unfolding read.record_variable selectors
+record_reads levels r tokens others h w f =
+    says expect_name _ (expects_name r.name.text.now r.name.place h.2 h.3)
+    (of_depth _ (omega arith)
+    (answered _ (selectors_read levels (expression_below levels) (below_no_more levels) (below_read levels) false r.selectors.items r.indexes.items h.1
+    others h.4 w f) done))
+
 direction_takes : {token : Token} {behind tokens : List Token} (d : Direction) → tokens ≡ token ∷ behind → token.kind ≡ direction_kind d
     → direction_taken tokens ≡ Ok (Some d, behind)
 unfolding direction_taken
@@ -408,6 +418,28 @@ module _ (levels : ℕ) (inner : Reading Outline) (fewer : NeverMore inner) (all
       (says (expect (kind.Word word.While)) _ (expects_at (kind.Word word.While) place h.2 h.3) (answered _ g.1 (answered _ (all s g.0 others g.2 (and_right
       x.well y.well w) f e) done))))
 
+  with_reads : (place : Place) (rs : List RecordVariable) (s : Stmt) → ReadsHere (form.with_fields place (map record_outline rs) (stmt_outline s))
+  unfolding read.with_fields
+  with_reads place [] s tokens others h w f e = absurd cc
+  with_reads place (r ∷ rs) s tokens others h w f e =
+      let o = form.separated symbol.Comma (map record_outline (r ∷ rs)) in
+      let y = stmt_outline s in
+      let q = parted o.spelling (of_kind (kind.Word word.Do) ∷ y.spelling) h.1 others h.4 in
+      let c = q.2 in
+      of_depth _ (omega arith)
+      (begun {p = read.with_fields levels inner} (kind.Word word.With) (next_first (kind.Word word.With) h.2 h.3.kind) refl
+      (says (expect (kind.Word word.With)) _ (expects_at (kind.Word word.With) place h.2 h.3)
+      (answered _ (listed_reads NoSelector symbol.Comma levels (read.record_variable levels) (record_variable_no_more levels) (
+        λ e. absurd cc,
+        λ e. absurd cc,
+      ) record_outline (record_reads levels) r rs h.1 q.0 q.1 (and_left o.well y.well w) (
+        other_first (kind.Word word.Do) (kind.Symbol symbol.OpenBracket) c.2 c.3.kind (λ e. absurd cc),
+        other_first (kind.Word word.Do) (kind.Symbol symbol.Period) c.2 c.3.kind (λ e. absurd cc),
+      )
+      (other_first (kind.Word word.Do) (kind.Symbol symbol.Comma) c.2 c.3.kind (λ e. absurd cc)))
+      (says (expect (kind.Word word.Do)) _ (expects_of (kind.Word word.Do) c.2 c.3)
+      (answered _ (all s c.1 others c.4 (and_right o.well y.well w) f e) done)))))
+
   repeat_reads : (place : Place) (ss : List Stmt) (c : Expr) → ReadsHere (form.repeat_loop place (map stmt_outline ss) (expr_outline c))
   unfolding read.repeat_loop
   repeat_reads place [] c tokens others h w f e = absurd cc
@@ -528,6 +560,7 @@ module _ (levels : ℕ) (inner : Reading Outline) (fewer : NeverMore inner) (all
   layer_reads shrinks (stmt.While place c s) = while_reads place c s.value
   layer_reads shrinks (stmt.Repeat place ss c) = repeat_reads place ss.items c
   layer_reads shrinks (stmt.For place n a d b s) = for_reads place n a d b s.value
+  layer_reads shrinks (stmt.With place rs s) = with_reads place rs.items s.value
   layer_reads shrinks (stmt.Case place i rows ss semicolon) =
       tested (nat_eq (length rows.items) (length (map stmt_outline ss.items)))
       (form.case place (expr_outline i) (map arm_outline (arms_of rows.items (map stmt_outline ss.items))) semicolon)
@@ -552,6 +585,7 @@ layer_depth (stmt.While place c s) = omega arith
 layer_depth (stmt.Repeat place ss c) = omega arith
 layer_depth (stmt.For place n a d b s) = omega arith
 layer_depth (stmt.Case place i rows ss semicolon) = omega arith
+layer_depth (stmt.With place rs s) = omega arith
 
 pub statement_read : (levels : ℕ) (s : Stmt) → ReadsStatement levels (statement levels) (stmt_outline s)
 statement_read zero s tokens others h w f e =

@@ -12,14 +12,14 @@ use Rattle.reading.specs.Lexemes.{Lexeme, Spelling, Reads, of_kind_at, operator_
 use Rattle.reading.specs.Outline as form
 use Rattle.reading.specs.Outline.{Outline, nested}
 use Rattle.reading.specs.Reading.{Reading, ◌>>=◌, pure, choose, Turn, more, ends, led_turn, next_turn}
-use Rattle.reading.specs.Expressions.{Below, index, unjoined, selector, actual, link_turn, expression, expression_below, factor, term}
-use Rattle.reading.specs.Statements.{arm, behind_arm, arm_turn, constant, statement}
+use Rattle.reading.specs.Expressions.{Below, index, unjoined, selector, actual, member, link_turn, expression, expression_below, factor, term}
+use Rattle.reading.specs.Statements.{arm, behind_arm, arm_turn, constant, record_variable, statement}
 use Rattle.reading.specs.Declarations as read
 use Rattle.reading.proofs.Makes.{Makes, thence, gives, weaker, expect_makes, name_makes, operator_makes}
 use Rattle.reading.proofs.Loops.{Uses}
 use Rattle.reading.proofs.Good.{Good, nested_good, looks_here, looks_ahead, either_here, either_kind, if_makes}
 use Rattle.reading.proofs.MadeExpressions.{expression_made, factor_made, term_makes, below_made}
-use Rattle.reading.proofs.MadeStatements.{arm_made, statement_made, constant_made}
+use Rattle.reading.proofs.MadeStatements.{arm_made, statement_made, constant_made, record_variable_made}
 use Rattle.reading.proofs.MadePrograms.{fields_made, formal_made, denoter_made, field_names_made, body_made, heading_made, block_made, BlockIn}
 
 -- what is left is no more than before, and less behind a token
@@ -62,6 +62,9 @@ statement_no_more levels tokens = weaker (λ o others g. good_no_more o others g
 
 pub arm_no_more : (levels : ℕ) → NeverMore (arm levels (statement levels))
 arm_no_more levels tokens = weaker (λ o others. good_no_more o others) (arm_made levels (statement levels) (statement_made levels) tokens)
+
+pub record_variable_no_more : (levels : ℕ) → NeverMore (record_variable levels)
+record_variable_no_more levels tokens = weaker (λ o others. good_no_more o others) (record_variable_made levels tokens)
 
 pub constant_no_more : NeverMore constant
 constant_no_more tokens = weaker (λ o others. good_no_more o others) (constant_made 0 tokens)
@@ -153,6 +156,17 @@ module _ (inner : Below) (fewer : (at : Option Place) → NeverMore (inner at)) 
       (λ place b r. thence (index_no_more b) λ width c m.
       gives (record {
         most = let i = n.most in let j = m.most in let k = reads_fewer (of_kind_at (kind.Symbol symbol.Colon) place) [] a b r in omega arith;
+      }))
+      (λ _. gives (record { most = n.most }))
+
+  pub member_no_more : NeverMore (member inner)
+  unfolding member
+  member_no_more tokens =
+      thence (index_no_more tokens) λ first a n.
+      either_kind (kind.Symbol symbol.Range) a
+      (λ place b r. thence (index_no_more b) λ last c m.
+      gives (record {
+        most = let i = n.most in let j = m.most in let k = reads_fewer (of_kind_at (kind.Symbol symbol.Range) place) [] a b r in omega arith;
       }))
       (λ _. gives (record { most = n.most }))
 

@@ -106,13 +106,22 @@ module _ (denoter : Reading Outline) where
     (on (word_taken word.End) (λ _. pure (place, [], false))
         (parts_to_end fields >>= (λ found. pure (place, found.0, found.1))))
 
-  -- structured = packed (array | record) (6.4.3.1)
+  -- set_type = "set" "of" denoter (6.4.3.4)
+  unfoldable pub set_type : Reading (Place × Outline)
+  set_type = do
+    place ← expect_word word.Set
+    expect_word word.Of
+    base ← denoter
+    pure (place, base)
+
+  -- structured = packed (array | set_type | record_type) (6.4.3.1)
   unfoldable pub structured : Reading Outline
   structured = do
     p ← packed
     next ← peek
     (if is_kind (kind.Word word.Array) next then (array >>= (λ a. pure (form.array p a.0 a.1 a.2)))
-        else (record_type >>= (λ r. pure (form.record_type p r.0 r.1 r.2))))
+        else (if is_kind (kind.Word word.Set) next then (set_type >>= (λ s. pure (form.set_type p s.0 s.1)))
+        else (record_type >>= (λ r. pure (form.record_type p r.0 r.1 r.2)))))
 
   -- denoter = enumerated | structured | name_or_subrange (6.4.1), by what comes next
   abbrev pub denoter_by : Option Kind → Reading Outline

@@ -9,7 +9,7 @@ use Rattle.lexer.specs.declared.token.Word.TheVariants as word
 use Rattle.lexer.specs.declared.token.Token.{Token}
 
 -- how many levels a token of this kind opens: `procedure`, `function`, `begin`, `if`, `while`, `repeat`, `for`, `case`,
--- `array`, `record`, `not`, the opening parenthesis and the opening bracket open one
+-- `with`, `array`, `record`, `set`, `not`, the opening parenthesis and the opening bracket open one
 abbrev pub opens : Kind → ℕ
 opens (kind.Word word.Procedure) = 1
 opens (kind.Word word.Function) = 1
@@ -19,8 +19,10 @@ opens (kind.Word word.While) = 1
 opens (kind.Word word.Repeat) = 1
 opens (kind.Word word.For) = 1
 opens (kind.Word word.Case) = 1
+opens (kind.Word word.With) = 1
 opens (kind.Word word.Array) = 1
 opens (kind.Word word.Record) = 1
+opens (kind.Word word.Set) = 1
 opens (kind.Word word.Not) = 1
 opens (kind.Symbol symbol.OpenParenthesis) = 1
 opens (kind.Symbol symbol.OpenBracket) = 1

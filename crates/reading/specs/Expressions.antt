@@ -62,6 +62,22 @@ module _ (inner : Below) where
       given ← actuals
       pure (if has_items given then form.call name given else form.named name))
 
+  -- member = expression [".." expression] (6.7.1)
+  unfoldable pub member : Reading Outline
+  member = do
+    first ← index
+    (on (symbol_taken symbol.Range) (λ _. index >>= (λ last. pure (form.range first last))) (pure (form.single first)))
+
+  -- members = [member {"," member}] "]" (6.7.1)
+  unfoldable pub members : Reading (List Outline)
+  members =
+      on (symbol_taken symbol.CloseBracket) (λ _. pure [])
+      (separated symbol.Comma member >>= (λ found. expect_symbol symbol.CloseBracket >> pure found))
+
+  -- set = "[" members (6.7.1)
+  unfoldable pub set : Place → Reading Outline
+  set place = members >>= (λ found. pure (form.set place found))
+
   -- parenthesized = "(" expression ")" (6.7.1)
   unfoldable pub parenthesized : Reading Outline
   parenthesized = do
@@ -74,12 +90,12 @@ module _ (inner : Below) where
   unfoldable pub negated : Below → Place → Reading Outline
   negated operand place = here >>= operand >>= (λ o. pure (form.negated place o))
 
-  -- factor = number | string | named | negated | parenthesized (6.7.1)
+  -- factor = number | string | named | negated | set | parenthesized (6.7.1)
   unfoldable pub any_factor : Below → Reading Outline
   any_factor operand =
       on number_taken (λ n. pure (form.number n.0 n.1)) (on (text_taken kind.Text) (λ text. pure (form.string text))
       (peek >>= (λ next. if is_kind kind.Identifier next then named
-      else on (word_taken word.Not) (negated operand) parenthesized)))
+      else on (word_taken word.Not) (negated operand) (on (symbol_taken symbol.OpenBracket) set parenthesized))))
 
 -- the operators of a level, each with the operand behind it
 unfoldable pub link_turn : ℕ → Reading Outline → Unit {0} → Reading (Turn (Unit {0}) Outline (Unit {0}))
@@ -104,7 +120,7 @@ signed term = on sign_taken (λ s. term >>= (λ t. pure (form.signed s.0 s.1 t))
 abbrev pub simple_of : Reading Outline → Reading Outline
 simple_of term = chain sum_level (signed term) term
 
--- relation = simple [("=" | "<>" | "<" | ">" | "<=" | ">=") simple] (6.7.1)
+-- relation = simple [("=" | "<>" | "<" | ">" | "<=" | ">=" | "in") simple] (6.7.1)
 unfoldable pub relation_of : Reading Outline → Reading Outline
 relation_of simple = do
   left ← simple

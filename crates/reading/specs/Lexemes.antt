@@ -100,6 +100,7 @@ relational_kind relational.Less = kind.Symbol symbol.Less
 relational_kind relational.Greater = kind.Symbol symbol.Greater
 relational_kind relational.LessOrEqual = kind.Symbol symbol.LessOrEqual
 relational_kind relational.GreaterOrEqual = kind.Symbol symbol.GreaterOrEqual
+relational_kind relational.In = kind.Word word.In
 
 -- the token of a direction (6.8.3.9)
 abbrev pub direction_kind : Direction → Kind

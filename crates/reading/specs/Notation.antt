@@ -14,6 +14,8 @@ pub data Shape : Type 0 where
   string : Shape
   function_call : Shape
   parenthesized : Shape
+  set : Shape
+  member : Shape
   negated : Shape
   signed : Shape
   chain : Shape
@@ -29,6 +31,8 @@ pub data Shape : Type 0 where
   for_loop : Shape
   case : Shape
   arm : Shape
+  with_fields : Shape
+  record_variable : Shape
   definition : Shape
   type_definition : Shape
   enumeration : Shape
@@ -36,6 +40,7 @@ pub data Shape : Type 0 where
   array : Shape
   field : Shape
   fields : Shape
+  set_type : Shape
   group : Shape
   formal : Shape
   procedure_heading : Shape

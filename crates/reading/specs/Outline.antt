@@ -1,8 +1,8 @@
 -- The forms of a program (ISO 7185:1990, 6.2 to 6.10), each by its outline: how it is spelled, how it is written with
 -- brackets, whether it may stand so, and how deep it nests. A form is made of its parts in the order of the text.
--- A statement, a type denoter, an actual with its width, an index expression, an expression in parentheses, an operand
--- of `not` and the block of a procedure or function is a level of its own; a chain of operators is a list and no
--- nesting, and neither is a relation. The standard sets no bound.
+-- A statement, a type denoter, an actual with its width, an index expression, a member of a set, an expression in
+-- parentheses, an operand of `not` and the block of a procedure or function is a level of its own; a chain of operators
+-- is a list and no nesting, and neither is a relation. The standard sets no bound.
 -- This says nothing of names and types, and of what a rule makes of tokens: see Reading.
 use Rattle.std.specs.Prelude.{ℕ, ◌+◌, max, if◌then◌else◌, List, [], ◌∷◌, ◌++◌, Bool, true, false, not, ◌&&◌}
 use Rattle.std.specs.Prelude.{nat_eq, nat_le}
@@ -126,6 +126,11 @@ abbrev pub separated : Symbol → List Outline → Outline
 separated s [] = only_if false nothing
 separated s (one ∷ others) = one ⧺ led s others
 
+-- the same, or nothing where there are no parts
+abbrev pub perhaps : Symbol → List Outline → Outline
+perhaps s [] = nothing
+perhaps s (one ∷ others) = separated s (one ∷ others)
+
 -- the same in parentheses, which are left out with the parts where there are none
 abbrev pub in_parentheses : Symbol → List Outline → Outline
 in_parentheses s [] = nothing
@@ -197,6 +202,19 @@ abbrev pub parenthesized : Place → Outline → Outline
 parenthesized place inner =
     nested
     (form shape.parenthesized (kept (symbol_at symbol.OpenParenthesis place) ⧺ inner ⧺ mark symbol.CloseParenthesis))
+
+-- a member of a set: one value, or the first and the last of several
+abbrev pub single : Outline → Outline
+single value = nested (form shape.member value)
+
+abbrev pub range : Outline → Outline → Outline
+range first last = nested (form shape.member (first ⧺ mark symbol.Range ⧺ last))
+
+-- a set constructor: no members or more
+abbrev pub set : Place → List Outline → Outline
+set place members =
+    form shape.set
+    (kept (symbol_at symbol.OpenBracket place) ⧺ perhaps symbol.Comma members ⧺ mark symbol.CloseBracket)
 
 abbrev pub negated : Place → Outline → Outline
 negated place operand =
@@ -309,6 +327,17 @@ case place index arms semicolon =
     (nested (form shape.case (kept (word_at word.Case place) ⧺ index ⧺ word_symbol word.Of
     ⧺ separated symbol.Semicolon arms ⧺ ending semicolon)))
 
+-- a variable whose fields are names in the statement of a with (6.8.3.10)
+abbrev pub record_variable : Lexeme → List Outline × Outline → Outline
+record_variable name selectors = form shape.record_variable (kept name ⧺ row_then selectors.0 selectors.1)
+
+-- a with statement (6.8.3.10)
+abbrev pub with_fields : Place → List Outline → Outline → Outline
+with_fields place records body =
+    nested
+    (form shape.with_fields (kept (word_at word.With place) ⧺ separated symbol.Comma records ⧺ word_symbol word.Do
+    ⧺ body))
+
 -- ---- definitions and types (6.3, 6.4)
 
 -- a constant: a sign may stand before a number or a name, and before no string
@@ -358,6 +387,11 @@ field_list (one ∷ others) semicolon = separated symbol.Semicolon (one ∷ othe
 abbrev pub record_type : Bool → Place → List Outline → Bool → Outline
 record_type packed place fields semicolon =
     nested (form shape.fields (packing packed ⧺ kept (word_at word.Record place) ⧺ field_list fields semicolon))
+
+-- a set type (6.4.3.4)
+abbrev pub set_type : Bool → Place → Outline → Outline
+set_type packed place base =
+    nested (form shape.set_type (packing packed ⧺ kept (word_at word.Set place) ⧺ word_symbol word.Of ⧺ base))
 
 -- a type definition (6.4.1)
 abbrev pub type_definition : Lexeme → Outline → Outline

@@ -156,6 +156,7 @@ relational_in (kind.Symbol symbol.Less) place = Some (relational.Less, place)
 relational_in (kind.Symbol symbol.Greater) place = Some (relational.Greater, place)
 relational_in (kind.Symbol symbol.LessOrEqual) place = Some (relational.LessOrEqual, place)
 relational_in (kind.Symbol symbol.GreaterOrEqual) place = Some (relational.GreaterOrEqual, place)
+relational_in (kind.Word word.In) place = Some (relational.In, place)
 relational_in _ place = None
 
 unfoldable pub relational_taken : Reading (Option (RelationalOperator × Place))

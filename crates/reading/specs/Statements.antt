@@ -90,6 +90,13 @@ simple levels = do
         given ← actuals (expression_below levels)
         pure (form.procedure_call name given))))
 
+-- record_variable = name selectors (6.8.3.10)
+unfoldable pub record_variable : ℕ → Reading Outline
+record_variable levels = do
+  name ← expect_name
+  found ← selectors (expression_below levels)
+  pure (form.record_variable name found)
+
 -- compound = "begin" statements "end" (6.8.3.2)
 unfoldable pub compound : Reading Outline → Reading (List Outline × Place)
 compound statement = do
@@ -154,8 +161,17 @@ module _ (levels : ℕ) (statement : Reading Outline) where
     found ← parts_to_end arm
     pure (form.case place index found.0 found.1)
 
-  -- statement = [simple | compound | conditional | while_loop | repeat_loop | for_loop | case_of] (6.8.1), by what
-  -- comes next
+  -- with_fields = "with" record_variable {"," record_variable} "do" statement (6.8.3.10)
+  unfoldable pub with_fields : Reading Outline
+  with_fields = do
+    place ← expect_word word.With
+    records ← separated symbol.Comma (record_variable levels)
+    expect_word word.Do
+    body ← statement
+    pure (form.with_fields place records body)
+
+  -- statement = [simple | compound | conditional | while_loop | repeat_loop | for_loop | case_of | with_fields]
+  -- (6.8.1), by what comes next
   abbrev pub statement_by : Option Kind → Reading Outline
   statement_by (Some kind.Identifier) = simple levels
   statement_by (Some (kind.Word word.Begin)) = compound statement >>= (λ c. pure (form.compound c.0))
@@ -164,6 +180,7 @@ module _ (levels : ℕ) (statement : Reading Outline) where
   statement_by (Some (kind.Word word.Repeat)) = repeat_loop
   statement_by (Some (kind.Word word.For)) = for_loop
   statement_by (Some (kind.Word word.Case)) = case_of
+  statement_by (Some (kind.Word word.With)) = with_fields
   statement_by _ = pure form.empty
 
 -- a statement in something below which so many levels are left

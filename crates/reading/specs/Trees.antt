@@ -1,12 +1,14 @@
 -- The outline of a syntax tree: of each form by those of its parts, wherever these lie in memory.
 -- This doesn't say how a form is spelled, nor when it may stand: see Outline.
-use Rattle.std.specs.Prelude.{ℕ, List, [], ◌∷◌, length, Bool, true, false, Option, Some, None, nat_eq, map}
+use Rattle.std.specs.Prelude.{ℕ, ◌+◌, List, [], ◌∷◌, length, Bool, true, false, Option, Some, None, nat_eq, map}
 use Rattle.std.specs.declared.alloc.Global.{Global}
 use Rattle.std.specs.declared.boxed.Box.{Box}
-use Rattle.syntax_tree.specs.Places.{arms_of, fields_of}
+use Rattle.syntax_tree.specs.Places.{arms_of, fields_of, members_of}
 use Rattle.syntax_tree.specs.declared.Name.{Name}
 use Rattle.syntax_tree.specs.declared.Selector.{Selector}
 use Rattle.syntax_tree.specs.declared.Selector.TheVariants as select
+use Rattle.syntax_tree.specs.declared.Designator.{Designator}
+use Rattle.syntax_tree.specs.declared.Designator.TheVariants as designate
 use Rattle.syntax_tree.specs.declared.SignAt.{SignAt}
 use Rattle.syntax_tree.specs.declared.Constant.{Constant}
 use Rattle.syntax_tree.specs.declared.ConstantValue.{ConstantValue}
@@ -22,6 +24,7 @@ use Rattle.syntax_tree.specs.declared.Stmt.{Stmt}
 use Rattle.syntax_tree.specs.declared.Stmt.TheOpen.{Stmt-F}
 use Rattle.syntax_tree.specs.declared.Stmt.TheOpen as stmt
 use Rattle.syntax_tree.specs.declared.Stmt.TheFolds.{fold-Stmt}
+use Rattle.syntax_tree.specs.declared.RecordVariable.{RecordVariable}
 use Rattle.syntax_tree.specs.declared.TypeDenoter.{TypeDenoter}
 use Rattle.syntax_tree.specs.declared.TypeDenoter.TheOpen.{TypeDenoter-F}
 use Rattle.syntax_tree.specs.declared.TypeDenoter.TheOpen as denoter
@@ -69,6 +72,20 @@ abbrev pub actual_of : Outline → Option Outline → Outline
 actual_of value None = form.actual value
 actual_of value (Some width) = form.wide_actual value width
 
+-- how many values the members of a set have, by their designators
+abbrev pub values_of : List Designator → ℕ
+values_of [] = 0
+values_of (designate.Single ∷ designators) = 1 + values_of designators
+values_of (designate.Range ∷ designators) = 2 + values_of designators
+
+-- a member of a set, by its value or by its first and last
+abbrev pub member_of : Outline → Option Outline → Outline
+member_of value None = form.single value
+member_of first (Some last) = form.range first last
+
+abbrev pub member_outline : Outline × Option Outline → Outline
+member_outline member = member_of member.0 member.1
+
 -- one layer of an expression, its parts outlined
 abbrev pub expr_step : Expr-F Outline Outline Outline → Outline
 expr_step (expr.Number value place) = form.number value place
@@ -78,6 +95,9 @@ expr_step (expr.Component name selectors indexes) =
 expr_step (expr.String text place) = form.string (character_string text.now place)
 expr_step (expr.Call name actuals) = form.call (identifier name) actuals.items
 expr_step (expr.Parenthesized place inner) = form.parenthesized place inner.value
+expr_step (expr.Set place designators members) =
+    only_if (nat_eq (values_of designators.items) (length members.items))
+    (form.set place (map member_outline (members_of designators.items members.items)))
 expr_step (expr.Not place operand) = form.negated place operand.value
 expr_step (expr.Signed sign place term) = form.signed sign place term.value
 expr_step (expr.Chain first rest) = only_if (has_items rest.items) (form.chain first.value rest.items)
@@ -125,6 +145,11 @@ conditional_of condition consequence (Some alternative) alone wide = wide condit
 abbrev pub arm_outline : List Constant × Outline → Outline
 arm_outline arm = form.arm (map constant_outline arm.0) arm.1
 
+-- a variable of a record, whose fields a with names
+abbrev pub record_outline : RecordVariable → Outline
+record_outline r =
+    form.record_variable (identifier r.name) (selector_rows false r.selectors.items (map expr_outline r.indexes.items))
+
 -- one layer of a statement, its parts outlined
 abbrev pub stmt_step : Stmt-F Outline → Outline
 stmt_step stmt.Empty = form.empty
@@ -144,6 +169,7 @@ stmt_step (stmt.For place variable first direction last body) =
 stmt_step (stmt.Case place index constants arms semicolon) =
     only_if (nat_eq (length constants.items) (length arms.items))
     (form.case place (expr_outline index) (map arm_outline (arms_of constants.items arms.items)) semicolon)
+stmt_step (stmt.With place records body) = form.with_fields place (map record_outline records.items) body.value
 
 abbrev pub stmt_outline : Stmt → Outline
 stmt_outline = fold-Stmt Outline stmt_step
@@ -165,6 +191,7 @@ denoter_step (denoter.Array packed place indexes element) = form.array packed pl
 denoter_step (denoter.Record packed place names denoters semicolon) =
     only_if (nat_eq (length names.items) (length denoters.items))
     (form.record_type packed place (map fields_outline (fields_of names.items denoters.items)) semicolon)
+denoter_step (denoter.Set packed place base) = form.set_type packed place base.value
 
 abbrev pub denoter_outline : TypeDenoter → Outline
 denoter_outline = fold-TypeDenoter Outline denoter_step

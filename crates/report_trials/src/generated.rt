@@ -4,7 +4,7 @@ use crate::numbers::Numbers;
 use std::alloc::{AllocError, Global};
 
 // What may stand for a letter or sign that has a row here; those in it stand for further texts.
-static CHOICES: [(u8, &[&str]); 33] = [
+static CHOICES: [(u8, &[&str]); 37] = [
     // At most seven statements.
     (
         b'P',
@@ -25,6 +25,11 @@ static CHOICES: [(u8, &[&str]); 33] = [
             "F := Y; ",
             "h := E; ",
             "k := N; ",
+            "! := ^; ",
+            "! := ^; ",
+            "with w[G] do begin ` end; ",
+            "with w[1] do begin ` end; ",
+            "with w[1], w[2] do begin ` end; ",
             "q(J, V); ",
             "q(J, V); ",
             "write(YW, 'it''s'W); ",
@@ -131,6 +136,32 @@ static CHOICES: [(u8, &[&str]); 33] = [
             "pred(F)",
         ],
     ),
+    // A set variable, a set of 0 to 9, its members, and statements in a with.
+    (b'!', &["u", "v"]),
+    (
+        b'^',
+        &[
+            "!", "!", "[]", "[_]", "[_]", "(! + [_])", "(! * [_])", "(! - [N])", "(! + !)",
+        ],
+    ),
+    (
+        b'_',
+        &["N", "k", "N..N", "0..V", "k, 3", "V..9, 2", "i, i..9"],
+    ),
+    (
+        b'`',
+        &[
+            "x := J; ",
+            "x := x + 1; ",
+            "y := ^; ",
+            "y := y + [x]; ",
+            "if x in y then begin S end; ",
+            "V := x; ",
+            "! := y; ",
+            "S",
+            "",
+        ],
+    ),
     (b'E', &["h", "h", "red", "blue", "succ(h)", "pred(h)"]),
     (b'O', &[" + ", " - ", " * ", " div ", " mod ", " - "]),
     // An expression of type Boolean, of one or two operators, and one of one operator at most.
@@ -146,6 +177,9 @@ static CHOICES: [(u8, &[&str]); 33] = [
             "(YRY)",
             "(ERE)",
             "('ab' R 'ac')",
+            "(N in ^)",
+            "(^ = ^)",
+            "(^ <= ^)",
         ],
     ),
     (b'U', &["T", "not T", "(TLT)", "odd(J)", "(JRJ)", "(JRJ)"]),
@@ -205,7 +239,8 @@ fn choice(numbers: &mut Numbers, letter: u8) -> Option<&'static str> {
 }
 
 const VARIABLES: &[u8] = b"program p(output); var a, b, c: integer; d, e: Boolean; i, j: integer;
-f, g: char; h: (red, green, blue); k: 1..9;
+f, g: char; h: (red, green, blue); k: 1..9; u, v: set of 0..9;
+w: array [1..2] of record x: integer; y: set of 0..9 end;
 ";
 
 const ROUTINES: &str = "function s(m: integer): integer; begin s := ~; $$end;
@@ -215,11 +250,11 @@ procedure q(n: integer; var t: integer); procedure r; begin ##end; begin @end;
 // The first of the program's own statements; none else begins so.
 const START: &[u8] = b"begin a := 3; b := 7; ";
 
-const BODY: &str =
-    "begin a := 3; b := 7; d := true; e := odd(a); f := 'a'; g := 'm'; h := red; k := 1; Pend.";
+const BODY: &str = "begin a := 3; b := 7; d := true; e := odd(a); f := 'a'; g := 'm'; h := red; k := 1; u := [];
+v := [1..3]; w[1].x := 2; w[1].y := []; Pend.";
 
-// A program of a few statements over five integers and two Booleans, two characters, a colour and a digit, with a
-// function and two procedures, one in the other.
+// A program of a few statements over five integers and two Booleans, two characters, a colour, a digit, two sets and
+// two records, with a function and two procedures, one in the other.
 pub(crate) fn program(alloc: Global, numbers: &mut Numbers) -> Result<Vec<u8>, AllocError> {
     let mut text = Vec::from_slice(alloc, VARIABLES)?;
     // What is still to be written, its end first.
@@ -281,24 +316,24 @@ struct Section {
     result: Option<u32>,
 }
 
-// By block, from 1: of s, of q and of r. Roots from 11: the result and m of s, then n and t of q.
+// By block, from 1: of s, of q and of r. Roots from 14: the result and m of s, then n and t of q.
 static SECTIONS: [Section; 3] = [
     Section {
         parameter: None,
-        changes: &[2, 12],
+        changes: &[2, 15],
         entries: &[0, 1],
-        result: Some(11),
+        result: Some(14),
     },
     Section {
-        parameter: Some(14),
-        changes: &[0, 1, 2, 13, 14],
-        entries: &[0, 1, 14],
+        parameter: Some(17),
+        changes: &[0, 1, 2, 16, 17],
+        entries: &[0, 1, 17],
         result: None,
     },
     Section {
         parameter: None,
-        changes: &[0, 1, 2, 13, 14],
-        entries: &[0, 1, 14],
+        changes: &[0, 1, 2, 16, 17],
+        entries: &[0, 1, 17],
         result: None,
     },
 ];
@@ -318,7 +353,7 @@ pub(crate) fn certificate(
         text.push_str("proc 0\n")?;
     }
     for number in inner..all {
-        push_changes(alloc, numbers, &mut text, number, 11)?;
+        push_changes(alloc, numbers, &mut text, number, 14)?;
         push_facts(alloc, numbers, &mut text)?;
     }
     for (place, section) in SECTIONS.iter().enumerate() {
@@ -326,7 +361,7 @@ pub(crate) fn certificate(
         push_section(alloc, numbers, &mut text, section)?;
         if section.parameter.is_some() {
             for number in 0..inner {
-                push_changes(alloc, numbers, &mut text, number, 15)?;
+                push_changes(alloc, numbers, &mut text, number, 18)?;
                 if numbers.below(5) == 0 {
                     push_facts(alloc, numbers, &mut text)?;
                 }
@@ -383,7 +418,7 @@ fn push_changes(
     let forgotten = numbers.below(100);
     for root in 0..limit {
         // The sixth and the seventh are control variables, and two belong to s.
-        if ![5, 6, 11, 12, forgotten].contains(&root) {
+        if ![5, 6, 14, 15, forgotten].contains(&root) {
             text.push_str(format!(in alloc; "change v{root}\n")?.as_str())?;
         }
     }
@@ -391,13 +426,13 @@ fn push_changes(
 }
 
 fn push_facts(alloc: Global, numbers: &mut Numbers, text: &mut String) -> Result<(), AllocError> {
-    for root in 0..3usize {
+    for path in ["v0", "v1", "v2", "v11", "v12", "v13[].x", "v13[].y"] {
         if numbers.below(12) == 0 {
             let (least, greatest) = RANGES[numbers.below(8)];
-            text.push_str(format!(in alloc; "fact range v{root} {least} {greatest}\n")?.as_str())?;
+            text.push_str(format!(in alloc; "fact range {path} {least} {greatest}\n")?.as_str())?;
         }
     }
-    for root in 0..11usize {
+    for root in 0..14usize {
         if numbers.below(12) == 0 {
             text.push_str(format!(in alloc; "fact defined v{root}\n")?.as_str())?;
         }

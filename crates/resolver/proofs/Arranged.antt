@@ -1,12 +1,14 @@
 -- Blocks in the order of their numbers, which are all numbers from 0 on: each stands at its number.
 use Rattle.std.proofs.Common.{◌≡◌, ℕ, zero, suc, ◌+◌, ◌-◌, ◌<◌, ◌≤◌, List, [], ◌∷◌, ◌++◌, length, get_or, map, nat_eq, All, IfOk, Result, Ok, Err}
-use Rattle.std.proofs.Common.{Vec, Some, slice_get, refl, sym, ap, subst, ◌∙◌, arith}
+use Rattle.std.proofs.Common.{Vec, Some, true, slice_get, refl, sym, ap, subst, ◌∙◌, arith}
 use Rattle.std.specs.Prelude.{IsPermutation, flat_map}
 use Rattle.std.specs.List.{Contains, IsDistinct, range_with_len}
 use Rattle.std.specs.List.Sorted.{IsNonDecreasing, IsNonDecreasingBy, IsStrictlyIncreasing}
 use Rattle.std.proofs.lemmas.Bool.Decides.{nat_tests}
 use Rattle.std.proofs.lemmas.List.{get_or-map, length-map}
 use Rattle.std.proofs.lemmas.List.Elements.{All-from_get_or, All-get_or}
+use Rattle.std.proofs.lemmas.List.Folds.{list_all-map}
+use Rattle.std.proofs.lemmas.List.Sums.{AllPass-from_list_all, list_all-from_AllPass}
 use Rattle.std.proofs.lemmas.List.FromFn.{get_or-range_with_len, length-range_with_len}
 use Rattle.std.proofs.lemmas.List.Sorted.{All-permutation, Contains-permutation, IsPermutation-map, IsPermutation-trans, length_permutation}
 use Rattle.std.proofs.lemmas.Map.Keys.{IsDistinct-IsPermutation, IsDistinct-from_apart, IsStrictlyIncreasing-from_distinct}
@@ -15,7 +17,8 @@ use Rattle.std.specs.declared.alloc.Global.{Global}
 use Rattle.std.specs.declared.alloc.AllocError.{AllocError}
 use Rattle.typed_tree.specs.declared.tree.Block.{Block}
 use Rattle.typed_tree.specs.Entries.{of_block}
-use Rattle.resolver.specs.Made.{AreArranged}
+use Rattle.typed_tree.specs.Kinds.{are_held, is_held_stmt}
+use Rattle.resolver.specs.Made.{AreArranged, are_held_made}
 use Rattle.resolver.specs.declared.typed.MadeBlock.{MadeBlock}
 
 abbrev pub number_of : MadeBlock → ℕ
@@ -159,3 +162,12 @@ module _ (made : List MadeBlock) (blocks : List Block) (arranged : AreArranged m
   -- each stands at its number
   pub are_there : AreThere blocks made
   are_there = each_there blocks made one_there
+
+-- in their statements each operand is as it is taken, if it is in those of the blocks that were made
+pub arranged_held : (made : List MadeBlock) (blocks : List Block) → AreArranged made blocks → are_held_made made ≡ true → are_held blocks ≡ true
+arranged_held made blocks arranged held =
+    let test = λ (one : MadeBlock). is_held_stmt one.block.body in
+    ap are_held arranged.are
+    ∙ list_all-map (λ (block : Block). is_held_stmt block.body) (λ (one : MadeBlock). one.block) arranged.sorted
+    ∙ list_all-from_AllPass test arranged.sorted
+    (All-permutation (λ one. test one ≡ true) made arranged.sorted arranged.shuffled (AllPass-from_list_all test made held))

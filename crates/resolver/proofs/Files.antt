@@ -6,7 +6,7 @@ use Rattle.syntax_tree.specs.declared.Link.{Link}
 use Rattle.syntax_tree.specs.declared.Name.{Name}
 use Rattle.syntax_tree.specs.declared.Expr.TheOpen.{Expr-F}
 use Rattle.syntax_tree.specs.declared.Expr.TheOpen.Expr-F.{Number, Name as NameOf, Component, String, Call, Parenthesized, Not, Signed, Chain}
-use Rattle.syntax_tree.specs.declared.Expr.TheOpen.Expr-F.{Relation}
+use Rattle.syntax_tree.specs.declared.Expr.TheOpen.Expr-F.{Relation, Set}
 use Rattle.typing.specs.Passing.{pure}
 use Rattle.typing.specs.Statements.{names_file}
 
@@ -22,3 +22,4 @@ no_name (Not place operand) other = refl
 no_name (Signed sign place term) other = refl
 no_name (Chain first rest) other = refl
 no_name (Relation left operator place right) other = refl
+no_name (Set place designators members) other = refl

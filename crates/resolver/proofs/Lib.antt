@@ -1,9 +1,12 @@
 mod Arranged
+mod BlockForms
 mod Branches
 mod CaseArms
+mod ControlTypes
 mod Files
+mod HeldStatements
 mod MadeRows
+mod OpenedRecords
+mod Programs
 mod Tables
 mod Targets
-mod BlockForms
-mod Programs

@@ -1,5 +1,5 @@
 -- Programs: the typed tree of one that is made of its blocks, and what it has by the laws of typing.
-use Rattle.std.proofs.Common.{◌≡◌, ◌≤◌, List, [], ◌∷◌, ◌++◌, length, map, slice_get, Result, MatchResult, IfOk}
+use Rattle.std.proofs.Common.{◌≡◌, ◌≤◌, true, List, [], ◌∷◌, ◌++◌, length, map, slice_get, Result, MatchResult, IfOk}
 use Rattle.std.proofs.Common.{IfErr, Ok, Err, inl, refl, sym, ap, ap₂, subst, ◌∙◌, arith}
 use Rattle.std.specs.Prelude.{IsPermutation, flat_map, vec_len}
 use Rattle.std.specs.List.{range_with_len}
@@ -14,6 +14,7 @@ use Rattle.typed_tree.specs.declared.tree.Tree.{Tree}
 use Rattle.typed_tree.specs.Entries.{AreNumbered, of_block}
 use Rattle.typed_tree.specs.Ids.{AreInOrder, AreByPlace}
 use Rattle.typed_tree.specs.Look.{blocks_of_look, heading_look, look_block, look_stmt, mark_blocks, tree_look}
+use Rattle.typed_tree.specs.Kinds.{are_held}
 use Rattle.typed_tree.specs.Loops.{loops_of}
 use Rattle.typed_tree.specs.WellFormed.{IsWellFormed}
 use Rattle.typed_tree.proofs.Quiet.{inner_stmt}
@@ -44,7 +45,7 @@ numbers_told (one ∷ others) =
 
 module _ (program : Program) (made : List MadeBlock) (last : Passed) (typed : typing program ≡ Ok (after tt (look_made made) last)) (tree : Tree)
     (arranged : AreArranged made tree.blocks.items) (bodies : tree.bodies.items ≡ map (λ one. one.number) made) (table : IsTableOf made tree.loops.items)
-    (left : IsLeft last tree) where
+    (held : are_held tree.blocks.items ≡ true) (left : IsLeft last tree) where
   all_numbers : IsPermutation (range_with_len 0 (length last.headings)) (map number_of made)
   all_numbers =
       let lawful : Lawful program (after tt (look_made made) last) = typing_is_lawful program (after tt (look_made made) last) typed in
@@ -74,6 +75,7 @@ module _ (program : Program) (made : List MadeBlock) (last : Passed) (typed : ty
     };
     count = as_many_blocks made tree.blocks.items arranged (length last.headings) all_numbers;
     bodies = as_numbers ∙ sym (ap blocks_of_look looks ∙ numbers_told made);
+    held = held;
   }
 
 -- blocks as they are laid out
@@ -125,7 +127,7 @@ module _ (program : Program) (tree : Tree) (resolved : IsResolved program tree) 
   pub is_well_formed : IsWellFormed tree
   is_well_formed =
       Trees.is_well_formed program (after tt (tree_look tree) resolved.is_typed.left) tree lawful refl resolved.is_typed.is_left resolved.count
-      resolved.bodies resolved.is_typed.has_loops
+      resolved.bodies resolved.is_typed.has_loops resolved.held
 
 -- what an answer has where it is the tree of the program
 pub resolved_has : (program : Program) (Has : Tree → Type 0) → ((tree : Tree) → IsResolved program tree → Has tree) → (answer : Result Tree TypeFault)

@@ -8,7 +8,7 @@ use Rattle.typed_tree.specs.Loops.{Inside, no_loop, both_inside, all_inside, loo
 use Rattle.typed_tree.specs.Loops.{controlled as controlled_inside}
 use Rattle.typed_tree.proofs.Insides.{inside_empty, inside_assign, inside_call, inside_copy, inside_write, inside_compound, inside_if, inside_if_else}
 use Rattle.typed_tree.proofs.Insides.{inside_while}
-use Rattle.typed_tree.proofs.Insides.{inside_repeat, inside_for, inside_case}
+use Rattle.typed_tree.proofs.Insides.{inside_repeat, inside_for, inside_case, inside_with}
 use Rattle.resolver.specs.Table.{Seen, Meets, seen, row_of, rows_of, meets, controlled, opened, closed}
 use Rattle.resolver.specs.declared.table.Met.{Met}
 
@@ -103,6 +103,7 @@ pub ruleset met_forms = (
   inside_repeat,
   inside_for,
   inside_case,
+  inside_with,
   meets_none,
   meets_both,
   meets_looped,

@@ -1,58 +1,84 @@
 -- Targets of assignments: how their typing goes on from what is reached, and how they look.
-use Rattle.std.proofs.Common.{◌≡◌, ℕ, Bool, true, false, List, [], ◌∷◌, ◌++◌, Result, Ok, Err, IfOk, length, inl, inr, sym, ap, ap₂, ◌∙◌, if◌then◌else◌}
+use Rattle.std.proofs.Common.{◌≡◌, ℕ, true, false, List, [], ◌∷◌, ◌++◌, Option, Some, None, Result, Ok, Err, IfOk, length, inl, inr, refl, sym, ap, ap₂, ◌∙◌}
 use Rattle.place.specs.declared.Place.{Place}
 use Rattle.syntax_tree.specs.declared.Name.{Name}
 use Rattle.syntax_tree.specs.declared.Selector.{Selector}
 use Rattle.types.specs.declared.form.TypeId.{TypeId}
-use Rattle.types.specs.Types.{is_structured}
+use Rattle.types.specs.declared.form.TypeKind.{TypeKind}
+use Rattle.types.specs.declared.form.TypeKind.TheVariants as kind_of_type
+use Rattle.types.specs.Types.{is_structured_kind, kind_of}
 use Rattle.scopes.specs.declared.denotation.Denotation.{Denotation}
 use Rattle.typed_tree.specs.declared.fault.TypeFault.{TypeFault}
-use Rattle.typed_tree.specs.declared.tree.RangeTest.{RangeTest}
 use Rattle.typed_tree.specs.declared.tree.Selector.{Selector as TreeSelector}
-use Rattle.typed_tree.specs.Accesses.{index_count}
-use Rattle.typed_tree.specs.Look.{Look, Access, Assign, Copied, Fits, Target, WholeTarget}
-use Rattle.typing.specs.Expressions.{Copy, Written, as_routine, selected, tests_structured}
+use Rattle.typed_tree.specs.Accesses.{Origin, index_count, origin_of, root_of}
+use Rattle.typed_tree.specs.Look.{Look, Access, Target, WholeTarget}
+use Rattle.typing.specs.Expressions.{Denoted, Written, as_routine, kind_now, selected}
 use Rattle.typing.specs.Outcomes.{IsFault, Makes}
 use Rattle.typing.specs.Passing.{Passed, Passing, Checked, After, after, and_then, behind_marks, mark, pure, ◌>>=◌, ◌>>◌}
-use Rattle.typing.specs.Statements.{Accessed, assignment, target, target_mark, target_of, assigned, copied}
-use Rattle.typing.specs.Steps.{enter, enter_as, find, may_change, pass}
-use Rattle.typing.proofs.Rows.{behind_nothing, behind_both}
+use Rattle.typing.specs.Statements.{Accessed, assigned, assigned_by_kind, copied, target, target_mark, target_of}
+use Rattle.typing.specs.Steps.{enter_as, find, may_change}
+use Rattle.typing.proofs.Rows.{behind_nothing}
 use Rattle.expression_resolver.specs.declared.typed.Reached.{Reached}
 use Rattle.expression_resolver.specs.Accesses.{look_reached, reached}
-use Rattle.expression_resolver.specs.Made.{copied as value_copied, fitted}
+use Rattle.expression_resolver.specs.Values.{tested_as}
 use Rattle.expression_resolver.proofs.Selecting.{look_made, reached_then}
 use Rattle.resolver.specs.Made.{MakesTarget, accessed_of, look_target, target_look}
 
 -- the mark of what is reached
-mark_counted : (structured : Bool) (made : Reached) (root : ℕ) → made.access.root ≡ root
+mark_counted : (kind : Option TypeKind) (made : Reached) (origin : Origin) → origin_of made.access ≡ origin
     → index_count made.access.selectors.items ≡ length made.indexes.items
-    → target_mark structured root made.access.selectors.items made.type_id ≡ target_look structured made
-mark_counted true made root same counted = ap₂ (λ r n. WholeTarget r made.access.selectors.items n made.type_id) (sym same) counted
-mark_counted false made root same counted = ap₂ (λ r n. Target r made.access.selectors.items n) (sym same) counted
+    → target_mark kind origin made.access.selectors.items made.type_id ≡ target_look kind made
+mark_counted (Some kind_of_type.Structured) made origin same counted =
+    ap₂ (λ o n. WholeTarget o made.access.selectors.items n made.type_id) (sym same) counted
+mark_counted (Some (kind_of_type.Set base members)) made origin same counted = ap₂ (λ o n. Target o made.access.selectors.items n) (sym same) counted
+mark_counted (Some (kind_of_type.Ordinal range)) made origin same counted = ap₂ (λ o n. Target o made.access.selectors.items n) (sym same) counted
+mark_counted None made origin same counted = ap₂ (λ o n. Target o made.access.selectors.items n) (sym same) counted
 
-abbrev accessed_by : ℕ → List TreeSelector × TypeId → Accessed
-accessed_by root component = record { root = root; selectors = component.0; type_id = component.1 }
+-- a value is copied to a structured target, and else fitted
+pub structured_kind : (kind : Option TypeKind) → is_structured_kind kind ≡ true → kind ≡ Some kind_of_type.Structured
+structured_kind (Some kind_of_type.Structured) is = refl
+structured_kind (Some (kind_of_type.Set base members)) is = absurd cc
+structured_kind (Some (kind_of_type.Ordinal range)) is = absurd cc
+structured_kind None is = absurd cc
+
+pub scalar_kind : (kind : Option TypeKind) (to : Accessed) (becomes : Place) (value : Written) → is_structured_kind kind ≡ false
+    → assigned_by_kind kind to becomes value ≡ assigned (tested_as kind) to becomes value
+scalar_kind (Some kind_of_type.Structured) to becomes value is = absurd cc
+scalar_kind (Some (kind_of_type.Set base members)) to becomes value is = refl
+scalar_kind (Some (kind_of_type.Ordinal range)) to becomes value is = refl
+scalar_kind None to becomes value is = refl
+
+pub scalar_look : (kind : Option TypeKind) (made : Reached) → is_structured_kind kind ≡ false
+    → target_look kind made ≡ Target (origin_of made.access) made.access.selectors.items (length made.indexes.items)
+scalar_look (Some kind_of_type.Structured) made is = absurd cc
+scalar_look (Some (kind_of_type.Set base members)) made is = refl
+scalar_look (Some (kind_of_type.Ordinal range)) made is = refl
+scalar_look None made is = refl
+
+abbrev accessed_by : Origin → List TreeSelector × TypeId → Accessed
+accessed_by origin component = record { origin = origin; selectors = component.0; type_id = component.1 }
 
 module _ (name : Name) (selectors : List Selector) (indexes : List Written) where
-  abbrev behind_component : ℕ → List TreeSelector × TypeId → Passing Accessed
-  behind_component root component =
-      tests_structured component.1 >>= (λ structured. mark (target_mark structured root component.0 component.1) >> pure (accessed_by root component))
+  abbrev behind_component : Origin → List TreeSelector × TypeId → Passing Accessed
+  behind_component origin component =
+      kind_now component.1 >>= (λ found. mark (target_mark found origin component.0 component.1) >> pure (accessed_by origin component))
 
-  abbrev behind_variable : ℕ × TypeId → Passing Accessed
+  abbrev behind_variable : Denoted → Passing Accessed
   behind_variable variable =
-      may_change name.place variable.0 >> (enter_as Access >> (selected [] variable.1 selectors indexes >>= behind_component variable.0))
+      may_change name.place (root_of variable.origin)
+      >> (enter_as Access >> (selected variable.selectors variable.type_id selectors indexes >>= behind_component variable.origin))
 
   abbrev behind_name : Denotation → Passing Accessed
   behind_name d = target_of (as_routine d) selectors name.place d >>= behind_variable
 
-  module _ (d : Denotation) (variable : ℕ × TypeId) (old first now : Passed) (finds : find name old ≡ Ok (after d [] first)) where
+  module _ (d : Denotation) (variable : Denoted) (old first now : Passed) (finds : find name old ≡ Ok (after d [] first)) where
     behind_find : target name selectors indexes old ≡ behind_marks [] (behind_name d first)
     unfolding target
     behind_find = ap (λ r. and_then r (λ a. behind_marks a.look (behind_name a.answer a.passed))) finds
 
     module _ (is : target_of (as_routine d) selectors name.place d first ≡ Ok (after variable [] now)) where
       abbrev behind_reached : Checked (After (List TreeSelector × TypeId)) → Checked (After Accessed)
-      behind_reached outcome = and_then outcome (λ a. behind_marks a.look (behind_component variable.0 a.answer a.passed))
+      behind_reached outcome = and_then outcome (λ a. behind_marks a.look (behind_component variable.origin a.answer a.passed))
 
       goes : target name selectors indexes old ≡ behind_reached (reached name.place variable selectors indexes now)
       goes =
@@ -60,28 +86,28 @@ module _ (name : Name) (selectors : List Selector) (indexes : List Written) wher
           ∙ ap (λ r. behind_marks [] (and_then r (λ a. behind_marks a.look (behind_variable a.answer a.passed)))) is
           ∙ behind_nothing (behind_marks [] (behind_variable variable now))
           ∙ behind_nothing (behind_variable variable now)
-          ∙ reached_then name.place variable selectors indexes (behind_component variable.0) now
+          ∙ reached_then name.place variable selectors indexes (behind_component variable.origin) now
 
       reach_passes : (component : List TreeSelector × TypeId) (look : Look) (last : Passed)
           → reached name.place variable selectors indexes now ≡ Ok (after component look last)
           → target name selectors indexes old
-          ≡ Ok (after (accessed_by variable.0 component)
-          (look ++ (target_mark (is_structured last.types component.1) variable.0 component.0 component.1 ∷ [])) last)
-      unfolding tests_structured
+          ≡ Ok (after (accessed_by variable.origin component)
+          (look ++ (target_mark (kind_of last.types component.1) variable.origin component.0 component.1 ∷ [])) last)
+      unfolding kind_now
       reach_passes component look last passes = goes ∙ ap behind_reached passes
 
       -- as it is made
       pub target_made : (result : Result Reached TypeFault) (new : Passed)
           → Makes (λ made. (made.access.selectors.items, made.type_id)) look_reached (reached name.place variable selectors indexes now) result new
-          → IfOk result (λ made. made.access.root ≡ variable.0)
+          → IfOk result (λ made. origin_of made.access ≡ variable.origin)
           → IfOk result (λ made. index_count made.access.selectors.items ≡ length made.indexes.items)
           → MakesTarget (target name selectors indexes old) result new
-      target_made (Ok made) new passes root counted =
-          let structured = is_structured new.types made.type_id in
+      target_made (Ok made) new passes origin counted =
+          let kind = kind_of new.types made.type_id in
           reach_passes (made.access.selectors.items, made.type_id) (look_reached made) new passes
-          ∙ ap (λ r. Ok (after (accessed_by r (made.access.selectors.items, made.type_id))
-          (look_reached made ++ (target_mark structured variable.0 made.access.selectors.items made.type_id ∷ [])) new)) (sym root)
-          ∙ ap (λ does. Ok (after (accessed_of made) (look_reached made ++ (does ∷ [])) new)) (mark_counted structured made variable.0 root counted)
-          ∙ ap (λ look. Ok (after (accessed_of made) look new)) (sym (look_made made.access made.indexes (target_look structured made)))
-      target_made (Err why) new (inl memory) root counted = inl memory
-      target_made (Err why) new (inr stops) root counted = inr (goes ∙ ap behind_reached stops)
+          ∙ ap (λ o. Ok (after (accessed_by o (made.access.selectors.items, made.type_id))
+          (look_reached made ++ (target_mark kind variable.origin made.access.selectors.items made.type_id ∷ [])) new)) (sym origin)
+          ∙ ap (λ does. Ok (after (accessed_of made) (look_reached made ++ (does ∷ [])) new)) (mark_counted kind made variable.origin origin counted)
+          ∙ ap (λ look. Ok (after (accessed_of made) look new)) (sym (look_made made.access made.indexes (target_look kind made)))
+      target_made (Err why) new (inl memory) origin counted = inl memory
+      target_made (Err why) new (inr stops) origin counted = inr (goes ∙ ap behind_reached stops)

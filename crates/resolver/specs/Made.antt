@@ -2,6 +2,7 @@
 -- what typing answers.
 use Rattle.std.specs.Prelude.{◌≡◌, ℕ, ℤ, Bool, true, false, List, [], ◌∷◌, ◌++◌, flat_map, length, Result, Ok, Err}
 use Rattle.std.specs.Prelude.{Option, Some, None, Vec, IsPermutation, map}
+use Rattle.std.specs.List.{list_all}
 use Rattle.std.specs.List.Sorted.{IsNonDecreasingBy}
 use Rattle.std.specs.Borrow.{Bor}
 use Rattle.std.specs.declared.alloc.Global.{Global}
@@ -27,15 +28,21 @@ use Rattle.typed_tree.specs.declared.tree.WriteParameter.{WriteParameter}
 use Rattle.typed_tree.specs.declared.tree.Width.{Width}
 use Rattle.typed_tree.specs.declared.tree.Written.{Written as WrittenValue}
 use Rattle.types.specs.declared.form.TypeId.{TypeId}
-use Rattle.types.specs.Types.{is_structured}
+use Rattle.types.specs.declared.form.TypeKind.{TypeKind}
+use Rattle.types.specs.declared.form.TypeKind.TheVariants as kind_of_type
+use Rattle.types.specs.Types.{kind_of}
+use Rattle.typed_tree.specs.declared.tree.WithRecord.{WithRecord}
+use Rattle.typed_tree.specs.Accesses.{AtVariable, origin_of}
+use Rattle.typed_tree.specs.Kinds.{are_held, is_held_stmt}
 use Rattle.typed_tree.specs.Look.{Look, Mark, Fits, If, Then, Else, For, Case, Target, WholeTarget, blocks_of_look}
 use Rattle.typed_tree.specs.Look.{look_block, look_expr, look_stmt, arms_look, tree_look, look_access, look_written}
-use Rattle.typed_tree.specs.Look.{look_parameter, look_width}
-use Rattle.typing.specs.Passing.{Passed, Passing, Checked, After, after, ◌>>◌}
+use Rattle.typed_tree.specs.Look.{look_parameter, look_record, look_width}
+use Rattle.typing.specs.Expressions.{Denoted, entire}
+use Rattle.typing.specs.Passing.{Passed, Passing, Checked, After, after, pure, ◌>>=◌, ◌>>◌}
 use Rattle.typing.specs.Outcomes.{IsFault, Makes}
 use Rattle.typing.specs.Sound.{IsTyped}
 use Rattle.typing.specs.Typing.{typing}
-use Rattle.typing.specs.Statements.{Accessed, compound, statement}
+use Rattle.typing.specs.Statements.{Accessed, compound, function_target, statement}
 use Rattle.typing.specs.Blocks.{block_ends}
 use Rattle.typing.specs.Routines.{all_came, result_at_end}
 use Rattle.typing.specs.View.{enclosing_of}
@@ -65,33 +72,37 @@ if_head_look head = If head.0 ∷ (look_expr head.1 ++ (Then ∷ []))
 abbrev pub MakesIfHead : Checked (After (Unit {0})) → Result (ℕ × Expr) TypeFault → Passed → Type 0
 MakesIfHead = Makes (λ head. tt) if_head_look
 
--- what tells of what is accessed left of `:=`, structured or not
-abbrev pub target_look : Bool → Reached → Mark
-target_look true made =
-    WholeTarget made.access.root made.access.selectors.items (length made.indexes.items) made.type_id
-target_look false made = Target made.access.root made.access.selectors.items (length made.indexes.items)
+-- what tells of what is accessed left of `:=`, by the kind of its type
+abbrev pub target_look : Option TypeKind → Reached → Mark
+target_look (Some kind_of_type.Structured) made =
+    WholeTarget (origin_of made.access) made.access.selectors.items (length made.indexes.items) made.type_id
+target_look other made = Target (origin_of made.access) made.access.selectors.items (length made.indexes.items)
 
 -- how it looks
-abbrev pub look_target : Bool → Reached → Look
-look_target structured made = look_access made.access made.indexes.items (target_look structured made)
+abbrev pub look_target : Option TypeKind → Reached → Look
+look_target kind made = look_access made.access made.indexes.items (target_look kind made)
 
 -- what it accesses
 abbrev pub accessed_of : Reached → Accessed
 accessed_of made = record {
-  root = made.access.root;
+  origin = origin_of made.access;
   selectors = made.access.selectors.items;
   type_id = made.type_id;
 }
 
+-- the result of a function, whose block this is
+abbrev pub result_variable : Place → ℕ → Passing Denoted
+result_variable place block = function_target place block >>= (λ found. pure (entire found.0 found.1))
+
 -- what is accessed left of `:=`
 abbrev pub MakesTarget : Checked (After Accessed) → Result Reached TypeFault → Passed → Type 0
 MakesTarget outcome (Ok made) new =
-    outcome ≡ Ok (after (accessed_of made) (look_target (is_structured new.types made.type_id) made) new)
+    outcome ≡ Ok (after (accessed_of made) (look_target (kind_of new.types made.type_id) made) new)
 MakesTarget outcome (Err why) new = IsFault outcome why
 
 -- how a bound of a for looks, whose control variable has this root
 abbrev pub look_bound : ℕ → Fitted → Look
-look_bound control made = look_expr made.value ++ (Fits control [] made.fits ∷ [])
+look_bound control made = look_expr made.value ++ (Fits (AtVariable control) [] made.fits ∷ [])
 
 -- a bound of a for
 abbrev pub MakesBound : ℕ → Checked (After (Unit {0})) → Result Fitted TypeFault → Passed → Type 0
@@ -180,7 +191,23 @@ MakesWidth = Makes (λ made. tt) look_width
 abbrev pub MakesOwnWidth : Checked (After (Unit {0})) → Result Width TypeFault → Passed → Type 0
 MakesOwnWidth = Makes (λ made. tt) (λ made. look_width (Some made))
 
+-- a record of a with, and its records, one after another
+abbrev pub MakesRecord : Checked (After (Unit {0})) → Result WithRecord TypeFault → Passed → Type 0
+MakesRecord = Makes (λ made. tt) look_record
+
+abbrev pub MakesRecords : Checked (After (Unit {0})) → Result (Vec WithRecord Global) TypeFault → Passed → Type 0
+MakesRecords = Makes (λ made. tt) (λ made. flat_map look_record made.items)
+
+-- in the statement behind `else` each operand is as it is taken
+abbrev pub is_held_else : Option (Box Stmt Global) → Bool
+is_held_else None = true
+is_held_else (Some made) = is_held_stmt made.value
+
 -- ---- blocks
+
+-- the same of the statement of each block that was made
+abbrev pub are_held_made : List MadeBlock → Bool
+are_held_made made = list_all (λ one. is_held_stmt one.block.body) made
 
 -- how blocks look that were made, one after another
 abbrev pub look_made : List MadeBlock → Look
@@ -244,6 +271,7 @@ pub record AreLaidOut (made : List MadeBlock) (laid : LaidBlocks) : Type 0 where
   pub arranged : AreArranged made laid.blocks.items
   pub bodies : laid.bodies.items ≡ map (λ one. one.number) made
   pub loops : IsTableOf made laid.loops.items
+  pub held : are_held laid.blocks.items ≡ true
 
 -- the blocks of a program that was passed, as its tree has them
 pub record AreLaidBlocks (program : Program) (last : Passed) (laid : LaidBlocks) : Type 0 where
@@ -256,3 +284,4 @@ pub record IsResolved (program : Program) (tree : Tree) : Type 0 where
   pub is_typed : IsTyped program tree
   pub count : length tree.blocks.items ≡ length is_typed.left.headings
   pub bodies : tree.bodies.items ≡ blocks_of_look (tree_look tree)
+  pub held : are_held tree.blocks.items ≡ true

@@ -1,21 +1,23 @@
-ghost use Rattle.std.specs.Prelude.{map};
+ghost use Rattle.std.specs.Prelude.{◌≡◌, [], true, IfOk, map};
+ghost use Rattle.typed_tree.specs.Accesses.{index_count};
+ghost use Rattle.typed_tree.specs.Kinds.{is_held_stmt};
 ghost use Rattle.typing.specs.Expressions.{as_routine, expression};
-ghost use Rattle.typing.specs.Outcomes.{Takes};
+ghost use Rattle.typing.specs.Outcomes.{Makes};
 ghost use Rattle.typing.specs.Statements as spec;
-ghost use Rattle.resolver.specs.Made.{MakesStmt, MakesTarget};
+ghost use Rattle.typing.specs.View.{denoted_of};
+ghost use Rattle.resolver.specs.Made.{MakesStmt, MakesTarget, result_variable};
 
 use expression_resolver::{Reached, copied, fitted, reach};
 use place::Place;
 use scopes::Denotation;
 use syntax_tree as syntax;
 use typed_tree::fault::TypeFault;
-use typed_tree::tree::{Assignment, Copying, Fitted, Stmt};
-use types::TypeId;
-use typing::Typer;
-use typing::rules::{as_routine, as_variable};
+use typed_tree::tree::{Assignment, Base, Copying, Fitted, Stmt};
+use typing::rules::as_routine;
+use typing::{DenotedVariable, Typer};
 
 /// An assignment: the target is accessed first, and then comes the value (6.8.2.2).
-#[tactic(auto, unfolding(typing::specs::Statements::assignment))]
+#[tactic(auto, using(crate::proofs::HeldStatements::held_assigned), unfolding(typing::specs::Statements::assignment))]
 pub(crate) fn assignment(
     typer: &mut Typer,
     name: &syntax::Name,
@@ -24,8 +26,9 @@ pub(crate) fn assignment(
     becomes: Place,
     value: &syntax::Expr,
 ) -> Result<Stmt, TypeFault>
-    ensures { MakesStmt (spec.assignment name.now selectors.now (map expression indexes.now) becomes
+    ensures made { MakesStmt (spec.assignment name.now selectors.now (map expression indexes.now) becomes
         (expression value.now) typer.old) result typer.new }
+    ensures held { IfOk result (λ made. is_held_stmt made ≡ true) }
 {
     let number = typer.enter()?;
     let target = target(typer, name, selectors, indexes)?;
@@ -68,21 +71,39 @@ fn target(
     reach(typer, name.place, variable, selectors, indexes)
 }
 
-// The variable left of `:=` that a name at a place denotes, with these selectors behind it, by its root and its type:
-// the result of a function by the function's name alone.
+// The variable left of `:=` that a name at a place denotes, with these selectors behind it: the result of a function by
+// the function's name alone.
+#[tactic(auto, using(expression_resolver::proofs::Selecting::plain_variable))]
 fn target_of(
     typer: &mut Typer,
     selectors: &[syntax::Selector],
     place: Place,
     denotation: Denotation,
-) -> Result<(u32, TypeId), TypeFault>
-    ensures { Takes (spec.target_of (as_routine denotation) selectors.now place denotation typer.old) result typer.new }
+) -> Result<DenotedVariable, TypeFault>
+    ensures made { Makes denoted_of (λ variable. [])
+        (spec.target_of (as_routine denotation) selectors.now place denotation typer.old) result typer.new }
+    ensures plain { IfOk result (λ variable. index_count variable.selectors.items ≡ 0) }
 {
     let Some((block, _)) = as_routine(denotation) else {
-        return as_variable(place, denotation);
+        return typer.variable_of(place, denotation);
     };
     match selectors {
-        [] => typer.function_target(place, block),
-        [_, ..] => as_variable(place, denotation),
+        [] => result_of(typer, place, block),
+        [_, ..] => typer.variable_of(place, denotation),
     }
+}
+
+// The result of a function, whose block this is.
+fn result_of(typer: &mut Typer, place: Place, block: u32) -> Result<DenotedVariable, TypeFault>
+    ensures made { Makes denoted_of (λ variable. []) (result_variable place block typer.old) result typer.new }
+    ensures plain { IfOk result (λ variable. index_count variable.selectors.items ≡ 0) }
+{
+    let (root, type_id) = typer.function_target(place, block)?;
+    Ok(DenotedVariable {
+        root,
+        base: Base::Variable,
+        from: type_id,
+        selectors: Vec::new(typer.alloc),
+        type_id,
+    })
 }

@@ -1,12 +1,13 @@
-ghost use Rattle.std.specs.Prelude.{◌≡◌, map};
+ghost use Rattle.std.specs.Prelude.{◌≡◌, true, IfOk, map};
 ghost use Rattle.syntax_tree.specs.declared.Block.TheViews.{out-Routine};
+ghost use Rattle.typed_tree.specs.Kinds.{is_held_stmt};
 ghost use Rattle.typing.specs.Names.{heading_names};
 ghost use Rattle.typing.specs.Outcomes.{Takes};
 ghost use Rattle.typing.specs.Passing.{each};
 ghost use Rattle.typing.specs.Routines as spec;
 ghost use Rattle.typing.specs.Routines.{typed_block, typed_routine};
 ghost use Rattle.declarations.specs.Known.{AreKnown, AreKnownRoutines};
-ghost use Rattle.resolver.specs.Made.{EndsRoutine, MakesBlocks, MakesBody, MakesStmt, statement_part};
+ghost use Rattle.resolver.specs.Made.{EndsRoutine, MakesBlocks, MakesBody, MakesStmt, are_held_made, statement_part};
 
 use crate::statements::compound;
 use crate::typed::MadeBlock;
@@ -26,7 +27,10 @@ pub(crate) fn body(
     written: &syntax::Block,
 ) -> Result<Stmt, TypeFault>
     requires known { AreKnown (typed_block written.now).names typer.old.regions }
-    ensures { MakesBody made.old.items made.new.items ((typed_block written.now).typing typer.old) result typer.new }
+    ensures made { MakesBody made.old.items made.new.items ((typed_block written.now).typing typer.old) result
+        typer.new }
+    ensures held { IfOk result (λ body. is_held_stmt body ≡ true) }
+    ensures held_blocks { are_held_made made.old.items ≡ true → are_held_made made.new.items ≡ true }
 {
     declare(typer, written)?;
     routines(typer, made, &written.routines)?;
@@ -35,7 +39,8 @@ pub(crate) fn body(
 
 // The statements of a block, once each routine came that was declared with the directive forward.
 fn statement_part(typer: &mut Typer, written: &[syntax::Stmt]) -> Result<Stmt, TypeFault>
-    ensures { MakesStmt (statement_part written.now typer.old) result typer.new }
+    ensures made { MakesStmt (statement_part written.now typer.old) result typer.new }
+    ensures held { IfOk result (λ body. is_held_stmt body ≡ true) }
 {
     typer.all_came()?;
     compound(typer, written)
@@ -49,8 +54,9 @@ fn routines(
     written: &[Routine],
 ) -> Result<(), TypeFault>
     requires known { AreKnownRoutines written.now typer.old.regions }
-    ensures { MakesBlocks made.old.items made.new.items
+    ensures made { MakesBlocks made.old.items made.new.items
         (each (λ r. r.typing) (map typed_routine written.now) typer.old) result typer.new }
+    ensures held { are_held_made made.old.items ≡ true → are_held_made made.new.items ≡ true }
 {
     for next in written {
         routine(typer, made, next)?;
@@ -62,8 +68,9 @@ fn routines(
 #[cycle(blocks)]
 fn routine(typer: &mut Typer, made: &mut Vec<MadeBlock>, written: &Routine) -> Result<(), TypeFault>
     requires known { AreKnown (heading_names (out-Routine written.now).heading) typer.old.regions }
-    ensures { MakesBlocks made.old.items made.new.items ((typed_routine written.now).typing typer.old) result
+    ensures made { MakesBlocks made.old.items made.new.items ((typed_routine written.now).typing typer.old) result
         typer.new }
+    ensures held { are_held_made made.old.items ≡ true → are_held_made made.new.items ≡ true }
 {
     let begun = begin_routine(typer, &written.heading)?;
     let name = heading_name(&written.heading);
@@ -95,8 +102,9 @@ fn routine_block(
     number: u32,
     name: &Name,
 ) -> Result<(), TypeFault>
-    ensures { MakesBlocks made.old.items made.new.items
+    ensures made { MakesBlocks made.old.items made.new.items
         (spec.routine_block number name.now (typed_block written.now) typer.old) result typer.new }
+    ensures held { are_held_made made.old.items ≡ true → are_held_made made.new.items ≡ true }
 {
     let begun = begin_block(typer, number, written)?;
     let body = body(typer, made, written)?;
@@ -113,7 +121,9 @@ fn end_routine(
     name: Place,
     end: Place,
 ) -> Result<(), TypeFault>
-    ensures { EndsRoutine number begun body name end made.old.items made.new.items typer.old result typer.new }
+    requires held { is_held_stmt body ≡ true }
+    ensures made { EndsRoutine number begun body name end made.old.items made.new.items typer.old result typer.new }
+    ensures held { are_held_made made.old.items ≡ true → are_held_made made.new.items ≡ true }
 {
     let result = typer.result_at_end(name, end, begun.root)?;
     let BegunBlock {

@@ -1,24 +1,29 @@
-ghost use Rattle.std.specs.Prelude.{◌≡◌, Ok, Err, Some, None, MatchResult, map, option_map};
+ghost use Rattle.std.specs.Prelude.{◌≡◌, true, Ok, Err, Some, None, IfOk, MatchResult, map, option_map};
+ghost use Rattle.typed_tree.specs.Kinds.{is_held_parameter, is_held_stmt, is_held_width, is_held_written};
+ghost use Rattle.typed_tree.specs.Kinds.{is_ordinal_expr};
+ghost use Rattle.typed_tree.specs.Tests.{all_hold};
 ghost use Rattle.typed_tree.specs.Look.{look_expr};
 ghost use Rattle.typed_tree.specs.declared.fault.TypeFault.TheVariants.{Mismatch};
 ghost use Rattle.typing.specs.Passing.{each};
 ghost use Rattle.typing.specs.Expressions.{expression, written_actual};
 ghost use Rattle.typing.specs.Statements as spec;
 ghost use Rattle.typing.specs.Outcomes.{Takes};
-ghost use Rattle.expression_resolver.specs.Made.{typed_of, look_value};
+ghost use Rattle.typing.specs.declared.typed.TypedValue.TheVariants.{Ordinal};
+ghost use Rattle.expression_resolver.specs.Made.{typed_of};
+ghost use Rattle.expression_resolver.specs.Values.{look_value, value_of};
 ghost use Rattle.resolver.specs.Made.{MakesStmt, MakesParameter, MakesParameters, MakesWidth, MakesOwnWidth};
 ghost use Rattle.resolver.specs.Made.{MakesValues, IsWrittenAs};
 
-use expression_resolver::{TypedExpr, Value, expression, first_place, routine_call};
+use expression_resolver::{TypedExpr, expression, first_place, routine_call};
 use place::Place;
 use scopes::{Denotation, RequiredProcedure};
 use syntax_tree as syntax;
 use typed_tree::fault::TypeFault;
 use typed_tree::site::SiteKind;
 use typed_tree::tree::{ProcedureCall, Stmt, Width, WriteParameter, Writing, Written};
-use types::TypeTable;
-use typing::Typer;
+use types::{TypeId, TypeTable};
 use typing::rules::{as_procedure, as_routine, ends_line, is_output, representation};
+use typing::{TypedValue, Typer};
 
 /// The call of a procedure.
 #[tactic(auto, unfolding(typing::specs::Statements::procedure_call))]
@@ -27,7 +32,8 @@ pub(crate) fn procedure_call(
     name: &syntax::Name,
     actuals: &[syntax::Actual],
 ) -> Result<Stmt, TypeFault>
-    ensures { MakesStmt (spec.procedure_call name.now actuals.now typer.old) result typer.new }
+    ensures made { MakesStmt (spec.procedure_call name.now actuals.now typer.old) result typer.new }
+    ensures held { IfOk result (λ made. is_held_stmt made ≡ true) }
 {
     let denotation = typer.find(name)?;
     match as_routine(denotation) {
@@ -44,13 +50,15 @@ fn required_call(
     name: &syntax::Name,
     actuals: &[syntax::Actual],
 ) -> Result<Stmt, TypeFault>
-    ensures { MakesStmt (spec.required_call denotation name.now actuals.now typer.old) result typer.new }
+    ensures made { MakesStmt (spec.required_call denotation name.now actuals.now typer.old) result typer.new }
+    ensures held { IfOk result (λ made. is_held_stmt made ≡ true) }
 {
     let procedure = as_procedure(name.place, denotation)?;
     write(typer, name, actuals, procedure)
 }
 
 // The call of a procedure that a program declares (6.8.2.3): K3 at the name of a function.
+#[tactic(auto, using(crate::proofs::HeldStatements::held_procedure_call))]
 fn declared_call(
     typer: &mut Typer,
     callee: u32,
@@ -58,8 +66,9 @@ fn declared_call(
     name: &syntax::Name,
     actuals: &[syntax::Actual],
 ) -> Result<Stmt, TypeFault>
-    ensures { MakesStmt (spec.declared_call callee is_function name.now (map written_actual actuals.now) typer.old)
-        result typer.new }
+    ensures made { MakesStmt (spec.declared_call callee is_function name.now (map written_actual actuals.now)
+        typer.old) result typer.new }
+    ensures held { IfOk result (λ made. is_held_stmt made ≡ true) }
 {
     if is_function {
         return Err(TypeFault::WrongParameters(name.place));
@@ -72,14 +81,15 @@ fn declared_call(
 }
 
 // A write or writeln.
-#[tactic(auto, using(typed_tree::proofs::Looks::look_write), unfolding(typing::specs::Statements::write))]
+#[tactic(auto, using(crate::proofs::Branches::made_write), unfolding(typing::specs::Statements::write))]
 fn write(
     typer: &mut Typer,
     name: &syntax::Name,
     actuals: &[syntax::Actual],
     procedure: RequiredProcedure,
 ) -> Result<Stmt, TypeFault>
-    ensures { MakesStmt (spec.write name.now actuals.now procedure typer.old) result typer.new }
+    ensures made { MakesStmt (spec.write name.now actuals.now procedure typer.old) result typer.new }
+    ensures held { IfOk result (λ made. is_held_stmt made ≡ true) }
 {
     typer.wants_output(name.place)?;
     let number = typer.enter()?;
@@ -143,7 +153,8 @@ fn parameters(
     typer: &mut Typer,
     values: &[syntax::Actual],
 ) -> Result<Vec<WriteParameter>, TypeFault>
-    ensures { MakesParameters (each spec.parameter (map written_actual values.now) typer.old) result typer.new }
+    ensures made { MakesParameters (each spec.parameter (map written_actual values.now) typer.old) result typer.new }
+    ensures held { IfOk result (λ made. all_hold (map is_held_parameter made.items) ≡ true) }
 {
     let mut parameters = Vec::with_capacity(typer.alloc, values.len())?;
     for value in values {
@@ -155,7 +166,8 @@ fn parameters(
 // A value that is written, and then its width.
 #[tactic(auto, using(typing::proofs::Written::typing_actual), unfolding(typing::specs::Statements::parameter))]
 fn parameter(typer: &mut Typer, written: &syntax::Actual) -> Result<WriteParameter, TypeFault>
-    ensures { MakesParameter (spec.parameter (written_actual written.now) typer.old) result typer.new }
+    ensures made { MakesParameter (spec.parameter (written_actual written.now) typer.old) result typer.new }
+    ensures held { IfOk result (λ made. is_held_parameter made ≡ true) }
 {
     let made = expression(typer, &written.value, None)?;
     let value = written_value(typer, made, first_place(&written.value))?;
@@ -165,34 +177,48 @@ fn parameter(typer: &mut Typer, written: &syntax::Actual) -> Result<WriteParamet
 
 // What is written: an ordinal, as its type wants it, or a string.
 fn written_value(typer: &Typer, made: TypedExpr, place: Place) -> Result<Written, TypeFault>
-    ensures { MatchResult result
+    ensures made { MatchResult result
         (IsWrittenAs (spec.written_as typer.now.types (typed_of made)) (look_value made.value))
         (λ why. (spec.written_as typer.now.types (typed_of made) ≡ None) × (why ≡ Mismatch place)) }
+    ensures held { IfOk result (λ made. is_held_written made ≡ true) }
 {
-    let TypedExpr { value, type_id, .. } = made;
-    match value {
-        Value::Ordinal(value) => {
-            let representation = representation(typer.types(), type_id).ok_or(TypeFault::Mismatch(
-                place,
-            ))?;
-            Ok(Written::Ordinal {
-                value,
-                representation,
-            })
-        }
-        Value::Whole { value, indexes } => {
-            if !typer.types().is_string(type_id) {
-                return Err(TypeFault::Mismatch(place));
-            }
+    match made.typed().value {
+        TypedValue::Ordinal(type_id) => written_ordinal(typer, made, type_id, place),
+        TypedValue::Text { type_id, .. } | TypedValue::Whole { type_id, .. }
+            if typer.types().is_string(type_id) => {
+            let (value, indexes) = made.into_whole(typer.alloc);
             Ok(Written::String { value, indexes })
         }
+        _ => Err(TypeFault::Mismatch(place)),
     }
+}
+
+// An ordinal of a type that is written.
+fn written_ordinal(
+    typer: &Typer,
+    made: TypedExpr,
+    type_id: TypeId,
+    place: Place,
+) -> Result<Written, TypeFault>
+    requires ordinal { value_of made.value ≡ Ordinal type_id }
+    ensures made { MatchResult result
+        (IsWrittenAs (spec.written_as typer.now.types (typed_of made)) (look_value made.value))
+        (λ why. (spec.written_as typer.now.types (typed_of made) ≡ None) × (why ≡ Mismatch place)) }
+    ensures held { IfOk result (λ made. is_held_written made ≡ true) }
+{
+    let representation = representation(typer.types(), type_id).ok_or(TypeFault::Mismatch(place))?;
+    let value = made.into_scalar();
+    Ok(Written::Ordinal {
+        value,
+        representation,
+    })
 }
 
 // The width of a value, if there is one.
 #[tactic(auto, unfolding(typing::specs::Statements::width))]
 fn width(typer: &mut Typer, written: &Option<syntax::Expr>) -> Result<Option<Width>, TypeFault>
-    ensures { MakesWidth (spec.width (option_map expression written.now) typer.old) result typer.new }
+    ensures made { MakesWidth (spec.width (option_map expression written.now) typer.old) result typer.new }
+    ensures held { IfOk result (λ made. is_held_width made ≡ true) }
 {
     match written {
         None => Ok(None),
@@ -203,7 +229,8 @@ fn width(typer: &mut Typer, written: &Option<syntax::Expr>) -> Result<Option<Wid
 // A width, which is an integer. Its site is the leading one.
 #[tactic(auto, unfolding(typing::specs::Statements::width))]
 fn total_width(typer: &mut Typer, written: &syntax::Expr) -> Result<Width, TypeFault>
-    ensures { MakesOwnWidth (spec.width (Some (expression written.now)) typer.old) result typer.new }
+    ensures made { MakesOwnWidth (spec.width (Some (expression written.now)) typer.old) result typer.new }
+    ensures held { IfOk result (λ made. is_ordinal_expr made.value ≡ true) }
 {
     let made = expression(typer, written, Some(SiteKind::Width))?;
     measured(made, first_place(written))
@@ -211,10 +238,11 @@ fn total_width(typer: &mut Typer, written: &syntax::Expr) -> Result<Width, TypeF
 
 // An expression as a width: K1 at its place where it is no integer.
 fn measured(made: TypedExpr, place: Place) -> Result<Width, TypeFault>
-    ensures { MatchResult result
+    ensures made { MatchResult result
         (λ width. (spec.measured place (typed_of made) ≡ Ok width.site)
         × (look_value made.value ≡ look_expr width.value))
         (λ why. spec.measured place (typed_of made) ≡ Err why) }
+    ensures held { IfOk result (λ width. is_ordinal_expr width.value ≡ true) }
 {
     let Some(site) = made.site else {
         return Err(TypeFault::Mismatch(place));

@@ -1,8 +1,12 @@
-ghost use Rattle.std.specs.Prelude.{ℕ};
+ghost use Rattle.std.specs.Prelude.{◌≡◌, ℕ, true, IfOk};
+ghost use Rattle.types.specs.Types.{kind_of};
+ghost use Rattle.typed_tree.specs.declared.tree.Scalar.TheVariants.{Ordinal};
+ghost use Rattle.typed_tree.specs.Kinds.{is_held_stmt, is_ordinal_expr};
 ghost use Rattle.typed_tree.specs.Look.{Empty};
 ghost use Rattle.typing.specs.Expressions.{expression};
 ghost use Rattle.typing.specs.Statements as spec;
 ghost use Rattle.typing.specs.Steps.{enter_as};
+ghost use Rattle.expression_resolver.specs.Values.{AreTestedAlike, tested_as};
 ghost use Rattle.resolver.specs.Made.{MakesBound, MakesStmt, MakesCaseHead, MakesCondition, MakesIfHead, MakesForHead};
 
 use expression_resolver::{expression, first_place, fitted};
@@ -13,12 +17,13 @@ use typed_tree::site::SiteKind;
 use typed_tree::tree::{CaseHead, Expr, Fitted, ForHead, Stmt};
 use types::{TypeId, TypeTable};
 use typing::Typer;
-use typing::rules::{as_variable, way};
+use typing::rules::{as_control, ordinal_of, way};
 
 /// An empty statement (6.8.2.1).
-#[tactic(auto, using(typed_tree::proofs::Looks::look_empty))]
+#[tactic(auto, using(typed_tree::proofs::Looks::look_empty, crate::proofs::HeldStatements::held_empty))]
 pub(crate) fn empty(typer: &mut Typer) -> Result<Stmt, TypeFault>
-    ensures { MakesStmt (enter_as Empty typer.old) result typer.new }
+    ensures made { MakesStmt (enter_as Empty typer.old) result typer.new }
+    ensures held { IfOk result (λ made. is_held_stmt made ≡ true) }
 {
     let number = typer.enter()?;
     Ok(Stmt::Empty { number })
@@ -31,7 +36,8 @@ pub(crate) fn if_head(
     place: Place,
     tested: &syntax::Expr,
 ) -> Result<(u32, Expr), TypeFault>
-    ensures { MakesIfHead (spec.tested place (expression tested.now) typer.old) result typer.new }
+    ensures made { MakesIfHead (spec.tested place (expression tested.now) typer.old) result typer.new }
+    ensures held { IfOk result (λ made. is_ordinal_expr made.1 ≡ true) }
 {
     typer.pass(place);
     let number = typer.enter()?;
@@ -42,7 +48,8 @@ pub(crate) fn if_head(
 /// A condition, which is Boolean.
 #[tactic(auto, unfolding(typing::specs::Statements::condition))]
 pub(crate) fn condition(typer: &mut Typer, written: &syntax::Expr) -> Result<Expr, TypeFault>
-    ensures { MakesCondition (spec.condition (expression written.now) typer.old) result typer.new }
+    ensures made { MakesCondition (spec.condition (expression written.now) typer.old) result typer.new }
+    ensures held { IfOk result (λ made. is_ordinal_expr made ≡ true) }
 {
     expression(typer, written, None)?.of(TypeTable::BOOLEAN, first_place(written))
 }
@@ -57,12 +64,14 @@ pub(crate) fn for_head(
     direction: syntax::Direction,
     last: &syntax::Expr,
 ) -> Result<ForHead, TypeFault>
-    ensures { MakesForHead (spec.for_head place variable.now (expression first.now) direction (expression last.now)
-        typer.old) result typer.new }
+    ensures made { MakesForHead (spec.for_head place variable.now (expression first.now) direction
+        (expression last.now) typer.old) result typer.new }
+    ensures first { IfOk result (λ head. is_ordinal_expr head.first.value ≡ true) }
+    ensures last { IfOk result (λ head. is_ordinal_expr head.last.value ≡ true) }
 {
     typer.pass(place);
     let denotation = typer.find(variable)?;
-    let (control, type_id) = as_variable(variable.place, denotation)?;
+    let (control, type_id) = as_control(variable.place, denotation)?;
     if !typer.types().is_ordinal(type_id) {
         return Err(TypeFault::Mismatch(variable.place));
     }
@@ -84,8 +93,11 @@ pub(crate) fn for_head(
 
 // A bound of a for: the site of its test stands before those of its first token.
 fn bound(typer: &mut Typer, type_id: TypeId, written: &syntax::Expr) -> Result<Fitted, TypeFault>
-    ensures { (control : ℕ) → MakesBound control (spec.bound control type_id (expression written.now) typer.old) result
-        typer.new }
+    requires ordinal { tested_as (kind_of typer.old.types type_id) ≡ Ordinal }
+    ensures made { (control : ℕ) → MakesBound control (spec.bound control type_id (expression written.now) typer.old)
+        result typer.new }
+    ensures held { IfOk result (λ made. is_ordinal_expr made.value ≡ true) }
+    ensures kept { IfOk result (λ made. AreTestedAlike typer.old.types typer.new.types) }
 {
     fitted(typer, type_id, first_place(written), written)
 }
@@ -98,19 +110,18 @@ pub(crate) fn case_head(
     place: Place,
     index: &syntax::Expr,
 ) -> Result<(CaseHead, TypeId), TypeFault>
-    ensures { MakesCaseHead (spec.case_head place (expression index.now) typer.old) result typer.new }
+    ensures made { MakesCaseHead (spec.case_head place (expression index.now) typer.old) result typer.new }
+    ensures held { IfOk result (λ made. is_ordinal_expr (made.0).index ≡ true) }
 {
     let site = typer.site(SiteKind::Case, place)?;
     let number = typer.enter()?;
     let made = expression(typer, index, None)?;
-    if !made.typed().is_ordinal(typer.types()) {
-        return Err(TypeFault::Mismatch(first_place(index)));
-    }
+    let type_id = ordinal_of(typer.types(), first_place(index), made.typed())?;
     let head = CaseHead {
         number,
         site,
-        index: made.value.into_ordinal(),
+        index: made.into_scalar(),
         constants: Vec::new(typer.alloc),
     };
-    Ok((head, made.type_id))
+    Ok((head, type_id))
 }

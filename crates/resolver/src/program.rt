@@ -1,4 +1,4 @@
-ghost use Rattle.std.specs.Prelude.{◌≡◌, ◌≤◌, [], Ok, IfOk, IfErr, MatchResult, length, map, vec_len};
+ghost use Rattle.std.specs.Prelude.{◌≡◌, ◌≤◌, [], true, Ok, IfOk, IfErr, MatchResult, length, map, vec_len};
 ghost use Rattle.std.specs.List.{range_with_len};
 ghost use Rattle.place.specs.Place.{ArePlacesInOrder};
 ghost use Rattle.syntax_tree.specs.Places.{program_places};
@@ -16,7 +16,7 @@ ghost use Rattle.typing.specs.declared.typer.TheConstants.{MOST_SITES};
 ghost use Rattle.types.specs.Types.{BeginWithRequired};
 ghost use Rattle.typing.specs.Passing.{after};
 ghost use Rattle.typed_tree.specs.declared.fault.TypeFault.TheVariants.{Memory};
-ghost use Rattle.resolver.specs.Made.{AreArranged, AreLaidBlocks, AreLaidOut, IsResolved, look_made};
+ghost use Rattle.resolver.specs.Made.{AreArranged, AreLaidBlocks, AreLaidOut, IsResolved, are_held_made, look_made};
 
 use crate::blocks::body;
 use crate::table::table_of;
@@ -88,8 +88,9 @@ fn program_blocks(
     requires none { made.old.items ≡ [] }
     requires begun { declared program.now ≡ Ok (after tt [] typer.old) }
     requires known { AreKnown (typed_block program.now.block).names typer.old.regions }
-    ensures { MatchResult result (λ _. typing program.now ≡ Ok (after tt (look_made made.new.items) typer.new))
+    ensures made { MatchResult result (λ _. typing program.now ≡ Ok (after tt (look_made made.new.items) typer.new))
         (IsFault (typing program.now)) }
+    ensures held { IfOk result (λ _. are_held_made made.new.items ≡ true) }
 {
     let body = body(typer, made, &program.block)?;
     let heading = Heading {
@@ -107,7 +108,9 @@ fn program_blocks(
 }
 
 // Blocks that were made in the order of the text, as a tree has them.
+#[tactic(auto, using(crate::proofs::Arranged::arranged_held))]
 fn laid_out(alloc: Global, made: Vec<MadeBlock>) -> Result<LaidBlocks, TypeFault>
+    requires held { are_held_made made.items ≡ true }
     ensures { MatchResult result (AreLaidOut made.items) (λ why. why ≡ Memory) }
 {
     let loops = table_of(alloc, &made)?;

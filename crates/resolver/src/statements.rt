@@ -1,20 +1,23 @@
-ghost use Rattle.std.specs.Prelude.{◌≡◌, [], true, map, option_map};
+ghost use Rattle.std.specs.Prelude.{◌≡◌, [], true, IfOk, map, option_map};
 ghost use Rattle.syntax_tree.specs.Places.{arms_of};
+ghost use Rattle.typed_tree.specs.Kinds.{is_held_stmt, is_ordinal_expr};
+ghost use Rattle.typed_tree.specs.Tests.{all_hold};
 ghost use Rattle.typing.specs.Expressions.{expression};
 ghost use Rattle.typing.specs.Passing.{behind_marks, each};
 ghost use Rattle.typing.specs.Statements as spec;
 ghost use Rattle.resolver.specs.Made.{MakesStmt, MakesStmts, MakesBoxed, MakesAlternative, MakesArms};
-ghost use Rattle.resolver.specs.Made.{for_head_look, is_conditional, is_repetitive};
+ghost use Rattle.resolver.specs.Made.{for_head_look, is_conditional, is_held_else, is_repetitive};
 
 use crate::assignments::assignment;
 use crate::calls::procedure_call;
 use crate::cases::constant_row;
 use crate::heads::{case_head, condition, empty, for_head, if_head};
+use crate::records::{close_records, opened_records};
 use indexmap::IndexSet;
 use place::Place;
 use syntax_tree as syntax;
 use typed_tree::fault::TypeFault;
-use typed_tree::tree::{CaseHead, ForHead, LoopHead, Stmt};
+use typed_tree::tree::{CaseHead, ForHead, LoopHead, Stmt, WithHead};
 use types::TypeId;
 use typing::Typer;
 
@@ -22,7 +25,8 @@ use typing::Typer;
 #[cycle(statements)]
 #[tactic(auto, using(typing::proofs::Written::written_statements))]
 pub(crate) fn statement(typer: &mut Typer, written: &syntax::Stmt) -> Result<Stmt, TypeFault>
-    ensures { MakesStmt (spec.statement written.now typer.old) result typer.new }
+    ensures made { MakesStmt (spec.statement written.now typer.old) result typer.new }
+    ensures held { IfOk result (λ made. is_held_stmt made ≡ true) }
 {
     match written {
         syntax::Stmt::Empty => empty(typer),
@@ -39,6 +43,11 @@ pub(crate) fn statement(typer: &mut Typer, written: &syntax::Stmt) -> Result<Stm
         syntax::Stmt::While { .. } | syntax::Stmt::Repeat { .. } | syntax::Stmt::For { .. } => {
             repetitive(typer, written)
         }
+        syntax::Stmt::With {
+            place,
+            records,
+            body,
+        } => with(typer, *place, records, body),
     }
 }
 
@@ -47,7 +56,8 @@ pub(crate) fn statement(typer: &mut Typer, written: &syntax::Stmt) -> Result<Stm
 #[tactic(auto, using(crate::proofs::Branches::conditional_forms), unfolding(typing::specs::Statements::choice))]
 fn conditional(typer: &mut Typer, written: &syntax::Stmt) -> Result<Stmt, TypeFault>
     requires { is_conditional written.now ≡ true }
-    ensures { MakesStmt (spec.statement written.now typer.old) result typer.new }
+    ensures made { MakesStmt (spec.statement written.now typer.old) result typer.new }
+    ensures held { IfOk result (λ made. is_held_stmt made ≡ true) }
 {
     match written {
         syntax::Stmt::If {
@@ -82,7 +92,8 @@ fn conditional(typer: &mut Typer, written: &syntax::Stmt) -> Result<Stmt, TypeFa
 #[tactic(auto, using(typing::proofs::Written::written_statements))]
 fn repetitive(typer: &mut Typer, written: &syntax::Stmt) -> Result<Stmt, TypeFault>
     requires { is_repetitive written.now ≡ true }
-    ensures { MakesStmt (spec.statement written.now typer.old) result typer.new }
+    ensures made { MakesStmt (spec.statement written.now typer.old) result typer.new }
+    ensures held { IfOk result (λ made. is_held_stmt made ≡ true) }
 {
     match written {
         syntax::Stmt::While {
@@ -112,9 +123,10 @@ fn repetitive(typer: &mut Typer, written: &syntax::Stmt) -> Result<Stmt, TypeFau
 
 /// Statements between `begin` and `end`.
 #[cycle(statements)]
-#[tactic(auto, using(typed_tree::proofs::Looks::look_compound), unfolding(typing::specs::Statements::compound))]
+#[tactic(auto, using(crate::proofs::Branches::made_compound), unfolding(typing::specs::Statements::compound))]
 pub(crate) fn compound(typer: &mut Typer, written: &[syntax::Stmt]) -> Result<Stmt, TypeFault>
-    ensures { MakesStmt (spec.compound (map spec.statement written.now) typer.old) result typer.new }
+    ensures made { MakesStmt (spec.compound (map spec.statement written.now) typer.old) result typer.new }
+    ensures held { IfOk result (λ made. is_held_stmt made ≡ true) }
 {
     let number = typer.enter()?;
     let statements = statements(typer, written)?;
@@ -124,7 +136,8 @@ pub(crate) fn compound(typer: &mut Typer, written: &[syntax::Stmt]) -> Result<St
 // Statements, one after another.
 #[cycle(statements)]
 fn statements(typer: &mut Typer, written: &[syntax::Stmt]) -> Result<Vec<Stmt>, TypeFault>
-    ensures { MakesStmts (each (λ s. s) (map spec.statement written.now) typer.old) result typer.new }
+    ensures made { MakesStmts (each (λ s. s) (map spec.statement written.now) typer.old) result typer.new }
+    ensures held { IfOk result (λ made. all_hold (map is_held_stmt made.items) ≡ true) }
 {
     let mut made = Vec::with_capacity(typer.alloc, written.len())?;
     for next in written {
@@ -136,7 +149,8 @@ fn statements(typer: &mut Typer, written: &[syntax::Stmt]) -> Result<Vec<Stmt>, 
 // A statement inside another.
 #[cycle(statements)]
 fn boxed(typer: &mut Typer, written: &syntax::Stmt) -> Result<Box<Stmt>, TypeFault>
-    ensures { MakesBoxed (spec.statement written.now typer.old) result typer.new }
+    ensures made { MakesBoxed (spec.statement written.now typer.old) result typer.new }
+    ensures held { IfOk result (λ made. is_held_stmt made.value ≡ true) }
 {
     let made = statement(typer, written)?;
     Ok(Box::new(typer.alloc, made)?)
@@ -149,8 +163,9 @@ fn other(
     typer: &mut Typer,
     written: &Option<Box<syntax::Stmt>>,
 ) -> Result<Option<Box<Stmt>>, TypeFault>
-    ensures { MakesAlternative (spec.alternative (option_map (λ s. spec.statement s.value) written.now) typer.old)
+    ensures made { MakesAlternative (spec.alternative (option_map (λ s. spec.statement s.value) written.now) typer.old)
         result typer.new }
+    ensures held { IfOk result (λ made. is_held_else made ≡ true) }
 {
     match written {
         None => Ok(None),
@@ -160,15 +175,16 @@ fn other(
 
 // A while (6.8.3.8).
 #[cycle(statements)]
-#[tactic(auto, using(typed_tree::proofs::Looks::look_while), unfolding(typing::specs::Statements::while_loop))]
+#[tactic(auto, using(crate::proofs::Branches::made_while), unfolding(typing::specs::Statements::while_loop))]
 fn while_loop(
     typer: &mut Typer,
     body: &syntax::Stmt,
     place: Place,
     tested: &syntax::Expr,
 ) -> Result<Stmt, TypeFault>
-    ensures { MakesStmt (spec.while_loop place (expression tested.now) (spec.statement body.now) typer.old)
+    ensures made { MakesStmt (spec.while_loop place (expression tested.now) (spec.statement body.now) typer.old)
         result typer.new }
+    ensures held { IfOk result (λ made. is_held_stmt made ≡ true) }
 {
     typer.pass(place);
     let (number, loop_number) = typer.enter_loop()?;
@@ -184,15 +200,16 @@ fn while_loop(
 
 // A repeat (6.8.3.7).
 #[cycle(statements)]
-#[tactic(auto, using(typed_tree::proofs::Looks::look_repeat), unfolding(typing::specs::Statements::repeat_loop))]
+#[tactic(auto, using(crate::proofs::Branches::made_repeat), unfolding(typing::specs::Statements::repeat_loop))]
 fn repeat_loop(
     typer: &mut Typer,
     place: Place,
     written: &[syntax::Stmt],
     tested: &syntax::Expr,
 ) -> Result<Stmt, TypeFault>
-    ensures { MakesStmt (spec.repeat_loop place (map spec.statement written.now) (expression tested.now) typer.old)
+    ensures made { MakesStmt (spec.repeat_loop place (map spec.statement written.now) (expression tested.now) typer.old)
         result typer.new }
+    ensures held { IfOk result (λ made. is_held_stmt made ≡ true) }
 {
     typer.pass(place);
     let (number, loop_number) = typer.enter_loop()?;
@@ -208,10 +225,13 @@ fn repeat_loop(
 
 // A for (6.8.3.9), behind its `do`.
 #[cycle(statements)]
-#[tactic(auto, using(crate::proofs::Branches::look_counted), unfolding(typing::specs::Statements::for_body))]
+#[tactic(auto, using(crate::proofs::Branches::made_for), unfolding(typing::specs::Statements::for_body))]
 fn for_loop(typer: &mut Typer, head: ForHead, body: &syntax::Stmt) -> Result<Stmt, TypeFault>
-    ensures { MakesStmt (behind_marks (for_head_look head) (spec.for_body head.control (spec.statement body.now)
+    requires first { is_ordinal_expr head.first.value ≡ true }
+    requires last { is_ordinal_expr head.last.value ≡ true }
+    ensures made { MakesStmt (behind_marks (for_head_look head) (spec.for_body head.control (spec.statement body.now)
         typer.old)) result typer.new }
+    ensures held { IfOk result (λ made. is_held_stmt made ≡ true) }
 {
     typer.begin_control(head.control)?;
     let body = boxed(typer, body)?;
@@ -221,7 +241,7 @@ fn for_loop(typer: &mut Typer, head: ForHead, body: &syntax::Stmt) -> Result<Stm
 
 // A case (6.8.3.5).
 #[cycle(statements)]
-#[tactic(auto, using(typed_tree::proofs::Looks::look_case), unfolding(typing::specs::Statements::case_body))]
+#[tactic(auto, using(crate::proofs::Branches::made_case), unfolding(typing::specs::Statements::case_body))]
 fn case_statement(
     typer: &mut Typer,
     arms: &[syntax::Stmt],
@@ -229,13 +249,41 @@ fn case_statement(
     index: &syntax::Expr,
     constants: &[Vec<syntax::Constant>],
 ) -> Result<Stmt, TypeFault>
-    ensures { MakesStmt (spec.case_statement place (expression index.now)
+    ensures made { MakesStmt (spec.case_statement place (expression index.now)
         (arms_of constants.now (map spec.statement arms.now)) typer.old) result typer.new }
+    ensures held { IfOk result (λ made. is_held_stmt made ≡ true) }
 {
     let (head, type_id) = case_head(typer, place, index)?;
     let (constants, arms) = case_arms(typer, type_id, constants, arms)?;
     let head = CaseHead { constants, ..head };
     Ok(Stmt::Case { head, arms })
+}
+
+// A with (6.8.3.10).
+#[cycle(statements)]
+#[tactic(auto, using(crate::proofs::Branches::made_with))]
+fn with(
+    typer: &mut Typer,
+    place: Place,
+    records: &[syntax::RecordVariable],
+    body: &syntax::Stmt,
+) -> Result<Stmt, TypeFault>
+    ensures made { MakesStmt (spec.with_statement place (map spec.written_record records.now) (spec.statement body.now)
+        typer.old) result typer.new }
+    ensures held { IfOk result (λ made. is_held_stmt made ≡ true) }
+{
+    typer.pass(place);
+    let first_slot = typer.next_slot();
+    let number = typer.enter()?;
+    let opened = opened_records(typer, records)?;
+    let body = boxed(typer, body)?;
+    close_records(typer, records);
+    let head = WithHead {
+        number,
+        first_slot,
+        records: opened,
+    };
+    Ok(Stmt::With { head, body })
 }
 
 // The arms of a case, by the type of its index, with the rows of constants before them.
@@ -246,8 +294,9 @@ fn case_arms(
     constants: &[Vec<syntax::Constant>],
     written: &[syntax::Stmt],
 ) -> Result<(Vec<Vec<i32>>, Vec<Stmt>), TypeFault>
-    ensures { MakesArms (spec.case_arms type_id [] (arms_of constants.now (map spec.statement written.now)) typer.old)
-        result typer.new }
+    ensures made { MakesArms (spec.case_arms type_id [] (arms_of constants.now (map spec.statement written.now))
+        typer.old) result typer.new }
+    ensures held { IfOk result (λ made. all_hold (map is_held_stmt (made.1).items) ≡ true) }
 {
     let mut seen = IndexSet::new(typer.alloc);
     let mut rows = Vec::with_capacity(typer.alloc, written.len())?;

@@ -83,6 +83,7 @@ fn meet(met: &mut Met, statement: &Stmt)
             close(met, row, start);
         }
         Stmt::Case { arms, .. } => meet_all(met, arms),
+        Stmt::With { body, .. } => meet(met, body),
         Stmt::For { head, body } => {
             meet_control(met, head.control);
             let (row, start) = open(met);

@@ -4,17 +4,44 @@ use types::TypeId;
 #[derive(Clone, Copy)]
 pub enum Denotation {
     TypeName(TypeId),
-    Constant { value: i32, type_id: TypeId },
+    Constant {
+        value: i32,
+        type_id: TypeId,
+    },
     /// A string of two or more characters (6.3), by its number among those that constants are.
-    Text { number: usize, type_id: TypeId },
+    Text {
+        number: usize,
+        type_id: TypeId,
+    },
     /// The variable with this root number.
-    Variable { root: u32, type_id: TypeId },
+    Variable {
+        root: u32,
+        type_id: TypeId,
+    },
+    /// A field of the record of a `with` statement round the place (6.8.3.10): by the slot of the record, the field's
+    /// place from 0 there, how many cells the fields before it take, and its type.
+    Field {
+        slot: u32,
+        position: usize,
+        offset: u32,
+        type_id: TypeId,
+    },
     Procedure(RequiredProcedure),
     Function(RequiredFunction),
     /// A procedure, or a function, which a program declares: by the number of its block.
-    Routine { block: u32, is_function: bool },
+    Routine {
+        block: u32,
+        is_function: bool,
+    },
     /// The file output, a program parameter.
     Output,
+}
+
+/// A name in small letters, and what it denotes.
+#[derive(Drop)]
+pub struct Definition {
+    pub name: Vec<u8>,
+    pub denotation: Denotation,
 }
 
 /// A required procedure (6.6.4, 6.9).

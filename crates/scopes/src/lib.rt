@@ -6,8 +6,8 @@ mod fault;
 mod regions;
 
 pub use denotation::{
-    Denotation, FunctionArgument, FunctionOperation, FunctionTest, FunctionType, FunctionValue,
-    RequiredFunction, RequiredProcedure,
+    Definition, Denotation, FunctionArgument, FunctionOperation, FunctionTest, FunctionType,
+    FunctionValue, RequiredFunction, RequiredProcedure,
 };
 pub use fault::ScopeFault;
 pub use regions::{Region, Scopes, copied};

@@ -7,7 +7,7 @@ ghost use Rattle.scopes.specs.Scopes.{outer};
 ghost use Rattle.scopes.specs.Scopes.{region_of, said};
 ghost use Rattle.scopes.specs.declared.fault.ScopeFault.TheVariants.{Memory};
 
-use crate::denotation::Denotation;
+use crate::denotation::{Definition, Denotation};
 use crate::fault::ScopeFault;
 use indexmap::IndexMap;
 use std::alloc::{AllocError, Global};
@@ -62,6 +62,19 @@ impl Scopes {
         ensures unchanged { OnErr result (self.new ≡ self.old) }
     {
         let region = defined_region(alloc, definitions)?;
+        self.blocks.push(region)?;
+        Ok(())
+    }
+
+    /// Begins a region whose names are those of the fields of a record, all of them defined. Without memory none
+    /// begins.
+    pub fn open_fields(&mut self, alloc: Global, fields: &[Definition]) -> Result<(), ScopeFault>
+        ensures opened { OnOk result
+            (self.new ≡ opened_with (map (λ d. (d.name.items, d.denotation)) fields.now) ∷ self.old) }
+        ensures refused { IfErr result (λ fault. fault ≡ Memory) }
+        ensures unchanged { OnErr result (self.new ≡ self.old) }
+    {
+        let region = fields_region(alloc, fields)?;
         self.blocks.push(region)?;
         Ok(())
     }
@@ -187,6 +200,19 @@ fn defined_region(alloc: Global, definitions: &[(&[u8], Denotation)]) -> Result<
     let mut region = IndexMap::new(alloc);
     for definition in definitions {
         region.insert(key(alloc, definition.0)?, Some(definition.1))?;
+    }
+    Ok(region)
+}
+
+// The same of fields.
+fn fields_region(alloc: Global, fields: &[Definition]) -> Result<Region, ScopeFault>
+    ensures { MatchResult result
+        (λ region. region_of region ≡ opened_with (map (λ d. (d.name.items, d.denotation)) fields.now))
+        (λ fault. fault ≡ Memory) }
+{
+    let mut region = IndexMap::new(alloc);
+    for field in fields {
+        region.insert(key(alloc, &field.name)?, Some(field.denotation))?;
     }
     Ok(region)
 }

@@ -4,9 +4,9 @@ use Rattle.std.proofs.Common.{arith, true, false, inl, inr, bit_and}
 use Rattle.std.specs.Prelude.{◌==◌, ◌&&◌, ◌⊎◌, ◌↔◌, Bool, IsTrue, max, nat_eq, slice_set}
 use Rattle.std.specs.Int.{bit_at}
 use Rattle.std.specs.List.{list_all}
-use Rattle.std.proofs.lemmas.Bool.{and_from, and_parts, cases_eq, cases_lt, eqb-true, eq-eqb}
+use Rattle.std.proofs.lemmas.Bool.{and_from, and_parts, cases_eq, cases_lt, eqb-false, eqb-true, eq-eqb}
 use Rattle.std.proofs.lemmas.List.{get_or-set_same, get_or-set_other, get_or-take, get_or-drop, length-drop, length-set, length-take}
-use Rattle.std.proofs.lemmas.Nat.Bits.{bit_at_and, bit_at_ones, bit_at_above, bit_at-lt, bit_at-pow_same, bit_at-pow_other}
+use Rattle.std.proofs.lemmas.Nat.Bits.{bit_at_and, bit_at_ones, bit_at_above, bit_at-lt, bit_at-pow_same, bit_at-pow_other, bit_at-zero}
 use Rattle.std.proofs.lemmas.Nat.Bits.{same_from_bits, same_from_bits_below}
 use mathlib.Core.Bool.{cond}
 use Rattle.stack_machine.specs.Cells.{is_full, is_set}
@@ -216,3 +216,33 @@ all_of_rows plane first end ordered within small low full high lows highs fulls 
           (omega (arith, below, above))) in
           and_from (low && full) high (and_from low full one two) three,
     )
+
+-- whether a word has none of the bits of a stretch
+pub row_has_none : (words : List ℕ) (index first end word mask : ℕ) → word ≡ get_or words index 0 → mask < 2 ^ 64
+    → ((bit : ℕ) → bit < 64 → first ≤ index * 64 + bit → index * 64 + bit < end → bit_at mask bit ≡ 1)
+    → ((bit : ℕ) → bit < 64 → (index * 64 + bit < first) ⊎ (end ≤ index * 64 + bit) → bit_at mask bit ≡ 0)
+    → IsTrue (nat_eq (bit_and word mask) 0)
+    ↔ ((bit : ℕ) → bit < 64 → first ≤ index * 64 + bit → index * 64 + bit < end → is_set words (index * 64 + bit) ≡ false)
+row_has_none words index first end word mask e small inside outside = (
+  λ none bit below low high.
+      let both = ap (λ n. bit_at n bit) (eqb-true (bit_and word mask) 0 none) in
+      let clear : bit_at word bit ≡ 0 = omega (arith, bit_at_and word mask bit, both, bit_at-zero bit, inside bit below low high, bit_at-lt word bit) in
+      bit_in_row words index bit below ∙ ap (λ n. bit_at n bit == 1) (sym e) ∙ ap (λ n. n == 1) clear,
+  λ clear.
+      let outside_mask : (bit : ℕ) → bit_at mask bit ≡ 0 → bit_at (bit_and word mask) bit ≡ bit_at 0 bit =
+      λ bit none. omega (arith, bit_at_and word mask bit, none, bit_at-zero bit) in
+      eq-eqb (bit_and word mask) 0 (same_from_bits (bit_and word mask) 0 (λ bit. elim (cases_lt bit 64) [
+        | inl below ↦ elim (cases_lt (index * 64 + bit) first) [
+          | inl before ↦ outside_mask bit (outside bit below (inl before))
+          | inr low ↦ elim (cases_lt (index * 64 + bit) end) [
+            | inl high ↦
+                let no : (bit_at word bit == 1) ≡ false =
+                ap (λ n. bit_at n bit == 1) e ∙ sym (bit_in_row words index bit below) ∙ clear bit below low high in
+                let none : bit_at word bit ≡ 0 = omega (arith, eqb-false (bit_at word bit) 1 no, bit_at-lt word bit) in
+                omega (arith, bit_at_and word mask bit, none, bit_at-zero bit)
+            | inr behind ↦ outside_mask bit (outside bit below (inr behind))
+          ]
+        ]
+        | inr above ↦ outside_mask bit (bit_at_above mask 64 bit small above)
+      ])),
+)

@@ -6,6 +6,7 @@ pub mod Characters
 pub mod Examples
 mod ExamplesOfCalls
 mod ExamplesOfRows
+mod ExamplesOfSets
 pub mod Steps
 pub mod Growing
 pub mod Bits

@@ -12,6 +12,7 @@ pub mod Output
 pub mod Ports
 pub mod Rows
 pub mod Run
+pub mod Sets
 pub mod Texts
 pub mod View
 pub use Rattle.byte_ports.specs.Counted

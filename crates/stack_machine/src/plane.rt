@@ -69,6 +69,30 @@ impl Plane {
         }
     }
 
+    /// Clears the bit of this place. It is looked at first, since it mostly is clear.
+    pub fn clear(&mut self, place: usize)
+        requires { place < 64 * length self.old }
+        ensures long { length self.new ≡ length self.old }
+        ensures this { is_set self.new place ≡ false }
+        ensures others { (other : ℕ) → other ≢ place → is_set self.new other ≡ is_set self.old other }
+    {
+        if self.is_set(place) {
+            self.put(place, false);
+        }
+    }
+
+    /// Sets or clears the bit of this place. It is looked at first, since it mostly is right.
+    pub fn make(&mut self, place: usize, bit: bool)
+        requires { place < 64 * length self.old }
+        ensures long { length self.new ≡ length self.old }
+        ensures this { is_set self.new place ≡ bit }
+        ensures others { (other : ℕ) → other ≢ place → is_set self.new other ≡ is_set self.old other }
+    {
+        if self.is_set(place) != bit {
+            self.put(place, bit);
+        }
+    }
+
     /// Sets or clears the bits from the first place to before the second.
     pub fn fill(&mut self, first: usize, end: usize, bit: bool)
         requires ordered { first ≤ end }
@@ -98,6 +122,9 @@ impl Plane {
         if self.all_set(from, from + count) {
             return self.fill(to, to + count, true);
         }
+        if self.none_set(from, from + count) {
+            return self.fill(to, to + count, false);
+        }
         for offset in 0..count {
             let bit = self.is_set(from + offset);
             self.fill(to + offset, to + offset + 1, bit);
@@ -115,6 +142,39 @@ impl Plane {
         }
         all_set_in(self.words.as_slice(), first, end)
     }
+
+    /// Whether no bit from the first place to before the second is set.
+    pub fn none_set(&self, first: usize, end: usize) -> bool
+        requires ordered { first ≤ end }
+        requires within { end < 64 * length self.now }
+        ensures { IsTrue result ↔ ((place : ℕ) → first ≤ place → place < end → is_set self.now place ≡ false) }
+    {
+        none_set_in(self.words.as_slice(), first, end)
+    }
+}
+
+/// Whether no bit from the first place to before the second is set.
+fn none_set_in(words: &[u64], first: usize, end: usize) -> bool
+    requires ordered { first ≤ end }
+    requires within { end < 64 * length words.now }
+    ensures { IsTrue result ↔ ((place : ℕ) → first ≤ place → place < end → is_set words.now place ≡ false) }
+{
+    for index in first / BITS..end / BITS + 1 {
+        if !has_none(words, index, first, end) {
+            return false;
+        }
+    }
+    true
+}
+
+/// Whether the bits of a stretch that lie in this word are clear.
+fn has_none(words: &[u64], index: usize, first: usize, end: usize) -> bool
+    requires within { index < length words.now }
+    requires before { index * 64 ≤ end }
+    ensures { IsTrue result ↔ ((bit : ℕ) → bit < 64 → first ≤ index * 64 + bit → index * 64 + bit < end
+        → is_set words.now (index * 64 + bit) ≡ false) }
+{
+    words[index] & mask_of(index, first, end) == 0
 }
 
 /// Whether all bits from the first place to before the second are set: those of the words between by vectors.

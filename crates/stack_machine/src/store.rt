@@ -1,13 +1,14 @@
 ghost use Rattle.std.specs.Prelude.{◌≡◌, ◌+◌, ◌-◌, ◌<◌, ◌≤◌, nat_le, if◌then◌else◌, length, take, IfOk};
-ghost use Rattle.std.specs.Prelude.{MatchResult, Ok, Err};
+ghost use Rattle.std.specs.Prelude.{MatchResult, Ok, Err, slice_index_or};
+ghost use Rattle.stack_machine.specs.declared.cell.Cell.TheVariants.{Number, Undefined};
 ghost use Rattle.stack_machine.specs.Frames as frames;
 ghost use Rattle.stack_machine.specs.Cells.{values};
 ghost use Rattle.stack_machine.specs.Rows as rows;
 
 mod addresses;
 mod calls;
+mod sets;
 
-use crate::cell::Cell;
 use crate::cells::Cells;
 use crate::rows::order;
 use crate::stop::MachineFault;
@@ -97,7 +98,7 @@ impl Store {
         ensures { Acts result (view self.old) (view self.new) (frames.load_constant value (view self.old)) }
     {
         self.has_room_after(0)?;
-        self.replace(0, Cell::Number(value));
+        self.replace_by_number(0, value);
         Ok(())
     }
 
@@ -108,8 +109,7 @@ impl Store {
         self.has_room_after(0)?;
         let used = self.used;
         let address = self.address(level, offset, used)?;
-        let cell = self.cells.get(address);
-        self.replace(0, cell);
+        self.replace_by_copy(0, address);
         Ok(())
     }
 
@@ -120,8 +120,7 @@ impl Store {
         self.has(1)?;
         let used = self.used - 1;
         let address = self.address(level, offset, used)?;
-        let cell = self.cells.get(used);
-        self.cells.put(address, cell);
+        self.cells.copy(used, address);
         self.used = used;
         Ok(())
     }
@@ -133,7 +132,7 @@ impl Store {
         self.has(1)?;
         self.has_room_after(1)?;
         let value = self.number_at(1)?;
-        self.replace(1, Cell::Number(operator.of(value)));
+        self.replace_by_number(1, operator.of(value));
         Ok(())
     }
 
@@ -142,7 +141,7 @@ impl Store {
         ensures { Acts result (view self.old) (view self.new) (frames.on_two (frames.of_two operator) (view self.old)) }
     {
         let (left, right) = self.operands()?;
-        self.replace(2, Cell::Number(operator.of(left, right)));
+        self.replace_by_number(2, operator.of(left, right));
         Ok(())
     }
 
@@ -154,7 +153,7 @@ impl Store {
         if right == 0 {
             return Err(MachineFault::WrongDivisor);
         }
-        self.replace(2, Cell::Number(left.wrapping_div(right)));
+        self.replace_by_number(2, left.wrapping_div(right));
         Ok(())
     }
 
@@ -166,7 +165,7 @@ impl Store {
         if right < 1 {
             return Err(MachineFault::WrongDivisor);
         }
-        self.replace(2, Cell::Number(left.rem_euclid(right)));
+        self.replace_by_number(2, left.rem_euclid(right));
         Ok(())
     }
 
@@ -180,7 +179,7 @@ impl Store {
         let left = self.numbers(2 * length, length)?;
         let right = self.numbers(length, length)?;
         let order = order(left, right);
-        self.replace(2 * length, Cell::Number(order));
+        self.replace_by_number(2 * length, order);
         Ok(())
     }
 
@@ -343,15 +342,29 @@ impl Store {
         Ok((left, right))
     }
 
-    /// Pops so many cells and pushes this one.
-    fn replace(&mut self, count: usize, cell: Cell)
+    /// Pops so many cells and pushes this number.
+    fn replace_by_number(&mut self, count: usize, number: i32)
         requires above_links { self.old.frame + 4 + count ≤ self.old.used }
         requires below_limit { self.old.used < self.old.limit + count }
-        ensures value { view self.new ≡ frames.pushed cell (frames.popped count (view self.old)) }
+        ensures value { view self.new ≡ frames.pushed (Number number) (frames.popped count (view self.old)) }
         ensures size { self.new.size ≡ self.old.size }
     {
         let place = self.used - count;
-        self.cells.put(place, cell);
+        self.cells.put_number(place, number);
+        self.used = place + 1;
+    }
+
+    /// Pops so many cells and pushes the cell at this address.
+    fn replace_by_copy(&mut self, count: usize, address: usize)
+        requires above_links { self.old.frame + 4 + count ≤ self.old.used }
+        requires below_limit { self.old.used < self.old.limit + count }
+        requires in_use { address < self.old.used }
+        ensures value { view self.new
+            ≡ frames.pushed (slice_index_or self.old.cells address Undefined) (frames.popped count (view self.old)) }
+        ensures size { self.new.size ≡ self.old.size }
+    {
+        let place = self.used - count;
+        self.cells.copy(address, place);
         self.used = place + 1;
     }
 

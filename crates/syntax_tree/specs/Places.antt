@@ -1,6 +1,7 @@
 -- The places that a syntax tree keeps, in the order of the text: of names, numbers, strings, operators, signs, `:=` and
--- `..`, of the opening parenthesis of an expression, of the bracket or comma before an index, of the words `if`,
--- `while`, `repeat`, `for`, `case`, `array` and `record`, and of the last `end`.
+-- `..` in a type, of the opening parenthesis of an expression and the opening bracket of a set, of the bracket or comma
+-- before an index, of the words `if`, `while`, `repeat`, `for`, `case`, `with`, `array`, `record` and `set`, and of the
+-- last `end`.
 -- It says nothing of what stands there.
 use Rattle.std.specs.Prelude.{List, [], ◌∷◌, ◌++◌, Option, Some, None, map, flat_map}
 use Rattle.std.specs.declared.alloc.Global.{Global}
@@ -12,7 +13,7 @@ use Rattle.syntax_tree.specs.declared.TypeDefinition.{TypeDefinition}
 use Rattle.syntax_tree.specs.declared.TypeDenoter.{TypeDenoter}
 use Rattle.syntax_tree.specs.declared.TypeDenoter.TheOpen.{TypeDenoter-F}
 use Rattle.syntax_tree.specs.declared.TypeDenoter.TheOpen.TypeDenoter-F.{Name as NamedType, Enumerated, Subrange}
-use Rattle.syntax_tree.specs.declared.TypeDenoter.TheOpen.TypeDenoter-F.{Array, Record}
+use Rattle.syntax_tree.specs.declared.TypeDenoter.TheOpen.TypeDenoter-F.{Array, Record, Set as SetType}
 use Rattle.syntax_tree.specs.declared.TypeDenoter.TheFolds.{fold-TypeDenoter}
 use Rattle.syntax_tree.specs.declared.Selector.{Selector}
 use Rattle.syntax_tree.specs.declared.Selector.TheVariants.{Index, Field}
@@ -35,12 +36,16 @@ use Rattle.syntax_tree.specs.declared.Actual.{Actual}
 use Rattle.syntax_tree.specs.declared.Link.{Link}
 use Rattle.syntax_tree.specs.declared.Expr.TheOpen.{Expr-F, Actual-F, Link-F}
 use Rattle.syntax_tree.specs.declared.Expr.TheOpen.Expr-F.{Number, Name as NameOf, Call as CallOf, Parenthesized, Not}
-use Rattle.syntax_tree.specs.declared.Expr.TheOpen.Expr-F.{Signed, Chain, Relation, String as StringOf, Component}
+use Rattle.syntax_tree.specs.declared.Expr.TheOpen.Expr-F.{Signed, Chain, Relation, String as StringOf, Component, Set}
+use Rattle.syntax_tree.specs.declared.Designator.{Designator}
+use Rattle.syntax_tree.specs.declared.Designator.TheVariants.{Single, Range}
 use Rattle.syntax_tree.specs.declared.Expr.TheFolds.{fold-Expr, fold-Actual, fold-Link}
 use Rattle.syntax_tree.specs.declared.Stmt.{Stmt}
 use Rattle.syntax_tree.specs.declared.Stmt.TheOpen.{Stmt-F}
 use Rattle.syntax_tree.specs.declared.Stmt.TheOpen.Stmt-F.{Empty, Assign, Call, Compound, If, While, Repeat, For, Case}
+use Rattle.syntax_tree.specs.declared.Stmt.TheOpen.Stmt-F.{With}
 use Rattle.syntax_tree.specs.declared.Stmt.TheFolds.{fold-Stmt}
+use Rattle.syntax_tree.specs.declared.RecordVariable.{RecordVariable}
 
 abbrev pub Places : Type 0
 Places = List Place
@@ -55,6 +60,22 @@ selector_places [] rows = joined_places rows
 selector_places (Field name ∷ selectors) rows = name.place ∷ selector_places selectors rows
 selector_places (Index place joined ∷ selectors) [] = place ∷ selector_places selectors []
 selector_places (Index place joined ∷ selectors) (row ∷ rows) = place ∷ (row ++ selector_places selectors rows)
+
+-- the members of a set by their designators: of each its value, or the first and the last of its values
+abbrev pub members_of : {A : Type 0} → List Designator → List A → List (A × Option A)
+members_of [] values = []
+members_of (Single ∷ designators) [] = []
+members_of (Single ∷ designators) (value ∷ values) = (value, None) ∷ members_of designators values
+members_of (Range ∷ designators) [] = []
+members_of (Range ∷ designators) (first ∷ []) = []
+members_of (Range ∷ designators) (first ∷ last ∷ values) = (first, Some last) ∷ members_of designators values
+
+abbrev pub last_places : Option Places → Places
+last_places None = []
+last_places (Some places) = places
+
+abbrev pub member_places : Places × Option Places → Places
+member_places member = member.0 ++ last_places member.1
 
 abbrev pub link_step : Link-F Places Places Places → Places
 link_step link = link.place ∷ link.operand
@@ -73,6 +94,8 @@ expression_step (Component name selectors indexes) = name.place ∷ selector_pla
 expression_step (StringOf text place) = place ∷ []
 expression_step (CallOf name actuals) = name.place ∷ joined_places actuals.items
 expression_step (Parenthesized bracket inner) = bracket ∷ inner.value
+expression_step (Set bracket designators members) =
+    bracket ∷ flat_map member_places (members_of designators.items members.items)
 expression_step (Not place operand) = place ∷ operand.value
 expression_step (Signed sign place term) = place ∷ term.value
 expression_step (Chain first rest) = first.value ++ joined_places rest.items
@@ -116,6 +139,12 @@ arms_of (row ∷ rows) (arm ∷ arms) = (row.items, arm) ∷ arms_of rows arms
 abbrev pub arm_places : List Constant × Places → Places
 arm_places arm = flat_map constant_places arm.0 ++ arm.1
 
+-- the places of a variable of a record
+abbrev pub record_places : RecordVariable → Places
+record_places record_variable =
+    record_variable.name.place
+    ∷ selector_places record_variable.selectors.items (map expr_places record_variable.indexes.items)
+
 abbrev pub statement_step : Stmt-F Places → Places
 statement_step Empty = []
 statement_step (Assign name selectors indexes becomes value) =
@@ -130,6 +159,7 @@ statement_step (For place variable first direction last body) =
     place ∷ variable.place ∷ (expr_places first ++ (expr_places last ++ body.value))
 statement_step (Case place index constants arms semicolon) =
     place ∷ (expr_places index ++ flat_map arm_places (arms_of constants.items arms.items))
+statement_step (With place records body) = place ∷ (flat_map record_places records.items ++ body.value)
 
 -- the places of a statement
 abbrev pub stmt_places : Stmt → Places
@@ -154,6 +184,7 @@ denoter_step (Subrange first between last) = constant_places first ++ between �
 denoter_step (Array packed place indexes element) = place ∷ (joined_places indexes.items ++ element.value)
 denoter_step (Record packed place names denoters semicolon) =
     place ∷ flat_map field_places (fields_of names.items denoters.items)
+denoter_step (SetType packed place base) = place ∷ base.value
 
 -- the places of what denotes a type
 abbrev pub denoter_places : TypeDenoter → Places

@@ -158,6 +158,12 @@ pub enum TypeDenoter<'a> {
         denoters: Vec<TypeDenoter<'a>>,
         semicolon: bool,
     },
+    /// `set of base`, perhaps packed (6.4.3.4), with the place of the word `set`.
+    Set {
+        packed: bool,
+        place: Place,
+        base: Box<TypeDenoter<'a>>,
+    },
 }
 
 /// What selects a component of a variable (6.5.3).
@@ -228,6 +234,21 @@ pub enum Stmt<'a> {
         arms: Vec<Stmt<'a>>,
         semicolon: bool,
     },
+    /// `with records do body` (6.8.3.10), with the place of the word `with`: one or more records.
+    With {
+        place: Place,
+        records: Vec<RecordVariable<'a>>,
+        body: Box<Stmt<'a>>,
+    },
+}
+
+/// A variable whose fields are names in the statement behind `with` (6.8.3.10): `name selectors`, and an index
+/// expression for each selector that is an index.
+#[derive(Drop)]
+pub struct RecordVariable<'a> {
+    pub name: Name<'a>,
+    pub selectors: Vec<Selector<'a>>,
+    pub indexes: Vec<Expr<'a>>,
 }
 
 /// The way of a control variable (6.8.3.9).
@@ -265,6 +286,16 @@ pub enum RelationalOperator {
     Greater,
     LessOrEqual,
     GreaterOrEqual,
+    In,
+}
+
+/// What a member of a set constructor is given by (6.7.1).
+#[derive(Clone, Copy)]
+pub enum Designator {
+    /// Its value.
+    Single,
+    /// The first and the last of several values: `first..last`.
+    Range,
 }
 
 /// An expression (6.7.1), its parentheses kept.
@@ -298,6 +329,13 @@ pub enum Expr<'a> {
     Parenthesized {
         open: Place,
         inner: Box<Expr<'a>>,
+    },
+    /// `[members]`, a set constructor (6.7.1), with the place of the opening bracket: none or more designators, and of
+    /// the expressions the next one for each that is single, the next two for each range.
+    Set {
+        open: Place,
+        designators: Vec<Designator>,
+        members: Vec<Expr<'a>>,
     },
     /// `not operand`, with the place of the word.
     Not {

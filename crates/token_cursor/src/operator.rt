@@ -51,6 +51,7 @@ pub fn relational_at(kind: Kind, place: Place) -> Option<(RelationalOperator, Pl
         Kind::Symbol(Symbol::Greater) => RelationalOperator::Greater,
         Kind::Symbol(Symbol::LessOrEqual) => RelationalOperator::LessOrEqual,
         Kind::Symbol(Symbol::GreaterOrEqual) => RelationalOperator::GreaterOrEqual,
+        Kind::Word(Word::In) => RelationalOperator::In,
         _ => return None,
     };
     Some((operator, place))

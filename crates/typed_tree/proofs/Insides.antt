@@ -7,6 +7,7 @@ use Rattle.typed_tree.specs.declared.tree.Copying.{Copying}
 use Rattle.typed_tree.specs.declared.tree.ForHead.{ForHead}
 use Rattle.typed_tree.specs.declared.tree.LoopHead.{LoopHead}
 use Rattle.typed_tree.specs.declared.tree.ProcedureCall.{ProcedureCall}
+use Rattle.typed_tree.specs.declared.tree.WithHead.{WithHead}
 use Rattle.typed_tree.specs.declared.tree.Writing.{Writing}
 use Rattle.typed_tree.specs.declared.tree.Expr.{Expr}
 use Rattle.typed_tree.specs.declared.tree.Stmt.{Stmt}
@@ -63,6 +64,9 @@ inside_for head body = rolled (stmt.For head body) (layer.For head body) (stmt.r
 
 pub inside_case : (head : CaseHead) (arms : Vec Stmt Global) → inside_of (stmt.Case head arms) ≡ all_inside (map inside_of arms.items)
 inside_case head arms = rolled (stmt.Case head arms) (layer.Case head arms) (stmt.rolls-Case head arms)
+
+pub inside_with : (head : WithHead) (body : Box Stmt Global) → inside_of (stmt.With head body) ≡ inside_of body.value
+inside_with head body = rolled (stmt.With head body) (layer.With head body) (stmt.rolls-With head body)
 
 -- ---- rows of loops
 

@@ -8,8 +8,10 @@ use Rattle.std.proofs.lemmas.List.{length-map}
 use Rattle.std.proofs.lemmas.List.Folds.{flat_map-map}
 use Rattle.types.specs.declared.form.TypeId.{TypeId}
 use Rattle.typed_tree.specs.declared.tree.Access.{Access}
+use Rattle.typed_tree.specs.declared.tree.Designator.{Designator}
 use Rattle.typed_tree.specs.declared.tree.Monadic.{Monadic as MonadicOperation}
 use Rattle.typed_tree.specs.declared.tree.RangeTest.{RangeTest}
+use Rattle.typed_tree.specs.declared.tree.Scalar.{Scalar}
 use Rattle.typed_tree.specs.declared.tree.Relation.{Relation}
 use Rattle.typed_tree.specs.declared.tree.Dyadic.TheVariants as dyadic
 use Rattle.typed_tree.specs.declared.tree.Whole.{Whole}
@@ -20,6 +22,7 @@ use Rattle.typed_tree.specs.declared.tree.Copying.{Copying}
 use Rattle.typed_tree.specs.declared.tree.ForHead.{ForHead}
 use Rattle.typed_tree.specs.declared.tree.LoopHead.{LoopHead}
 use Rattle.typed_tree.specs.declared.tree.ProcedureCall.{ProcedureCall}
+use Rattle.typed_tree.specs.declared.tree.WithHead.{WithHead}
 use Rattle.typed_tree.specs.declared.tree.Writing.{Writing}
 use Rattle.typed_tree.specs.declared.tree.Expr.{Expr}
 use Rattle.typed_tree.specs.declared.tree.Passed.{Passed}
@@ -36,7 +39,10 @@ use Rattle.typed_tree.specs.declared.tree.Stmt.TheFolds.{fold-roll-Stmt}
 use Rattle.typed_tree.specs.Look.{passed_look, look_call, look_passed, ForValue, ForWhole, ForVariable}
 use Rattle.typed_tree.specs.Look.{Look, link_look, expression_look, look_expr, look_link, look_parameter, statement_look, look_stmt, Constant, Value}
 use Rattle.typed_tree.specs.Look.{Operation, Applied, Begins, Operator, Ends, Empty, Assign, Target, Fits, Write, Compound, If, Then, Else, While, Do, Repeat}
-use Rattle.typed_tree.specs.Look.{Until, For, Controls, ForEnds, Case, arms_look, look_whole, look_access, Compared, WholeTarget, Copied}
+use Rattle.typed_tree.specs.Look.{Until, For, Controls, ForEnds, Case, arms_look, look_whole, look_access, compared, WholeTarget, Copied}
+use Rattle.typed_tree.specs.Look.{Constructs, Constructed, With, WithEnds, look_record}
+use Rattle.typed_tree.specs.Accesses.{AtVariable, origin_of}
+use Rattle.typed_tree.specs.Entries.{joined}
 use Rattle.typed_tree.specs.WellFormed.{length_of, source_of}
 pub use Rattle.typed_tree.proofs.Measured.{entries_are}
 
@@ -50,13 +56,13 @@ pub look_constant : (number : ℕ) (value : ℤ) → look_expr (tree.Constant nu
 look_constant number value =
     ap look_expr (sym (tree.rolls-Constant number value)) ∙ fold-roll-Expr Look Passing Look expression_look passed_look link_look (layer.Constant number value)
 
-pub look_variable : (access : Access) (indexes : Vec Expr Global) (defined : ℕ)
-    → look_expr (tree.Variable access indexes defined)
-    ≡ look_access access indexes.items (Value access.root access.selectors.items (length indexes.items) defined)
-look_variable access indexes defined =
-    ap look_expr (sym (tree.rolls-Variable access indexes defined))
-    ∙ fold-roll-Expr Look Passing Look expression_look passed_look link_look (layer.Variable access indexes defined)
-    ∙ ap (λ count. look_access access indexes.items (Value access.root access.selectors.items count defined)) (length-map indexes.items look_expr)
+pub look_variable : (access : Access) (indexes : Vec Expr Global) (held : Scalar) (defined : ℕ)
+    → look_expr (tree.Variable access indexes held defined)
+    ≡ look_access access indexes.items (Value (origin_of access) access.selectors.items (length indexes.items) held defined)
+look_variable access indexes held defined =
+    ap look_expr (sym (tree.rolls-Variable access indexes held defined))
+    ∙ fold-roll-Expr Look Passing Look expression_look passed_look link_look (layer.Variable access indexes held defined)
+    ∙ ap (λ count. look_access access indexes.items (Value (origin_of access) access.selectors.items count held defined)) (length-map indexes.items look_expr)
 
 pub look_monadic : (number : ℕ) (operation : MonadicOperation) (operand : Box Expr Global)
     → look_expr (tree.Monadic number operation operand) ≡ Operation number ∷ (look_expr operand.value ++ (Applied operation ∷ []))
@@ -75,7 +81,7 @@ pub look_compare : (number : ℕ) (relation : Relation) (left : Whole) (left_ind
     ≡ Begins
     ∷ (look_whole left left_indexes.items
     ++ (Operator number (dyadic.Relation relation)
-    ∷ (look_whole right right_indexes.items ++ (Compared (length_of left) (length_of right) ∷ Ends ∷ []))))
+    ∷ (look_whole right right_indexes.items ++ (compared left right ∷ Ends ∷ []))))
 look_compare number relation left left_indexes right right_indexes =
     ap look_expr (sym (tree.rolls-Compare number relation left left_indexes right right_indexes))
     ∙ fold-roll-Expr Look Passing Look expression_look passed_look link_look (layer.Compare number relation left left_indexes right right_indexes)
@@ -84,6 +90,17 @@ pub look_function_call : (call : Call) (actuals : Vec Passed Global) → look_ex
 look_function_call call actuals =
     ap look_expr (sym (tree.rolls-Call call actuals))
     ∙ fold-roll-Expr Look Passing Look expression_look passed_look link_look (layer.Call call actuals)
+
+pub look_set : (number : ℕ) (designators : Vec Designator Global) (members : Vec Expr Global)
+    → look_expr (tree.Set number designators members)
+    ≡ Constructs number ∷ (flat_map look_expr members.items ++ (Constructed designators.items (length members.items) ∷ []))
+look_set number designators members =
+    ap look_expr (sym (tree.rolls-Set number designators members))
+    ∙ fold-roll-Expr Look Passing Look expression_look passed_look link_look (layer.Set number designators members)
+    ∙ ap (λ count. Constructs number ∷ (joined (map look_expr members.items) ++ (Constructed designators.items count ∷ [])))
+    (length-map members.items look_expr)
+    ∙ ap (λ looks. Constructs number ∷ (looks ++ (Constructed designators.items (length members.items) ∷ [])))
+    (flat_map-map (λ (row : Look). row) look_expr members.items)
 
 -- ---- actual parameters, for a callee and the place of a formal one
 
@@ -102,11 +119,11 @@ look_passed_whole type_id value indexes callee position =
 
 pub look_passed_variable : (type_id : TypeId) (access : Access) (indexes : Vec Expr Global) (callee position : ℕ)
     → look_passed (actual.Reference type_id access indexes) callee position
-    ≡ look_access access indexes.items (ForVariable type_id access.root access.selectors.items (length indexes.items) callee position)
+    ≡ look_access access indexes.items (ForVariable type_id (origin_of access) access.selectors.items (length indexes.items) callee position)
 look_passed_variable type_id access indexes callee position =
     ap (λ p. look_passed p callee position) (sym (actual.rolls-Reference type_id access indexes))
     ∙ ap (λ look. look callee position) (fold-roll-Passed Look Passing Look expression_look passed_look link_look (layer.Reference type_id access indexes))
-    ∙ ap (λ count. look_access access indexes.items (ForVariable type_id access.root access.selectors.items count callee position))
+    ∙ ap (λ count. look_access access indexes.items (ForVariable type_id (origin_of access) access.selectors.items count callee position))
     (length-map indexes.items look_expr)
 
 -- an operator and its right operand, as they are made
@@ -126,15 +143,15 @@ pub look_assign : (assignment : Assignment)
     → look_stmt (stmt.Assign assignment)
     ≡ Assign assignment.number assignment.becomes
     ∷ (look_access assignment.target assignment.indexes.items
-    (Target assignment.target.root assignment.target.selectors.items (length assignment.indexes.items))
-    ++ (look_expr assignment.value ++ (Fits assignment.target.root assignment.target.selectors.items assignment.fits ∷ [])))
+    (Target (origin_of assignment.target) assignment.target.selectors.items (length assignment.indexes.items))
+    ++ (look_expr assignment.value ++ (Fits (origin_of assignment.target) assignment.target.selectors.items assignment.fits ∷ [])))
 look_assign assignment = ap look_stmt (sym (stmt.rolls-Assign assignment)) ∙ fold-roll-Stmt Look statement_look (stmt_layer.Assign assignment)
 
 pub look_copy : (copying : Copying)
     → look_stmt (stmt.Copy copying)
     ≡ Assign copying.number copying.becomes
     ∷ (look_access copying.target copying.indexes.items
-    (WholeTarget copying.target.root copying.target.selectors.items (length copying.indexes.items) copying.type_id)
+    (WholeTarget (origin_of copying.target) copying.target.selectors.items (length copying.indexes.items) copying.type_id)
     ++ (look_whole copying.value copying.value_indexes.items
     ++ (Copied copying.type_id (source_of copying.value) (length_of copying.value) ∷ [])))
 look_copy copying = ap look_stmt (sym (stmt.rolls-Copy copying)) ∙ fold-roll-Stmt Look statement_look (stmt_layer.Copy copying)
@@ -186,9 +203,9 @@ pub look_for : (head : ForHead) (body : Box Stmt Global)
     → look_stmt (stmt.For head body)
     ≡ For head.number head.loop_number head.place head.control head.direction
     ∷ (look_expr head.first.value
-    ++ (Fits head.control [] head.first.fits
+    ++ (Fits (AtVariable head.control) [] head.first.fits
     ∷ (look_expr head.last.value
-    ++ (Fits head.control [] head.last.fits ∷ Controls head.control ∷ (look_stmt body.value ++ (ForEnds ∷ []))))))
+    ++ (Fits (AtVariable head.control) [] head.last.fits ∷ Controls head.control ∷ (look_stmt body.value ++ (ForEnds ∷ []))))))
 look_for head body = ap look_stmt (sym (stmt.rolls-For head body)) ∙ fold-roll-Stmt Look statement_look (stmt_layer.For head body)
 
 pub look_case : (head : CaseHead) (arms : Vec Stmt Global)
@@ -196,3 +213,9 @@ pub look_case : (head : CaseHead) (arms : Vec Stmt Global)
     ≡ Case head.number head.site
     ∷ (look_expr head.index ++ (arms_look head.constants.items (map look_stmt arms.items) ++ (Ends ∷ [])))
 look_case head arms = ap look_stmt (sym (stmt.rolls-Case head arms)) ∙ fold-roll-Stmt Look statement_look (stmt_layer.Case head arms)
+
+pub look_with : (head : WithHead) (body : Box Stmt Global)
+    → look_stmt (stmt.With head body)
+    ≡ With head.number head.first_slot
+    ∷ (flat_map look_record head.records.items ++ (Do ∷ (look_stmt body.value ++ (WithEnds head.first_slot ∷ []))))
+look_with head body = ap look_stmt (sym (stmt.rolls-With head body)) ∙ fold-roll-Stmt Look statement_look (stmt_layer.With head body)

@@ -9,15 +9,17 @@ use Rattle.typed_tree.specs.declared.tree.Block.{Block}
 use Rattle.typed_tree.specs.declared.tree.Expr.{Expr}
 use Rattle.typed_tree.specs.declared.tree.Stmt.{Stmt}
 use Rattle.typed_tree.specs.declared.tree.Stmt.TheOpen.{Stmt-F}
-use Rattle.typed_tree.specs.declared.tree.Stmt.TheOpen.Stmt-F.{Empty, Assign, Write, Compound, If, While, Repeat, For, Case, Copy, Call as Calling}
+use Rattle.typed_tree.specs.declared.tree.Stmt.TheOpen.Stmt-F.{Empty, Assign, Write, Compound, If, While, Repeat, For, Case, Copy, Call as Calling, With}
 use Rattle.typed_tree.specs.declared.tree.Stmt.TheFolds.{map-Stmt, fold-roll-Stmt, ind-Stmt}
+use Rattle.typed_tree.specs.Accesses.{AtVariable, origin_of}
 use Rattle.typed_tree.specs.Entries.{joined, of_block}
 use Rattle.typed_tree.specs.WellFormed.{length_of, source_of}
 use Rattle.typed_tree.specs.Loops.{Inside, statement_inside, inside_of, loops_of, loops_of_block}
-use Rattle.typed_tree.proofs.Quiet.{quiet_expr, quiet_accessed, quiet_value, quiet_parameters, quiet_called}
-use Rattle.typed_tree.specs.Look.{Mark, Look, look_expr, look_parameter, arms_look, statement_look}
+use Rattle.typed_tree.proofs.Quiet.{quiet_expr, quiet_accessed, quiet_value, quiet_parameters, quiet_called, quiet_records}
+use Rattle.typed_tree.specs.Look.{Mark, Look, look_expr, look_record, look_parameter, arms_look, statement_look}
 use Rattle.typed_tree.specs.Look.{look_stmt, look_block, look_access, look_whole, Target, WholeTarget}
 use Rattle.typed_tree.specs.Look.{tree_look, mark_loops, loops_of_look, Ends, Then, Else, Do, Until, Controls, ForEnds, Fits as FitsMark, heading_look}
+use Rattle.typed_tree.specs.Look.{WithEnds}
 use Rattle.typed_tree.specs.Look.{Copied}
 
 -- a form, and then one that is no loop
@@ -77,13 +79,13 @@ numbers_layer : (y : Stmt-F Numbered)
     → loops_of_look (statement_look (map-Stmt Stmt Look look_stmt (bare_stmt y))) ≡ numbers (statement_inside (map-Stmt Stmt Inside inside_of (bare_stmt y)))
 numbers_layer (Empty number) = refl
 numbers_layer (Assign assignment) =
-    let does = Target assignment.target.root assignment.target.selectors.items (length assignment.indexes.items) in
-    let end = FitsMark assignment.target.root assignment.target.selectors.items assignment.fits in
+    let does = Target (origin_of assignment.target) assignment.target.selectors.items (length assignment.indexes.items) in
+    let end = FitsMark (origin_of assignment.target) assignment.target.selectors.items assignment.fits in
     behind (look_access assignment.target assignment.indexes.items does) (look_expr assignment.value ++ (end ∷ []))
     (quiet_accessed assignment.target assignment.indexes.items does (refl, refl)).0
     ∙ ended (look_expr assignment.value) end refl ∙ (quiet_expr assignment.value).0
 numbers_layer (Copy copying) =
-    let does = WholeTarget copying.target.root copying.target.selectors.items (length copying.indexes.items) copying.type_id in
+    let does = WholeTarget (origin_of copying.target) copying.target.selectors.items (length copying.indexes.items) copying.type_id in
     let end = Copied copying.type_id (source_of copying.value) (length_of copying.value) in
     behind (look_access copying.target copying.indexes.items does) (look_whole copying.value copying.value_indexes.items ++ (end ∷ []))
     (quiet_accessed copying.target copying.indexes.items does (refl, refl)).0
@@ -108,14 +110,18 @@ numbers_layer (Repeat head statements) =
     ∙ ap₂ (λ a b. a ++ b) (numbers_joined statements.items) (ended (look_expr head.condition) Ends refl ∙ (quiet_expr head.condition).0)
     ∙ append-nil _)
 numbers_layer (For head body) =
-    let inside = FitsMark head.control [] head.last.fits ∷ Controls head.control ∷ (look_stmt body.value.0 ++ (ForEnds ∷ [])) in
+    let inside = FitsMark (AtVariable head.control) [] head.last.fits ∷ Controls head.control ∷ (look_stmt body.value.0 ++ (ForEnds ∷ [])) in
     ap (λ more. head.loop_number ∷ more)
-    (behind (look_expr head.first.value) (FitsMark head.control [] head.first.fits ∷ (look_expr head.last.value ++ inside)) ((quiet_expr head.first.value).0)
+    (behind (look_expr head.first.value) (FitsMark (AtVariable head.control) [] head.first.fits ∷ (look_expr head.last.value ++ inside))
+    ((quiet_expr head.first.value).0)
     ∙ behind (look_expr head.last.value) inside ((quiet_expr head.last.value).0)
     ∙ ended (look_stmt body.value.0) ForEnds refl ∙ body.value.1)
 numbers_layer (Case head arms) =
     let inside = arms_look head.constants.items (map look_stmt (map (λ s. s.0) arms.items)) in
     behind (look_expr head.index) (inside ++ (Ends ∷ [])) ((quiet_expr head.index).0) ∙ ended inside Ends refl ∙ numbers_arms head.constants.items arms.items
+numbers_layer (With head body) =
+    behind (flat_map look_record head.records.items) (Do ∷ (look_stmt body.value.0 ++ (WithEnds head.first_slot ∷ []))) ((quiet_records head.records.items).0)
+    ∙ ended (look_stmt body.value.0) (WithEnds head.first_slot) refl ∙ body.value.1
 
 numbers_stmt : (s : Stmt) → loops_of_look (look_stmt s) ≡ numbers (inside_of s)
 numbers_stmt =

@@ -11,6 +11,7 @@ use Rattle.std.proofs.lemmas.List.Folds.{list_all-append, list_all-map}
 use Rattle.typed_tree.specs.declared.tree.Tree.{Tree}
 use Rattle.typed_tree.specs.declared.tree.Block.{Block}
 use Rattle.typed_tree.specs.declared.tree.Width.{Width as TotalWidth}
+use Rattle.typed_tree.specs.declared.tree.WithRecord.{WithRecord}
 use Rattle.typed_tree.specs.declared.tree.WriteParameter.{WriteParameter}
 use Rattle.typed_tree.specs.declared.tree.Written.{Written as WrittenValue}
 use Rattle.typed_tree.specs.declared.tree.Written.TheVariants.{Ordinal, String}
@@ -23,29 +24,31 @@ use Rattle.typed_tree.specs.declared.tree.Expr.{Expr}
 use Rattle.typed_tree.specs.declared.tree.Link.{Link}
 use Rattle.typed_tree.specs.declared.tree.Passed.{Passed}
 use Rattle.typed_tree.specs.declared.tree.Expr.TheOpen.{Expr-F, Passed-F, Link-F}
-use Rattle.typed_tree.specs.declared.tree.Expr.TheOpen.Expr-F.{Constant, Variable, Monadic as MonadicOf, Chain, Compare, Call as CallOf}
+use Rattle.typed_tree.specs.declared.tree.Expr.TheOpen.Expr-F.{Constant, Variable, Monadic as MonadicOf, Chain, Compare, Call as CallOf, Set}
 use Rattle.typed_tree.specs.declared.tree.Expr.TheOpen.Passed-F.{Value as PassedValue, Whole as PassedWhole, Reference}
 use Rattle.typed_tree.specs.declared.tree.Expr.TheFolds.{fold-Expr, fold-Passed, fold-Link, map-Expr, map-Passed, map-Link, fold-roll-Expr, fold-roll-Passed}
 use Rattle.typed_tree.specs.declared.tree.Expr.TheFolds.{fold-roll-Link, ind-Expr, ind-Passed}
 use Rattle.typed_tree.specs.declared.tree.Expr.TheViews.{roll-Expr, roll-Passed, roll-Link}
 use Rattle.typed_tree.specs.declared.tree.Stmt.{Stmt}
 use Rattle.typed_tree.specs.declared.tree.Stmt.TheOpen.{Stmt-F}
-use Rattle.typed_tree.specs.declared.tree.Stmt.TheOpen.Stmt-F.{Empty, Assign, Write, Compound, If, While, Repeat, For, Case, Copy, Call as Calling}
+use Rattle.typed_tree.specs.declared.tree.Stmt.TheOpen.Stmt-F.{Empty, Assign, Write, Compound, If, While, Repeat, For, Case, Copy, Call as Calling, With}
 use Rattle.typed_tree.specs.declared.tree.Stmt.TheFolds.{fold-Stmt, map-Stmt, fold-roll-Stmt, ind-Stmt}
+use Rattle.typed_tree.specs.Accesses.{AtVariable, origin_of}
 use Rattle.typed_tree.specs.Entries.{joined, expression_entries, link_entries, entries_of_expression, entries_of_width, entries_of_parameter, statement_entries}
 use Rattle.typed_tree.specs.Entries.{entries_of_block, entries_in_text, entries_of_passed, passed_entries, call_entries, of_block}
-use Rattle.typed_tree.specs.Entries.{entries_of_statement, entries_of_written, access_entries, whole_entries}
+use Rattle.typed_tree.specs.Entries.{entries_of_statement, entries_of_record, entries_of_written, access_entries, whole_entries}
 use Rattle.typed_tree.specs.WellFormed.{Outline, placed, passed_is_well_formed, is_well_formed_passed, is_well_formed_call, is_control, may_call}
 use Rattle.typed_tree.specs.WellFormed.{passes_value, passes_whole, passes_variable}
 use Rattle.typed_tree.specs.WellFormed.{all_hold, is_whole, monadic_is_well_formed, dyadic_is_well_formed, link_is_well_formed, expr_is_well_formed}
 use Rattle.typed_tree.specs.WellFormed.{is_well_formed_expr, is_well_formed_link, is_well_formed_width, is_well_formed_parameter, fits_target}
 use Rattle.typed_tree.specs.WellFormed.{are_characters, length_of, source_of, whole_indexes, is_well_formed_whole, is_well_formed_written}
-use Rattle.typed_tree.specs.WellFormed.{leads_to_ordinal, are_well_formed, is_well_formed_value}
+use Rattle.typed_tree.specs.WellFormed.{are_designators, compare, is_text, leads_to_held, are_well_formed, is_well_formed_record, is_well_formed_value}
 use Rattle.typed_tree.specs.WellFormed.{are_whole, stmt_is_well_formed, is_well_formed_stmt}
 use Rattle.typed_tree.specs.Look.{passed_look, call_look, look_passed, heading_look, Called, ForValue, ForWhole, ForVariable}
 use Rattle.typed_tree.specs.Look.{Mark, Look, link_look, expression_look, look_expr, look_link, look_width, look_parameter, arms_look, statement_look}
 use Rattle.typed_tree.specs.Look.{look_stmt, look_block, tree_look, mark_entries, entries_of_look, is_formed_mark, Ends, If as IfMark, Then, Else, Do, Until}
-use Rattle.typed_tree.specs.Look.{Controls, Fits as FitsMark, Written as WrittenMark, Width as WidthMark, Compared, WrittenString, look_whole, look_written}
+use Rattle.typed_tree.specs.Look.{Controls, Fits as FitsMark, Written as WrittenMark, Width as WidthMark, WrittenString, compared, look_whole, look_written}
+use Rattle.typed_tree.specs.Look.{Constructed, Opens, WithEnds, look_record}
 use Rattle.typed_tree.specs.Look.{ForEnds, Applied, Operator, Copied, access_look, whole_look, look_access, Value, WholeValue, Target, WholeTarget}
 
 -- ---- a measure of looks that is a fold over trees
@@ -204,7 +207,7 @@ entries_whole : (value : Whole) (looks : List Look) (rows : List (List ℕ)) →
     → entries_of_look (whole_look value looks) ≡ whole_entries value rows
 entries_whole (TextOf number characters) looks rows told = refl
 entries_whole (WholeOf access type_id cells defined) looks rows told =
-    entries_access access looks rows (WholeValue access.root access.selectors.items (length looks) type_id cells defined) told refl
+    entries_access access looks rows (WholeValue (origin_of access) access.selectors.items (length looks) type_id cells defined) told refl
 
 -- what actual parameters enter
 entries_placed : (xs : List (ToldPassed entries_of_look passed_view expression_entries passed_entries link_entries)) (callee position : ℕ)
@@ -222,10 +225,10 @@ entries_call is_function call looks rows told =
 
 entries_layer : Layers entries_of_look passed_view expression_entries passed_entries link_entries
 entries_layer (Constant number value) = refl
-entries_layer (Variable access indexes defined) =
+entries_layer (Variable access indexes held defined) =
     let inside = map (λ e. e.0) indexes.items in
     let looks = map look_expr inside in
-    entries_access access looks (map entries_of_expression inside) (Value access.root access.selectors.items (length looks) defined)
+    entries_access access looks (map entries_of_expression inside) (Value (origin_of access) access.selectors.items (length looks) held defined)
     (entries_joined look_expr entries_of_expression indexes.items) refl
 entries_layer (MonadicOf number operation operand) =
     ap (λ entries. number ∷ entries) (entries_ended (look_expr operand.value.0) (Applied operation) refl ∙ operand.value.1)
@@ -238,7 +241,7 @@ entries_layer (Compare number relation left left_indexes right right_indexes) =
     let inside = map (λ e. e.0) left_indexes.items in
     let others = map (λ e. e.0) right_indexes.items in
     let second = whole_look right (map look_expr others) in
-    let end = Compared (length_of left) (length_of right) ∷ Ends ∷ [] in
+    let end = compared left right ∷ Ends ∷ [] in
     flat_map-append mark_entries (whole_look left (map look_expr inside)) (Operator number (dyadic.Relation relation) ∷ (second ++ end))
     ∙ ap₂ (λ a b. a ++ (number ∷ b))
     (entries_whole left (map look_expr inside) (map entries_of_expression inside)
@@ -249,6 +252,11 @@ entries_layer (Compare number relation left left_indexes right right_indexes) =
 entries_layer (CallOf call actuals) =
     entries_call true call (map look_passed (map (λ p. p.0) actuals.items)) (map entries_of_passed (map (λ p. p.0) actuals.items))
     (entries_placed actuals.items call.block 0)
+entries_layer (Set number designators members) =
+    ap (λ entries. number ∷ entries)
+    (entries_ended (joined (map look_expr (map (λ e. e.0) members.items)))
+    (Constructed designators.items (length (map look_expr (map (λ e. e.0) members.items)))) refl
+    ∙ entries_joined look_expr entries_of_expression members.items)
 
 entries_passed_layer : PassedLayers entries_of_look passed_view expression_entries passed_entries link_entries
 entries_passed_layer (PassedValue value fits) callee position = entries_ended (look_expr value.0) (ForValue fits callee position) refl ∙ value.1
@@ -260,7 +268,7 @@ entries_passed_layer (Reference type_id access indexes) callee position =
     let inside = map (λ e. e.0) indexes.items in
     let looks = map look_expr inside in
     entries_access access looks (map entries_of_expression inside)
-    (ForVariable type_id access.root access.selectors.items (length looks) callee position)
+    (ForVariable type_id (origin_of access) access.selectors.items (length looks) callee position)
     (entries_joined look_expr entries_of_expression indexes.items) refl
 
 entries_link : LinkLayers entries_of_look passed_view expression_entries passed_entries link_entries
@@ -292,13 +300,19 @@ entries_width (Some width) = entries_ended (look_expr width.value) (WidthMark wi
 entries_written : (value : WrittenValue) → entries_of_look (look_written value) ≡ entries_of_written value
 entries_written (Ordinal value representation) = entries_ended (look_expr value) (WrittenMark representation) refl ∙ entries_expr value
 entries_written (String value indexes) =
-    entries_ended (look_whole value indexes.items) WrittenString refl
+    entries_ended (look_whole value indexes.items) (WrittenString (source_of value)) refl
     ∙ entries_whole value (map look_expr indexes.items) (map entries_of_expression indexes.items) (entries_indexes indexes.items)
 
 entries_parameter : (parameter : WriteParameter) → entries_of_look (look_parameter parameter) ≡ entries_of_parameter parameter
 entries_parameter parameter =
     flat_map-append mark_entries (look_written parameter.value) (look_width parameter.width)
     ∙ ap₂ (λ a b. a ++ b) (entries_written parameter.value) (entries_width parameter.width)
+
+-- what a record of a with enters
+entries_record : (one : WithRecord) → entries_of_look (look_record one) ≡ entries_of_record one
+entries_record one =
+    entries_access one.access (map look_expr one.indexes.items) (map entries_of_expression one.indexes.items)
+    (Opens (origin_of one.access) one.access.selectors.items (length one.indexes.items)) (entries_indexes one.indexes.items) refl
 
 -- what an if enters, by what its two statements do
 entries_chosen : (number : ℕ) (condition : Expr) (look rest : Look)
@@ -325,8 +339,8 @@ entries_stmt_layer : (y : Stmt-F (ToldStmt entries_of_look statement_entries))
     ≡ statement_entries (map-Stmt Stmt (List ℕ) entries_of_statement (stmt_opened entries_of_look statement_entries y))
 entries_stmt_layer (Empty number) = refl
 entries_stmt_layer (Assign assignment) =
-    let does = Target assignment.target.root assignment.target.selectors.items (length assignment.indexes.items) in
-    let end = FitsMark assignment.target.root assignment.target.selectors.items assignment.fits in
+    let does = Target (origin_of assignment.target) assignment.target.selectors.items (length assignment.indexes.items) in
+    let end = FitsMark (origin_of assignment.target) assignment.target.selectors.items assignment.fits in
     ap (λ entries. assignment.number ∷ entries)
     (flat_map-append mark_entries (look_access assignment.target assignment.indexes.items does) (look_expr assignment.value ++ (end ∷ []))
     ∙ ap₂ (λ a b. a ++ b)
@@ -334,7 +348,7 @@ entries_stmt_layer (Assign assignment) =
     (entries_indexes assignment.indexes.items) refl)
     (entries_ended (look_expr assignment.value) end refl ∙ entries_expr assignment.value))
 entries_stmt_layer (Copy copying) =
-    let does = WholeTarget copying.target.root copying.target.selectors.items (length copying.indexes.items) copying.type_id in
+    let does = WholeTarget (origin_of copying.target) copying.target.selectors.items (length copying.indexes.items) copying.type_id in
     let copied = look_whole copying.value copying.value_indexes.items in
     let end = Copied copying.type_id (source_of copying.value) (length_of copying.value) in
     ap (λ entries. copying.number ∷ entries)
@@ -372,9 +386,9 @@ entries_stmt_layer (Repeat head statements) =
     ∙ ap₂ (λ a b. a ++ b) (entries_joined look_stmt entries_of_statement statements.items)
     (entries_ended (look_expr head.condition) Ends refl ∙ entries_expr head.condition))
 entries_stmt_layer (For head body) =
-    let inside = FitsMark head.control [] head.last.fits ∷ Controls head.control ∷ (look_stmt body.value.0 ++ (ForEnds ∷ [])) in
+    let inside = FitsMark (AtVariable head.control) [] head.last.fits ∷ Controls head.control ∷ (look_stmt body.value.0 ++ (ForEnds ∷ [])) in
     ap (λ entries. head.number ∷ entries)
-    (flat_map-append mark_entries (look_expr head.first.value) (FitsMark head.control [] head.first.fits ∷ (look_expr head.last.value ++ inside))
+    (flat_map-append mark_entries (look_expr head.first.value) (FitsMark (AtVariable head.control) [] head.first.fits ∷ (look_expr head.last.value ++ inside))
     ∙ ap₂ (λ a b. a ++ b) (entries_expr head.first.value)
     (flat_map-append mark_entries (look_expr head.last.value) inside
     ∙ ap₂ (λ a b. a ++ b) (entries_expr head.last.value) (entries_ended (look_stmt body.value.0) ForEnds refl ∙ body.value.1)))
@@ -383,6 +397,11 @@ entries_stmt_layer (Case head arms) =
     ap (λ entries. head.number ∷ entries)
     (flat_map-append mark_entries (look_expr head.index) (inside ++ (Ends ∷ []))
     ∙ ap₂ (λ a b. a ++ b) (entries_expr head.index) (entries_ended inside Ends refl ∙ entries_arms head.constants.items arms.items))
+entries_stmt_layer (With head body) =
+    ap (λ entries. head.number ∷ entries)
+    (flat_map-append mark_entries (flat_map look_record head.records.items) (Do ∷ (look_stmt body.value.0 ++ (WithEnds head.first_slot ∷ [])))
+    ∙ ap₂ (λ a b. a ++ b) (entries_mapped look_record entries_of_record entries_record head.records.items)
+    (entries_ended (look_stmt body.value.0) (WithEnds head.first_slot) refl ∙ body.value.1))
 
 entries_stmt : (s : Stmt) → entries_of_look (look_stmt s) ≡ entries_of_statement s
 entries_stmt = measured_stmt entries_of_look statement_entries entries_stmt_layer
@@ -404,6 +423,12 @@ entries_are tree =
     (λ number. entries_placed_block number (slice_get tree.blocks.items number)) tree.bodies.items
 
 -- ---- well formed trees
+
+and_last : (a b : Bool) → (a && (b && true)) ≡ (a && b)
+and_last true true = refl
+and_last true false = refl
+and_last false true = refl
+and_last false false = refl
 
 and_turned : (a b : Bool) → (a && (b && true)) ≡ (b && a)
 and_turned true true = refl
@@ -471,7 +496,7 @@ module _ (outline : Outline) (block_number : ℕ) where
       → is_formed (whole_look value looks) ≡ (all_hold (whole_indexes value tests) && is_well_formed_whole outline block_number value count)
   formed_whole (TextOf number characters) looks tests count told counted = and-true (are_characters characters.items)
   formed_whole (WholeOf access type_id cells defined) looks tests count told counted =
-      formed_access access looks tests (WholeValue access.root access.selectors.items (length looks) type_id cells defined) told
+      formed_access access looks tests (WholeValue (origin_of access) access.selectors.items (length looks) type_id cells defined) told
       ∙ ap (λ n. all_hold tests && is_well_formed_whole outline block_number (WholeOf access type_id cells defined) n) counted
 
   -- actual parameters are well formed where the tests of each are
@@ -499,14 +524,14 @@ module _ (outline : Outline) (block_number : ℕ) where
   formed_layer : Layers is_formed formed_view (expr_is_well_formed outline block_number) (passed_is_well_formed outline block_number)
       (link_is_well_formed outline block_number)
   formed_layer (Constant number value) = and-true (is_whole value)
-  formed_layer (Variable access indexes defined) =
+  formed_layer (Variable access indexes held defined) =
       let inside = map (λ e. e.0) indexes.items in
       let test = is_well_formed_expr outline block_number in
       formed_access access (map look_expr inside) (map test inside)
-      (Value access.root access.selectors.items (length (map look_expr inside)) defined)
+      (Value (origin_of access) access.selectors.items (length (map look_expr inside)) held defined)
       (formed_joined look_expr test indexes.items)
       ∙ ap
-      (λ n. all_hold (map test inside) && (leads_to_ordinal outline block_number access.root access.selectors.items n && nat_lt defined outline.sites))
+      (λ n. all_hold (map test inside) && (leads_to_held outline block_number held (origin_of access) access.selectors.items n && nat_lt defined outline.sites))
       (so_many look_expr test inside)
   formed_layer (MonadicOf number operation operand) =
       let test = monadic_is_well_formed outline block_number operation in
@@ -521,23 +546,30 @@ module _ (outline : Outline) (block_number : ℕ) where
       let others = map (λ e. e.0) right_indexes.items in
       let test = is_well_formed_expr outline block_number in
       let second = whole_look right (map look_expr others) in
-      let end = Compared (length_of left) (length_of right) ∷ Ends ∷ [] in
+      let end = compared left right ∷ Ends ∷ [] in
       formed_cut (whole_look left (map look_expr inside)) (Operator number (dyadic.Relation relation) ∷ (second ++ end))
       ∙ ap₂ (λ a b. a && b)
       (formed_whole left (map look_expr inside) (map test inside) (length (map test inside)) (formed_joined look_expr test left_indexes.items)
       (so_many look_expr test inside))
       (formed_cut second end
-      ∙ ap (λ a. a && (nat_eq (length_of left) (length_of right) && true))
+      ∙ ap (λ a. a && (compare outline block_number (source_of left) (length_of left) (source_of right) (length_of right) && true))
       (formed_whole right (map look_expr others) (map test others) (length (map test others)) (formed_joined look_expr test right_indexes.items)
       (so_many look_expr test others)))
       ∙ and_compared (all_hold (whole_indexes left (map test inside))) (is_well_formed_whole outline block_number left (length (map test inside)))
       (all_hold (whole_indexes right (map test others))) (is_well_formed_whole outline block_number right (length (map test others)))
-      (nat_eq (length_of left) (length_of right))
+      (compare outline block_number (source_of left) (length_of left) (source_of right) (length_of right))
   formed_layer (CallOf call actuals) =
       let inside = map (λ p. p.0) actuals.items in
       let tests = map (is_well_formed_passed outline block_number) inside in
       formed_call true call (map look_passed inside) tests (formed_placed actuals.items call.block 0)
       (length-map inside look_passed ∙ sym (length-map inside (is_well_formed_passed outline block_number)))
+  formed_layer (Set number designators members) =
+      let inside = map (λ e. e.0) members.items in
+      let test = is_well_formed_expr outline block_number in
+      formed_cut (joined (map look_expr inside)) (Constructed designators.items (length (map look_expr inside)) ∷ [])
+      ∙ ap₂ (λ a n. a && (are_designators outline block_number designators.items n && true)) (formed_joined look_expr test members.items)
+      (so_many look_expr test inside)
+      ∙ ap (λ b. all_hold (map test inside) && b) (and-true (are_designators outline block_number designators.items (length (map test inside))))
 
   formed_passed_layer : PassedLayers is_formed formed_view (expr_is_well_formed outline block_number) (passed_is_well_formed outline block_number)
       (link_is_well_formed outline block_number)
@@ -557,10 +589,10 @@ module _ (outline : Outline) (block_number : ℕ) where
       let inside = map (λ e. e.0) indexes.items in
       let test = is_well_formed_expr outline block_number in
       formed_access access (map look_expr inside) (map test inside)
-      (ForVariable type_id access.root access.selectors.items (length (map look_expr inside)) callee position)
+      (ForVariable type_id (origin_of access) access.selectors.items (length (map look_expr inside)) callee position)
       (formed_joined look_expr test indexes.items)
       ∙ ap
-      (λ n. all_hold (map test inside) && passes_variable outline block_number type_id access.root access.selectors.items n callee position)
+      (λ n. all_hold (map test inside) && passes_variable outline block_number type_id (origin_of access) access.selectors.items n callee position)
       (so_many look_expr test inside)
 
   formed_link : LinkLayers is_formed formed_view (expr_is_well_formed outline block_number) (passed_is_well_formed outline block_number)
@@ -602,12 +634,20 @@ module _ (outline : Outline) (block_number : ℕ) where
 
   formed_written : (value : WrittenValue) → is_formed (look_written value) ≡ is_well_formed_written outline block_number value
   formed_written (Ordinal value representation) = formed_ended (look_expr value) (WrittenMark representation) refl ∙ formed_expr value
-  formed_written (String value indexes) = formed_ended (look_whole value indexes.items) WrittenString refl ∙ formed_value value indexes.items
+  formed_written (String value indexes) =
+      formed_cut (look_whole value indexes.items) (WrittenString (source_of value) ∷ [])
+      ∙ ap (λ b. b && (is_text outline.types (source_of value) && true)) (formed_value value indexes.items)
+      ∙ and_last (is_well_formed_value outline block_number value indexes.items) (is_text outline.types (source_of value))
 
   formed_parameter : (parameter : WriteParameter) → is_formed (look_parameter parameter) ≡ is_well_formed_parameter outline block_number parameter
   formed_parameter parameter =
       formed_cut (look_written parameter.value) (look_width parameter.width)
       ∙ ap₂ (λ a b. a && b) (formed_written parameter.value) (formed_width parameter.width)
+
+  formed_record : (one : WithRecord) → is_formed (look_record one) ≡ is_well_formed_record outline block_number one
+  formed_record one =
+      formed_access one.access (map look_expr one.indexes.items) (map (is_well_formed_expr outline block_number) one.indexes.items)
+      (Opens (origin_of one.access) one.access.selectors.items (length one.indexes.items)) (formed_indexes one.indexes.items)
 
   abbrev opened_stmt : Stmt-F (ToldStmt is_formed (stmt_is_well_formed outline block_number)) → Stmt-F Stmt
   opened_stmt = stmt_opened is_formed (stmt_is_well_formed outline block_number)
@@ -639,16 +679,16 @@ module _ (outline : Outline) (block_number : ℕ) where
       ≡ stmt_is_well_formed outline block_number (map-Stmt Stmt Bool (is_well_formed_stmt outline block_number) (opened_stmt y))
   formed_stmt_layer (Empty number) = refl
   formed_stmt_layer (Assign assignment) =
-      let does = Target assignment.target.root assignment.target.selectors.items (length assignment.indexes.items) in
+      let does = Target (origin_of assignment.target) assignment.target.selectors.items (length assignment.indexes.items) in
       let tests = map (is_well_formed_expr outline block_number) assignment.indexes.items in
-      let end = FitsMark assignment.target.root assignment.target.selectors.items assignment.fits in
+      let end = FitsMark (origin_of assignment.target) assignment.target.selectors.items assignment.fits in
       let tested = is_formed_mark outline block_number end in
       formed_cut (look_access assignment.target assignment.indexes.items does) (look_expr assignment.value ++ (end ∷ []))
       ∙ ap₂ (λ a b. a && b) (formed_access assignment.target (map look_expr assignment.indexes.items) tests does (formed_indexes assignment.indexes.items))
       (formed_cut (look_expr assignment.value) (end ∷ []) ∙ ap (λ b. b && (tested && true)) (formed_expr assignment.value))
       ∙ and_assigned (all_hold tests) (is_formed_mark outline block_number does) (is_well_formed_expr outline block_number assignment.value) tested
   formed_stmt_layer (Copy copying) =
-      let does = WholeTarget copying.target.root copying.target.selectors.items (length copying.indexes.items) copying.type_id in
+      let does = WholeTarget (origin_of copying.target) copying.target.selectors.items (length copying.indexes.items) copying.type_id in
       let tests = map (is_well_formed_expr outline block_number) copying.indexes.items in
       let copied = look_whole copying.value copying.value_indexes.items in
       let end = Copied copying.type_id (source_of copying.value) (length_of copying.value) in
@@ -685,18 +725,24 @@ module _ (outline : Outline) (block_number : ℕ) where
       ∙ ap₂ (λ a b. a && b) (formed_joined look_stmt (is_well_formed_stmt outline block_number) statements.items)
       (formed_ended (look_expr head.condition) Ends refl ∙ formed_expr head.condition)
   formed_stmt_layer (For head body) =
-      let inside = FitsMark head.control [] head.last.fits ∷ Controls head.control ∷ (look_stmt body.value.0 ++ (ForEnds ∷ [])) in
+      let inside = FitsMark (AtVariable head.control) [] head.last.fits ∷ Controls head.control ∷ (look_stmt body.value.0 ++ (ForEnds ∷ [])) in
       ap (λ b. is_control outline block_number head.control && b)
-      (formed_cut (look_expr head.first.value) (FitsMark head.control [] head.first.fits ∷ (look_expr head.last.value ++ inside))
-      ∙ ap₂ (λ a b. a && (fits_target outline block_number head.first.fits head.control [] && b)) (formed_expr head.first.value)
+      (formed_cut (look_expr head.first.value) (FitsMark (AtVariable head.control) [] head.first.fits ∷ (look_expr head.last.value ++ inside))
+      ∙ ap₂ (λ a b. a && (fits_target outline block_number head.first.fits (AtVariable head.control) [] && b)) (formed_expr head.first.value)
       (formed_cut (look_expr head.last.value) inside
-      ∙ ap₂ (λ a b. a && (fits_target outline block_number head.last.fits head.control [] && b)) (formed_expr head.last.value)
+      ∙ ap₂ (λ a b. a && (fits_target outline block_number head.last.fits (AtVariable head.control) [] && b)) (formed_expr head.last.value)
       (formed_ended (look_stmt body.value.0) ForEnds refl ∙ body.value.1)))
   formed_stmt_layer (Case head arms) =
       let inside = arms_look head.constants.items (map look_stmt (map (λ s. s.0) arms.items)) in
       ap (λ b. nat_lt head.site outline.sites && b)
       (formed_cut (look_expr head.index) (inside ++ (Ends ∷ []))
       ∙ ap₂ (λ a b. a && b) (formed_expr head.index) (formed_ended inside Ends refl ∙ formed_arms head.constants.items arms.items))
+  formed_stmt_layer (With head body) =
+      formed_cut (flat_map look_record head.records.items) (Do ∷ (look_stmt body.value.0 ++ (WithEnds head.first_slot ∷ [])))
+      ∙ ap₂ (λ a b. a && b)
+      (formed_mapped look_record (is_well_formed_record outline block_number) formed_record head.records.items
+      ∙ sym (list_all-map (λ b. b) (is_well_formed_record outline block_number) head.records.items))
+      (formed_ended (look_stmt body.value.0) (WithEnds head.first_slot) refl ∙ body.value.1)
 
   -- the look of a statement tells whether it is well formed
   pub formed_stmt : (s : Stmt) → is_formed (look_stmt s) ≡ is_well_formed_stmt outline block_number s

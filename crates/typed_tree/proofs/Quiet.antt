@@ -4,6 +4,7 @@ use Rattle.std.proofs.Common.{Vec, ℤ, ◌≡◌, ℕ, suc, Bool, true, false, 
 use Rattle.std.specs.Prelude.{flat_map}
 use Rattle.std.proofs.lemmas.List.Concat.{flat_map-append}
 use Rattle.typed_tree.specs.declared.tree.Width.{Width as TotalWidth}
+use Rattle.typed_tree.specs.declared.tree.WithRecord.{WithRecord}
 use Rattle.typed_tree.specs.declared.tree.WriteParameter.{WriteParameter}
 use Rattle.typed_tree.specs.declared.tree.Written.{Written as WrittenValue}
 use Rattle.typed_tree.specs.declared.tree.Written.TheVariants.{Ordinal, String}
@@ -15,18 +16,19 @@ use Rattle.typed_tree.specs.declared.tree.Expr.{Expr}
 use Rattle.typed_tree.specs.declared.tree.Passed.{Passed}
 use Rattle.typed_tree.specs.declared.tree.Link.{Link}
 use Rattle.typed_tree.specs.declared.tree.Expr.TheOpen.{Expr-F, Passed-F, Link-F}
-use Rattle.typed_tree.specs.declared.tree.Expr.TheOpen.Expr-F.{Constant, Variable, Monadic as MonadicOf, Chain, Compare, Call as CallOf}
+use Rattle.typed_tree.specs.declared.tree.Expr.TheOpen.Expr-F.{Constant, Variable, Monadic as MonadicOf, Chain, Compare, Call as CallOf, Set}
 use Rattle.typed_tree.specs.declared.tree.Expr.TheOpen.Passed-F.{Value as PassedValue, Whole as PassedWhole, Reference}
 use Rattle.typed_tree.specs.declared.tree.Expr.TheFolds.{map-Expr, map-Passed, map-Link, fold-roll-Expr, fold-roll-Passed, fold-roll-Link}
 use Rattle.typed_tree.specs.declared.tree.Expr.TheFolds.{ind-Expr, ind-Passed}
 use Rattle.typed_tree.specs.declared.tree.Expr.TheViews.{roll-Expr, roll-Passed, roll-Link}
 use Rattle.typed_tree.specs.declared.tree.Stmt.{Stmt}
 use Rattle.typed_tree.specs.declared.tree.Stmt.TheOpen.{Stmt-F}
-use Rattle.typed_tree.specs.declared.tree.Stmt.TheOpen.Stmt-F.{Empty, Assign, Write, Compound, If, While, Repeat, For, Case, Copy, Call as Calling}
+use Rattle.typed_tree.specs.declared.tree.Stmt.TheOpen.Stmt-F.{Empty, Assign, Write, Compound, If, While, Repeat, For, Case, Copy, Call as Calling, With}
 use Rattle.typed_tree.specs.declared.tree.Stmt.TheFolds.{map-Stmt, fold-roll-Stmt, ind-Stmt}
 use Rattle.typed_tree.specs.Entries.{joined}
 use Rattle.typed_tree.specs.WellFormed.{placed}
-use Rattle.typed_tree.specs.Look.{Mark, Look, link_look, passed_look, expression_look, look_expr, look_passed, look_link, look_width, look_parameter, arms_look}
+use Rattle.typed_tree.specs.Look.{Mark, Look, link_look, passed_look, expression_look, look_expr, look_passed, look_link}
+use Rattle.typed_tree.specs.Look.{look_record, look_width, look_parameter, arms_look}
 use Rattle.typed_tree.specs.Look.{statement_look, call_look, look_call, look_stmt, look_written, access_look, whole_look, look_access, look_whole}
 use Rattle.typed_tree.specs.Look.{mark_loops, loops_of_look, mark_blocks, blocks_of_look}
 
@@ -105,7 +107,7 @@ link_layer y = link_look (map-Link Expr Passed Link Look Passing Look look_expr 
 
 quiet_layer : (y : Expr-F (QuietOne look_expr) QuietPassed (QuietOne look_link)) → Quiet (layer (bare y))
 quiet_layer (Constant number value) = (refl, refl)
-quiet_layer (Variable access indexes defined) =
+quiet_layer (Variable access indexes held defined) =
     quiet_then (joined (map look_expr (map (λ e. e.0) indexes.items))) (_ ∷ []) (quiet_joined look_expr indexes.items) (refl, refl)
 quiet_layer (MonadicOf number operation operand) = quiet_then (look_expr operand.value.0) (_ ∷ []) operand.value.1 (refl, refl)
 quiet_layer (Chain first rest) =
@@ -119,6 +121,8 @@ quiet_layer (Compare number relation left left_indexes right right_indexes) =
     (quiet_then second (_ ∷ _ ∷ [])
     (quiet_whole right (map look_expr (map (λ e. e.0) right_indexes.items)) (quiet_joined look_expr right_indexes.items)) (refl, refl))
 quiet_layer (CallOf call actuals) = quiet_call true call (map look_passed (map (λ p. p.0) actuals.items)) (quiet_placed actuals.items call.block 0)
+quiet_layer (Set number designators members) =
+    quiet_then (joined (map look_expr (map (λ e. e.0) members.items))) (_ ∷ []) (quiet_joined look_expr members.items) (refl, refl)
 
 quiet_passed_layer : (y : Passed-F (QuietOne look_expr) QuietPassed (QuietOne look_link)) (callee position : ℕ)
     → Quiet (passed_layer (bare_passed y) callee position)
@@ -184,6 +188,12 @@ quiet_parameter parameter = quiet_then (look_written parameter.value) (look_widt
 pub quiet_parameters : (parameters : List WriteParameter) → Quiet (flat_map look_parameter parameters)
 quiet_parameters = quiet_mapped look_parameter quiet_parameter
 
+quiet_record : (one : WithRecord) → Quiet (look_record one)
+quiet_record one = quiet_accessed one.access one.indexes.items _ (refl, refl)
+
+pub quiet_records : (records : List WithRecord) → Quiet (flat_map look_record records)
+quiet_records = quiet_mapped look_record quiet_record
+
 quiet_actuals : (actuals : List Passed) (callee position : ℕ) → Quiet (joined (placed callee position (map look_passed actuals)))
 quiet_actuals [] callee position = (refl, refl)
 quiet_actuals (one ∷ others) callee position =
@@ -248,6 +258,9 @@ inner_layer (Case head arms) =
     let inside = arms_look head.constants.items (map look_stmt (map (λ s. s.0) arms.items)) in
     inner_then (look_expr head.index) (inside ++ (_ ∷ [])) (quiet_expr head.index).1
     (inner_then inside (_ ∷ []) (inner_arms head.constants.items arms.items) refl)
+inner_layer (With head body) =
+    inner_then (flat_map look_record head.records.items) (_ ∷ (look_stmt body.value.0 ++ (_ ∷ []))) (quiet_records head.records.items).1
+    (inner_then (look_stmt body.value.0) (_ ∷ []) body.value.1 refl)
 
 -- no block ends in a statement
 pub inner_stmt : (s : Stmt) → Inner (look_stmt s)

@@ -8,7 +8,7 @@ use Rattle.typed_tree.specs.declared.tree.Link.{Link}
 use Rattle.typed_tree.specs.declared.tree.Passed.{Passed}
 use Rattle.typed_tree.specs.declared.tree.Expr.TheOpen.{Expr-F, Passed-F, Link-F}
 use Rattle.typed_tree.specs.declared.tree.Expr.TheOpen.Expr-F.{Constant, Variable, Monadic as MonadicOf, Chain}
-use Rattle.typed_tree.specs.declared.tree.Expr.TheOpen.Expr-F.{Compare, Call}
+use Rattle.typed_tree.specs.declared.tree.Expr.TheOpen.Expr-F.{Compare, Call, Set}
 use Rattle.typed_tree.specs.declared.tree.Expr.TheOpen.Passed-F.{Value, Whole as WholeOf, Reference}
 use Rattle.typed_tree.specs.declared.tree.Expr.TheFolds.{fold-Expr, fold-Passed, fold-Link}
 use Rattle.typed_tree.specs.WellFormed.{whole_indexes}
@@ -27,12 +27,13 @@ passed_step_holds_call (Reference type_id access indexes) = any_holds indexes.it
 
 abbrev pub expression_holds_call : Expr-F Bool Bool Bool → Bool
 expression_holds_call (Constant number value) = false
-expression_holds_call (Variable access indexes defined) = any_holds indexes.items
+expression_holds_call (Variable access indexes held defined) = any_holds indexes.items
 expression_holds_call (MonadicOf number operation operand) = operand.value
 expression_holds_call (Chain first rest) = first.value || any_holds rest.items
 expression_holds_call (Compare number relation left left_indexes right right_indexes) =
     any_holds (whole_indexes left left_indexes.items) || any_holds (whole_indexes right right_indexes.items)
 expression_holds_call (Call call actuals) = true
+expression_holds_call (Set number designators members) = any_holds members.items
 
 -- an expression holds a call
 abbrev pub holds_call : Expr → Bool

@@ -1,6 +1,6 @@
 -- The entries of a typed tree in the order of entry (ISO 7185:1990, 6.7, 6.8):
--- each statement, the empty one too, each factor, sign and operator between operands, each variable left of `:=`, and
--- each variable that is passed to a variable parameter.
+-- each statement, the empty one too, each factor, sign and operator between operands, each variable left of `:=`, each
+-- variable that is passed to a variable parameter, and each record of a with.
 -- It says nothing of what happens at an entry.
 use Rattle.std.specs.Prelude.{◌≡◌, ℕ, ◌++◌, List, [], ◌∷◌, Option, Some, None, flat_map, length, map, slice_get}
 use Rattle.std.specs.List.{range_with_len}
@@ -11,6 +11,7 @@ use Rattle.typed_tree.specs.declared.tree.Access.{Access}
 use Rattle.typed_tree.specs.declared.tree.Block.{Block}
 use Rattle.typed_tree.specs.declared.tree.Call.{Call}
 use Rattle.typed_tree.specs.declared.tree.Width.{Width}
+use Rattle.typed_tree.specs.declared.tree.WithRecord.{WithRecord}
 use Rattle.typed_tree.specs.declared.tree.WriteParameter.{WriteParameter}
 use Rattle.typed_tree.specs.declared.tree.Written.{Written}
 use Rattle.typed_tree.specs.declared.tree.Written.TheVariants.{Ordinal, String}
@@ -20,13 +21,13 @@ use Rattle.typed_tree.specs.declared.tree.Expr.{Expr}
 use Rattle.typed_tree.specs.declared.tree.Passed.{Passed}
 use Rattle.typed_tree.specs.declared.tree.Expr.TheOpen.{Expr-F, Passed-F, Link-F}
 use Rattle.typed_tree.specs.declared.tree.Expr.TheOpen.Expr-F.{Constant, Variable, Monadic as MonadicOf, Chain}
-use Rattle.typed_tree.specs.declared.tree.Expr.TheOpen.Expr-F.{Compare, Call as CallOf}
+use Rattle.typed_tree.specs.declared.tree.Expr.TheOpen.Expr-F.{Compare, Call as CallOf, Set}
 use Rattle.typed_tree.specs.declared.tree.Expr.TheOpen.Passed-F.{Value, Whole as WholeOf, Reference}
 use Rattle.typed_tree.specs.declared.tree.Expr.TheFolds.{fold-Expr, fold-Passed}
 use Rattle.typed_tree.specs.declared.tree.Stmt.{Stmt}
 use Rattle.typed_tree.specs.declared.tree.Stmt.TheOpen.{Stmt-F}
 use Rattle.typed_tree.specs.declared.tree.Stmt.TheOpen.Stmt-F.{Empty, Assign, Write, Compound, If, While, Repeat, For}
-use Rattle.typed_tree.specs.declared.tree.Stmt.TheOpen.Stmt-F.{Case, Copy, Call as Calling}
+use Rattle.typed_tree.specs.declared.tree.Stmt.TheOpen.Stmt-F.{Case, Copy, Call as Calling, With}
 use Rattle.typed_tree.specs.declared.tree.Stmt.TheFolds.{fold-Stmt}
 
 -- several rows as one
@@ -58,12 +59,13 @@ call_entries call actuals = call.number ∷ joined actuals
 
 abbrev pub expression_entries : Expr-F (List ℕ) (List ℕ) (List ℕ) → List ℕ
 expression_entries (Constant number value) = number ∷ []
-expression_entries (Variable access indexes defined) = access_entries access indexes.items
+expression_entries (Variable access indexes held defined) = access_entries access indexes.items
 expression_entries (MonadicOf number operation operand) = number ∷ operand.value
 expression_entries (Chain first rest) = first.value ++ joined rest.items
 expression_entries (Compare number relation left left_indexes right right_indexes) =
     whole_entries left left_indexes.items ++ (number ∷ whole_entries right right_indexes.items)
 expression_entries (CallOf call actuals) = call_entries call actuals.items
+expression_entries (Set number designators members) = number ∷ joined members.items
 
 -- the numbers of an expression's entries
 abbrev pub entries_of_expression : Expr → List ℕ
@@ -90,6 +92,10 @@ entries_of_written (String value indexes) = whole_entries value (index_entries i
 abbrev pub entries_of_parameter : WriteParameter → List ℕ
 entries_of_parameter parameter = entries_of_written parameter.value ++ entries_of_width parameter.width
 
+-- the numbers of the entries of a record of a with
+abbrev pub entries_of_record : WithRecord → List ℕ
+entries_of_record one = access_entries one.access (index_entries one.indexes.items)
+
 -- the numbers of the entries of the statement behind `else`, where there is one
 abbrev pub alternative_entries : Option (Box (List ℕ) Global) → List ℕ
 alternative_entries None = []
@@ -115,6 +121,7 @@ statement_entries (Repeat head statements) =
 statement_entries (For head body) =
     head.number ∷ (entries_of_expression head.first.value ++ (entries_of_expression head.last.value ++ body.value))
 statement_entries (Case head arms) = head.number ∷ (entries_of_expression head.index ++ joined arms.items)
+statement_entries (With head body) = head.number ∷ (flat_map entries_of_record head.records.items ++ body.value)
 
 -- the numbers of a statement's entries
 abbrev pub entries_of_statement : Stmt → List ℕ

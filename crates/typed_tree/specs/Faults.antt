@@ -1,5 +1,5 @@
--- The codes and the places of the rules of names and types: S1 to S4 of names, K1 to K10 of types and kinds, Y1 and Y2
--- of cells. It doesn't say which program breaks which rule.
+-- The codes and the places of the rules of names and types: S1 to S4 of names, K1 to K10 of types and kinds, Y1 to Y3
+-- of the values and the cells of types. It doesn't say which program breaks which rule.
 use Rattle.std.specs.Prelude.{ℕ, Option, Some, None}
 use Rattle.place.specs.declared.Place.{Place}
 use Rattle.typed_tree.specs.declared.fault.TypeFault.{TypeFault}
@@ -9,6 +9,7 @@ use Rattle.typed_tree.specs.declared.fault.TypeFault.TheVariants.{NotVariable, W
 use Rattle.typed_tree.specs.declared.fault.TypeFault.TheVariants.{PackedComponent, Threatened, CaseConstant}
 use Rattle.typed_tree.specs.declared.fault.TypeFault.TheVariants.{NeverAssigned, NotProgramParameter, NotCompleted}
 use Rattle.typed_tree.specs.declared.fault.TypeFault.TheVariants.{TooMany, FirstAboveLast, TooManyCells}
+use Rattle.typed_tree.specs.declared.fault.TypeFault.TheVariants.{MembersOutOfRange}
 
 -- the letters of the rules
 abbrev pub letter_s : ℕ
@@ -39,6 +40,7 @@ code_of (NotCompleted p) = (letter_k, 9)
 code_of (TooMany p) = (letter_k, 10)
 code_of (FirstAboveLast p) = (letter_y, 1)
 code_of (TooManyCells p) = (letter_y, 2)
+code_of (MembersOutOfRange p) = (letter_y, 3)
 
 -- where a fault stands in the text
 abbrev pub place_of_fault : TypeFault → Option Place
@@ -59,3 +61,4 @@ place_of_fault (NotCompleted p) = Some p
 place_of_fault (TooMany p) = Some p
 place_of_fault (FirstAboveLast p) = Some p
 place_of_fault (TooManyCells p) = Some p
+place_of_fault (MembersOutOfRange p) = Some p

@@ -6,5 +6,8 @@ pub mod Look
 pub mod Loops
 pub mod Threats
 pub mod Accesses
+pub mod Tests
 pub mod WellFormed
 pub mod Calls
+pub mod Kinds
+pub mod Records

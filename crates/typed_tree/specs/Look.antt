@@ -15,13 +15,16 @@ use Rattle.typed_tree.specs.declared.tree.Block.{Block}
 use Rattle.typed_tree.specs.declared.tree.Call.{Call}
 use Rattle.typed_tree.specs.declared.tree.Heading.{Heading}
 use Rattle.typed_tree.specs.declared.tree.FunctionResult.{FunctionResult}
+use Rattle.typed_tree.specs.declared.tree.Designator.{Designator}
 use Rattle.typed_tree.specs.declared.tree.Monadic.{Monadic}
 use Rattle.typed_tree.specs.declared.tree.Dyadic.{Dyadic}
 use Rattle.typed_tree.specs.declared.tree.Dyadic.TheVariants as dyadic
 use Rattle.typed_tree.specs.declared.tree.RangeTest.{RangeTest}
+use Rattle.typed_tree.specs.declared.tree.Scalar.{Scalar}
 use Rattle.typed_tree.specs.declared.tree.Direction.{Direction}
 use Rattle.typed_tree.specs.declared.tree.Representation.{Representation}
 use Rattle.typed_tree.specs.declared.tree.Width.{Width as TotalWidth}
+use Rattle.typed_tree.specs.declared.tree.WithRecord.{WithRecord}
 use Rattle.typed_tree.specs.declared.tree.WriteParameter.{WriteParameter}
 use Rattle.typed_tree.specs.declared.tree.Written.{Written as WrittenValue}
 use Rattle.typed_tree.specs.declared.tree.Written.TheVariants.{Ordinal, String}
@@ -33,7 +36,7 @@ use Rattle.typed_tree.specs.declared.tree.Passed.{Passed}
 use Rattle.typed_tree.specs.declared.tree.Expr.TheOpen.{Expr-F, Passed-F, Link-F}
 use Rattle.typed_tree.specs.declared.tree.Expr.TheOpen.Expr-F.{Constant as ConstantOf, Variable as VariableOf}
 use Rattle.typed_tree.specs.declared.tree.Expr.TheOpen.Expr-F.{Monadic as MonadicOf, Chain as ChainOf}
-use Rattle.typed_tree.specs.declared.tree.Expr.TheOpen.Expr-F.{Compare as CompareOf, Call as CallOf}
+use Rattle.typed_tree.specs.declared.tree.Expr.TheOpen.Expr-F.{Compare as CompareOf, Call as CallOf, Set as SetOf}
 use Rattle.typed_tree.specs.declared.tree.Expr.TheOpen.Passed-F.{Value as PassedValue, Whole as PassedWhole, Reference}
 use Rattle.typed_tree.specs.declared.tree.Expr.TheFolds.{fold-Expr, fold-Passed, fold-Link}
 use Rattle.typed_tree.specs.declared.tree.Stmt.{Stmt}
@@ -41,25 +44,28 @@ use Rattle.typed_tree.specs.declared.tree.Stmt.TheOpen.{Stmt-F}
 use Rattle.typed_tree.specs.declared.tree.Stmt.TheOpen.Stmt-F.{Empty as EmptyOf, Assign as AssignOf, Write as WriteOf}
 use Rattle.typed_tree.specs.declared.tree.Stmt.TheOpen.Stmt-F.{Compound as CompoundOf, If as IfOf, While as WhileOf}
 use Rattle.typed_tree.specs.declared.tree.Stmt.TheOpen.Stmt-F.{Repeat as RepeatOf, For as ForOf, Case as CaseOf}
-use Rattle.typed_tree.specs.declared.tree.Stmt.TheOpen.Stmt-F.{Copy as CopyOf, Call as Calling}
+use Rattle.typed_tree.specs.declared.tree.Stmt.TheOpen.Stmt-F.{Copy as CopyOf, Call as Calling, With as WithOf}
 use Rattle.typed_tree.specs.declared.tree.Stmt.TheFolds.{fold-Stmt}
+use Rattle.typed_tree.specs.Accesses.{Origin, AtVariable, origin_of}
 use Rattle.typed_tree.specs.Entries.{in_text, joined}
 use Rattle.typed_tree.specs.WellFormed.{Outline, is_whole, are_characters, length_of, monadic_is_well_formed, placed}
-use Rattle.typed_tree.specs.WellFormed.{dyadic_is_well_formed, fits_target, is_control, leads_to_ordinal}
-use Rattle.typed_tree.specs.WellFormed.{leads_to_whole, is_value_of, may_call, may_copy, passes_value, passes_variable}
+use Rattle.typed_tree.specs.WellFormed.{are_designators, compare, dyadic_is_well_formed, fits_target, is_control}
+use Rattle.typed_tree.specs.WellFormed.{is_text}
+use Rattle.typed_tree.specs.WellFormed.{leads_to_held, leads_to_record, leads_to_scalar, leads_to_whole, is_value_of}
+use Rattle.typed_tree.specs.WellFormed.{may_call, may_copy, passes_value, passes_variable}
 use Rattle.typed_tree.specs.WellFormed.{passes_whole, source_of}
 
--- a form, or where one ends; numbers are those of entries, roots those of variables
+-- a form, or where one ends; numbers are those of entries
 pub data Mark : Type 0 where
   -- its number and its value
   Constant : ℕ → ℤ → Mark
   -- the number of an access; its index expressions stand behind it
   Access : ℕ → Mark
-  -- the value of what is accessed, an ordinal: the variable's root, the selectors, how many index expressions they
-  -- take, and the site of the test
-  Value : ℕ → List Selector → ℕ → ℕ → Mark
+  -- the value of what is accessed: where the access begins, the selectors, how many index expressions they take,
+  -- whether it is an ordinal or a set, and the site of the test
+  Value : Origin → List Selector → ℕ → Scalar → ℕ → Mark
   -- the same of a structured type: this type, and how many cells its value has
-  WholeValue : ℕ → List Selector → ℕ → TypeId → ℕ → ℕ → Mark
+  WholeValue : Origin → List Selector → ℕ → TypeId → ℕ → ℕ → Mark
   -- the number of an operation on the operand behind it
   Operation : ℕ → Mark
   -- the operation on the operand before it
@@ -72,36 +78,40 @@ pub data Mark : Type 0 where
   Calls : ℕ → Place → ℕ → Mark
   -- the value before it is passed to the block that is called, to the formal parameter at this place; so is the whole
   -- value before it, to one of a type: a value of this other type, or else a string, of so many cells; and so is what
-  -- was accessed before it: its type, the variable's root, the selectors, and how many index expressions they take
+  -- was accessed before it: its type, where the access begins, the selectors, and how many index expressions they take
   ForValue : RangeTest → ℕ → ℕ → Mark
   ForWhole : TypeId → Option TypeId → ℕ → ℕ → ℕ → Mark
-  ForVariable : TypeId → ℕ → List Selector → ℕ → ℕ → ℕ → Mark
+  ForVariable : TypeId → Origin → List Selector → ℕ → ℕ → ℕ → Mark
   -- a function, or else a procedure, is called: this block, with so many actual parameters
   Called : Bool → ℕ → ℕ → Mark
+  -- the number of a set constructor, whose members stand behind it; its designators, and how many members it has
+  Constructs : ℕ → Mark
+  Constructed : List Designator → ℕ → Mark
   -- a chain, a write, a compound statement, an if, a loop or a case ends
   Ends : Mark
   Empty : ℕ → Mark
   -- an assignment, with the place of `:=`
   Assign : ℕ → Place → Mark
-  -- what is accessed left of `:=`, an ordinal: the variable's root, the selectors, and how many index expressions they
-  -- take
-  Target : ℕ → List Selector → ℕ → Mark
+  -- what is accessed left of `:=`, an ordinal or a set: where the access begins, the selectors, and how many index
+  -- expressions they take
+  Target : Origin → List Selector → ℕ → Mark
   -- the same of a structured type
-  WholeTarget : ℕ → List Selector → ℕ → TypeId → Mark
+  WholeTarget : Origin → List Selector → ℕ → TypeId → Mark
   -- the value before it is copied to a target of a type: a value of this other type, or else a string, of so many cells
   Copied : TypeId → Option TypeId → ℕ → Mark
-  -- the test of the value before it, which is for what is accessed by this root of a variable and these selectors
-  Fits : ℕ → List Selector → RangeTest → Mark
+  -- the test of the value before it, which is for what is accessed from here by these selectors
+  Fits : Origin → List Selector → RangeTest → Mark
   -- a write, with the place of its name; or a writeln, which ends the line
   Write : ℕ → Place → Bool → Mark
   -- a string: its number and its characters
   Text : ℕ → List ℕ → Mark
-  -- how many components the two strings have that are compared before it
-  Compared : ℕ → ℕ → Mark
+  -- the two strings before it are compared: of each the type of the variable whose value it is, if it is one, and how
+  -- many components it has
+  Compared : Option TypeId → ℕ → Option TypeId → ℕ → Mark
   -- how the ordinal before it is written
   Written : Representation → Mark
-  -- the string before it is written
-  WrittenString : Mark
+  -- the string before it is written: the type of the variable whose value it is, if it is one
+  WrittenString : Option TypeId → Mark
   -- the site of the width before it
   Width : ℕ → Mark
   Compound : ℕ → Mark
@@ -123,6 +133,12 @@ pub data Mark : Type 0 where
   -- a case: its number, and its site; an arm begins, behind these constants
   Case : ℕ → ℕ → Mark
   Arm : List ℤ → Mark
+  -- a with: its number, and the slot of its first record
+  With : ℕ → ℕ → Mark
+  -- what was accessed before it is a record of a with: where the access begins, the selectors, and how many index
+  -- expressions they take; the statement of a with ends, whose first record has this slot
+  Opens : Origin → List Selector → ℕ → Mark
+  WithEnds : ℕ → Mark
   -- a block ends, of this number and with this heading: the blocks round it, its parameters, its result; at its last
   -- `end`
   BlockEnds : ℕ → List ℕ → List ℕ → Option FunctionResult → Place → Mark
@@ -138,7 +154,7 @@ abbrev pub whole_look : Whole → List Look → Look
 whole_look (TextOf number characters) indexes = Text number characters.items ∷ []
 whole_look (WholeOf access type_id cells defined) indexes =
     access_look access indexes
-    (WholeValue access.root access.selectors.items (length indexes) type_id cells defined)
+    (WholeValue (origin_of access) access.selectors.items (length indexes) type_id cells defined)
 
 abbrev pub link_look : Link-F Look (ℕ → ℕ → Look) Look → Look
 link_look link = Operator link.number link.operation ∷ link.operand
@@ -150,7 +166,7 @@ passed_look (PassedWhole type_id value indexes) callee position =
     whole_look value indexes.items ++ (ForWhole type_id (source_of value) (length_of value) callee position ∷ [])
 passed_look (Reference type_id access indexes) callee position =
     access_look access indexes.items
-    (ForVariable type_id access.root access.selectors.items (length indexes.items) callee position)
+    (ForVariable type_id (origin_of access) access.selectors.items (length indexes.items) callee position)
 
 -- a call of a function, or of a procedure
 abbrev pub call_look : Bool → Call → List (ℕ → ℕ → Look) → Look
@@ -158,18 +174,25 @@ call_look is_function call actuals =
     Calls call.number call.name call.block
     ∷ (joined (placed call.block 0 actuals) ++ (Called is_function call.block (length actuals) ∷ []))
 
+-- two whole values are compared
+abbrev pub compared : Whole → Whole → Mark
+compared left right = Compared (source_of left) (length_of left) (source_of right) (length_of right)
+
 abbrev pub expression_look : Expr-F Look (ℕ → ℕ → Look) Look → Look
 expression_look (ConstantOf number value) = Constant number value ∷ []
-expression_look (VariableOf access indexes defined) =
-    access_look access indexes.items (Value access.root access.selectors.items (length indexes.items) defined)
+expression_look (VariableOf access indexes held defined) =
+    access_look access indexes.items
+    (Value (origin_of access) access.selectors.items (length indexes.items) held defined)
 expression_look (MonadicOf number operation operand) = Operation number ∷ (operand.value ++ (Applied operation ∷ []))
 expression_look (ChainOf first rest) = Begins ∷ (first.value ++ (joined rest.items ++ (Ends ∷ [])))
 expression_look (CompareOf number relation left left_indexes right right_indexes) =
     Begins
     ∷ (whole_look left left_indexes.items
     ++ (Operator number (dyadic.Relation relation)
-    ∷ (whole_look right right_indexes.items ++ (Compared (length_of left) (length_of right) ∷ Ends ∷ []))))
+    ∷ (whole_look right right_indexes.items ++ (compared left right ∷ Ends ∷ []))))
 expression_look (CallOf call actuals) = call_look true call actuals.items
+expression_look (SetOf number designators members) =
+    Constructs number ∷ (joined members.items ++ (Constructed designators.items (length members.items) ∷ []))
 
 -- how an expression looks
 abbrev pub look_expr : Expr → Look
@@ -206,11 +229,17 @@ look_width (Some width) = look_expr width.value ++ (Width width.site ∷ [])
 -- how a value that is written looks
 abbrev pub look_written : WrittenValue → Look
 look_written (Ordinal value representation) = look_expr value ++ (Written representation ∷ [])
-look_written (String value indexes) = look_whole value indexes.items ++ (WrittenString ∷ [])
+look_written (String value indexes) = look_whole value indexes.items ++ (WrittenString (source_of value) ∷ [])
 
 -- the same with its width
 abbrev pub look_parameter : WriteParameter → Look
 look_parameter parameter = look_written parameter.value ++ look_width parameter.width
+
+-- how a record of a with looks
+abbrev pub look_record : WithRecord → Look
+look_record one =
+    look_access one.access one.indexes.items
+    (Opens (origin_of one.access) one.access.selectors.items (length one.indexes.items))
 
 -- how the statement behind `else` looks, where there is one
 abbrev pub look_alternative : Option (Box Look Global) → Look
@@ -228,13 +257,14 @@ statement_look (EmptyOf number) = Empty number ∷ []
 statement_look (AssignOf assignment) =
     Assign assignment.number assignment.becomes
     ∷ (look_access assignment.target assignment.indexes.items
-    (Target assignment.target.root assignment.target.selectors.items (length assignment.indexes.items))
+    (Target (origin_of assignment.target) assignment.target.selectors.items (length assignment.indexes.items))
     ++ (look_expr assignment.value
-    ++ (Fits assignment.target.root assignment.target.selectors.items assignment.fits ∷ [])))
+    ++ (Fits (origin_of assignment.target) assignment.target.selectors.items assignment.fits ∷ [])))
 statement_look (CopyOf copying) =
     Assign copying.number copying.becomes
     ∷ (look_access copying.target copying.indexes.items
-    (WholeTarget copying.target.root copying.target.selectors.items (length copying.indexes.items) copying.type_id)
+    (WholeTarget (origin_of copying.target) copying.target.selectors.items (length copying.indexes.items)
+    copying.type_id)
     ++ (look_whole copying.value copying.value_indexes.items
     ++ (Copied copying.type_id (source_of copying.value) (length_of copying.value) ∷ [])))
 statement_look (WriteOf writing) =
@@ -253,11 +283,15 @@ statement_look (RepeatOf head statements) =
 statement_look (ForOf head body) =
     For head.number head.loop_number head.place head.control head.direction
     ∷ (look_expr head.first.value
-    ++ (Fits head.control [] head.first.fits
+    ++ (Fits (AtVariable head.control) [] head.first.fits
     ∷ (look_expr head.last.value
-    ++ (Fits head.control [] head.last.fits ∷ Controls head.control ∷ (body.value ++ (ForEnds ∷ []))))))
+    ++ (Fits (AtVariable head.control) [] head.last.fits
+    ∷ Controls head.control ∷ (body.value ++ (ForEnds ∷ []))))))
 statement_look (CaseOf head arms) =
     Case head.number head.site ∷ (look_expr head.index ++ (arms_look head.constants.items arms.items ++ (Ends ∷ [])))
+statement_look (WithOf head body) =
+    With head.number head.first_slot
+    ∷ (flat_map look_record head.records.items ++ (Do ∷ (body.value ++ (WithEnds head.first_slot ∷ []))))
 
 -- how a statement looks
 abbrev pub look_stmt : Stmt → Look
@@ -279,8 +313,8 @@ tree_look = in_text look_block
 abbrev pub mark_entries : Mark → List ℕ
 mark_entries (Constant number value) = number ∷ []
 mark_entries (Access number) = number ∷ []
-mark_entries (Value root selectors indexes defined) = []
-mark_entries (WholeValue root selectors indexes type_id cells defined) = []
+mark_entries (Value origin selectors indexes held defined) = []
+mark_entries (WholeValue origin selectors indexes type_id cells defined) = []
 mark_entries (Operation number) = number ∷ []
 mark_entries (Applied operation) = []
 mark_entries Begins = []
@@ -288,20 +322,22 @@ mark_entries (Operator number operation) = number ∷ []
 mark_entries (Calls number name block) = number ∷ []
 mark_entries (ForValue fits callee position) = []
 mark_entries (ForWhole type_id source cells callee position) = []
-mark_entries (ForVariable type_id root selectors indexes callee position) = []
+mark_entries (ForVariable type_id origin selectors indexes callee position) = []
 mark_entries (Called is_function callee count) = []
+mark_entries (Constructs number) = number ∷ []
+mark_entries (Constructed designators members) = []
 mark_entries Ends = []
 mark_entries (Empty number) = number ∷ []
 mark_entries (Assign number becomes) = number ∷ []
-mark_entries (Target root selectors indexes) = []
-mark_entries (WholeTarget root selectors indexes type_id) = []
+mark_entries (Target origin selectors indexes) = []
+mark_entries (WholeTarget origin selectors indexes type_id) = []
 mark_entries (Copied type_id source cells) = []
-mark_entries (Fits root selectors fits) = []
+mark_entries (Fits origin selectors fits) = []
 mark_entries (Write number name ends_line) = number ∷ []
 mark_entries (Text number characters) = number ∷ []
-mark_entries (Compared left right) = []
+mark_entries (Compared left length right other) = []
 mark_entries (Written representation) = []
-mark_entries WrittenString = []
+mark_entries (WrittenString source) = []
 mark_entries (Width site) = []
 mark_entries (Compound number) = number ∷ []
 mark_entries (If number) = number ∷ []
@@ -316,6 +352,9 @@ mark_entries (Controls control) = []
 mark_entries ForEnds = []
 mark_entries (Case number site) = number ∷ []
 mark_entries (Arm constants) = []
+mark_entries (With number first_slot) = number ∷ []
+mark_entries (Opens origin selectors indexes) = []
+mark_entries (WithEnds first_slot) = []
 mark_entries (BlockEnds number around parameters result end) = []
 
 -- the numbers of the entries of what looks so
@@ -337,10 +376,10 @@ loops_of_look = flat_map mark_loops
 abbrev pub is_formed_mark : Outline → ℕ → Mark → Bool
 is_formed_mark outline block (Constant number value) = is_whole value
 is_formed_mark outline block (Access number) = true
-is_formed_mark outline block (Value root selectors indexes defined) =
-    leads_to_ordinal outline block root selectors indexes && nat_lt defined outline.sites
-is_formed_mark outline block (WholeValue root selectors indexes type_id cells defined) =
-    leads_to_whole outline block type_id root selectors indexes
+is_formed_mark outline block (Value origin selectors indexes held defined) =
+    leads_to_held outline block held origin selectors indexes && nat_lt defined outline.sites
+is_formed_mark outline block (WholeValue origin selectors indexes type_id cells defined) =
+    leads_to_whole outline block type_id origin selectors indexes
     && (is_value_of outline block type_id cells && nat_lt defined outline.sites)
 is_formed_mark outline block (Operation number) = true
 is_formed_mark outline block (Applied operation) = monadic_is_well_formed outline block operation
@@ -350,22 +389,24 @@ is_formed_mark outline block (Calls number name callee) = true
 is_formed_mark outline block (ForValue fits callee position) = passes_value outline block fits callee position
 is_formed_mark outline block (ForWhole type_id source cells callee position) =
     passes_whole outline block type_id source cells callee position
-is_formed_mark outline block (ForVariable type_id root selectors indexes callee position) =
-    passes_variable outline block type_id root selectors indexes callee position
+is_formed_mark outline block (ForVariable type_id origin selectors indexes callee position) =
+    passes_variable outline block type_id origin selectors indexes callee position
 is_formed_mark outline block (Called is_function callee count) = may_call outline block is_function callee count
+is_formed_mark outline block (Constructs number) = true
+is_formed_mark outline block (Constructed designators members) = are_designators outline block designators members
 is_formed_mark outline block Ends = true
 is_formed_mark outline block (Empty number) = true
 is_formed_mark outline block (Assign number becomes) = true
-is_formed_mark outline block (Target root selectors indexes) = leads_to_ordinal outline block root selectors indexes
-is_formed_mark outline block (WholeTarget root selectors indexes type_id) =
-    leads_to_whole outline block type_id root selectors indexes
+is_formed_mark outline block (Target origin selectors indexes) = leads_to_scalar outline block origin selectors indexes
+is_formed_mark outline block (WholeTarget origin selectors indexes type_id) =
+    leads_to_whole outline block type_id origin selectors indexes
 is_formed_mark outline block (Copied type_id source cells) = may_copy outline block type_id source cells
-is_formed_mark outline block (Fits root selectors fits) = fits_target outline block fits root selectors
+is_formed_mark outline block (Fits origin selectors fits) = fits_target outline block fits origin selectors
 is_formed_mark outline block (Write number name ends_line) = true
 is_formed_mark outline block (Text number characters) = are_characters characters
-is_formed_mark outline block (Compared left right) = nat_eq left right
+is_formed_mark outline block (Compared left length right other) = compare outline block left length right other
 is_formed_mark outline block (Written representation) = true
-is_formed_mark outline block WrittenString = true
+is_formed_mark outline block (WrittenString source) = is_text outline.types source
 is_formed_mark outline block (Width site) = nat_lt site outline.sites
 is_formed_mark outline block (Compound number) = true
 is_formed_mark outline block (If number) = true
@@ -380,6 +421,9 @@ is_formed_mark outline block (Controls control) = true
 is_formed_mark outline block ForEnds = true
 is_formed_mark outline block (Case number site) = nat_lt site outline.sites
 is_formed_mark outline block (Arm constants) = list_all is_whole constants
+is_formed_mark outline block (With number first_slot) = true
+is_formed_mark outline block (Opens origin selectors indexes) = leads_to_record outline block origin selectors indexes
+is_formed_mark outline block (WithEnds first_slot) = true
 is_formed_mark outline block (BlockEnds number around parameters result end) = true
 
 -- the number of a block that ends

@@ -9,7 +9,7 @@ use Rattle.typed_tree.specs.declared.tree.Loop.{Loop}
 use Rattle.typed_tree.specs.declared.tree.Stmt.{Stmt}
 use Rattle.typed_tree.specs.declared.tree.Stmt.TheOpen.{Stmt-F}
 use Rattle.typed_tree.specs.declared.tree.Stmt.TheOpen.Stmt-F.{Empty, Assign, Write, Compound, If, While, Repeat, For}
-use Rattle.typed_tree.specs.declared.tree.Stmt.TheOpen.Stmt-F.{Case, Copy, Call}
+use Rattle.typed_tree.specs.declared.tree.Stmt.TheOpen.Stmt-F.{Case, Copy, Call, With}
 use Rattle.typed_tree.specs.declared.tree.Stmt.TheFolds.{fold-Stmt}
 use Rattle.typed_tree.specs.Entries.{in_text}
 
@@ -57,6 +57,7 @@ statement_inside (While head body) = looped head.loop_number body.value
 statement_inside (Repeat head statements) = looped head.loop_number (all_inside statements.items)
 statement_inside (For head body) = controlled head.control (looped head.loop_number body.value)
 statement_inside (Case head arms) = all_inside arms.items
+statement_inside (With head body) = body.value
 
 abbrev pub inside_of : Stmt → Inside
 inside_of = fold-Stmt Inside statement_inside

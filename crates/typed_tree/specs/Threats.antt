@@ -8,6 +8,7 @@ use Rattle.std.specs.declared.alloc.Global.{Global}
 use Rattle.std.specs.declared.boxed.Box.{Box}
 use Rattle.typed_tree.specs.declared.tree.Block.{Block}
 use Rattle.typed_tree.specs.declared.tree.Width.{Width}
+use Rattle.typed_tree.specs.declared.tree.WithRecord.{WithRecord}
 use Rattle.typed_tree.specs.declared.tree.WriteParameter.{WriteParameter}
 use Rattle.typed_tree.specs.declared.tree.Written.{Written}
 use Rattle.typed_tree.specs.declared.tree.Written.TheVariants.{Ordinal, String}
@@ -18,13 +19,13 @@ use Rattle.typed_tree.specs.declared.tree.Link.{Link}
 use Rattle.typed_tree.specs.declared.tree.Passed.{Passed}
 use Rattle.typed_tree.specs.declared.tree.Expr.TheOpen.{Expr-F, Passed-F, Link-F}
 use Rattle.typed_tree.specs.declared.tree.Expr.TheOpen.Expr-F.{Constant, Variable, Monadic as MonadicOf, Chain}
-use Rattle.typed_tree.specs.declared.tree.Expr.TheOpen.Expr-F.{Compare, Call as CallOf}
+use Rattle.typed_tree.specs.declared.tree.Expr.TheOpen.Expr-F.{Compare, Call as CallOf, Set}
 use Rattle.typed_tree.specs.declared.tree.Expr.TheOpen.Passed-F.{Value, Whole as WholeOf, Reference}
 use Rattle.typed_tree.specs.declared.tree.Expr.TheFolds.{fold-Expr, fold-Passed, fold-Link}
 use Rattle.typed_tree.specs.declared.tree.Stmt.{Stmt}
 use Rattle.typed_tree.specs.declared.tree.Stmt.TheOpen.{Stmt-F}
 use Rattle.typed_tree.specs.declared.tree.Stmt.TheOpen.Stmt-F.{Empty, Assign, Write, Compound, If, While, Repeat, For}
-use Rattle.typed_tree.specs.declared.tree.Stmt.TheOpen.Stmt-F.{Case, Copy, Call as Calling}
+use Rattle.typed_tree.specs.declared.tree.Stmt.TheOpen.Stmt-F.{Case, Copy, Call as Calling, With}
 use Rattle.typed_tree.specs.declared.tree.Stmt.TheFolds.{fold-Stmt}
 use Rattle.typed_tree.specs.Loops.{controls_of}
 
@@ -54,12 +55,13 @@ module _ (roots : List ℕ) where
 
   abbrev pub expr_spares : Expr-F Bool Bool Bool → Bool
   expr_spares (Constant number value) = true
-  expr_spares (Variable access indexes defined) = all_so indexes.items
+  expr_spares (Variable access indexes held defined) = all_so indexes.items
   expr_spares (MonadicOf number operation operand) = operand.value
   expr_spares (Chain first rest) = first.value && all_so rest.items
   expr_spares (Compare number relation left left_indexes right right_indexes) =
       indexes_so left left_indexes.items && indexes_so right right_indexes.items
   expr_spares (CallOf call actuals) = all_so actuals.items
+  expr_spares (Set number designators members) = all_so members.items
 
   -- an expression spares these variables
   abbrev pub spares_in_expr : Expr → Bool
@@ -92,6 +94,10 @@ module _ (roots : List ℕ) where
 
   abbrev pub spares_in_parameter : WriteParameter → Bool
   spares_in_parameter parameter = spares_in_written parameter.value && spares_in_width parameter.width
+
+  -- a record of a with, which is accessed alone
+  abbrev pub spares_in_record : WithRecord → Bool
+  spares_in_record one = spares_in_indexes one.indexes.items
 
 -- ---- statements
 
@@ -128,6 +134,8 @@ statement_spares (For head body) roots =
     && (spares_in_expr roots head.first.value
     && (spares_in_expr roots head.last.value && body.value (head.control ∷ roots)))
 statement_spares (Case head arms) roots = spares_in_expr roots head.index && all_spare arms.items roots
+statement_spares (With head body) roots =
+    all_so (map (spares_in_record roots) head.records.items) && body.value roots
 
 -- a statement spares these variables
 abbrev pub spares : Stmt → Spares

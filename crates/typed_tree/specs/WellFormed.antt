@@ -1,10 +1,12 @@
 -- Well formed trees: each constant and each range of a test lies in that of integer (ISO 7185:1990, 6.4.2.2), each
 -- variable that a block names is one that it or a block round it declares (6.2.2), selectors lead to a component of
--- the type that is wanted (6.5.3), a value is tested for the range of its target's type, what is copied is of its
--- target's type or a string as long (6.4.6), a call passes to each formal parameter what it takes (6.6.3), a control
--- variable is a local one (6.8.3.9), each test names a site of the table, each loop stands in the table of loops,
--- the variables of a block take no more cells than a block has, and the table of types begins with the required
--- ones. It does not say that a tree is that of a program.
+-- the type that is wanted (6.5.3), a value is tested for the range of its target's type, as each member of a set is,
+-- what is copied is of its target's type or a string as long (6.4.6), each designator of a set constructor has its
+-- members (6.7.1), a call passes to each formal parameter what it takes (6.6.3), a control variable is a local one
+-- (6.8.3.9), each test names a site of the table, each loop stands in the table of loops, the variables of a block take
+-- no more cells than a block has, the table of types begins with the required ones, operands are sets or numbers as
+-- they are taken, the records of with statements are open where they are accessed, and what is compared or written as a
+-- whole is a string. It does not say that a tree is that of a program.
 use Rattle.std.specs.Prelude.{◌≡◌, ℕ, zero, suc, ℤ, ◌<◌, ◌≤◌, pos, neg_ℤ, ◌+ℤ◌, ◌-ℤ◌, ◌&&◌, ◌||◌, ◌++◌, Bool}
 use Rattle.std.specs.Prelude.{true, false, List, []}
 use Rattle.std.specs.Prelude.{Option, Some, None, Vec, IsPermutation, int_le, nat_lt, nat_le, nat_eq, length, map}
@@ -14,11 +16,13 @@ use Rattle.std.specs.List.{list_all, list_any, range_with_len}
 use Rattle.std.specs.Option.{option_and_then}
 use Rattle.std.specs.declared.alloc.Global.{Global}
 use Rattle.std.specs.declared.boxed.Box.{Box}
-use Rattle.types.specs.Forms.{Form}
+use Rattle.types.specs.Forms.{Form, Record}
 use Rattle.types.specs.declared.form.OrdinalRange.{OrdinalRange}
 use Rattle.types.specs.declared.form.TypeId.{TypeId}
-use Rattle.types.specs.Types.{BeginWithRequired, cells_of, have_one_length, is_ordinal, is_same, is_structured}
-use Rattle.types.specs.Types.{most_cells, range_of, string_length}
+use Rattle.types.specs.declared.form.TypeKind.{TypeKind}
+use Rattle.types.specs.declared.form.TypeKind.TheVariants as kind_of_type
+use Rattle.types.specs.Types.{BeginWithRequired, cells_of, form_at, have_one_length, is_ordinal, is_same, is_scalar}
+use Rattle.types.specs.Types.{is_string, is_structured, kind_of, most_cells, string_length}
 use Rattle.typed_tree.specs.declared.tree.Tree.{Tree}
 use Rattle.typed_tree.specs.declared.tree.Selector.{Selector}
 use Rattle.typed_tree.specs.declared.tree.Selector.TheVariants.{Element, Field}
@@ -38,7 +42,12 @@ use Rattle.typed_tree.specs.declared.tree.Shift.TheVariants as shift
 use Rattle.typed_tree.specs.declared.tree.Dyadic.{Dyadic}
 use Rattle.typed_tree.specs.declared.tree.Dyadic.TheVariants as dyadic
 use Rattle.typed_tree.specs.declared.tree.RangeTest.{RangeTest}
+use Rattle.typed_tree.specs.declared.tree.Scalar.{Scalar}
+use Rattle.typed_tree.specs.declared.tree.Scalar.TheVariants as scalar
+use Rattle.typed_tree.specs.declared.tree.Designator.{Designator}
+use Rattle.typed_tree.specs.declared.tree.Designator.TheVariants as designator
 use Rattle.typed_tree.specs.declared.tree.Width.{Width}
+use Rattle.typed_tree.specs.declared.tree.WithRecord.{WithRecord}
 use Rattle.typed_tree.specs.declared.tree.WriteParameter.{WriteParameter}
 use Rattle.typed_tree.specs.declared.tree.Written.{Written}
 use Rattle.typed_tree.specs.declared.tree.Written.TheVariants.{Ordinal, String}
@@ -49,16 +58,20 @@ use Rattle.typed_tree.specs.declared.tree.Link.{Link}
 use Rattle.typed_tree.specs.declared.tree.Passed.{Passed}
 use Rattle.typed_tree.specs.declared.tree.Expr.TheOpen.{Expr-F, Passed-F, Link-F}
 use Rattle.typed_tree.specs.declared.tree.Expr.TheOpen.Expr-F.{Constant, Variable, Monadic as MonadicOf, Chain}
-use Rattle.typed_tree.specs.declared.tree.Expr.TheOpen.Expr-F.{Compare, Call as CallOf}
+use Rattle.typed_tree.specs.declared.tree.Expr.TheOpen.Expr-F.{Compare, Call as CallOf, Set}
 use Rattle.typed_tree.specs.declared.tree.Expr.TheOpen.Passed-F.{Value, Whole as WholeOf, Reference}
 use Rattle.typed_tree.specs.declared.tree.Expr.TheFolds.{fold-Expr, fold-Passed, fold-Link}
 use Rattle.typed_tree.specs.declared.tree.Stmt.{Stmt}
 use Rattle.typed_tree.specs.declared.tree.Stmt.TheOpen.{Stmt-F}
 use Rattle.typed_tree.specs.declared.tree.Stmt.TheOpen.Stmt-F.{Empty, Assign, Write, Compound, If, While, Repeat, For}
-use Rattle.typed_tree.specs.declared.tree.Stmt.TheOpen.Stmt-F.{Case, Copy, Call as Calling}
+use Rattle.typed_tree.specs.declared.tree.Stmt.TheOpen.Stmt-F.{Case, Copy, Call as Calling, With}
 use Rattle.typed_tree.specs.declared.tree.Stmt.TheFolds.{fold-Stmt}
-use Rattle.typed_tree.specs.Accesses.{accessed, are_values_of, index_count, is_type}
+use Rattle.typed_tree.specs.Accesses.{Origin, AtVariable, accessed, are_values_of, index_count, is_type, origin_of}
+use Rattle.typed_tree.specs.Accesses.{root_of}
+use Rattle.typed_tree.specs.Kinds.{are_held}
 use Rattle.typed_tree.specs.Loops.{AreLoopsOf}
+use Rattle.typed_tree.specs.Records.{are_there}
+pub use Rattle.typed_tree.specs.Tests.{all_hold, of_one, whole_indexes}
 use Rattle.typed_tree.specs.Threats.{controls_but, spares}
 
 -- a program has no more variables
@@ -68,10 +81,6 @@ most_variables = 1000000
 -- the most statements and expressions of a program
 abbrev pub most_entries : ℕ
 most_entries = 4000000
-
--- they all hold
-abbrev pub all_hold : List Bool → Bool
-all_hold tests = list_all (λ b. b) tests
 
 -- a number of type integer
 abbrev pub is_whole : ℤ → Bool
@@ -95,17 +104,17 @@ abbrev pub source_of : Whole → Option TypeId
 source_of (Text number characters) = None
 source_of (VariableOf access type_id cells defined) = Some type_id
 
+-- a string, or a value of a type that is one of strings
+abbrev pub is_text : List Form → Option TypeId → Bool
+is_text types None = true
+is_text types (Some id) = is_string types id
+
 -- a string of so many characters, or a value of a type, may be copied to a target of a type: one of the same type, or a
 -- string as long (6.4.6)
 abbrev pub is_alike : List Form → TypeId → Option TypeId → ℕ → Bool
 is_alike types target None cells = have_one_length (string_length types target) (Some cells)
 is_alike types target (Some source) cells =
     is_same target source || have_one_length (string_length types target) (string_length types source)
-
--- the index expressions of a whole value; a string has none
-abbrev pub whole_indexes : {A : Type 0} → Whole → List A → List A
-whole_indexes (Text number characters) indexes = []
-whole_indexes (VariableOf access type_id cells defined) indexes = indexes
 
 -- the constants before an arm
 abbrev pub are_whole : Vec ℤ Global → Bool
@@ -130,11 +139,6 @@ outline_of tree = record {
   sites = length tree.sites.items;
   headings = map heading_of tree.blocks.items;
 }
-
--- a test holds of what is there
-abbrev pub of_one : {A : Type 0} → (A → Bool) → Option A → Bool
-of_one test None = false
-of_one test (Some one) = test one
 
 -- a block is one of these
 abbrev pub is_one_of : List ℕ → ℕ → Bool
@@ -180,16 +184,29 @@ formal_of outline number position =
     option_and_then (λ root. slice_get outline.variables root)
     (option_and_then (λ heading. slice_get heading.parameters.items position) (slice_get outline.headings number))
 
--- the range of a type is this one
-abbrev pub is_range_of : OrdinalRange → Option OrdinalRange → Bool
-is_range_of range None = false
-is_range_of range (Some other) = are_values_of range other
+-- a value of a type of this kind is tested so: an ordinal for its values, a set for those that members may have
+abbrev pub is_test_of : Scalar → OrdinalRange → Option TypeKind → Bool
+is_test_of scalar.Ordinal range (Some (kind_of_type.Ordinal other)) = are_values_of range other
+is_test_of scalar.Set range (Some (kind_of_type.Set base members)) = are_values_of range members
+is_test_of tested range kind = false
 
--- a value that is tested so may be passed to a value parameter of an ordinal type (6.6.3.2)
+-- a value of a type of this kind is such a scalar
+abbrev pub is_held_by : Scalar → Option TypeKind → Bool
+is_held_by scalar.Ordinal (Some (kind_of_type.Ordinal range)) = true
+is_held_by scalar.Set (Some (kind_of_type.Set base members)) = true
+is_held_by held kind = false
+
+-- a variable of a type holds such a scalar
+abbrev pub holds : List Form → Scalar → TypeId → Bool
+holds types held id = is_held_by held (kind_of types id)
+
+-- the same of a test for a type of a table
+abbrev pub tests_type : List Form → RangeTest → TypeId → Bool
+tests_type types fits id = is_test_of fits.tests fits.range (kind_of types id)
+
+-- a value that is tested so may be passed to a value parameter of a scalar type (6.6.3.2)
 abbrev pub takes_value : Outline → RangeTest → DeclaredVariable → Bool
-takes_value outline fits formal =
-    is_value_kind formal.kind
-    && (is_ordinal outline.types formal.type_id && is_range_of fits.range (range_of outline.types formal.type_id))
+takes_value outline fits formal = is_value_kind formal.kind && tests_type outline.types fits formal.type_id
 
 -- a copy may be passed to a value parameter of this type
 abbrev pub takes_whole : TypeId → DeclaredVariable → Bool
@@ -204,6 +221,25 @@ abbrev pub declarer : List ℕ → Option ℕ
 declarer [] = None
 declarer (block ∷ []) = Some block
 declarer (block ∷ inner ∷ blocks) = declarer (inner ∷ blocks)
+
+-- how many expressions a designator of a set constructor takes
+abbrev pub members_wanted : List Designator → ℕ
+members_wanted [] = 0
+members_wanted (designator.Single site ∷ others) = suc (members_wanted others)
+members_wanted (designator.Range site ∷ others) = suc (suc (members_wanted others))
+
+-- the site of its test
+abbrev pub member_site : Designator → ℕ
+member_site (designator.Single site) = site
+member_site (designator.Range site) = site
+
+-- a type is a record (6.4.3.3)
+abbrev pub is_record_form : Option Form → Bool
+is_record_form (Some (Record packed fields)) = true
+is_record_form other = false
+
+abbrev pub is_record : List Form → TypeId → Bool
+is_record types id = is_record_form (form_at types id)
 
 -- a function has a result, a procedure has none
 abbrev pub is_kind_of : Bool → Option FunctionResult → Bool
@@ -233,30 +269,41 @@ module _ (outline : Outline) (block : ℕ) where
   is_well_formed_selector (Field position offset) = true
 
   -- an access with so many index expressions leads to a component whose type is wanted
-  abbrev pub leads_to : (TypeId → Bool) → ℕ → List Selector → ℕ → Bool
-  leads_to wanted root selectors indexes =
-      is_visible outline block root
+  abbrev pub leads_to : (TypeId → Bool) → Origin → List Selector → ℕ → Bool
+  leads_to wanted origin selectors indexes =
+      is_visible outline block (root_of origin)
       && (nat_eq indexes (index_count selectors)
       && (list_all is_well_formed_selector selectors
-      && is_type wanted (accessed outline.variables outline.types root selectors)))
+      && is_type wanted (accessed outline.variables outline.types origin selectors)))
 
   -- to an ordinal
-  abbrev pub leads_to_ordinal : ℕ → List Selector → ℕ → Bool
+  abbrev pub leads_to_ordinal : Origin → List Selector → ℕ → Bool
   leads_to_ordinal = leads_to (is_ordinal outline.types)
 
+  -- to an ordinal or a set
+  abbrev pub leads_to_scalar : Origin → List Selector → ℕ → Bool
+  leads_to_scalar = leads_to (is_scalar outline.types)
+
+  -- to one of these
+  abbrev pub leads_to_held : Scalar → Origin → List Selector → ℕ → Bool
+  leads_to_held held = leads_to (holds outline.types held)
+
+  -- to a record
+  abbrev pub leads_to_record : Origin → List Selector → ℕ → Bool
+  leads_to_record = leads_to (is_record outline.types)
+
   -- to a component of a type
-  abbrev pub leads_to_type : TypeId → ℕ → List Selector → ℕ → Bool
+  abbrev pub leads_to_type : TypeId → Origin → List Selector → ℕ → Bool
   leads_to_type type_id = leads_to (λ id. is_same id type_id)
 
   -- the test of a value has the range of the type of what is accessed
-  abbrev pub fits_target : RangeTest → ℕ → List Selector → Bool
-  fits_target fits root selectors =
+  abbrev pub fits_target : RangeTest → Origin → List Selector → Bool
+  fits_target fits origin selectors =
       is_well_formed_test fits
-      && is_type (λ id. is_range_of fits.range (range_of outline.types id))
-      (accessed outline.variables outline.types root selectors)
+      && is_type (tests_type outline.types fits) (accessed outline.variables outline.types origin selectors)
 
   -- to a structured value of a type
-  abbrev pub leads_to_whole : TypeId → ℕ → List Selector → ℕ → Bool
+  abbrev pub leads_to_whole : TypeId → Origin → List Selector → ℕ → Bool
   leads_to_whole type_id = leads_to (λ id. is_same id type_id && is_structured outline.types id)
 
   -- a structured value of a type, of so many cells
@@ -269,10 +316,15 @@ module _ (outline : Outline) (block : ℕ) where
       is_structured outline.types target
       && (nat_eq (cells_of outline.types target) cells && is_alike outline.types target source cells)
 
+  -- strings are compared with such as are as long, whose values are those of variables of types or their own
+  abbrev pub compare : Option TypeId → ℕ → Option TypeId → ℕ → Bool
+  compare left length right other =
+      is_text outline.types left && (is_text outline.types right && nat_eq length other)
+
   abbrev pub is_well_formed_whole : Whole → ℕ → Bool
   is_well_formed_whole (Text number characters) indexes = are_characters characters.items
   is_well_formed_whole (VariableOf access type_id cells defined) indexes =
-      leads_to_whole type_id access.root access.selectors.items indexes
+      leads_to_whole type_id (origin_of access) access.selectors.items indexes
       && (is_value_of type_id cells && nat_lt defined outline.sites)
 
   abbrev pub calculation_is_well_formed : Calculation → Bool
@@ -298,6 +350,17 @@ module _ (outline : Outline) (block : ℕ) where
   dyadic_is_well_formed dyadic.And = true
   dyadic_is_well_formed dyadic.Or = true
   dyadic_is_well_formed (dyadic.Relation relation) = true
+  dyadic_is_well_formed dyadic.Union = true
+  dyadic_is_well_formed dyadic.Difference = true
+  dyadic_is_well_formed dyadic.Intersection = true
+  dyadic_is_well_formed (dyadic.SetRelation relation) = true
+  dyadic_is_well_formed dyadic.In = true
+
+  -- the designators of a set constructor of so many expressions
+  abbrev pub are_designators : List Designator → ℕ → Bool
+  are_designators designators count =
+      nat_eq count (members_wanted designators)
+      && list_all (λ one. nat_lt (member_site one) outline.sites) designators
 
   -- a procedure or a function may be called here, with so many actual parameters
   abbrev pub may_call : Bool → ℕ → ℕ → Bool
@@ -317,9 +380,9 @@ module _ (outline : Outline) (block : ℕ) where
   passes_whole type_id source cells callee position =
       may_copy type_id source cells && is_passed_to (takes_whole type_id) callee position
 
-  abbrev pub passes_variable : TypeId → ℕ → List Selector → ℕ → ℕ → ℕ → Bool
-  passes_variable type_id root selectors indexes callee position =
-      leads_to_type type_id root selectors indexes && is_passed_to (takes_variable type_id) callee position
+  abbrev pub passes_variable : TypeId → Origin → List Selector → ℕ → ℕ → ℕ → Bool
+  passes_variable type_id origin selectors indexes callee position =
+      leads_to_type type_id origin selectors indexes && is_passed_to (takes_variable type_id) callee position
 
   -- a call of a procedure or of a function, with its actual parameters
   abbrev pub is_well_formed_call : Bool → Call → List (ℕ → ℕ → Bool) → Bool
@@ -338,21 +401,25 @@ module _ (outline : Outline) (block : ℕ) where
       && passes_whole type_id (source_of value) (length_of value) callee position)
   passed_is_well_formed (Reference type_id access indexes) callee position =
       all_hold indexes.items
-      && passes_variable type_id access.root access.selectors.items (length indexes.items) callee position
+      && passes_variable type_id (origin_of access) access.selectors.items (length indexes.items) callee position
 
   abbrev pub expr_is_well_formed : Expr-F Bool (ℕ → ℕ → Bool) Bool → Bool
   expr_is_well_formed (Constant number value) = is_whole value
-  expr_is_well_formed (Variable access indexes defined) =
+  expr_is_well_formed (Variable access indexes held defined) =
       all_hold indexes.items
-      && (leads_to_ordinal access.root access.selectors.items (length indexes.items) && nat_lt defined outline.sites)
+      && (leads_to_held held (origin_of access) access.selectors.items (length indexes.items)
+      && nat_lt defined outline.sites)
   expr_is_well_formed (MonadicOf number operation operand) = monadic_is_well_formed operation && operand.value
   expr_is_well_formed (Chain first rest) = first.value && all_hold rest.items
   expr_is_well_formed (Compare number relation left left_indexes right right_indexes) =
       all_hold (whole_indexes left left_indexes.items)
       && (is_well_formed_whole left (length left_indexes.items)
       && (all_hold (whole_indexes right right_indexes.items)
-      && (is_well_formed_whole right (length right_indexes.items) && nat_eq (length_of left) (length_of right))))
+      && (is_well_formed_whole right (length right_indexes.items)
+      && compare (source_of left) (length_of left) (source_of right) (length_of right))))
   expr_is_well_formed (CallOf call actuals) = is_well_formed_call true call actuals.items
+  expr_is_well_formed (Set number designators members) =
+      all_hold members.items && are_designators designators.items (length members.items)
 
   -- an expression is well formed
   abbrev pub is_well_formed_expr : Expr → Bool
@@ -383,11 +450,18 @@ module _ (outline : Outline) (block : ℕ) where
   -- a value that is written
   abbrev pub is_well_formed_written : Written → Bool
   is_well_formed_written (Ordinal value representation) = is_well_formed_expr value
-  is_well_formed_written (String value indexes) = is_well_formed_value value indexes.items
+  is_well_formed_written (String value indexes) =
+      is_well_formed_value value indexes.items && is_text outline.types (source_of value)
 
   -- the same, and its width
   abbrev pub is_well_formed_parameter : WriteParameter → Bool
   is_well_formed_parameter parameter = is_well_formed_written parameter.value && is_well_formed_width parameter.width
+
+  -- a record of a with
+  abbrev pub is_well_formed_record : WithRecord → Bool
+  is_well_formed_record one =
+      are_well_formed one.indexes.items
+      && leads_to_record (origin_of one.access) one.access.selectors.items (length one.indexes.items)
 
   -- the statement behind `else`, where there is one
   abbrev pub alternative_is_well_formed : Option (Box Bool Global) → Bool
@@ -396,18 +470,19 @@ module _ (outline : Outline) (block : ℕ) where
 
   -- a control variable is an ordinal one of the variable declaration part of the block (6.8.3.9)
   abbrev pub is_control : ℕ → Bool
-  is_control root = is_declared outline block is_local_kind root && leads_to_ordinal root [] 0
+  is_control root = is_declared outline block is_local_kind root && leads_to_ordinal (AtVariable root) [] 0
 
   abbrev pub stmt_is_well_formed : Stmt-F Bool → Bool
   stmt_is_well_formed (Empty number) = true
   stmt_is_well_formed (Assign assignment) =
       are_well_formed assignment.indexes.items
-      && (leads_to_ordinal assignment.target.root assignment.target.selectors.items (length assignment.indexes.items)
+      && (leads_to_scalar (origin_of assignment.target) assignment.target.selectors.items
+      (length assignment.indexes.items)
       && (is_well_formed_expr assignment.value
-      && fits_target assignment.fits assignment.target.root assignment.target.selectors.items))
+      && fits_target assignment.fits (origin_of assignment.target) assignment.target.selectors.items))
   stmt_is_well_formed (Copy copying) =
       are_well_formed copying.indexes.items
-      && (leads_to_whole copying.type_id copying.target.root copying.target.selectors.items
+      && (leads_to_whole copying.type_id (origin_of copying.target) copying.target.selectors.items
       (length copying.indexes.items)
       && (is_well_formed_value copying.value copying.value_indexes.items
       && may_copy copying.type_id (source_of copying.value) (length_of copying.value)))
@@ -422,11 +497,13 @@ module _ (outline : Outline) (block : ℕ) where
   stmt_is_well_formed (For head body) =
       is_control head.control
       && (is_well_formed_expr head.first.value
-      && (fits_target head.first.fits head.control []
-      && (is_well_formed_expr head.last.value && (fits_target head.last.fits head.control [] && body.value))))
+      && (fits_target head.first.fits (AtVariable head.control) []
+      && (is_well_formed_expr head.last.value
+      && (fits_target head.last.fits (AtVariable head.control) [] && body.value))))
   stmt_is_well_formed (Case head arms) =
       nat_lt head.site outline.sites
       && (is_well_formed_expr head.index && (list_all are_whole head.constants.items && all_hold arms.items))
+  stmt_is_well_formed (With head body) = all_hold (map is_well_formed_record head.records.items) && body.value
 
   -- a statement is well formed
   abbrev pub is_well_formed_stmt : Stmt → Bool
@@ -465,7 +542,7 @@ result_roots (Some result) = result.root ∷ []
 abbrev pub is_result : Outline → FunctionResult → Bool
 is_result outline result =
     nat_lt result.defined outline.sites
-    && is_type (is_ordinal outline.types) (accessed outline.variables outline.types result.root [])
+    && is_type (is_ordinal outline.types) (accessed outline.variables outline.types (AtVariable result.root) [])
 
 abbrev pub is_result_or_none : Outline → Option FunctionResult → Bool
 is_result_or_none outline None = true
@@ -527,6 +604,10 @@ pub record IsWellFormed (tree : Tree) : Type 0 where
   pub blocks : are_well_formed_blocks (outline_of tree) 0 tree.blocks.items ≡ true
   -- each loop has its row in the table
   pub loops : AreLoopsOf tree.loops.items 0 tree.blocks.items
+  -- each operand is an ordinal or a set, as it is taken
+  pub held : are_held tree.blocks.items ≡ true
+  -- each access begins at a variable, or at a record that is open there
+  pub there : are_there tree.blocks.items ≡ true
   -- the text has the statements of each block once
   pub bodies : IsPermutation (range_with_len 0 (length tree.blocks.items)) tree.bodies.items
   -- a control variable is threatened neither in another block nor in the statement of its for (6.8.3.9)

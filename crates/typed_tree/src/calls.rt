@@ -13,6 +13,7 @@ pub fn holds_call(expression: &Expr) -> bool
     match expression {
         Expr::Constant { .. } => false,
         Expr::Variable { indexes, .. } => hold_call(indexes.as_slice()),
+        Expr::Set { members, .. } => hold_call(members.as_slice()),
         Expr::Monadic { operand, .. } => holds_call(operand),
         Expr::Chain { first, rest } => holds_call(first) || links_hold_call(rest),
         Expr::Compare {

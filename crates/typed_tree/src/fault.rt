@@ -60,6 +60,9 @@ pub enum TypeFault {
     /// Y2, at the variable with which those of a block take over 65,536 cells.
     #[error("{0}: the variables of a block take too many cells")]
     TooManyCells(Place),
+    /// Y3, at the word `set` of a type whose sets may have members outside 0 to 127.
+    #[error("{0}: a member of a set may lie outside 0 to 127")]
+    MembersOutOfRange(Place),
 }
 
 impl TypeFault {
@@ -87,6 +90,7 @@ impl TypeFault {
             TypeFault::TooMany(_) => (b'K', 10),
             TypeFault::FirstAboveLast(_) => (b'Y', 1),
             TypeFault::TooManyCells(_) => (b'Y', 2),
+            TypeFault::MembersOutOfRange(_) => (b'Y', 3),
         }
     }
 
@@ -111,7 +115,8 @@ impl TypeFault {
             | TypeFault::NotCompleted(place)
             | TypeFault::TooMany(place)
             | TypeFault::FirstAboveLast(place)
-            | TypeFault::TooManyCells(place) => Some(*place),
+            | TypeFault::TooManyCells(place)
+            | TypeFault::MembersOutOfRange(place) => Some(*place),
         }
     }
 }

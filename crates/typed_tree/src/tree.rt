@@ -100,10 +100,30 @@ pub struct Call {
 pub struct Access {
     /// Its number in the order of entry over the program.
     pub number: u32,
-    /// The root number of the variable.
+    /// The root number of the variable at which it begins, or in which the record lies at which it begins.
     pub root: u32,
-    /// From the variable to the component that is accessed; none where that is the variable itself.
+    pub base: Base,
+    /// From the variable or the record to the component that is accessed; none where that is the variable itself.
     pub selectors: Vec<Selector>,
+}
+
+/// At what a variable access begins (6.5.1, 6.8.3.10).
+#[derive(Drop)]
+pub enum Base {
+    /// At the variable.
+    Variable,
+    /// At a record of a `with` statement round it, whose field it names: that of this slot, and the way on which the
+    /// record lies in the variable.
+    Record { slot: u32, path: Vec<PathStep> },
+}
+
+/// A step from a variable towards a record in it.
+#[derive(Clone, Copy)]
+pub enum PathStep {
+    /// To an element, at an index that isn't told.
+    Element,
+    /// To the field at this place from 0 in its record.
+    Field(usize),
 }
 
 /// What selects a component of a structured variable (6.5.3).
@@ -115,12 +135,20 @@ pub enum Selector {
     Field { position: usize, offset: u32 },
 }
 
-/// A test that an ordinal lies in the range of a type, at a site.
+/// A test that what a value holds lies in the range of a type, at a site.
 #[derive(Clone, Copy)]
 pub struct RangeTest {
     pub site: u32,
+    pub tests: Scalar,
     /// Within -2147483647 to 2147483647.
     pub range: OrdinalRange,
+}
+
+/// What a scalar value is. A test of a range is one of an ordinal, or of each member of a set.
+#[derive(Clone, Copy)]
+pub enum Scalar {
+    Ordinal,
+    Set,
 }
 
 /// A statement. Each has its number in the order of entry over the program.
@@ -163,9 +191,15 @@ pub enum Stmt {
         head: CaseHead,
         arms: Vec<Stmt>,
     },
+    /// The records of the head are accessed, and then comes the body.
+    With {
+        head: WithHead,
+        body: Box<Stmt>,
+    },
 }
 
-/// An assignment to an ordinal (6.8.2.2): the target is accessed, then comes the value, then its test (subrange).
+/// An assignment to an ordinal or a set (6.8.2.2): the target is accessed, then comes the value, then its test
+/// (subrange, or of a set set member).
 #[derive(Drop)]
 pub struct Assignment {
     pub number: u32,
@@ -252,6 +286,23 @@ pub struct CaseHead {
     pub site: u32,
     pub index: Expr,
     pub constants: Vec<Vec<i32>>,
+}
+
+/// What a with has beside its statement (6.8.3.10): each record is accessed once, in their order, and keeps the slot of
+/// its place from the first one on. So a slot is how many records stand round a place in its block.
+#[derive(Drop)]
+pub struct WithHead {
+    pub number: u32,
+    /// The slot of the first record.
+    pub first_slot: u32,
+    pub records: Vec<WithRecord>,
+}
+
+/// A record whose fields are named alone in the statement of a with.
+#[derive(Drop)]
+pub struct WithRecord {
+    pub access: Access,
+    pub indexes: Vec<Expr>,
 }
 
 /// The way of a control variable (6.8.3.9).
@@ -350,6 +401,25 @@ pub enum Dyadic {
     And,
     Or,
     Relation(Relation),
+    /// The operations of sets (6.7.2.4), which have no site, as the next two.
+    Union,
+    Difference,
+    Intersection,
+    /// A relation of two sets.
+    SetRelation(SetRelation),
+    /// Whether the ordinal on the left is a member of the set on the right (6.7.2.5).
+    In,
+}
+
+/// A relation of two sets (6.7.2.5).
+#[derive(Clone, Copy)]
+pub enum SetRelation {
+    Equal,
+    NotEqual,
+    /// Each member of the left one is a member of the right one.
+    Included,
+    /// Each member of the right one is a member of the left one.
+    Includes,
 }
 
 /// A relation of two ordinals, or of two strings (6.7.2.5).
@@ -363,8 +433,17 @@ pub enum Relation {
     GreaterOrEqual,
 }
 
-/// An expression, its parentheses gone. Each factor, sign and operator has its number in the order of
-/// entry over the program; an operator is entered after its left operand and before its right one.
+/// What a member of a set constructor is given by (6.7.1), with the site of its test (set member).
+#[derive(Clone, Copy)]
+pub enum Designator {
+    /// Its value.
+    Single { site: u32 },
+    /// The first and the last of several values, which are none where the first lies above the last.
+    Range { site: u32 },
+}
+
+/// An expression, of an ordinal or of a set, its parentheses gone. Each factor, sign and operator has its number in the
+/// order of entry over the program; an operator is entered after its left operand and before its right one.
 #[cycle(expression)]
 #[derive(Drop)]
 pub enum Expr {
@@ -373,11 +452,20 @@ pub enum Expr {
         number: u32,
         value: i32,
     },
-    /// The value of a variable or of a component, an ordinal, tested at the site `defined` (undefined variable).
+    /// The value of a variable or of a component, which holds an ordinal or a set, tested at the site `defined`
+    /// (undefined variable).
     Variable {
         access: Access,
         indexes: Vec<Expr>,
+        holds: Scalar,
         defined: u32,
+    },
+    /// A set constructor (6.7.1): of its members the next one for each designator that is single, the next two for each
+    /// range. Those of a designator are tested before the next are evaluated: each lies in 0 to 127.
+    Set {
+        number: u32,
+        designators: Vec<Designator>,
+        members: Vec<Expr>,
     },
     Monadic {
         number: u32,
@@ -410,7 +498,7 @@ pub enum Expr {
 #[cycle(expression)]
 #[derive(Drop)]
 pub enum Passed {
-    /// To a value parameter of an ordinal type: the value is tested (subrange).
+    /// To a value parameter of an ordinal type or a set type: the value is tested (subrange, or of a set set member).
     Value {
         value: Expr,
         fits: RangeTest,

@@ -2,12 +2,14 @@
 use Rattle.std.proofs.Common.{◌≡◌, ◌∷◌, ◌++◌, [], ℕ, List, Some, None, Ok, Err, refl, true, false, codes, pos, negsuc, slice_get}
 use Rattle.types.specs.declared.form.Step.TheVariants as step
 use Rattle.types.specs.Forms.{Form}
-use Rattle.types.specs.Forms.{Enumeration, Subrange, Array, Record}
+use Rattle.types.specs.Forms.{Enumeration, Subrange, Array, Record, Set}
 use Rattle.types.specs.declared.form.TypeId.{TypeId}
 use Rattle.types.specs.declared.refusal.TypeRefusal.TheVariants as refusal
 use Rattle.types.specs.Components.{components_of}
 use Rattle.types.specs.Types.{admitted, boolean, cells_of, char, element_of, field_at, field_of, host_of, integer, is_assignable, is_compatible}
-use Rattle.types.specs.Types.{is_ordinal, is_string, range_of, required_forms, string_length}
+use Rattle.types.specs.Types.{is_ordinal, is_scalar, is_string, is_structured, range_of, required_forms, scalar_range_of, string_length}
+use Rattle.types.specs.Types.{are_compatible_sets, joined_base}
+use Rattle.types.specs.declared.sets.SetBase.{SetBase}
 
 -- a type by its number
 abbrev number : ℕ → TypeId
@@ -190,3 +192,68 @@ in_second_record = refl
 -- an empty record has none
 no_components : components_of with_record (number 15) ≡ []
 no_components = refl
+
+-- sets of 1..10 are 4, sets of 5..7 are 5 and 6, these packed, and sets of char are 7
+abbrev with_sets : List Form
+with_sets =
+    required_forms
+    ++ Subrange integer (pos 1) (pos 10) ∷ Set false integer (pos 1) (pos 10) ∷ Set false integer (pos 5) (pos 7)
+    ∷ Set true integer (pos 5) (pos 7) ∷ Set false char (pos 0) (pos 127) ∷ []
+
+-- sets of one host type are compatible, both packed or neither
+sets_of_one_host : is_compatible with_sets (number 4) (number 5) ≡ true
+sets_of_one_host = refl
+
+packed_set : is_compatible with_sets (number 5) (number 6) ≡ false
+packed_set = refl
+
+sets_of_other_hosts : is_compatible with_sets (number 4) (number 7) ≡ false
+sets_of_other_hosts = refl
+
+set_with_member : is_compatible with_sets (number 4) integer ≡ false
+set_with_member = refl
+
+-- a set is scalar: neither an ordinal nor structured, of one cell
+set_is_not_ordinal : is_ordinal with_sets (number 4) ≡ false
+set_is_not_ordinal = refl
+
+set_is_not_structured : is_structured with_sets (number 4) ≡ false
+set_is_not_structured = refl
+
+values_of_members : scalar_range_of with_sets (number 4) ≡ Some (record { first = pos 1; last = pos 10 })
+values_of_members = refl
+
+array_is_not_scalar : is_scalar table (number 7) ≡ false
+array_is_not_scalar = refl
+
+cell_of_set : cells_of with_sets (number 7) ≡ 1
+cell_of_set = refl
+
+component_of_set : components_of with_sets (number 7) ≡ [] ∷ []
+component_of_set = refl
+
+-- a constructor is packed and not, and the one without members is of each host type
+abbrev constructed : SetBase
+constructed = record { host = Some integer; packed = None }
+
+abbrev unpacked : SetBase
+unpacked = record { host = Some integer; packed = Some false }
+
+empty_with_any : are_compatible_sets (record { host = None; packed = None }) unpacked ≡ true
+empty_with_any = refl
+
+constructed_with_unpacked : are_compatible_sets constructed unpacked ≡ true
+constructed_with_unpacked = refl
+
+joined_with_unpacked : joined_base constructed unpacked ≡ unpacked
+joined_with_unpacked = refl
+
+-- Y3 begins below 0 and above 127
+most_of_set : admitted required_forms (Set false integer (pos 0) (pos 127)) ≡ Ok (number 3)
+most_of_set = refl
+
+above_most : admitted required_forms (Set false integer (pos 0) (pos 128)) ≡ Err refusal.MembersOutOfRange
+above_most = refl
+
+below_zero_in_set : admitted required_forms (Set false integer (negsuc 0) (pos 5)) ≡ Err refusal.MembersOutOfRange
+below_zero_in_set = refl

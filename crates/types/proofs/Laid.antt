@@ -17,7 +17,7 @@ use Rattle.types.specs.declared.form.OrdinalRange.{OrdinalRange}
 use Rattle.types.specs.declared.form.Step.{Step}
 use Rattle.types.specs.declared.form.Step.TheVariants as step
 use Rattle.types.specs.Forms.{Form}
-use Rattle.types.specs.Forms.{Integer, Boolean, Char, Enumeration, Subrange, Array, Record}
+use Rattle.types.specs.Forms.{Integer, Boolean, Char, Enumeration, Subrange, Array, Record, Set}
 use Rattle.types.specs.declared.form.TypeId.{TypeId}
 use Rattle.types.specs.Types.{Counted}
 use Rattle.types.proofs.Counts.{cells_of_form, cells_of_none, values_counted}
@@ -125,6 +125,7 @@ module _ (laid : List LaidOut) (entries : List Counted) (same : (id : TypeId) �
       (λ value. length_behind (step.Element value) (components_at laid element) ∙ same element)
       ∙ ap (λ n. n * cells_at entries element) (many index)
   as_many_of_form (Record packed fields) = as_many_of_fields 0 fields
+  as_many_of_form (Set packed host first last) = refl
 
 -- a table, and those of its first types
 AsMany : List Form → Type 0

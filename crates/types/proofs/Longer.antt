@@ -8,8 +8,8 @@ use Rattle.std.specs.Option.{option_map, option_and_then}
 use Rattle.std.specs.Prelude.{is_some, slice_get}
 use Rattle.types.specs.Components.{components_of, entry_components, laid_out}
 use Rattle.types.specs.Types.{before, cells_at, cells_of, char, counted, element_in, element_of, elements, entry_cells}
-use Rattle.types.specs.Types.{field_at, field_in, field_of, fields_in, form_at, form_range, is_ordinal}
-use Rattle.types.specs.Types.{is_same, is_string, own_field, range_of, string_in, string_last, string_length}
+use Rattle.types.specs.Types.{base_in, field_at, field_in, field_of, fields_in, form_at, form_kind, form_range, is_ordinal, is_scalar}
+use Rattle.types.specs.Types.{is_same, is_string, own_field, range_of, scalar_range, scalar_range_of, set_base, string_in, string_last, string_length}
 use Rattle.types.specs.declared.form.ArrayElement.{ArrayElement}
 use Rattle.types.specs.declared.form.OrdinalRange.{OrdinalRange}
 use Rattle.types.specs.Forms.{Form}
@@ -30,6 +30,15 @@ module _ (types more : List Form) (id : TypeId) (there : id.index < length types
 
   pub ordinal_longer : is_ordinal (types ++ more) id ≡ is_ordinal types id
   ordinal_longer = ap is_some range_longer
+
+  pub scalar_range_longer : scalar_range_of (types ++ more) id ≡ scalar_range_of types id
+  scalar_range_longer = ap (λ form. option_and_then scalar_range (option_map form_kind form)) form_longer
+
+  pub scalar_longer : is_scalar (types ++ more) id ≡ is_scalar types id
+  scalar_longer = ap is_some scalar_range_longer
+
+  pub set_base_longer : set_base (types ++ more) id ≡ set_base types id
+  set_base_longer = ap base_in form_longer
 
   first_longer : take id.index (types ++ more) ≡ take id.index types
   first_longer = take-append-le id.index types more (omega (arith, there))

@@ -13,7 +13,7 @@ use Rattle.types.specs.declared.form.OrdinalRange.{OrdinalRange}
 use Rattle.types.specs.declared.form.Step.{Step}
 use Rattle.types.specs.declared.form.Step.TheVariants as step
 use Rattle.types.specs.Forms.{Form}
-use Rattle.types.specs.Forms.{Integer, Boolean, Char, Enumeration, Subrange, Array, Record}
+use Rattle.types.specs.Forms.{Integer, Boolean, Char, Enumeration, Subrange, Array, Record, Set}
 use Rattle.types.specs.declared.form.TypeId.{TypeId}
 use Rattle.types.proofs.Elements.{elements_components}
 use Rattle.types.proofs.Laid.{components_of_form, components_of_none, fewer_before, laid_before, none_before}
@@ -138,6 +138,7 @@ module _ (laid : List LaidOut) where
     once_form (Subrange host first last) = once_one []
     once_form (Array packed index element) = once_values (components_at laid element) (slice_get laid index.index) (once element)
     once_form (Record packed fields) = once_fields 0 fields
+    once_form (Set packed host first last) = once_one []
 
 -- ---- those of the types of a table
 

@@ -49,6 +49,7 @@ no_part laid (kept.Enumeration last) place arrays records = one place
 no_part laid (kept.Subrange host first last) place arrays records = one place
 no_part laid (kept.Array packed index element) place arrays records = absurd (arrays packed index element refl)
 no_part laid (kept.Record packed fields) place arrays records = absurd (records packed fields refl)
+no_part laid (kept.Set packed host first last) place arrays records = one place
 
 -- ---- in an array
 

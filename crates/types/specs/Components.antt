@@ -1,6 +1,6 @@
--- The scalar components of a type in their order (ISO 7185:1990, 6.4.3.2, 6.4.3.3): one of a scalar, those of its
--- elements of an array, from the first index to the last, those of its fields of a record. Each is told by the steps
--- that lead to it. It says nothing of what they hold.
+-- The scalar components of a type in their order (ISO 7185:1990, 6.4.3.2, 6.4.3.3): one of a scalar, which is an
+-- ordinal or a set, those of its elements of an array, from the first index to the last, those of its fields of a
+-- record. Each is told by the steps that lead to it. It says nothing of what they hold.
 use Rattle.std.specs.Prelude.{ℕ, zero, suc, ℤ, pos, ◌+◌, ◌+ℤ◌, List, [], ◌∷◌, ◌++◌, Option, Some, None, fold, map}
 use Rattle.std.specs.Prelude.{flat_map, slice_get}
 use Rattle.types.specs.Forms.{FieldForm}
@@ -8,7 +8,7 @@ use Rattle.types.specs.declared.form.OrdinalRange.{OrdinalRange}
 use Rattle.types.specs.declared.form.Step.{Step}
 use Rattle.types.specs.declared.form.Step.TheVariants as step
 use Rattle.types.specs.Forms.{Form}
-use Rattle.types.specs.Forms.{Integer, Boolean, Char, Enumeration, Subrange, Array, Record}
+use Rattle.types.specs.Forms.{Integer, Boolean, Char, Enumeration, Subrange, Array, Record, Set}
 use Rattle.types.specs.declared.form.TypeId.{TypeId}
 use Rattle.types.specs.Types.{form_range, values_in}
 
@@ -66,6 +66,7 @@ form_components before (Subrange host first last) = [] ∷ []
 form_components before (Array packed index element) =
     flat_map (λ value. behind_step (step.Element value) (components_at before element)) (values_at before index)
 form_components before (Record packed fields) = fields_components before 0 fields
+form_components before (Set packed host first last) = [] ∷ []
 
 abbrev pub lay_next : List LaidOut → Form → List LaidOut
 lay_next before form = before ++ record { form = form; components = form_components before form } ∷ []

@@ -11,7 +11,8 @@ pub record FieldForm : Type 0 where
   pub type_id : TypeId
 
 -- a required type, an enumerated type by its last value, a subrange of a host type, an array with an element for each
--- value of its index type, or a record with its fields in the order of the text
+-- value of its index type, a record with its fields in the order of the text, or the sets of values of a host type from
+-- the first to the last
 pub data Form : Type 0 where
   Integer : Form
   Boolean : Form
@@ -20,6 +21,7 @@ pub data Form : Type 0 where
   Subrange : (host : TypeId) → (first last : ℤ) → Form
   Array : (packed : Bool) → (index element : TypeId) → Form
   Record : (packed : Bool) → (fields : List FieldForm) → Form
+  Set : (packed : Bool) → (host : TypeId) → (first last : ℤ) → Form
 
 -- ---- as programs keep them
 
@@ -34,3 +36,4 @@ form_of (kept.Enumeration last) = Enumeration last
 form_of (kept.Subrange host first last) = Subrange host first last
 form_of (kept.Array packed index element) = Array packed index element
 form_of (kept.Record packed fields) = Record packed (map field_form fields.items)
+form_of (kept.Set packed host first last) = Set packed host first last

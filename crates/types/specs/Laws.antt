@@ -1,5 +1,5 @@
 -- What holds of every table of types (ISO 7185:1990, 6.4.2, 6.4.3.2, 6.4.3.3): a type has as many scalar components as
--- cells, each of them once; an ordinal type is its own component, and the components of an element and of a field lie
+-- cells, each of them once; a scalar type is its own component, and the components of an element and of a field lie
 -- one behind another in those of the array and of the record. It does not say which types may be added.
 use Rattle.std.specs.Prelude.{◌≡◌, ℕ, ◌+◌, ◌*◌, ◌<◌, ◌≤◌, ℤ, pos, ◌-ℤ◌, ◌≤ℤ◌, List, [], ◌∷◌, Some, true, length}
 use Rattle.std.specs.Prelude.{slice_get}
@@ -10,7 +10,7 @@ use Rattle.types.specs.declared.form.ArrayElement.{ArrayElement}
 use Rattle.types.specs.declared.form.RecordField.{RecordField}
 use Rattle.types.specs.declared.form.Step.TheVariants as step
 use Rattle.types.specs.declared.form.TypeId.{TypeId}
-use Rattle.types.specs.Types.{cells_of, element_of, field_at, is_ordinal}
+use Rattle.types.specs.Types.{cells_of, element_of, field_at, is_scalar}
 
 -- a type has as many components as cells
 abbrev pub ComponentsAreCells : Type 0
@@ -23,10 +23,10 @@ ComponentsStandOnce =
     → slice_get (components_of types id) first ≡ Some steps → slice_get (components_of types id) second ≡ Some steps
     → first ≡ second
 
--- an ordinal type is its own component
-abbrev pub OrdinalsHaveOneComponent : Type 0
-OrdinalsHaveOneComponent =
-    (types : List Form) (id : TypeId) → is_ordinal types id ≡ true → components_of types id ≡ [] ∷ []
+-- a scalar type is its own component
+abbrev pub ScalarsHaveOneComponent : Type 0
+ScalarsHaveOneComponent =
+    (types : List Form) (id : TypeId) → is_scalar types id ≡ true → components_of types id ≡ [] ∷ []
 
 -- an element of an array has the cells of its type, and at an index with so many before it, as many times these cells
 -- lie before its components

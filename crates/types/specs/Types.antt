@@ -1,21 +1,24 @@
 -- The rules of types (ISO 7185:1990, 6.4.2 to 6.4.6) over a table of types and their numbers there: the values of an
--- ordinal type, host types, strings, compatible and assignment compatible types, the cells that a variable takes, the
--- fields of a record, the elements of an array, and the forms that may be added. They say nothing of which type a
--- denoter denotes.
+-- ordinal type and those of the members of a set, host types, strings, compatible and assignment compatible types, the
+-- cells that a variable takes, the fields of a record, the elements of an array, and the forms that may be added. They
+-- say nothing of which type a denoter denotes.
 use Rattle.std.specs.Prelude.{◌≡◌, ℕ, ◌+◌, ◌*◌, nat_eq, nat_lt, ℤ, pos, negsuc, neg_ℤ, ◌+ℤ◌, ◌-ℤ◌, int_lt}
 use Rattle.std.specs.Prelude.{List, [], ◌∷◌, ◌++◌, length, fold, sum_by, slice_get, take, bytes_eq}
 use Rattle.std.specs.Prelude.{Bool, true, false, ◌&&◌, ◌||◌, if◌then◌else◌, Option, Some, None, is_some, ok_or}
 use Rattle.std.specs.Prelude.{option_map}
+use Rattle.std.specs.Bool.{beq}
 use Rattle.std.specs.Prelude.{Result, Ok, Err}
 use Rattle.std.specs.Option.{option_and_then}
 use Rattle.std.specs.Ordering.{int_eq}
 use Rattle.types.specs.Forms.{FieldForm}
 use Rattle.types.specs.Forms.{Form}
-use Rattle.types.specs.Forms.{Integer, Boolean, Char, Enumeration, Subrange, Array, Record}
+use Rattle.types.specs.Forms.{Integer, Boolean, Char, Enumeration, Subrange, Array, Record, Set}
 use Rattle.types.specs.declared.form.TypeId.{TypeId}
 use Rattle.types.specs.declared.form.OrdinalRange.{OrdinalRange}
 use Rattle.types.specs.declared.form.TypeKind.{TypeKind}
 use Rattle.types.specs.declared.form.TypeKind.TheVariants.{Ordinal, Structured}
+use Rattle.types.specs.declared.form.TypeKind.TheVariants.{Set as Sets}
+use Rattle.types.specs.declared.sets.SetBase.{SetBase}
 use Rattle.types.specs.declared.form.RecordField.{RecordField}
 use Rattle.types.specs.declared.form.ArrayElement.{ArrayElement}
 use Rattle.types.specs.declared.refusal.TypeRefusal.{TypeRefusal}
@@ -58,7 +61,7 @@ is_same first second = nat_eq first.index second.index
 abbrev pub ordinal : ℤ → ℤ → TypeKind
 ordinal first last = Ordinal (record { first = first; last = last })
 
--- the kind of a form (6.4.1): ordinal (6.4.2), or structured, an array or a record (6.4.3)
+-- the kind of a form (6.4.1): ordinal (6.4.2), a set (6.4.3.4), or structured, an array or a record (6.4.3)
 abbrev pub form_kind : Form → TypeKind
 form_kind Integer = ordinal (neg_ℤ (pos 2147483647)) (pos 2147483647)
 form_kind Boolean = ordinal (pos 0) (pos 1)
@@ -67,6 +70,8 @@ form_kind (Enumeration last) = ordinal (pos 0) last
 form_kind (Subrange host first last) = ordinal first last
 form_kind (Array packed index element) = Structured
 form_kind (Record packed fields) = Structured
+form_kind (Set packed host first last) =
+    Sets (record { host = Some host; packed = Some packed }) (record { first = first; last = last })
 
 -- the kind of a type of a table
 abbrev pub kind_of : List Form → TypeId → Option TypeKind
@@ -75,6 +80,7 @@ kind_of types id = option_map form_kind (form_at types id)
 -- the first and the last value of an ordinal type
 abbrev pub kind_range : TypeKind → Option OrdinalRange
 kind_range (Ordinal range) = Some range
+kind_range (Sets base members) = None
 kind_range Structured = None
 
 abbrev pub form_range : Form → Option OrdinalRange
@@ -87,6 +93,20 @@ range_of types id = option_and_then form_range (form_at types id)
 -- a type is ordinal, if it has a first and a last value
 abbrev pub is_ordinal : List Form → TypeId → Bool
 is_ordinal types id = is_some (range_of types id)
+
+-- the values of a scalar type: those of an ordinal type, or those that the members of a set may have
+abbrev pub scalar_range : TypeKind → Option OrdinalRange
+scalar_range (Ordinal range) = Some range
+scalar_range (Sets base members) = Some members
+scalar_range Structured = None
+
+-- the same of a type of a table
+abbrev pub scalar_range_of : List Form → TypeId → Option OrdinalRange
+scalar_range_of types id = option_and_then scalar_range (kind_of types id)
+
+-- a type is scalar, if a variable of it has one value, an ordinal or a set
+abbrev pub is_scalar : List Form → TypeId → Bool
+is_scalar types id = is_some (scalar_range_of types id)
 
 abbrev pub is_structured_kind : Option TypeKind → Bool
 is_structured_kind (Some Structured) = true
@@ -131,13 +151,47 @@ abbrev pub have_one_length : Option ℕ → Option ℕ → Bool
 have_one_length (Some first) (Some second) = nat_eq first second
 have_one_length first second = false
 
--- compatible types: one type, a subrange and its host type, subranges of one host type, strings of one length (6.4.5)
+-- of two facts that may be told, each agrees with one that isn't
+abbrev pub agree : {A : Type 0} → (A → A → Bool) → Option A → Option A → Bool
+agree same None second = true
+agree same (Some first) None = true
+agree same (Some first) (Some second) = same first second
+
+-- sets that are compatible: their members are of one host type, and both are packed or neither is (6.4.5)
+abbrev pub are_compatible_sets : SetBase → SetBase → Bool
+are_compatible_sets first second = agree is_same first.host second.host && agree beq first.packed second.packed
+
+-- what is told of either of two sets that are compatible
+abbrev pub either_told : {A : Type 0} → Option A → Option A → Option A
+either_told None second = second
+either_told (Some first) second = Some first
+
+abbrev pub joined_base : SetBase → SetBase → SetBase
+joined_base first second =
+    record { host = either_told first.host second.host; packed = either_told first.packed second.packed }
+
+abbrev pub base_in : Option Form → Option SetBase
+base_in (Some (Set packed host first last)) = Some (record { host = Some host; packed = Some packed })
+base_in other = None
+
+-- what the values of a set type are sets of; none of another type
+abbrev pub set_base : List Form → TypeId → Option SetBase
+set_base types id = base_in (form_at types id)
+
+abbrev pub have_one_base : Option SetBase → Option SetBase → Bool
+have_one_base (Some first) (Some second) = are_compatible_sets first second
+have_one_base first second = false
+
+-- compatible types: one type, a subrange and its host type, subranges of one host type, strings of one length, sets of
+-- one host type that are both packed or both not (6.4.5)
 abbrev pub is_compatible : List Form → TypeId → TypeId → Bool
 is_compatible types first second =
     is_same (host_of types first) (host_of types second)
-    || have_one_length (string_length types first) (string_length types second)
+    || (have_one_length (string_length types first) (string_length types second)
+    || have_one_base (set_base types first) (set_base types second))
 
--- a value of the second type may be assigned to the first, if it lies in its range: compatible types (6.4.6)
+-- a value of the second type may be assigned to the first, if it lies in its range, as each member of a set has to:
+-- compatible types (6.4.6)
 abbrev pub is_assignable : List Form → TypeId → TypeId → Bool
 is_assignable types target value = is_compatible types target value
 
@@ -173,6 +227,7 @@ form_cells before (Enumeration last) = 1
 form_cells before (Subrange host first last) = 1
 form_cells before (Array packed index element) = values_at before index * cells_at before element
 form_cells before (Record packed fields) = sum_by (λ field. cells_at before field.type_id) fields
+form_cells before (Set packed host first last) = 1
 
 abbrev pub count_next : List Counted → Form → List Counted
 count_next before form = before ++ record { form = form; cells = form_cells before form } ∷ []
@@ -253,10 +308,16 @@ abbrev pub is_turned : Form → Bool
 is_turned (Subrange host first last) = int_lt last first
 is_turned form = false
 
+-- a member of a set may lie outside 0 to 127
+abbrev pub has_outside_members : Form → Bool
+has_outside_members (Set packed host first last) = int_lt first (pos 0) || int_lt (pos 127) last
+has_outside_members form = false
+
 -- the cells of a form that may be added to a table, or the rule that it breaks
 abbrev pub admitted_cells : List Form → Form → Result ℕ TypeRefusal
 admitted_cells types form =
     if is_turned form then Err refusal.FirstAboveLast
+    else if has_outside_members form then Err refusal.MembersOutOfRange
     else ok_or (few (form_cells (counted types) form)) refusal.TooManyCells
 
 abbrev pub numbered : List Form → Result ℕ TypeRefusal → Result TypeId TypeRefusal

@@ -1,7 +1,9 @@
 ghost use Rattle.std.specs.Prelude.{◌≡◌, ◌<◌, ◌+ℤ◌, pos};
 ghost use Rattle.types.specs.Forms.{form_of};
 ghost use Rattle.types.specs.declared.form.TypeKind.TheVariants.{Ordinal};
-ghost use Rattle.types.specs.Types.{form_kind, form_range, is_same, kind_range, values_in};
+ghost use Rattle.types.specs.Types.{form_kind, form_range, is_same, kind_range, scalar_range, values_in};
+
+use crate::sets::SetBase;
 
 /// What a type is made of (ISO 7185:1990, 6.4), its parts by their numbers in a table.
 #[derive(Drop)]
@@ -33,6 +35,13 @@ pub enum TypeForm {
         packed: bool,
         fields: Vec<Field>,
     },
+    /// The sets of values of a host type from the first to the last (6.4.3.4).
+    Set {
+        packed: bool,
+        host: TypeId,
+        first: i32,
+        last: i32,
+    },
 }
 
 impl TypeForm {
@@ -47,6 +56,21 @@ impl TypeForm {
             TypeForm::Enumeration { last } => TypeKind::ordinal(0, *last),
             TypeForm::Subrange { first, last, .. } => TypeKind::ordinal(*first, *last),
             TypeForm::Array { .. } | TypeForm::Record { .. } => TypeKind::Structured,
+            TypeForm::Set {
+                packed,
+                host,
+                first,
+                last,
+            } => TypeKind::Set {
+                base: SetBase {
+                    host: Some(*host),
+                    packed: Some(*packed),
+                },
+                members: OrdinalRange {
+                    first: *first,
+                    last: *last,
+                },
+            },
         }
     }
 
@@ -58,11 +82,16 @@ impl TypeForm {
     }
 }
 
-/// The kind of a type (6.4.1), by which all that asks for the one or the other goes.
+/// The kind of a type (6.4.1), by which all that asks for one of them goes.
 #[derive(Clone, Copy)]
 pub enum TypeKind {
     /// An ordinal type (6.4.2), with its values.
     Ordinal(OrdinalRange),
+    /// A set type (6.4.3.4), by what its values are sets of and the values that their members may have.
+    Set {
+        base: SetBase,
+        members: OrdinalRange,
+    },
     /// An array or a record (6.4.3).
     Structured,
 }
@@ -81,6 +110,18 @@ impl TypeKind {
     {
         match self {
             TypeKind::Ordinal(range) => Some(range),
+            TypeKind::Set { .. } | TypeKind::Structured => None,
+        }
+    }
+
+    /// The values of a scalar type: those of an ordinal type, or those that the members of a set may have; none of a
+    /// structured type.
+    pub fn scalar_range(self) -> Option<OrdinalRange>
+        ensures { result ≡ scalar_range self }
+    {
+        match self {
+            TypeKind::Ordinal(range) => Some(range),
+            TypeKind::Set { members, .. } => Some(members),
             TypeKind::Structured => None,
         }
     }

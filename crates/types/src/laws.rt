@@ -1,5 +1,5 @@
 //! What holds of every table of types. Each law is the contract of a function that does nothing.
-ghost use Rattle.types.specs.Laws.{ComponentsAreCells, ComponentsStandOnce, OrdinalsHaveOneComponent};
+ghost use Rattle.types.specs.Laws.{ComponentsAreCells, ComponentsStandOnce, ScalarsHaveOneComponent};
 ghost use Rattle.types.specs.Laws.{ElementsLieInOrder, FieldsLieInOrder};
 
 /// A type has as many scalar components as cells.
@@ -12,9 +12,9 @@ pub fn components_stand_once()
     ensures { ComponentsStandOnce }
 {}
 
-/// An ordinal type is its own component.
-pub fn ordinals_have_one_component()
-    ensures { OrdinalsHaveOneComponent }
+/// A scalar type is its own component.
+pub fn scalars_have_one_component()
+    ensures { ScalarsHaveOneComponent }
 {}
 
 /// An element of an array has the cells of its type, and its components lie behind those of the elements before it.

@@ -5,10 +5,12 @@ mod component;
 mod form;
 pub mod laws;
 mod refusal;
+mod sets;
 mod table;
 
 pub use form::{
     ArrayElement, Field, MAXINT, OrdinalRange, RecordField, Step, TypeForm, TypeId, TypeKind,
 };
 pub use refusal::TypeRefusal;
+pub use sets::SetBase;
 pub use table::{MOST_CELLS, TypeTable};

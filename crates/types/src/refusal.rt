@@ -11,6 +11,8 @@ pub enum TypeRefusal {
     FirstAboveLast,
     /// Y2: a variable of the type takes over 65,536 cells.
     TooManyCells,
+    /// Y3: a member of a set may lie outside 0 to 127 (6.4.3.4).
+    MembersOutOfRange,
 }
 
 impl From<AllocError> for TypeRefusal {

@@ -1,13 +1,14 @@
 ghost use Rattle.std.specs.Prelude.{◌≡◌, ◌⊎◌, ◌++◌, ◌*◌, ◌∷◌, [], List, Err, IfOk, IsOk, OnErr, OnOk, map};
 ghost use Rattle.std.specs.Prelude.{◌<◌, ◌^◌, Some, length, option_map, sum_by};
 ghost use Rattle.types.specs.Types.{admitted, admitted_cells, cells_at, counted, few, form_at, form_cells, is_turned};
-ghost use Rattle.types.specs.Types.{own_field, required_forms, values_at};
+ghost use Rattle.types.specs.Types.{has_outside_members, own_field, required_forms, values_at};
 ghost use Rattle.types.specs.Forms.{Form, field_form, form_of};
 ghost use Rattle.types.specs.Kept.{counted_of, forms_of};
 ghost use Rattle.types.specs.declared.refusal.TypeRefusal.TheVariants.{Memory};
 
 use crate::form::{ArrayElement, Field, OrdinalRange, RecordField, TypeForm, TypeId, TypeKind};
 use crate::refusal::TypeRefusal;
+use crate::sets::SetBase;
 use std::alloc::{AllocError, Global};
 use std::marker::Model;
 
@@ -37,7 +38,8 @@ impl Model for TypeTable {
 
 impl TypeTable {
     ghost use Rattle.types.specs.Types.{cells_of, element_of, field_of, host_of, is_assignable, is_compatible};
-    ghost use Rattle.types.specs.Types.{is_ordinal, is_string, is_structured, kind_of, range_of, string_length};
+    ghost use Rattle.types.specs.Types.{is_ordinal, is_scalar, is_string, is_structured, kind_of, range_of};
+    ghost use Rattle.types.specs.Types.{scalar_range_of, set_base, string_length};
 
     /// The type integer in each table.
     pub const INTEGER: TypeId = TypeId { index: 0 };
@@ -59,8 +61,8 @@ impl TypeTable {
         Ok(TypeTable { entries })
     }
 
-    /// Puts a form over types of this table into it, as a type of its own, and answers its number. Refused by Y1 or
-    /// Y2, or else for want of memory, it leaves the table as it was.
+    /// Puts a form over types of this table into it, as a type of its own, and answers its number. Refused by Y1, Y2 or
+    /// Y3, or else for want of memory, it leaves the table as it was.
     pub fn add(&mut self, form: TypeForm) -> Result<TypeId, TypeRefusal>
         ensures added { OnOk result (self.new ≡ self.old ++ form_of form ∷ []) }
         ensures unchanged { OnErr result (self.new ≡ self.old) }
@@ -97,7 +99,9 @@ impl TypeTable {
     pub fn compatible(&self, first: TypeId, second: TypeId) -> bool
         ensures { result ≡ is_compatible self.now first second }
     {
-        self.host(first).same(self.host(second)) || self.are_equally_long(first, second)
+        self.host(first).same(self.host(second))
+            || self.are_equally_long(first, second)
+            || self.are_compatible_sets(first, second)
     }
 
     /// Whether a value of one type may be assigned to another, if it lies in its range (6.4.6).
@@ -126,6 +130,34 @@ impl TypeTable {
         ensures { result ≡ is_ordinal self.now id }
     {
         self.range(id).is_some()
+    }
+
+    /// The values of a scalar type: those of an ordinal type, or those that the members of a set may have; none of
+    /// another.
+    pub fn scalar_range(&self, id: TypeId) -> Option<OrdinalRange>
+        ensures { result ≡ scalar_range_of self.now id }
+    {
+        self.kind(id)?.scalar_range()
+    }
+
+    /// Whether a variable of a type has one value, an ordinal or a set.
+    pub fn is_scalar(&self, id: TypeId) -> bool
+        ensures { result ≡ is_scalar self.now id }
+    {
+        self.scalar_range(id).is_some()
+    }
+
+    /// What the values of a set type are sets of (6.4.3.4); none of another.
+    pub fn set_base(&self, id: TypeId) -> Option<SetBase>
+        ensures { result ≡ set_base self.now id }
+    {
+        match self.form(id)? {
+            TypeForm::Set { packed, host, .. } => Some(SetBase {
+                host: Some(*host),
+                packed: Some(*packed),
+            }),
+            _ => None,
+        }
     }
 
     /// Whether a type is an array or a record (6.4.3).
@@ -192,8 +224,8 @@ impl TypeTable {
 }
 
 impl TypeTable {
-    ghost use Rattle.types.specs.Types.{before, elements, field_among, have_one_length, range_of};
-    ghost use Rattle.types.specs.Types.{string_last, string_length};
+    ghost use Rattle.types.specs.Types.{before, elements, field_among, have_one_base, have_one_length, range_of};
+    ghost use Rattle.types.specs.Types.{set_base, string_last, string_length};
 
     // How many types there are.
     pub(crate) fn count(&self) -> usize
@@ -208,6 +240,16 @@ impl TypeTable {
     {
         match (self.string_length(first), self.string_length(second)) {
             (Some(length), Some(other)) => length == other,
+            _ => false,
+        }
+    }
+
+    // Whether two types are sets of one host type, both packed or both not.
+    fn are_compatible_sets(&self, first: TypeId, second: TypeId) -> bool
+        ensures { result ≡ have_one_base (set_base self.now first) (set_base self.now second) }
+    {
+        match (self.set_base(first), self.set_base(second)) {
+            (Some(base), Some(other)) => base.compatible(other),
             _ => false,
         }
     }
@@ -232,6 +274,9 @@ impl TypeTable {
     {
         if is_turned(form) {
             return Err(TypeRefusal::FirstAboveLast);
+        }
+        if has_outside_members(form) {
+            return Err(TypeRefusal::MembersOutOfRange);
         }
         self.form_cells(form).ok_or(TypeRefusal::TooManyCells)
     }
@@ -342,6 +387,16 @@ fn is_turned(form: &TypeForm) -> bool
 {
     match form {
         TypeForm::Subrange { first, last, .. } => first > last,
+        _ => false,
+    }
+}
+
+// Whether a member of a set may lie outside 0 to 127.
+fn has_outside_members(form: &TypeForm) -> bool
+    ensures { result ≡ has_outside_members (form_of form.now) }
+{
+    match form {
+        TypeForm::Set { first, last, .. } => *first < 0 || *last > 127,
         _ => false,
     }
 }

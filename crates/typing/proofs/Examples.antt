@@ -15,15 +15,20 @@ use Rattle.syntax_tree.specs.declared.Operator.TheVariants as op
 use Rattle.syntax_tree.specs.declared.Sign.TheVariants as sign
 use Rattle.syntax_tree.specs.declared.ConstantValue.TheVariants as constant
 use Rattle.types.specs.Forms.{Form}
-use Rattle.types.specs.Forms.{FieldForm, Enumeration, Subrange, Array, Record}
+use Rattle.types.specs.Forms.{FieldForm, Enumeration, Subrange, Array, Record, Set}
 use Rattle.types.specs.declared.form.TypeId.{TypeId}
 use Rattle.types.specs.Types.{required_forms, integer, boolean, char, range_of, field_of}
 use Rattle.typing.specs.Names.{folded, required_region}
-use Rattle.typing.specs.Expressions.{copying, fitting, typed, typed_text, typed_variable, takes_operands, may_compare, as_function, field_named}
+use Rattle.typing.specs.Expressions.{copying, fitting, typed, typed_text, typed_variable, may_compare, may_contain, as_function, field_named}
+use Rattle.typing.specs.Expressions.{relation_behind_value, result_of, typed_set}
 use Rattle.typing.specs.Expressions.{or_not_declared}
 use Rattle.typing.specs.Functions.{begins_as, calculation_of, applied}
 use Rattle.typing.specs.Passing.{Checked, and_then}
 use Rattle.typing.specs.declared.typed.Typed.{Typed}
+use Rattle.typing.specs.declared.typed.TypedValue.TheVariants as value
+use Rattle.typed_tree.specs.declared.tree.Scalar.TheVariants as scalar
+use Rattle.types.specs.declared.sets.SetBase.{SetBase}
+use Rattle.syntax_tree.specs.declared.RelationalOperator.TheVariants as relational
 use Rattle.typing.specs.Constants.{as_constant, behind_sign, constant_place}
 use Rattle.typing.specs.Statements.{own_constant}
 use Rattle.typing.specs.Denoters.{named_type, between, named_fields}
@@ -43,19 +48,19 @@ abbrev of : TypeId → Typed
 of type_id = typed type_id None
 
 -- integers are added
-pub sum_of_integers : takes_operands op.Plus (of integer) (of integer) ≡ true
+pub sum_of_integers : result_of op.Plus (value.Ordinal integer) (value.Ordinal integer) ≡ Some (value.Ordinal integer)
 sum_of_integers = refl
 
 -- a truth value can't be added
-pub sum_with_boolean : takes_operands op.Plus (of integer) (of boolean) ≡ false
+pub sum_with_boolean : result_of op.Plus (value.Ordinal integer) (value.Ordinal boolean) ≡ None
 sum_with_boolean = refl
 
 -- truth values are compared with each other
-pub less_of_booleans : may_compare required_forms (of boolean) (of boolean) ≡ true
+pub less_of_booleans : may_compare required_forms (value.Ordinal boolean) (value.Ordinal boolean) ≡ true
 less_of_booleans = refl
 
 -- an integer is not compared with a truth value
-pub equal_of_both : may_compare required_forms (of integer) (of boolean) ≡ false
+pub equal_of_both : may_compare required_forms (value.Ordinal integer) (value.Ordinal boolean) ≡ false
 equal_of_both = refl
 
 -- maxint is a constant of type integer
@@ -197,17 +202,17 @@ module _ (place behind : Place) where
   closes = refl
 
   -- two strings of the same length are compared, and others aren't
-  pub equally_long : may_compare strings (typed_text first 2 None) (typed_text second 2 None) ≡ true
+  pub equally_long : may_compare strings (value.Text first 2) (value.Text second 2) ≡ true
   equally_long = refl
 
-  pub longer : may_compare strings (typed_text first 2 None) (typed_text third 3 None) ≡ false
+  pub longer : may_compare strings (value.Text first 2) (value.Text third 3) ≡ false
   longer = refl
 
   -- no string is compared with a char, or added
-  pub string_and_char : may_compare strings (typed_text first 2 None) (of char) ≡ false
+  pub string_and_char : may_compare strings (value.Text first 2) (value.Ordinal char) ≡ false
   string_and_char = refl
 
-  pub sum_of_strings : takes_operands op.Plus (typed_text first 2 None) (typed_text second 2 None) ≡ false
+  pub sum_of_strings : result_of op.Plus (value.Text first 2) (value.Text second 2) ≡ None
   sum_of_strings = refl
 
   -- a string is copied to a target that is as long
@@ -223,7 +228,7 @@ module _ (place behind : Place) where
       applied types f operation.answer place argument
 
   abbrev tested : ℤ → ℤ → Shift → Monadic
-  tested first last does = monadic.Tested (record { site = 0; range = record { first = first; last = last } }) does
+  tested first last does = monadic.Tested (record { site = 0; tests = scalar.Ordinal; range = record { first = first; last = last } }) does
 
   -- the successor of an enumerated type is that of a value below its last, and its host type's decides
   pub successor : called own_types (codes "succ") (of colour) ≡ Ok (tested (pos 0) (pos 1) shift.Next, colour)
@@ -313,3 +318,65 @@ module _ (text : Bor (List ℕ)) (place : Place) where
       ap (λ t. if list_any (λ (field : FieldForm). pointwise nat_eq field.name (folded t)) (record { name = codes "key"; type_id = integer } ∷ [])
       then Err (fault.DeclaredTwice place)
       else Ok (record { name = codes "key"; type_id = integer } ∷ record { name = folded t; type_id = char } ∷ [])) is
+
+-- sets of 1..10, and packed ones
+abbrev sets : List Form
+sets = required_forms ++ Set false integer (pos 1) (pos 10) ∷ Set true integer (pos 1) (pos 10) ∷ []
+
+abbrev few : TypeId
+few = record { index = 3 }
+
+abbrev packed_few : TypeId
+packed_few = record { index = 4 }
+
+abbrev of_integers : SetBase
+of_integers = record { host = Some integer; packed = Some false }
+
+abbrev constructor_of_integers : SetBase
+constructor_of_integers = record { host = Some integer; packed = None }
+
+abbrev no_members : SetBase
+no_members = record { host = None; packed = None }
+
+-- a constructor may be assigned to a packed set and to another one, and is tested for the values of the members
+pub constructor_fits : fitting sets few (typed_set constructor_of_integers None) ≡ Some (record { first = pos 1; last = pos 10 })
+constructor_fits = refl
+
+pub constructor_fits_packed : fitting sets packed_few (typed_set constructor_of_integers None) ≡ Some (record { first = pos 1; last = pos 10 })
+constructor_fits_packed = refl
+
+pub no_members_fit : fitting sets few (typed_set no_members None) ≡ Some (record { first = pos 1; last = pos 10 })
+no_members_fit = refl
+
+pub set_does_not_fit_packed : fitting sets packed_few (typed_set of_integers None) ≡ None
+set_does_not_fit_packed = refl
+
+pub integer_does_not_fit_set : fitting sets few (of integer) ≡ None
+integer_does_not_fit_set = refl
+
+pub set_does_not_fit_integer : fitting sets integer (typed_set constructor_of_integers None) ≡ None
+set_does_not_fit_integer = refl
+
+-- sets are united, and not divided; with an integer neither
+pub union_with_none : result_of op.Plus (value.Set no_members) (value.Set of_integers) ≡ Some (value.Set of_integers)
+union_with_none = refl
+
+pub quotient_of_sets : result_of op.Div (value.Set of_integers) (value.Set of_integers) ≡ None
+quotient_of_sets = refl
+
+pub union_with_integer : result_of op.Plus (value.Set of_integers) (value.Ordinal integer) ≡ None
+union_with_integer = refl
+
+-- no set is less than another
+pub less_of_sets : relation_behind_value relational.Less (value.Set of_integers) ≡ None
+less_of_sets = refl
+
+-- an integer may be a member of a set of integers, and of the set without members, but no truth value
+pub integer_in_set : may_contain (value.Ordinal integer) (value.Set of_integers) ≡ true
+integer_in_set = refl
+
+pub integer_in_none : may_contain (value.Ordinal integer) (value.Set no_members) ≡ true
+integer_in_none = refl
+
+pub boolean_in_set : may_contain (value.Ordinal boolean) (value.Set of_integers) ≡ false
+boolean_in_set = refl

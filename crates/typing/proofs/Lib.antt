@@ -1,7 +1,7 @@
 mod Examples
-pub mod Copying
 pub mod DenoterRows
 mod NamedFields
+mod FieldNames
 pub mod Rows
 pub mod Selectors
 pub mod Written

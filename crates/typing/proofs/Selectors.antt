@@ -16,6 +16,7 @@ use Rattle.typed_tree.specs.Look.{Look}
 use Rattle.typing.specs.Expressions.{Written, field_named, index, selected}
 use Rattle.typing.specs.Outcomes.{IsFault}
 use Rattle.typing.specs.Passing.{Passed, Checked, After, after, and_then, behind_marks, by_types, ◌>>=◌}
+use Rattle.typed_tree.specs.declared.tree.Scalar.TheVariants as scalar
 use Rattle.typing.specs.Steps.{or_mismatch, pass}
 use Rattle.typing.proofs.Rows.{behind_nothing, behind_both, behind_fault}
 
@@ -57,7 +58,8 @@ module _ (made : List TreeSelector) (id : TypeId) (selectors : List Selector) (n
     abbrev behind_index : ArrayElement → Checked (After ℕ) → Checked (After (List TreeSelector × TypeId))
     behind_index e outcome =
         and_then outcome (λ a. behind_marks a.look
-        (selected (made ++ tree.Element (record { site = a.answer; range = e.range }) e.cells ∷ []) e.type_id selectors indexes a.passed))
+        (selected (made ++ tree.Element (record { site = a.answer; tests = scalar.Ordinal; range = e.range }) e.cells ∷ []) e.type_id selectors indexes
+        a.passed))
 
     index_goes : selected made id (select.Index place joined ∷ selectors) (w ∷ indexes) now
         ≡ and_then (and_then element (λ e. Ok (after e [] there))) (λ a. behind_marks a.look (behind_index a.answer (index a.answer w a.passed)))
@@ -83,7 +85,8 @@ module _ (made : List TreeSelector) (id : TypeId) (selectors : List Selector) (n
 
       pub index_passes : (site : ℕ) (look : Look) (new : Passed) → index e w there ≡ Ok (after site look new)
           → selected made id (select.Index place joined ∷ selectors) (w ∷ indexes) now
-          ≡ behind_marks look (selected (made ++ tree.Element (record { site = site; range = e.range }) e.cells ∷ []) e.type_id selectors indexes new)
+          ≡ behind_marks look
+          (selected (made ++ tree.Element (record { site = site; tests = scalar.Ordinal; range = e.range }) e.cells ∷ []) e.type_id selectors indexes new)
       index_passes site look new goes = behind_element ∙ ap (behind_index e) goes
 
       pub index_stops : (why : TypeFault) → index e w there ≡ Err why
@@ -91,20 +94,21 @@ module _ (made : List TreeSelector) (id : TypeId) (selectors : List Selector) (n
       index_stops why stops = behind_element ∙ ap (behind_index e) stops
 
 -- selectors of which the first ones are passed, and the indexes that are left
-module _ {A : Type 0} (written : A → Written) (type_id : TypeId) (selectors : List Selector) (indexes : List A) (old : Passed) where
+module _ {A : Type 0} (written : A → Written) (before : List TreeSelector) (type_id : TypeId) (selectors : List Selector) (indexes : List A)
+    (old : Passed) where
   -- what is left, once some are passed
   abbrev pub IsSelectedFrom : ℕ → List A → List TreeSelector → TypeId → Look → Passed → Type 0
   IsSelectedFrom i rest made id look now =
-      selected [] type_id selectors (map written indexes) old ≡ behind_marks look (selected made id (drop i selectors) (map written rest) now)
+      selected before type_id selectors (map written indexes) old ≡ behind_marks look (selected made id (drop i selectors) (map written rest) now)
 
   -- none is passed yet
-  pub selectors_begin : IsSelectedFrom 0 indexes [] type_id [] old
-  selectors_begin = sym (behind_nothing (selected [] type_id selectors (map written indexes) old))
+  pub selectors_begin : IsSelectedFrom 0 indexes before type_id [] old
+  selectors_begin = sym (behind_nothing (selected before type_id selectors (map written indexes) old))
 
   module _ (i : ℕ) (rest : List A) (made : List TreeSelector) (id : TypeId) (look : Look) (now : Passed)
       (left : IsSelectedFrom i rest made id look now) where
     module _ (selector : Selector) (within : i < length selectors) (is : selector ≡ get_or selectors i selector) where
-      next_selector : selected [] type_id selectors (map written indexes) old
+      next_selector : selected before type_id selectors (map written indexes) old
           ≡ behind_marks look (selected made id (selector ∷ drop (i + 1) selectors) (map written rest) now)
       next_selector =
           left
@@ -122,13 +126,13 @@ module _ {A : Type 0} (written : A → Written) (type_id : TypeId) (selectors : 
 
       -- it stops
       pub selector_stops : (why : TypeFault) → IsFault (selected made id (selector ∷ drop (i + 1) selectors) (map written rest) now) why
-          → IsFault (selected [] type_id selectors (map written indexes) old) why
+          → IsFault (selected before type_id selectors (map written indexes) old) why
       selector_stops why stops =
           subst (λ o. IsFault o why) (sym next_selector)
           (behind_fault look (selected made id (selector ∷ drop (i + 1) selectors) (map written rest) now) why stops)
 
     -- all are passed
-    pub selectors_end : length selectors ≤ i → selected [] type_id selectors (map written indexes) old ≡ Ok (after (made, id) look now)
+    pub selectors_end : length selectors ≤ i → selected before type_id selectors (map written indexes) old ≡ Ok (after (made, id) look now)
     selectors_end all =
         left ∙ at_drop_all (λ ss. behind_marks look (selected made id ss (map written rest) now)) selectors i all
         ∙ ap (λ l. Ok (after (made, id) l now)) (append-nil look)

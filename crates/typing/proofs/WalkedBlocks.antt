@@ -119,6 +119,14 @@ module _ (acts : Bool) (owner : Owner) (defines : Defines owner) (depth : ℕ) w
   record_walks packed place rows ws laws =
       then_walks (pass_walks place) (λ _. then_walks (groups_walk [] rows ws laws) (λ fields. add_type_walks place (Record packed fields)))
 
+  set_walks : (packed : Bool) (place : Place) (base : WrittenDenoter) → DenoterWalks base → Goes_by (Denoters.set_type packed place base)
+  unfolding Denoters.set_type
+  set_walks packed place base law =
+      then_walks (pass_walks place) λ _.
+      then_walks (index_type_walks base law) λ id.
+      then_walks (by_types_walks _) λ form.
+      add_type_walks place form
+
   abbrev pub TypeDenoterWalks : TypeDenoter → Type 0
   TypeDenoterWalks d = Goes_by (denoted_type d)
 
@@ -144,6 +152,7 @@ module _ (acts : Bool) (owner : Owner) (defines : Defines owner) (depth : ℕ) w
       rolled (bare (layer.Array packed place indexes element)) (array_walks packed place _ _ (rows_walk indexes.items) element.value.1)
   denoter_layer (layer.Record packed place rows ds semicolon) =
       rolled (bare (layer.Record packed place rows ds semicolon)) (record_walks packed place rows.items _ (rows_walk ds.items))
+  denoter_layer (layer.Set packed place base) = rolled (bare (layer.Set packed place base)) (set_walks packed place _ base.value.1)
 
   pub denoted_type_walks : (d : TypeDenoter) → TypeDenoterWalks d
   denoted_type_walks d = ind-TypeDenoter TypeDenoterWalks (λ x y is. subst (λ z. TypeDenoterWalks (roll-TypeDenoter z)) is (denoter_layer y)) d

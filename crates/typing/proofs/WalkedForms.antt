@@ -1,11 +1,10 @@
 -- Each constant, each expression and each statement goes a way.
-use Rattle.std.proofs.Common.{◌≡◌, option_map, ℕ, ◌+◌, ℤ, Bool, true, false, if◌then◌else◌, List, [], ◌∷◌, ◌++◌, map, Option, Some}
+use Rattle.std.proofs.Common.{◌≡◌, option_map, ℕ, suc, ◌+◌, ℤ, Bool, true, false, if◌then◌else◌, List, [], ◌∷◌, ◌++◌, map, Option, Some}
 use Rattle.std.proofs.Common.{None, Vec, Ok, Err, ◌||◌, nat_eq, get_or, slice_get, refl, sym, ap, subst}
 use Rattle.std.specs.List.{flat_map, list_any}
 use Rattle.std.proofs.lemmas.Bool.{eq-eqb}
 use Rattle.std.proofs.lemmas.Grind.{flat_map-append}
 use Rattle.typed_tree.specs.WellFormed.{is_one_of}
-use Rattle.std.specs.Prelude.{is_none}
 use Rattle.std.specs.declared.alloc.Global.{Global}
 use Rattle.place.specs.declared.Place.{Place}
 use Rattle.syntax_tree.specs.declared.Name.{Name}
@@ -28,9 +27,14 @@ use Rattle.syntax_tree.specs.declared.Stmt.{Stmt}
 use Rattle.syntax_tree.specs.declared.Stmt.TheOpen as stmt_layer
 use Rattle.syntax_tree.specs.declared.Stmt.TheViews.{roll-Stmt}
 use Rattle.syntax_tree.specs.declared.Stmt.TheFolds.{map-Stmt, fold-roll-Stmt, ind-Stmt}
-use Rattle.syntax_tree.specs.Places.{arms_of}
+use Rattle.syntax_tree.specs.Places.{arms_of, members_of}
+use Rattle.syntax_tree.specs.declared.Designator.{Designator}
+use Rattle.syntax_tree.specs.declared.Designator.TheVariants as designator
+use Rattle.syntax_tree.specs.declared.RecordVariable.{RecordVariable}
 use Rattle.types.specs.Forms.{Form}
 use Rattle.types.specs.declared.form.TypeId.{TypeId}
+use Rattle.types.specs.declared.form.TypeKind.{TypeKind}
+use Rattle.types.specs.declared.form.TypeKind.TheVariants as kind_of_type
 use Rattle.types.specs.Types.{is_string}
 use Rattle.scopes.specs.declared.denotation.Denotation.{Denotation}
 use Rattle.scopes.specs.declared.denotation.Denotation.TheVariants as denotes
@@ -40,26 +44,31 @@ use Rattle.scopes.specs.declared.denotation.FunctionValue.{FunctionValue}
 use Rattle.scopes.specs.declared.denotation.FunctionValue.TheVariants as function
 use Rattle.scopes.specs.declared.denotation.RequiredProcedure.{RequiredProcedure}
 use Rattle.typed_tree.specs.declared.site.SiteKind.{SiteKind}
+use Rattle.typed_tree.specs.declared.tree.Designator.{Designator as TreeDesignator}
+use Rattle.typed_tree.specs.declared.tree.Dyadic.{Dyadic}
 use Rattle.typed_tree.specs.declared.tree.Selector.{Selector as TreeSelector}
+use Rattle.typed_tree.specs.Accesses.{Origin, index_count, root_of}
 use Rattle.typed_tree.specs.declared.tree.Variable.{Variable}
 use Rattle.typed_tree.specs.WellFormed.{is_variable_kind}
 use Rattle.typed_tree.specs.declared.tree.Representation.{Representation}
 use Rattle.typed_tree.specs.Look as Look
 use Rattle.typed_tree.specs.Look.{Mark}
 use Rattle.typing.specs.declared.typed.Typed.{Typed}
+use Rattle.typing.specs.declared.typed.TypedValue.{TypedValue}
+use Rattle.typing.specs.declared.typed.TypedValue.TheVariants as value
 use Rattle.typing.specs.Passing.{Passed, Checked, After, Passing, after, and_then, behind_marks, each, given, mark, pure, ◌>>=◌, ◌>>◌}
-use Rattle.typing.specs.Steps.{assign_result, enclosing_now, enter_as, heading_at, may_change, or_mismatch, program_heading, variable_at}
+use Rattle.typing.specs.Steps.{assign_result, close_record, enclosing_now, enter_as, heading_at, may_change, or_mismatch, program_heading, variable_at}
 use Rattle.typing.specs.Strings.{string_type, string_constant}
 use Rattle.typing.specs.Constants as Constants
 use Rattle.typing.specs.Functions as Functions
 use Rattle.typing.specs.Expressions as Expressions
-use Rattle.typing.specs.Expressions.{Written, WrittenActual, WrittenLink, expression, written_actual, written_link}
+use Rattle.typing.specs.Expressions.{Copy, Denoted, Written, WrittenActual, WrittenLink, entire, expression, written_actual, written_link}
 use Rattle.typing.specs.Statements as Statements
-use Rattle.typing.specs.Statements.{statement}
+use Rattle.typing.specs.Statements.{WrittenVariable, statement, written_record}
 use Rattle.typing.proofs.Ways.{Assigned, Goes, find_walks, targets_at, with_result}
 use Rattle.typing.proofs.Ways.{Owner, Way, Walks, numbers_of, then_walks, test_walks, mark_walks, pure_walks, given_walks, enter_walks, tells_then, given_tells}
 use Rattle.typing.proofs.Ways.{test_tells, walk}
-use Rattle.typing.proofs.Ways.{pass_walks, enter_loop_walks, for_body_walks}
+use Rattle.typing.proofs.Ways.{pass_walks, enter_loop_walks, for_body_walks, next_slot_walks, open_record_walks, close_record_walks}
 
 module _ (acts : Bool) (owner : Owner) (depth : ℕ) where
   -- ---- constants
@@ -91,14 +100,14 @@ module _ (acts : Bool) (owner : Owner) (depth : ℕ) where
 -- ---- targets
 
 -- what comes behind the variable left of `:=`
-abbrev pub access_typing : Name → List Selector → List Written → ℕ × TypeId → Passing Statements.Accessed
+abbrev pub access_typing : Name → List Selector → List Written → Denoted → Passing Statements.Accessed
 access_typing name selectors ws variable = do
-  may_change name.place variable.0
+  may_change name.place (root_of variable.origin)
   enter_as Look.Access
-  component ← Expressions.selected [] variable.1 selectors ws
-  structured ← Expressions.tests_structured component.1
-  mark (Statements.target_mark structured variable.0 component.0 component.1)
-  pure (record { root = variable.0; selectors = component.0; type_id = component.1 })
+  component ← Expressions.selected variable.selectors variable.type_id selectors ws
+  found ← Expressions.kind_now component.1
+  mark (Statements.target_mark found variable.origin component.0 component.1)
+  pure (record { origin = variable.origin; selectors = component.0; type_id = component.1 })
 
 -- a variable is told as assigned
 abbrev pub IsTold : ℕ → Look.Look → Passed → Passed → Type 0
@@ -127,20 +136,25 @@ told_behind {A} {B} root p f rest = record { walks = λ old. by old (p old) }
     by old (Ok a) = behind old a.passed a.look (f a.answer a.passed) ((rest a.answer).walks a.passed)
     by old (Err why) = tt
 
-pub access_told : (name : Name) (selectors : List Selector) (ws : List Written) (variable : ℕ × TypeId)
-    → Walks (IsTold variable.0) (access_typing name selectors ws variable)
+pub access_told : (name : Name) (selectors : List Selector) (ws : List Written) (variable : Denoted)
+    → Walks (IsTold (root_of variable.origin)) (access_typing name selectors ws variable)
 access_told name selectors ws variable =
-    told_behind variable.0 (may_change name.place variable.0) _ λ _.
-    told_behind variable.0 (enter_as Look.Access) _ λ _.
-    told_behind variable.0 (Expressions.selected [] variable.1 selectors ws) _ λ component.
-    told_behind variable.0 (Expressions.tests_structured component.1) _ λ structured.
-    last component structured
+    told_behind (root_of variable.origin) (may_change name.place (root_of variable.origin)) _ λ _.
+    told_behind (root_of variable.origin) (enter_as Look.Access) _ λ _.
+    told_behind (root_of variable.origin) (Expressions.selected variable.selectors variable.type_id selectors ws) _ λ component.
+    told_behind (root_of variable.origin) (Expressions.kind_now component.1) _ λ found.
+    last component found
   where
-    last : (component : List TreeSelector × TypeId) (structured : Bool)
-        → Walks (IsTold variable.0) (mark (Statements.target_mark structured variable.0 component.0 component.1)
-        >> pure {A = Statements.Accessed} (record { root = variable.0; selectors = component.0; type_id = component.1 }))
-    last component true = record { walks = λ old. ap (λ b. b || false) (eq-eqb variable.0 variable.0 refl) }
-    last component false = record { walks = λ old. ap (λ b. b || false) (eq-eqb variable.0 variable.0 refl) }
+    its : list_any (nat_eq (root_of variable.origin)) (root_of variable.origin ∷ []) ≡ true
+    its = ap (λ b. b || false) (eq-eqb (root_of variable.origin) (root_of variable.origin) refl)
+
+    last : (component : List TreeSelector × TypeId) (found : Option TypeKind)
+        → Walks (IsTold (root_of variable.origin)) (mark (Statements.target_mark found variable.origin component.0 component.1)
+        >> pure {A = Statements.Accessed} (record { origin = variable.origin; selectors = component.0; type_id = component.1 }))
+    last component (Some kind_of_type.Structured) = record { walks = λ old. its }
+    last component (Some (kind_of_type.Set base members)) = record { walks = λ old. its }
+    last component (Some (kind_of_type.Ordinal range)) = record { walks = λ old. its }
+    last component None = record { walks = λ old. its }
 
 -- the result of a function, inside its block, is assigned, and nothing else changes
 pub record AssignsResult (place : Place) (block : ℕ) (s : Passed) (a : After (ℕ × TypeId)) : Type 0 where
@@ -234,29 +248,37 @@ module _ (owner : Owner) (depth : ℕ) where
       let more = λ (before : List TreeSelector) (type_id : TypeId). selected_walks before type_id selectors ws laws.1 in
       search (walk, more, laws.0.typing) depth 8
 
-  value_walks : (structured : Bool) (root : ℕ) (selectors : List TreeSelector) (type_id : TypeId) (defined : ℕ) (lead : Option ℕ)
-      → Goes_by ((if structured then Expressions.whole_value else Expressions.ordinal_value) root selectors type_id defined lead)
-  unfolding Expressions.ordinal_value Expressions.whole_value
-  value_walks true root selectors type_id defined lead = search walk
-  value_walks false root selectors type_id defined lead = search walk
+  value_walks : (found : Option TypeKind) (origin : Origin) (selectors : List TreeSelector) (type_id : TypeId) (defined : ℕ) (lead : Option ℕ)
+      → Goes_by (Expressions.value_of_kind found origin selectors type_id defined lead)
+  unfolding Expressions.ordinal_value Expressions.set_value Expressions.whole_value
+  value_walks (Some kind_of_type.Structured) origin selectors type_id defined lead = search walk
+  value_walks (Some (kind_of_type.Set base members)) origin selectors type_id defined lead = search walk
+  value_walks (Some (kind_of_type.Ordinal range)) origin selectors type_id defined lead = search walk
+  value_walks None origin selectors type_id defined lead = search walk
 
-  accessed_walks : (root : ℕ) (type_id : TypeId) (selectors : List Selector) (ws : List Written) (place : Place) (lead : Option SiteKind) → AllWalk ws
-      → Goes_by (Expressions.accessed root type_id selectors ws place lead)
-  unfolding Expressions.accessed Expressions.tests_structured
-  accessed_walks root type_id selectors ws place lead laws = search (walk, behind_walks, selected_walks, value_walks) depth 12
+  accessed_walks : (variable : Denoted) (selectors : List Selector) (ws : List Written) (place : Place) (lead : Option SiteKind) → AllWalk ws
+      → Goes_by (Expressions.accessed variable selectors ws place lead)
+  unfolding Expressions.accessed Expressions.kind_now
+  accessed_walks variable selectors ws place lead laws = search (walk, behind_walks, selected_walks, value_walks) depth 12
+
+  pub variable_of_walks : (place : Place) (d : Denotation) → Goes_by (Expressions.variable_of place d)
+  variable_of_walks place (denotes.Field slot position offset type_id) = search walk
+  variable_of_walks place other = search walk
 
   passed_variable_walks : (name : Name) (selectors : List Selector) (ws : List Written) (wanted : TypeId) (callee position : ℕ) → AllWalk ws
       → Goes_by (Expressions.passed_variable name selectors ws wanted callee position)
   unfolding Expressions.passed_variable
-  passed_variable_walks name selectors ws wanted callee position laws = search (walk, selected_walks) depth 12
+  passed_variable_walks name selectors ws wanted callee position laws = search (walk, variable_of_walks, selected_walks) depth 12
 
   passed_value_walks : (type_id : TypeId) (w : Written) (callee position : ℕ) → WrittenWalks w → Goes_by (Expressions.passed_value type_id w callee position)
-  unfolding Expressions.passed_value Expressions.tests_structured Expressions.passed_ordinal Expressions.passed_whole
+  unfolding Expressions.passed_value Expressions.kind_now Expressions.passed_ordinal Expressions.passed_set Expressions.passed_whole
   passed_value_walks type_id w callee position law = search (walk, by)
     where
-      by : (structured : Bool) → Goes_by ((if structured then Expressions.passed_whole else Expressions.passed_ordinal) type_id w callee position)
-      by true = search (walk, law.typing)
-      by false = search (walk, law.typing)
+      by : (found : Option TypeKind) → Goes_by (Expressions.passed_by_kind found type_id w callee position)
+      by (Some kind_of_type.Structured) = search (walk, law.typing)
+      by (Some (kind_of_type.Set base members)) = search (walk, law.typing)
+      by (Some (kind_of_type.Ordinal range)) = search (walk, law.typing)
+      by None = search (walk, law.typing)
 
   passed_to_walks : (formal : Option Variable) (w : Written) (callee position : ℕ) → WrittenWalks w → Goes_by (Expressions.passed_to formal w callee position)
   passed_to_walks None w callee position law = search walk
@@ -296,7 +318,9 @@ module _ (owner : Owner) (depth : ℕ) where
   unfolding Expressions.denoted
   denoted_walks (denotes.Constant value type_id) place lead = search (walk, behind_walks)
   denoted_walks (denotes.Text number type_id) place lead = search (walk, behind_walks)
-  denoted_walks (denotes.Variable root type_id) place lead = accessed_walks root type_id [] [] place lead tt
+  denoted_walks (denotes.Variable root type_id) place lead = accessed_walks (entire root type_id) [] [] place lead tt
+  denoted_walks (denotes.Field slot position offset type_id) place lead =
+      then_walks (variable_of_walks place (denotes.Field slot position offset type_id)) (λ variable. accessed_walks variable [] [] place lead tt)
   denoted_walks (denotes.Routine block is_function) place lead = function_value_walks block is_function place [] lead tt
   denoted_walks other place lead = search walk
 
@@ -305,9 +329,14 @@ module _ (owner : Owner) (depth : ℕ) where
   operation_walks op.Plus place = search walk
   operation_walks other place = search walk
 
+  operation_or_walks : (does : Option Dyadic) (operator : Operator) (place : Place) → Goes_by (Expressions.operation_or does operator place)
+  unfolding Expressions.operation_or
+  operation_or_walks None operator place = operation_walks operator place
+  operation_or_walks (Some does) operator place = search walk
+
   link_walks : (operator : Operator) (place : Place) (w : Written) → WrittenWalks w → LinkWalks (Expressions.link operator place w)
   unfolding Expressions.link
-  link_walks operator place w law left = search (walk, operation_walks, law.typing) depth 12
+  link_walks operator place w law left = search (walk, operation_or_walks, law.typing) depth 12
 
   links_walk : (left : Typed) (ls : List WrittenLink) → LinksWalk ls → Goes_by (Expressions.links left ls)
   links_walk left [] laws = search walk
@@ -317,7 +346,7 @@ module _ (owner : Owner) (depth : ℕ) where
   unfolding Expressions.chain
   chain_walks w ls lead law laws = search (walk, law.typing, links_walk) depth 12
 
-  compares_walks : (left right : Option ℕ) → Goes_by (Expressions.compares left right)
+  compares_walks : (left right : Option Copy) → Goes_by (Expressions.compares left right)
   unfolding Expressions.compares
   compares_walks (Some left) (Some right) = search walk
   compares_walks left right = search walk
@@ -325,7 +354,30 @@ module _ (owner : Owner) (depth : ℕ) where
   relation_walks : (left : Written) (operator : RelationalOperator) (place : Place) (right : Written) (lead : Option SiteKind) → WrittenWalks left
       → WrittenWalks right → Goes_by (Expressions.relation left operator place right lead)
   unfolding Expressions.relation
-  relation_walks left operator place right lead law behind = search (walk, law.typing, behind.typing, compares_walks) depth 16
+  relation_walks left operator place right lead law behind = search (walk, law.typing, behind.typing, compares_walks) depth 20
+
+  -- ---- set constructors
+
+  abbrev pub MembersWalk : List (Written × Option Written) → Type 0
+  MembersWalk [] = Unit {0}
+  MembersWalk (m ∷ ms) = WrittenWalks m.0 × WidthWalks m.1 × MembersWalk ms
+
+  member_walks : (host : Option TypeId) (first : Written) (last : Option Written) → WrittenWalks first → WidthWalks last
+      → Goes_by (Expressions.member host first last)
+  unfolding Expressions.member Expressions.first_member Expressions.last_member
+  member_walks host first None law other = search (walk, law.typing)
+  member_walks host first (Some last) law other = search (walk, law.typing, other.typing) depth 12
+
+  members_walk : (made : List TreeDesignator) (host : Option TypeId) (ms : List (Written × Option Written)) → MembersWalk ms
+      → Goes_by (Expressions.members made host ms)
+  members_walk made host [] laws = search walk
+  members_walk made host (m ∷ ms) laws =
+      then_walks (member_walks host m.0 m.1 laws.0 laws.1) (λ one. members_walk (made ++ one.0 ∷ []) (Some one.1) ms laws.2)
+
+  constructed_walks : (place : Place) (ms : List (Written × Option Written)) (lead : Option SiteKind) → MembersWalk ms
+      → Goes_by (Expressions.constructed place ms lead)
+  unfolding Expressions.constructed
+  constructed_walks place ms lead laws = search (walk, behind_walks, members_walk) depth 12
 
   calculation_walks : (calculated : FunctionValue) (place : Place) → Goes_by (Functions.calculation_of calculated place)
   unfolding Functions.calculation_of
@@ -421,6 +473,14 @@ module _ (owner : Owner) (depth : ℕ) where
   all_actuals [] = tt
   all_actuals (y ∷ ys) = (y.1, all_actuals ys)
 
+  all_members : (ds : List Designator) (ys : List WithExpr) → MembersWalk (members_of ds (map expression (map (λ (y : WithExpr). y.0) ys)))
+  all_members [] ys = tt
+  all_members (designator.Single ∷ ds) [] = tt
+  all_members (designator.Single ∷ ds) (y ∷ ys) = (y.1, tt, all_members ds ys)
+  all_members (designator.Range ∷ ds) [] = tt
+  all_members (designator.Range ∷ ds) (y ∷ []) = tt
+  all_members (designator.Range ∷ ds) (y ∷ z ∷ ys) = (y.1, z.1, all_members ds ys)
+
   all_links : (ys : List WithLink) → LinksWalk (map written_link (map (λ (y : WithLink). y.0) ys))
   all_links [] = tt
   all_links (y ∷ ys) = (y.1, all_links ys)
@@ -432,7 +492,7 @@ module _ (owner : Owner) (depth : ℕ) where
   expression_layer (layer.Component name selectors indexes) =
       from_layer (bare (layer.Component name selectors indexes))
       (variable_walks name selectors.items _ _ (all_walk indexes.items)
-      (λ lead. then_walks (find_walks name) λ d. then_walks (given_walks _) λ v. accessed_walks v.0 v.1 selectors.items _ name.place lead
+      (λ lead. then_walks (find_walks name) λ d. then_walks (variable_of_walks name.place d) λ v. accessed_walks v selectors.items _ name.place lead
       (all_walk indexes.items)))
   expression_layer (layer.String text place) = from_layer (layer.String text place) (written_walks place _ (string_walks text.now place))
   expression_layer (layer.Call name actuals) =
@@ -450,6 +510,9 @@ module _ (owner : Owner) (depth : ℕ) where
   expression_layer (layer.Relation left operator place right) =
       from_layer (bare (layer.Relation left operator place right))
       (written_walks _ _ (λ lead. relation_walks _ operator place _ lead left.value.1 right.value.1))
+  expression_layer (layer.Set place designators values) =
+      from_layer (bare (layer.Set place designators values))
+      (written_walks place _ (λ lead. constructed_walks place _ lead (all_members designators.items values.items)))
 
   abbrev width_form : WithExpr → Option WithExpr → Option Written
   width_form value width =
@@ -496,14 +559,16 @@ module _ (owner : Owner) (depth : ℕ) where
 
   -- ---- statements
 
-  target_mark_walks : (structured : Bool) (root : ℕ) (selectors : List TreeSelector) (id : TypeId)
-      → Goes_by (mark (Statements.target_mark structured root selectors id))
-  target_mark_walks true root selectors id = search walk
-  target_mark_walks false root selectors id = search walk
+  target_mark_walks : (found : Option TypeKind) (origin : Origin) (selectors : List TreeSelector) (id : TypeId)
+      → Goes_by (mark (Statements.target_mark found origin selectors id))
+  target_mark_walks (Some kind_of_type.Structured) origin selectors id = search walk
+  target_mark_walks (Some (kind_of_type.Set base members)) origin selectors id = search walk
+  target_mark_walks (Some (kind_of_type.Ordinal range)) origin selectors id = search walk
+  target_mark_walks None origin selectors id = search walk
 
-  access_walks : (name : Name) (selectors : List Selector) (ws : List Written) → AllWalk ws → (variable : ℕ × TypeId)
+  access_walks : (name : Name) (selectors : List Selector) (ws : List Written) → AllWalk ws → (variable : Denoted)
       → Goes_by (access_typing name selectors ws variable)
-  unfolding Expressions.tests_structured
+  unfolding Expressions.kind_now
   access_walks name selectors ws laws variable = search (walk, selected_walks, target_mark_walks) depth 12
 
   target_walks : (name : Name) (selectors : List Selector) (ws : List Written) → AllWalk ws → Goes_by (Statements.target name selectors ws)
@@ -517,34 +582,40 @@ module _ (owner : Owner) (depth : ℕ) where
       result_goes old variable (Err why) way told = tt
 
       result_walks : (block : ℕ) (old : Passed) (outcome : Checked (After (ℕ × TypeId))) → Statements.function_target name.place block old ≡ outcome
-          → Goes (Way true owner depth depth) old (and_then outcome (λ v. behind_marks v.look (access_typing name selectors ws v.answer v.passed)))
+          → Goes (Way true owner depth depth) old
+          (and_then (and_then outcome (λ v. behind_marks v.look (pure (entire v.answer.0 v.answer.1) v.passed)))
+          (λ v. behind_marks v.look (access_typing name selectors ws v.answer v.passed)))
       result_walks block old (Err why) is = tt
       result_walks block old (Ok v) is =
           let assigns = function_target_is name.place block old v is in
-          let variable : ℕ × TypeId = (assigns.root, assigns.type_id) in
+          let variable : Denoted = entire assigns.root assigns.type_id in
           let start = with_result assigns.root old in
-          subst (λ (u : After (ℕ × TypeId)). Goes (Way true owner depth depth) old (behind_marks u.look (access_typing name selectors ws u.answer u.passed)))
+          subst (λ (u : After (ℕ × TypeId)). Goes (Way true owner depth depth) old
+          (behind_marks (u.look ++ []) (access_typing name selectors ws (entire u.answer.0 u.answer.1) u.passed)))
           assigns.is
-          (result_goes old variable (access_typing name selectors ws variable start) ((access_walks name selectors ws laws variable).walks start)
+          (result_goes old (assigns.root, assigns.type_id) (access_typing name selectors ws variable start)
+          ((access_walks name selectors ws laws variable).walks start)
           ((access_told name selectors ws variable).walks start))
 
       by : (d : Denotation) (routine : Option (ℕ × Bool)) (others : List Selector)
           → Goes_by (Statements.target_of routine others name.place d >>= access_typing name selectors ws)
-      by d None others = then_walks (given_walks _) (access_walks name selectors ws laws)
-      by d (Some routine) (selector ∷ others) = then_walks (given_walks _) (access_walks name selectors ws laws)
+      by d None others = then_walks (variable_of_walks name.place d) (access_walks name selectors ws laws)
+      by d (Some routine) (selector ∷ others) = then_walks (variable_of_walks name.place d) (access_walks name selectors ws laws)
       by d (Some routine) [] = record {
         walks = λ old. result_walks routine.0 old (Statements.function_target name.place routine.0 old) refl;
       }
 
-  becomes_walks : (structured : Bool) (to : Statements.Accessed) (place : Place) (w : Written) → WrittenWalks w
-      → Goes_by (if structured then Statements.copied to.type_id place w else Statements.assigned to place w)
+  becomes_walks : (found : Option TypeKind) (to : Statements.Accessed) (place : Place) (w : Written) → WrittenWalks w
+      → Goes_by (Statements.assigned_by_kind found to place w)
   unfolding Statements.assigned Statements.copied
-  becomes_walks true to place w law = search (walk, law.typing)
-  becomes_walks false to place w law = search (walk, law.typing)
+  becomes_walks (Some kind_of_type.Structured) to place w law = search (walk, law.typing)
+  becomes_walks (Some (kind_of_type.Set base members)) to place w law = search (walk, law.typing)
+  becomes_walks (Some (kind_of_type.Ordinal range)) to place w law = search (walk, law.typing)
+  becomes_walks None to place w law = search (walk, law.typing)
 
   assignment_walks : (name : Name) (selectors : List Selector) (ws : List Written) (place : Place) (w : Written) → AllWalk ws → WrittenWalks w
       → Goes_by (Statements.assignment name selectors ws place w)
-  unfolding Statements.assignment Expressions.tests_structured
+  unfolding Statements.assignment Expressions.kind_now
   assignment_walks name selectors ws place w laws law = search (walk, target_walks, becomes_walks)
 
   names_file_walks : (form : layer.Expr-F Expr Actual Link) → Goes_by (Statements.names_file form)
@@ -570,15 +641,22 @@ module _ (owner : Owner) (depth : ℕ) where
   IsNoEntry one = numbers_of one ≡ ([], [], [])
 
   form_is : (place : Place) (types : List Form) (t : Typed) (form : Mark) → or_mismatch place (Statements.written_as types t) ≡ Ok form → IsNoEntry form
-  form_is place types t form is = by (is_none t.length) (Statements.representation_of types t.type_id) (is_string types t.type_id) is
+  form_is place types t form is = by t.value is
     where
-      by : (ordinal : Bool) (representation : Option Representation) (string : Bool)
-          → or_mismatch place (if ordinal then option_map Look.Written representation else (if string then Some Look.WrittenString else None)) ≡ Ok form
+      ordinal : (representation : Option Representation) → or_mismatch place (option_map Look.Written representation) ≡ Ok form → IsNoEntry form
+      ordinal (Some r) h = let same : Look.Written r ≡ form = cc in subst IsNoEntry same refl
+      ordinal None h = absurd cc
+
+      string : (test : Bool) (source : Option TypeId) → or_mismatch place (if test then Some (Look.WrittenString source) else None) ≡ Ok form
           → IsNoEntry form
-      by true (Some r) string h = let same : Look.Written r ≡ form = cc in subst IsNoEntry same refl
-      by true None string h = absurd cc
-      by false r true h = let same : Look.WrittenString ≡ form = cc in subst IsNoEntry same refl
-      by false r false h = absurd cc
+      string true source h = let same : Look.WrittenString source ≡ form = cc in subst IsNoEntry same refl
+      string false source h = absurd cc
+
+      by : (v : TypedValue) → or_mismatch place (Statements.written_value types v) ≡ Ok form → IsNoEntry form
+      by (value.Ordinal id) h = ordinal (Statements.representation_of types id) h
+      by (value.Set base) h = absurd cc
+      by (value.Text id n) h = string (is_string types id) None h
+      by (value.Whole id n) h = string (is_string types id) (Some id) h
 
   parameter_walks : (a : WrittenActual) → ActualWalks a → Goes_by (Statements.parameter a)
   unfolding Statements.parameter
@@ -708,10 +786,65 @@ module _ (owner : Owner) (depth : ℕ) where
   unfolding Statements.case_head Statements.case_body
   case_walks place w arms law laws = search (walk, law.typing, arms_walk) depth 12
 
+  -- ---- records of a with
+
+  -- a record is opened
+  opened_walks : (one : WrittenVariable) → AllWalk one.indexes → Walks (Way true owner depth (suc depth)) (Statements.opened one)
+  unfolding Statements.opened
+  opened_walks one laws =
+      then_walks (find_walks one.name) λ d.
+      then_walks (variable_of_walks one.name.place d) λ variable.
+      then_walks (enter_walks Look.Access (λ n. refl)) λ _.
+      then_walks (selected_walks variable.selectors variable.type_id one.selectors one.indexes laws) λ component.
+      then_walks (mark_walks (Look.Opens variable.origin component.0 (index_count component.0)) refl) λ _.
+      open_record_walks one.name.place (Statements.opened_record variable.origin component.0 component.1)
+
+-- how many regions are open behind records
+abbrev behind_records : List WrittenVariable → ℕ → ℕ
+behind_records [] depth = depth
+behind_records (one ∷ others) depth = behind_records others (suc depth)
+
+one_deeper : (records : List WrittenVariable) (depth : ℕ) → behind_records records (suc depth) ≡ suc (behind_records records depth)
+one_deeper [] depth = refl
+one_deeper (one ∷ others) depth = one_deeper others (suc depth)
+
+module _ (owner : Owner) where
+  abbrev RecordsWalk : List WrittenVariable → Type 0
+  RecordsWalk [] = Unit {0}
+  RecordsWalk (one ∷ others) = ((depth : ℕ) → AllWalk owner depth one.indexes) × RecordsWalk others
+
+  opens_walk : (records : List WrittenVariable) (depth : ℕ) → RecordsWalk records
+      → Walks (Way true owner depth (behind_records records depth)) (each Statements.opened records)
+  opens_walk [] depth laws = pure_walks tt
+  opens_walk (one ∷ others) depth laws = then_walks (opened_walks owner depth one (laws.0 depth)) (λ _. opens_walk others (suc depth) laws.1)
+
+  closes_walk : (records : List WrittenVariable) (depth : ℕ) → Walks (Way true owner (behind_records records depth) depth) (each (λ _. close_record) records)
+  closes_walk [] depth = pure_walks tt
+  closes_walk (one ∷ others) depth =
+      subst (λ n. Walks (Way true owner n depth) (each (λ _. close_record) (one ∷ others))) (sym (one_deeper others depth))
+      (then_walks close_record_walks (λ _. closes_walk others depth))
+
+  with_walks : (place : Place) (records : List WrittenVariable) (body : Passing (Unit {0})) → RecordsWalk records
+      → ((depth : ℕ) → Goes_by owner depth body) → (depth : ℕ) → Goes_by owner depth (Statements.with_statement place records body)
+  unfolding Statements.with_statement
+  with_walks place records body laws law depth =
+      then_walks (pass_walks place) λ _.
+      then_walks next_slot_walks λ first_slot.
+      then_walks (enter_walks (λ n. Look.With n first_slot) (λ n. refl)) λ _.
+      then_walks (opens_walk records depth laws) λ _.
+      then_walks (mark_walks Look.Do refl) λ _.
+      then_walks (law (behind_records records depth)) λ _.
+      then_walks (closes_walk records depth) λ _.
+      mark_walks (Look.WithEnds first_slot) refl
+
+  records_walk : (records : List RecordVariable) → RecordsWalk (map written_record records)
+  records_walk [] = tt
+  records_walk (one ∷ others) = ((λ depth. indexes_walk owner depth one.indexes.items), records_walk others)
+
   -- ---- every statement
 
   abbrev pub StmtWalks : Stmt → Type 0
-  StmtWalks w = Goes_by (statement w)
+  StmtWalks w = (depth : ℕ) → Goes_by owner depth (statement w)
 
   abbrev WithStmt : Type 0
   WithStmt = (w : Stmt) × StmtWalks w
@@ -719,52 +852,61 @@ module _ (owner : Owner) (depth : ℕ) where
   abbrev bare_stmt : stmt_layer.Stmt-F WithStmt → stmt_layer.Stmt-F Stmt
   bare_stmt y = map-Stmt WithStmt Stmt (λ w. w.0) y
 
-  stmt_from_layer : (d : stmt_layer.Stmt-F Stmt) → Goes_by (Statements.statement_step (map-Stmt Stmt (Passing (Unit {0})) statement d))
+  stmt_from_layer : (d : stmt_layer.Stmt-F Stmt)
+      → ((depth : ℕ) → Goes_by owner depth (Statements.statement_step (map-Stmt Stmt (Passing (Unit {0})) statement d)))
       → StmtWalks (roll-Stmt d)
-  stmt_from_layer d law = subst Goes_by (sym (fold-roll-Stmt (Passing (Unit {0})) Statements.statement_step d)) law
+  stmt_from_layer d law depth = subst (Goes_by owner depth) (sym (fold-roll-Stmt (Passing (Unit {0})) Statements.statement_step d)) (law depth)
 
-  rows_walk : (ys : List WithStmt) → RowWalks (map statement (map (λ (y : WithStmt). y.0) ys))
-  rows_walk [] = search walk
-  rows_walk (y ∷ ys) = then_walks y.1 (λ _. rows_walk ys)
+  rows_walk : (ys : List WithStmt) (depth : ℕ) → RowWalks owner depth (map statement (map (λ (y : WithStmt). y.0) ys))
+  rows_walk [] depth = pure_walks tt
+  rows_walk (y ∷ ys) depth = then_walks (y.1 depth) (λ _. rows_walk ys depth)
 
-  all_arms : (rows : List (Vec Constant Global)) (ys : List WithStmt) → ArmsWalk (arms_of rows (map statement (map (λ (y : WithStmt). y.0) ys)))
-  all_arms [] ys = tt
-  all_arms (row ∷ rows) [] = tt
-  all_arms (row ∷ rows) (y ∷ ys) = (y.1, all_arms rows ys)
+  all_arms : (rows : List (Vec Constant Global)) (ys : List WithStmt) (depth : ℕ)
+      → ArmsWalk owner depth (arms_of rows (map statement (map (λ (y : WithStmt). y.0) ys)))
+  all_arms [] ys depth = tt
+  all_arms (row ∷ rows) [] depth = tt
+  all_arms (row ∷ rows) (y ∷ ys) depth = (y.1 depth, all_arms rows ys depth)
 
   statement_layer : (y : stmt_layer.Stmt-F WithStmt) → StmtWalks (roll-Stmt (bare_stmt y))
-  statement_layer stmt_layer.Empty = stmt_from_layer stmt_layer.Empty (search walk)
+  statement_layer stmt_layer.Empty = stmt_from_layer stmt_layer.Empty (λ depth. enter_walks Look.Empty (λ n. refl))
   statement_layer (stmt_layer.Assign name selectors indexes becomes value) =
       stmt_from_layer (stmt_layer.Assign name selectors indexes becomes value)
-      (assignment_walks name selectors.items _ becomes _ (indexes_walk indexes.items) (expression_walks value))
-  statement_layer (stmt_layer.Call name actuals) = stmt_from_layer (stmt_layer.Call name actuals) (procedure_call_walks name actuals.items)
+      (λ depth. assignment_walks owner depth name selectors.items _ becomes _ (indexes_walk owner depth indexes.items) (expression_walks owner depth value))
+  statement_layer (stmt_layer.Call name actuals) =
+      stmt_from_layer (stmt_layer.Call name actuals) (λ depth. procedure_call_walks owner depth name actuals.items)
   statement_layer (stmt_layer.Compound statements) =
-      stmt_from_layer (bare_stmt (stmt_layer.Compound statements)) (compound_walks _ (rows_walk statements.items))
+      stmt_from_layer (bare_stmt (stmt_layer.Compound statements)) (λ depth. compound_walks owner depth _ (rows_walk statements.items depth))
   statement_layer (stmt_layer.If place condition consequence None) =
       stmt_from_layer (bare_stmt (stmt_layer.If place condition consequence None))
-      (choice_walks place _ _ None (expression_walks condition) consequence.value.1 tt)
+      (λ depth. choice_walks owner depth place _ _ None (expression_walks owner depth condition) (consequence.value.1 depth) tt)
   statement_layer (stmt_layer.If place condition consequence (Some other)) =
       stmt_from_layer (bare_stmt (stmt_layer.If place condition consequence (Some other)))
-      (choice_walks place _ _ _ (expression_walks condition) consequence.value.1 other.value.1)
+      (λ depth. choice_walks owner depth place _ _ _ (expression_walks owner depth condition) (consequence.value.1 depth) (other.value.1 depth))
   statement_layer (stmt_layer.While place condition body) =
-      stmt_from_layer (bare_stmt (stmt_layer.While place condition body)) (while_walks place _ _ (expression_walks condition) body.value.1)
+      stmt_from_layer (bare_stmt (stmt_layer.While place condition body))
+      (λ depth. while_walks owner depth place _ _ (expression_walks owner depth condition) (body.value.1 depth))
   statement_layer (stmt_layer.Repeat place statements condition) =
       stmt_from_layer (bare_stmt (stmt_layer.Repeat place statements condition))
-      (repeat_walks place _ _ (rows_walk statements.items) (expression_walks condition))
+      (λ depth. repeat_walks owner depth place _ _ (rows_walk statements.items depth) (expression_walks owner depth condition))
   statement_layer (stmt_layer.For place name first d end body) =
       stmt_from_layer (bare_stmt (stmt_layer.For place name first d end body))
-      (for_walks place name _ d _ _ (expression_walks first) (expression_walks end) body.value.1)
+      (λ depth. for_walks owner depth place name _ d _ _ (expression_walks owner depth first) (expression_walks owner depth end) (body.value.1 depth))
   statement_layer (stmt_layer.Case place index constants arms semicolon) =
       stmt_from_layer (bare_stmt (stmt_layer.Case place index constants arms semicolon))
-      (case_walks place _ _ (expression_walks index) (all_arms constants.items arms.items))
+      (λ depth. case_walks owner depth place _ _ (expression_walks owner depth index) (all_arms constants.items arms.items depth))
+  statement_layer (stmt_layer.With place records body) =
+      stmt_from_layer (bare_stmt (stmt_layer.With place records body)) (with_walks place _ _ (records_walk records.items) body.value.1)
 
-  pub statement_walks : (w : Stmt) → StmtWalks w
-  statement_walks = ind-Stmt StmtWalks (λ x y is. subst (λ z. StmtWalks (roll-Stmt z)) is (statement_layer y))
+  every_statement : (w : Stmt) → StmtWalks w
+  every_statement = ind-Stmt StmtWalks (λ x y is. subst (λ z. StmtWalks (roll-Stmt z)) is (statement_layer y))
 
-  statements_walk : (ws : List Stmt) → RowWalks (map statement ws)
-  statements_walk [] = search walk
-  statements_walk (w ∷ ws) = then_walks (statement_walks w) (λ _. statements_walk ws)
+  pub statement_walks : (depth : ℕ) (w : Stmt) → Goes_by owner depth (statement w)
+  statement_walks depth w = every_statement w depth
+
+  statements_walk : (depth : ℕ) (ws : List Stmt) → RowWalks owner depth (map statement ws)
+  statements_walk depth [] = pure_walks tt
+  statements_walk depth (w ∷ ws) = then_walks (statement_walks depth w) (λ _. statements_walk depth ws)
 
   -- the compound statement of a block
-  pub body_walks : (ws : List Stmt) → Goes_by (Statements.compound (map statement ws))
-  body_walks ws = compound_walks _ (statements_walk ws)
+  pub body_walks : (depth : ℕ) (ws : List Stmt) → Goes_by owner depth (Statements.compound (map statement ws))
+  body_walks depth ws = compound_walks owner depth _ (statements_walk depth ws)

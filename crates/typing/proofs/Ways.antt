@@ -10,7 +10,8 @@ use Rattle.place.specs.declared.Place.{Place}
 use Rattle.syntax_tree.specs.declared.Name.{Name}
 use Rattle.types.specs.Forms.{Form}
 use Rattle.types.specs.declared.form.TypeId.{TypeId}
-use Rattle.scopes.specs.Scopes.{Region, define, outer}
+use Rattle.types.specs.Types.{form_at}
+use Rattle.scopes.specs.Scopes.{Region, define, opened_with, outer}
 use Rattle.scopes.specs.declared.denotation.Denotation.{Denotation}
 use Rattle.scopes.specs.declared.fault.ScopeFault.{ScopeFault}
 use Rattle.typed_tree.specs.declared.fault.TypeFault.{TypeFault}
@@ -18,10 +19,12 @@ use Rattle.typed_tree.specs.declared.fault.TypeFault.TheVariants.{TooMany}
 use Rattle.typed_tree.specs.declared.site.SiteKind.{SiteKind}
 use Rattle.typed_tree.specs.declared.tree.Variable.{Variable}
 use Rattle.typed_tree.specs.declared.tree.VariableKind.{VariableKind}
+use Rattle.typed_tree.specs.Accesses.{root_of}
 use Rattle.typed_tree.specs.WellFormed.{most_entries}
 use Rattle.typed_tree.specs.Look.{Mark, Look, BlockEnds, Controls, ForEnds, Target, WholeTarget, mark_blocks, mark_entries, mark_loops}
 use Rattle.typing.specs.Names.{folded}
-use Rattle.typing.specs.Passing.{Headed, Enclosing, Passed, Checked, After, Passing, after, and_then, behind_marks, given, by_types, pure, fail, mark}
+use Rattle.typing.specs.Passing.{Headed, Enclosing, OpenRecord}
+use Rattle.typing.specs.Passing.{Passed, Checked, After, Passing, after, and_then, behind_marks, given, by_types, pure, fail, mark}
 use Rattle.typing.specs.Passing.{each, ◌>>=◌, ◌>>?◌}
 use Rattle.typing.specs.Statements.{for_body}
 use Rattle.typing.specs.Steps as Steps
@@ -50,8 +53,8 @@ numbers_of one = (mark_entries one, mark_loops one, mark_blocks one)
 
 -- the roots of the variables that a mark tells as assigned, and of the result of the function whose block it ends
 abbrev pub targets_at : Mark → List ℕ
-targets_at (Target root selectors indexes) = root ∷ []
-targets_at (WholeTarget root selectors indexes type_id) = root ∷ []
+targets_at (Target origin selectors indexes) = root_of origin ∷ []
+targets_at (WholeTarget origin selectors indexes type_id) = root_of origin ∷ []
 targets_at other = []
 
 abbrev pub results_at : Mark → List ℕ
@@ -95,6 +98,13 @@ pub data Step : Bool → Owner → ℕ → ℕ → Look → Passed → Passed �
   -- a region is opened, or closed
   Open : {acts : Bool} {depth : ℕ} {s : Passed} (region : Region) → Step acts Anyone depth (suc depth) [] s (record s { regions = region ∷ s.regions })
   Close : {acts : Bool} {depth : ℕ} {s : Passed} → Step acts Anyone (suc depth) depth [] s (record s { regions = outer s.regions })
+  -- a record of a with is opened, whose fields are the names of a region, or closed
+  Record :
+      {owner : Owner} {depth : ℕ} {s : Passed} (region : Region) (opened : OpenRecord)
+      → Step true owner depth (suc depth) [] s (record s { regions = region ∷ s.regions; records = s.records ++ opened ∷ [] })
+  RecordEnds :
+      {owner : Owner} {depth : ℕ} {s : Passed}
+      → Step true owner (suc depth) depth [] s (record s { regions = outer s.regions; records = take (length s.records - 1) s.records })
   -- a block ends whose result, if it has one, is assigned
   Ended :
       {depth : ℕ} {s : Passed} (one : Mark) → mark_entries one ≡ [] → mark_loops one ≡ []
@@ -312,6 +322,14 @@ module _ {acts : Bool} {owner : Owner} {depth : ℕ} where
   unfolding Steps.variable_at
   variable_at_walks root = record { walks = λ old. Stay }
 
+  pub next_slot_walks : Walks (Way acts owner depth depth) Steps.next_slot
+  unfolding Steps.next_slot
+  next_slot_walks = record { walks = λ old. Stay }
+
+  pub record_at_walks : (slot : ℕ) → Walks (Way acts owner depth depth) (Steps.record_at slot)
+  unfolding Steps.record_at
+  record_at_walks slot = record { walks = λ old. Stay }
+
   pub is_assigned_walks : (place : Place) (root : ℕ) → Walks (Way acts owner depth depth) (Steps.is_assigned place root)
   unfolding Steps.is_assigned
   is_assigned_walks place root = record { walks = λ old. if_goes (Way acts owner depth depth) old _ _ _ Stay }
@@ -361,6 +379,22 @@ module _ {owner : Owner} {depth : ℕ} where
       by : (old : Passed) (own : Bool) → Way true owner depth depth [] old (if own then old else record old { threatened = Steps.with_one old.threatened root })
       by old true = Stay
       by old false = One (Threat root)
+
+  pub open_record_walks : (place : Place) (opened : OpenRecord) → Walks (Way true owner depth (suc depth)) (Steps.open_record place opened)
+  unfolding Steps.open_record
+  open_record_walks place opened = record { walks = λ old. by old (nat_le most_entries (length old.records)) }
+    where
+      by : (old : Passed) (test : Bool)
+          → Goes {A = Unit {0}} (Way true owner depth (suc depth)) old
+          (if test then Err (TooMany place)
+          else and_then (Steps.field_definitions old.types place opened.type_id (length old.records) (form_at old.types opened.type_id))
+          (λ definitions. Ok (after tt [] (record old { regions = opened_with definitions ∷ old.regions; records = old.records ++ opened ∷ [] }))))
+      by old true = tt
+      by old false = answered_goes (Way true owner depth (suc depth)) old _ _ (λ definitions is. One (Record _ opened))
+
+  pub close_record_walks : Walks (Way true owner (suc depth) depth) Steps.close_record
+  unfolding Steps.close_record
+  close_record_walks = record { walks = λ old. One RecordEnds }
 
   pub for_body_walks : (root : ℕ) (body : Passing (Unit {0})) → Walks (Way true owner depth depth) body
       → Walks (Way true owner depth depth) (for_body root body)
@@ -449,6 +483,8 @@ pub ruleset walk = (
   next_block_walks,
   heading_at_walks,
   variable_at_walks,
+  next_slot_walks,
+  record_at_walks,
   is_assigned_walks,
   declare_walks,
   reserve_walks,

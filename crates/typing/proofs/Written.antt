@@ -15,7 +15,9 @@ use Rattle.syntax_tree.specs.declared.Expr.TheVariants as syntax
 use Rattle.syntax_tree.specs.declared.Expr.TheOpen as layer
 use Rattle.syntax_tree.specs.declared.Expr.TheViews.{roll-Expr, out-Link, out-Actual}
 use Rattle.syntax_tree.specs.declared.Expr.TheFolds.{map-Expr, map-Actual, fold-roll-Expr, fold_out-Link, fold_out-Actual}
-use Rattle.syntax_tree.specs.Places.{arms_of, fields_of}
+use Rattle.syntax_tree.specs.Places.{arms_of, fields_of, members_of}
+use Rattle.syntax_tree.specs.declared.Designator.{Designator}
+use Rattle.syntax_tree.specs.declared.RecordVariable.{RecordVariable}
 use Rattle.syntax_tree.specs.declared.Selector.{Selector}
 use Rattle.syntax_tree.specs.declared.TypeDenoter.{TypeDenoter}
 use Rattle.syntax_tree.specs.declared.TypeDenoter.TheVariants as denoter
@@ -36,8 +38,10 @@ use Rattle.typing.specs.Passing.{Passing}
 use Rattle.typing.specs.Expressions.{Written, WrittenActual, WrittenLink, written, written_variable, expression_step, actual_step, link_step, expression}
 use Rattle.typing.specs.Expressions.{written_link}
 use Rattle.typing.specs.Expressions.{written_actual, number, string, named, component, call, parenthesized, negation, signed, chain, relation, link}
+use Rattle.typing.specs.Expressions.{constructed}
 use Rattle.typing.specs.Statements.{statement, statement_step, assignment, procedure_call, compound, choice, while_loop, repeat_loop, for_loop, case_statement}
-use Rattle.typing.specs.Denoters.{WrittenDenoter, denoted_type, denoter_step, type_of_name, enumeration, subrange, array, record_type}
+use Rattle.typing.specs.Statements.{with_statement, written_record}
+use Rattle.typing.specs.Denoters.{WrittenDenoter, denoted_type, denoter_step, type_of_name, enumeration, subrange, array, record_type, set_type}
 use Rattle.typing.specs.Names.{denoter_names, denoter_step as defined_step}
 use Rattle.typing.specs.Steps.{enter_as}
 use Rattle.typed_tree.specs.Look as Look
@@ -88,6 +92,12 @@ pub typing_relation : (left : Box Expr Global) (operator : RelationalOperator) (
 typing_relation left operator place right =
     rolled (syntax.Relation left operator place right) (layer.Relation left operator place right) (syntax.rolls-Relation left operator place right)
 
+pub typing_set : (place : Place) (designators : Vec Designator Global) (values : Vec Expr Global)
+    → expression (syntax.Set place designators values)
+    ≡ written place (constructed place (members_of designators.items (map expression values.items)))
+typing_set place designators values =
+    rolled (syntax.Set place designators values) (layer.Set place designators values) (syntax.rolls-Set place designators values)
+
 -- an operator and its right operand, as they are read
 pub typing_link : (l : Link) → written_link l ≡ link (out-Link l).operator (out-Link l).place (expression (out-Link l).operand)
 typing_link l = fold_out-Link Written WrittenActual WrittenLink expression_step actual_step link_step l
@@ -106,8 +116,19 @@ typing_actual a =
     mapped value (Some width) = refl
 
 -- those of all expressions
-pub ruleset written_expressions =
-    (typing_number, typing_name, typing_component, typing_string, typing_call, typing_parenthesized, typing_not, typing_signed, typing_chain, typing_relation)
+pub ruleset written_expressions = (
+  typing_number,
+  typing_name,
+  typing_component,
+  typing_string,
+  typing_call,
+  typing_parenthesized,
+  typing_not,
+  typing_signed,
+  typing_chain,
+  typing_relation,
+  typing_set,
+)
 
 -- ---- statements
 
@@ -169,9 +190,14 @@ typing_case place index constants arms semicolon =
     ap statement (sym (stmt.rolls-Case place index constants arms semicolon))
     ∙ fold-roll-Stmt (Passing (Unit {0})) statement_step (stmt_layer.Case place index constants arms semicolon)
 
+pub typing_with : (place : Place) (records : Vec RecordVariable Global) (body : Box Stmt Global)
+    → statement (stmt.With place records body) ≡ with_statement place (map written_record records.items) (statement body.value)
+typing_with place records body =
+    ap statement (sym (stmt.rolls-With place records body)) ∙ fold-roll-Stmt (Passing (Unit {0})) statement_step (stmt_layer.With place records body)
+
 -- those of all statements
 pub ruleset written_statements =
-    (typing_empty, typing_assign, typing_procedure_call, typing_compound, typing_if, typing_while, typing_repeat, typing_for, typing_case)
+    (typing_empty, typing_assign, typing_procedure_call, typing_compound, typing_if, typing_while, typing_repeat, typing_for, typing_case, typing_with)
 
 -- ---- denoters
 
@@ -204,8 +230,12 @@ typing_record packed place rows denoters semicolon =
     denoted (denoter.Record packed place rows denoters semicolon) (denoter_layer.Record packed place rows denoters semicolon)
     (denoter.rolls-Record packed place rows denoters semicolon)
 
+pub typing_set_type : (packed : Bool) (place : Place) (base : Box TypeDenoter Global)
+    → denoted_type (denoter.Set packed place base) ≡ set_type packed place (denoted_type base.value)
+typing_set_type packed place base = denoted (denoter.Set packed place base) (denoter_layer.Set packed place base) (denoter.rolls-Set packed place base)
+
 -- those of all denoters
-pub ruleset written_denoters = (typing_named_type, typing_enumerated, typing_subrange, typing_array, typing_record)
+pub ruleset written_denoters = (typing_named_type, typing_enumerated, typing_subrange, typing_array, typing_record, typing_set_type)
 
 -- the names that a denoter defines
 defined : (d : TypeDenoter) (l : denoter_layer.TypeDenoter-F TypeDenoter) → roll-TypeDenoter l ≡ d
@@ -236,8 +266,12 @@ names_of_record packed place rows denoters semicolon =
     defined (denoter.Record packed place rows denoters semicolon) (denoter_layer.Record packed place rows denoters semicolon)
     (denoter.rolls-Record packed place rows denoters semicolon)
 
+pub names_of_set : (packed : Bool) (place : Place) (base : Box TypeDenoter Global)
+    → denoter_names (denoter.Set packed place base) ≡ denoter_names base.value
+names_of_set packed place base = defined (denoter.Set packed place base) (denoter_layer.Set packed place base) (denoter.rolls-Set packed place base)
+
 -- those of all denoters
-pub ruleset names_of_denoters = (names_of_name, names_of_enumerated, names_of_subrange, names_of_array, names_of_record)
+pub ruleset names_of_denoters = (names_of_name, names_of_enumerated, names_of_subrange, names_of_array, names_of_record, names_of_set)
 
 -- ---- blocks
 

@@ -25,6 +25,7 @@ abbrev pub as_constant : Place → Denotation → Checked Denotation
 as_constant place (denotes.Constant value type_id) = Ok (denotes.Constant value type_id)
 as_constant place (denotes.Text number type_id) = Ok (denotes.Text number type_id)
 as_constant place (denotes.Variable root type_id) = Err (fault.Mismatch place)
+as_constant place (denotes.Field slot position offset type_id) = Err (fault.Mismatch place)
 as_constant place (denotes.TypeName type_id) = Err (fault.Mismatch place)
 as_constant place (denotes.Procedure procedure) = Err (fault.Mismatch place)
 as_constant place (denotes.Function function) = Err (fault.Mismatch place)

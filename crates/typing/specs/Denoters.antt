@@ -3,7 +3,7 @@
 -- array or a record come in the order of the text, and then the rules of its own, which are told at its word.
 -- It says nothing of where they stand.
 use Rattle.std.specs.Prelude.{ℕ, ◌+◌, ◌-◌, ◌&&◌, ℤ, Bool, List, [], ◌∷◌, ◌++◌, length, Option, Some, Result, Ok, Err}
-use Rattle.std.specs.Prelude.{if◌then◌else◌, nat_eq}
+use Rattle.std.specs.Prelude.{if◌then◌else◌, nat_eq, option_map}
 use Rattle.std.specs.List.{list_any}
 use Rattle.std.specs.Cmp.Lexicographic.{pointwise}
 use Rattle.place.specs.declared.Place.{Place}
@@ -13,13 +13,13 @@ use Rattle.syntax_tree.specs.declared.TypeDenoter.{TypeDenoter}
 use Rattle.syntax_tree.specs.declared.TypeDenoter.TheOpen.{TypeDenoter-F}
 use Rattle.syntax_tree.specs.declared.TypeDenoter.TheOpen.TypeDenoter-F.{Name as NamedType, Enumerated}
 use Rattle.syntax_tree.specs.declared.TypeDenoter.TheOpen.TypeDenoter-F.{Subrange as SubrangeOf, Array as ArrayOf}
-use Rattle.syntax_tree.specs.declared.TypeDenoter.TheOpen.TypeDenoter-F.{Record as RecordOf}
+use Rattle.syntax_tree.specs.declared.TypeDenoter.TheOpen.TypeDenoter-F.{Record as RecordOf, Set as SetOf}
 use Rattle.syntax_tree.specs.declared.TypeDenoter.TheFolds.{fold-TypeDenoter}
 use Rattle.syntax_tree.specs.Places.{fields_of}
 use Rattle.types.specs.Forms.{Form}
-use Rattle.types.specs.Forms.{FieldForm, Enumeration, Subrange, Array, Record}
+use Rattle.types.specs.Forms.{FieldForm, Enumeration, Subrange, Array, Record, Set}
 use Rattle.types.specs.declared.form.TypeId.{TypeId}
-use Rattle.types.specs.Types.{host_of, is_ordinal, is_same}
+use Rattle.types.specs.Types.{host_of, is_ordinal, is_same, range_of}
 use Rattle.scopes.specs.Scopes.{found}
 use Rattle.scopes.specs.declared.denotation.Denotation.{Denotation}
 use Rattle.scopes.specs.declared.denotation.Denotation.TheVariants as denotes
@@ -29,7 +29,7 @@ use Rattle.typed_tree.specs.declared.fault.TypeFault.TheVariants as fault
 use Rattle.typing.specs.Constants.{ordinal_constant}
 use Rattle.typing.specs.Names.{folded}
 use Rattle.typing.specs.Passing.{Checked, Passing, and_then, after, pure, given, by_types, ◌>>=◌, ◌>>◌, ◌>>?◌}
-use Rattle.typing.specs.Steps.{fits, pass, value_of, add_type, declare, latest}
+use Rattle.typing.specs.Steps.{fits, or_mismatch, pass, value_of, add_type, declare, latest}
 
 -- the type that a name denotes; K1 at the name where it denotes anything else
 abbrev pub named_type : Name → Result Denotation ScopeFault → Checked TypeId
@@ -37,6 +37,7 @@ named_type name (Ok (denotes.TypeName type_id)) = Ok type_id
 named_type name (Ok (denotes.Constant value type_id)) = Err (fault.Mismatch name.place)
 named_type name (Ok (denotes.Text number type_id)) = Err (fault.Mismatch name.place)
 named_type name (Ok (denotes.Variable root type_id)) = Err (fault.Mismatch name.place)
+named_type name (Ok (denotes.Field slot position offset type_id)) = Err (fault.Mismatch name.place)
 named_type name (Ok (denotes.Procedure procedure)) = Err (fault.Mismatch name.place)
 named_type name (Ok (denotes.Function function)) = Err (fault.Mismatch name.place)
 named_type name (Ok (denotes.Routine block is_function)) = Err (fault.Mismatch name.place)
@@ -136,6 +137,19 @@ record_type packed place groups = do
   fields ← grouped_fields [] groups
   add_type place (Record packed fields)
 
+-- the form of a set type, over a base that is ordinal
+abbrev pub set_form : List Form → Bool → TypeId → Option Form
+set_form types packed base =
+    option_map (λ range. Set packed (host_of types base) range.first range.last) (range_of types base)
+
+-- a set type (6.4.3.4): its base is ordinal, as an index type is, and what it breaks of its own is told at its word
+unfoldable pub set_type : Bool → Place → WrittenDenoter → Passing TypeId
+set_type packed place base = do
+  pass place
+  id ← index_type base
+  form ← by_types (λ types. or_mismatch place (set_form types packed id))
+  add_type place form
+
 abbrev pub denoter_step : TypeDenoter-F WrittenDenoter → WrittenDenoter
 denoter_step (NamedType name) = type_of_name name
 denoter_step (Enumerated constants) = enumeration constants.items
@@ -143,6 +157,7 @@ denoter_step (SubrangeOf first place last) = subrange first place last
 denoter_step (ArrayOf packed place indexes element) = array packed place indexes.items element.value
 denoter_step (RecordOf packed place rows denoters semicolon) =
     record_type packed place (fields_of rows.items denoters.items)
+denoter_step (SetOf packed place base) = set_type packed place base.value
 
 -- the type that a denoter denotes
 abbrev pub denoted_type : TypeDenoter → WrittenDenoter

@@ -2,8 +2,8 @@
 -- typed form looks, and its sites. What asks for a site of its own at an expression's first token (a width) hands its
 -- kind in, as the leading kind: that site stands behind the token's own, and before all others. It says nothing of what
 -- a program does.
-use Rattle.std.specs.Prelude.{ℕ, ◌+◌, ◌&&◌, ◌||◌, Bool, true, false, not, List, [], ◌∷◌, ◌++◌, Option, Some, None}
-use Rattle.std.specs.Prelude.{is_none, Ok, Err, pos, if◌then◌else◌, nat_eq, length, option_map}
+use Rattle.std.specs.Prelude.{ℕ, ◌+◌, ◌&&◌, Bool, true, false, not, List, [], ◌∷◌, ◌++◌, Option, Some, None}
+use Rattle.std.specs.Prelude.{is_some, Ok, Err, pos, if◌then◌else◌, nat_eq, length, option_map}
 use Rattle.std.specs.Prelude.{slice_get}
 use Rattle.place.specs.declared.Place.{Place}
 use Rattle.syntax_tree.specs.declared.Name.{Name}
@@ -23,13 +23,19 @@ use Rattle.syntax_tree.specs.declared.Expr.TheOpen.Expr-F.{Number as NumberOf, N
 use Rattle.syntax_tree.specs.declared.Expr.TheOpen.Expr-F.{Parenthesized as ParenthesizedOf, Not as NotOf}
 use Rattle.syntax_tree.specs.declared.Expr.TheOpen.Expr-F.{Signed as SignedOf, Chain as ChainOf, String as StringOf}
 use Rattle.syntax_tree.specs.declared.Expr.TheOpen.Expr-F.{Component as ComponentOf, Relation as RelationOf}
+use Rattle.syntax_tree.specs.declared.Expr.TheOpen.Expr-F.{Set as SetOf}
+use Rattle.syntax_tree.specs.Places.{members_of}
 use Rattle.syntax_tree.specs.declared.Expr.TheFolds.{fold-Expr, fold-Link, fold-Actual}
 use Rattle.types.specs.Forms.{Form, Array, Record}
 use Rattle.types.specs.declared.form.RecordField.{RecordField}
 use Rattle.types.specs.declared.form.ArrayElement.{ArrayElement}
 use Rattle.types.specs.declared.form.TypeId.{TypeId}
+use Rattle.types.specs.declared.form.TypeKind.{TypeKind}
+use Rattle.types.specs.declared.form.TypeKind.TheVariants as kind_of_type
 use Rattle.types.specs.declared.form.OrdinalRange.{OrdinalRange}
-use Rattle.types.specs.Types.{integer, boolean, char, is_same, is_assignable, is_compatible, is_string, is_structured}
+use Rattle.types.specs.declared.sets.SetBase.{SetBase}
+use Rattle.types.specs.Types.{integer, boolean, char, is_same, is_assignable, is_compatible, is_string, kind_of}
+use Rattle.types.specs.Types.{agree, are_compatible_sets, joined_base}
 use Rattle.types.specs.Types.{cells_of, element_of, field_of, form_at, range_of}
 use Rattle.scopes.specs.declared.denotation.Denotation.{Denotation}
 use Rattle.scopes.specs.declared.denotation.Denotation.TheVariants as denotes
@@ -42,18 +48,28 @@ use Rattle.typed_tree.specs.declared.tree.Monadic.TheVariants as monadic
 use Rattle.typed_tree.specs.declared.tree.Calculation.TheVariants as calculation
 use Rattle.typed_tree.specs.declared.tree.Dyadic.{Dyadic}
 use Rattle.typed_tree.specs.declared.tree.Dyadic.TheVariants as dyadic
-use Rattle.typed_tree.specs.declared.tree.Relation.{Relation}
+use Rattle.typed_tree.specs.declared.tree.Designator.{Designator}
+use Rattle.typed_tree.specs.declared.tree.Designator.TheVariants as designator
+use Rattle.typed_tree.specs.declared.tree.RangeTest.{RangeTest}
+use Rattle.typed_tree.specs.declared.tree.Scalar.{Scalar}
+use Rattle.typed_tree.specs.declared.tree.Scalar.TheVariants as scalar
 use Rattle.typed_tree.specs.declared.tree.Relation.TheVariants as relate
+use Rattle.typed_tree.specs.declared.tree.SetRelation.TheVariants as relate_sets
 use Rattle.typed_tree.specs.declared.tree.Selector.{Selector as TreeSelector}
 use Rattle.typed_tree.specs.declared.tree.Selector.TheVariants as tree
 use Rattle.typed_tree.specs.declared.tree.Variable.{Variable}
-use Rattle.typed_tree.specs.Accesses.{index_count}
-use Rattle.typed_tree.specs.WellFormed.{is_variable_kind}
+use Rattle.typed_tree.specs.Accesses.{Origin, AtVariable, AtRecord, index_count, root_of}
+use Rattle.typed_tree.specs.WellFormed.{is_variable_kind, members_wanted, of_one}
 use Rattle.typed_tree.specs.Look.{Constant, Text, Access, Value, WholeValue, Operation, Applied, Begins, Compared, Ends}
-use Rattle.typed_tree.specs.Look.{Calls, Called, ForValue, ForVariable, ForWhole, Operator as OperatorMark}
+use Rattle.typed_tree.specs.Look.{Calls, Called, Constructs, Constructed, ForValue, ForVariable, ForWhole}
+use Rattle.typed_tree.specs.Look.{Operator as OperatorMark}
 use Rattle.typing.specs.declared.typed.Typed.{Typed}
-use Rattle.typing.specs.Passing.{Checked, Passing, pure, fail, given, by_types, mark, ◌>>=◌, ◌>>◌, ◌>>?◌}
+use Rattle.typing.specs.declared.typed.TypedValue.{TypedValue}
+use Rattle.typing.specs.declared.typed.TypedValue.TheVariants as value
+use Rattle.typing.specs.Passing.{Checked, OpenRecord, Passing, and_then, pure, fail, given, by_types, mark}
+use Rattle.typing.specs.Passing.{◌>>=◌, ◌>>◌, ◌>>?◌}
 use Rattle.typing.specs.Steps.{fits, or_mismatch, pass, enter_as, site, find, heading_at, host_type, may_change}
+use Rattle.typing.specs.Steps.{record_at}
 use Rattle.typing.specs.Steps.{text_at, value_of, variable_at}
 use Rattle.typing.specs.Names.{folded}
 use Rattle.typing.specs.Functions.{begins_as, applied}
@@ -61,20 +77,48 @@ use Rattle.typing.specs.Strings.{string_characters, string_type}
 
 -- an ordinal of a type, and the id of its leading site
 abbrev pub typed : TypeId → Option ℕ → Typed
-typed type_id site = record { type_id = type_id; length = None; source = None; site = site }
+typed type_id site = record { value = value.Ordinal type_id; site = site }
+
+-- the same of a set
+abbrev pub typed_set : SetBase → Option ℕ → Typed
+typed_set base site = record { value = value.Set base; site = site }
 
 -- the same of a string of its own, of so many characters
 abbrev pub typed_text : TypeId → ℕ → Option ℕ → Typed
-typed_text type_id length site = record { type_id = type_id; length = Some length; source = None; site = site }
+typed_text type_id length site = record { value = value.Text type_id length; site = site }
 
 -- the same of the value of a structured variable, of so many cells
 abbrev pub typed_variable : TypeId → ℕ → Option ℕ → Typed
-typed_variable type_id cells site =
-    record { type_id = type_id; length = Some cells; source = Some type_id; site = site }
+typed_variable type_id cells site = record { value = value.Whole type_id cells; site = site }
+
+-- the type of an ordinal
+abbrev pub ordinal_type : TypedValue → Option TypeId
+ordinal_type (value.Ordinal type_id) = Some type_id
+ordinal_type (value.Set base) = None
+ordinal_type (value.Text type_id length) = None
+ordinal_type (value.Whole type_id cells) = None
+
+-- the type of a string or of another structured value, and how many components it has
+abbrev pub whole_type : TypedValue → Option (TypeId × ℕ)
+whole_type (value.Ordinal type_id) = None
+whole_type (value.Set base) = None
+whole_type (value.Text type_id length) = Some (type_id, length)
+whole_type (value.Whole type_id cells) = Some (type_id, cells)
+
+-- it is an ordinal or a set
+abbrev pub is_scalar_value : TypedValue → Bool
+is_scalar_value (value.Ordinal type_id) = true
+is_scalar_value (value.Set base) = true
+is_scalar_value (value.Text type_id length) = false
+is_scalar_value (value.Whole type_id cells) = false
+
+-- it is an ordinal whose type passes a test
+abbrev pub is_ordinal_of : (TypeId → Bool) → Typed → Bool
+is_ordinal_of test t = of_one test (ordinal_type t.value)
 
 -- it is an ordinal of this type
 abbrev pub is_of : TypeId → Typed → Bool
-is_of type_id t = is_none t.length && is_same t.type_id type_id
+is_of type_id t = is_ordinal_of (λ id. is_same id type_id) t
 
 -- an expression as it is typed: its first token, by the leading kind what it is, and how it is passed to a variable
 -- parameter of a type, of the callee's block and at a place among its parameters
@@ -126,16 +170,43 @@ string text place lead = do
 
 -- ---- variables
 
--- the variable that a name denotes: its root and its type
-abbrev pub as_variable : Place → Denotation → Checked (ℕ × TypeId)
-as_variable place (denotes.Variable root type_id) = Ok (root, type_id)
-as_variable place (denotes.Constant value type_id) = Err (fault.NotVariable place)
-as_variable place (denotes.Text number type_id) = Err (fault.NotVariable place)
-as_variable place (denotes.TypeName type_id) = Err (fault.NotVariable place)
-as_variable place (denotes.Procedure procedure) = Err (fault.NotVariable place)
-as_variable place (denotes.Function function) = Err (fault.NotVariable place)
-as_variable place (denotes.Routine block is_function) = Err (fault.NotVariable place)
-as_variable place denotes.Output = Err (fault.NotVariable place)
+-- where an access begins that a name denotes: at a variable, or at a record of a with, of this type; the selectors to
+-- what the name denotes, and the type of that
+pub record Denoted : Type 0 where
+  pub origin : Origin
+  pub from : TypeId
+  pub selectors : List TreeSelector
+  pub type_id : TypeId
+
+-- a variable by its root and its type
+abbrev pub entire : ℕ → TypeId → Denoted
+entire root type_id = record { origin = AtVariable root; from = type_id; selectors = []; type_id = type_id }
+
+-- a field of the record of a slot; there is one
+abbrev pub field_variable : ℕ → TreeSelector → TypeId → OpenRecord → Denoted
+field_variable slot selector type_id opened = record {
+  origin = AtRecord opened.root slot opened.steps;
+  from = opened.type_id;
+  selectors = selector ∷ [];
+  type_id = type_id;
+}
+
+abbrev pub field_or_none : Place → ℕ → TreeSelector → TypeId → Option OpenRecord → Checked Denoted
+field_or_none place slot selector type_id None = Err (fault.NotVariable place)
+field_or_none place slot selector type_id (Some opened) = Ok (field_variable slot selector type_id opened)
+
+-- the variable, or the field of a record, that a name denotes; K2 where it denotes none
+abbrev pub variable_of : Place → Denotation → Passing Denoted
+variable_of place (denotes.Variable root type_id) = pure (entire root type_id)
+variable_of place (denotes.Field slot position offset type_id) =
+    record_at slot >>? (λ types found. field_or_none place slot (tree.Field position offset) type_id found)
+variable_of place (denotes.Constant value type_id) = fail (fault.NotVariable place)
+variable_of place (denotes.Text number type_id) = fail (fault.NotVariable place)
+variable_of place (denotes.TypeName type_id) = fail (fault.NotVariable place)
+variable_of place (denotes.Procedure procedure) = fail (fault.NotVariable place)
+variable_of place (denotes.Function function) = fail (fault.NotVariable place)
+variable_of place (denotes.Routine block is_function) = fail (fault.NotVariable place)
+variable_of place denotes.Output = fail (fault.NotVariable place)
 
 abbrev pub or_not_declared : Place → Option RecordField → Checked RecordField
 or_not_declared place (Some field) = Ok field
@@ -155,7 +226,7 @@ field_named types id name = field_in types id name (form_at types id)
 unfoldable pub index : ArrayElement → Written → Passing ℕ
 index element w = do
   id ← site kind.Index w.first
-  w.typing None >>? (λ types t. fits (is_none t.length && is_compatible types element.index t.type_id) w.first id)
+  w.typing None >>? (λ types t. fits (is_ordinal_of (is_compatible types element.index) t) w.first id)
 
 -- the selectors of an access, behind those before, from a value of a type to a component, and that component's type; K1
 -- at a selector where the type has none of its kind (6.5.3)
@@ -170,42 +241,56 @@ selected before type_id (select.Index place joined ∷ selectors) (w ∷ indexes
   pass place
   e ← by_types (λ types. or_mismatch place (element_of types type_id))
   id ← index e w
-  selected (before ++ tree.Element (record { site = id; range = e.range }) e.cells ∷ []) e.type_id selectors indexes
+  selected (before ++ tree.Element (record { site = id; tests = scalar.Ordinal; range = e.range }) e.cells ∷ [])
+      e.type_id selectors indexes
 
--- a type is structured
-unfoldable pub tests_structured : TypeId → Passing Bool
-tests_structured id = by_types (λ types. Ok (is_structured types id))
+-- the kind of a type
+unfoldable pub kind_now : TypeId → Passing (Option TypeKind)
+kind_now id = by_types (λ types. Ok (kind_of types id))
 
 -- the value of what is accessed, an ordinal, which is of the host type (6.7.1)
-unfoldable pub ordinal_value : ℕ → List TreeSelector → TypeId → ℕ → Option ℕ → Passing Typed
-ordinal_value root selectors type_id defined lead = do
-  mark (Value root selectors (index_count selectors) defined)
+unfoldable pub ordinal_value : Origin → List TreeSelector → TypeId → ℕ → Option ℕ → Passing Typed
+ordinal_value origin selectors type_id defined lead = do
+  mark (Value origin selectors (index_count selectors) scalar.Ordinal defined)
   host ← host_type type_id
   pure (typed host lead)
 
+-- the same of a set type, of these sets
+unfoldable pub set_value : SetBase → Origin → List TreeSelector → TypeId → ℕ → Option ℕ → Passing Typed
+set_value base origin selectors type_id defined lead = do
+  mark (Value origin selectors (index_count selectors) scalar.Set defined)
+  pure (typed_set base lead)
+
 -- the same of a structured type
-unfoldable pub whole_value : ℕ → List TreeSelector → TypeId → ℕ → Option ℕ → Passing Typed
-whole_value root selectors type_id defined lead = do
+unfoldable pub whole_value : Origin → List TreeSelector → TypeId → ℕ → Option ℕ → Passing Typed
+whole_value origin selectors type_id defined lead = do
   cells ← by_types (λ types. Ok (cells_of types type_id))
-  mark (WholeValue root selectors (index_count selectors) type_id cells defined)
+  mark (WholeValue origin selectors (index_count selectors) type_id cells defined)
   pure (typed_variable type_id cells lead)
 
--- a variable of a root and a type, or a component of it, as an expression (6.5.1)
-unfoldable pub accessed : ℕ → TypeId → List Selector → List Written → Place → Option SiteKind → Passing Typed
-accessed root type_id selectors indexes place lead = do
+-- the value of what is accessed, by the kind of its type
+abbrev pub value_of_kind : Option TypeKind → Origin → List TreeSelector → TypeId → ℕ → Option ℕ → Passing Typed
+value_of_kind (Some kind_of_type.Structured) = whole_value
+value_of_kind (Some (kind_of_type.Set base members)) = set_value base
+value_of_kind (Some (kind_of_type.Ordinal range)) = ordinal_value
+value_of_kind None = ordinal_value
+
+-- a variable, or a component of it, as an expression (6.5.1)
+unfoldable pub accessed : Denoted → List Selector → List Written → Place → Option SiteKind → Passing Typed
+accessed variable selectors indexes place lead = do
   defined ← site kind.UndefinedVariable place
   id ← behind lead place
   enter_as Access
-  component ← selected [] type_id selectors indexes
-  structured ← tests_structured component.1
-  (if structured then whole_value else ordinal_value) root component.0 component.1 defined id
+  component ← selected variable.selectors variable.type_id selectors indexes
+  found ← kind_now component.1
+  value_of_kind found variable.origin component.0 component.1 defined id
 
 -- a component of a variable
 unfoldable pub component : Name → List Selector → List Written → Option SiteKind → Passing Typed
 component name selectors indexes lead = do
   d ← find name
-  variable ← given (as_variable name.place d)
-  accessed variable.0 variable.1 selectors indexes name.place lead
+  variable ← variable_of name.place d
+  accessed variable selectors indexes name.place lead
 
 -- ---- variables that are passed
 
@@ -248,12 +333,12 @@ passable types wanted type_id selectors component place =
 unfoldable pub passed_variable : Name → List Selector → List Written → TypeId → ℕ → ℕ → Passing (Unit {0})
 passed_variable name selectors indexes wanted callee position = do
   d ← find name
-  variable ← given (as_variable name.place d)
-  may_change name.place variable.0
+  variable ← variable_of name.place d
+  may_change name.place (root_of variable.origin)
   enter_as Access
-  component ← selected [] variable.1 selectors indexes
-  by_types (λ types. passable types wanted variable.1 component.0 component.1 name.place)
-  mark (ForVariable wanted variable.0 component.0 (index_count component.0) callee position)
+  component ← selected variable.selectors variable.type_id selectors indexes
+  by_types (λ types. passable types wanted variable.from component.0 component.1 name.place)
+  mark (ForVariable wanted variable.origin component.0 (index_count component.0) callee position)
 
 -- what is no variable isn't: K2 at its first token
 unfoldable pub no_variable : Place → TypeId → ℕ → ℕ → Passing (Unit {0})
@@ -266,34 +351,78 @@ abbrev pub unless_width : Place → Option Written → Checked (Unit {0})
 unless_width place None = Ok tt
 unless_width place (Some width) = Err (fault.WrongParameters place)
 
--- the values of a type, if an ordinal value may be assigned to it (6.4.6)
-abbrev pub fitting : List Form → TypeId → Typed → Option OrdinalRange
-fitting types target value =
-    if is_none value.length && is_assignable types target value.type_id then range_of types target else None
+-- the kind of the site of a test, by what is tested
+abbrev pub test_kind : Scalar → SiteKind
+test_kind scalar.Ordinal = kind.Subrange
+test_kind scalar.Set = kind.SetMember
 
--- a structured value that is copied: the type of the variable whose value it is, which a string has none of, and its
--- cells
+-- the values that members of a set may have, if sets of these may be assigned to a target of a kind
+abbrev pub fitting_members : SetBase → Option TypeKind → Option OrdinalRange
+fitting_members base (Some (kind_of_type.Set target members)) =
+    if are_compatible_sets target base then Some members else None
+fitting_members base (Some (kind_of_type.Ordinal range)) = None
+fitting_members base (Some kind_of_type.Structured) = None
+fitting_members base None = None
+
+-- the values of a type, or those that its members may have, if a scalar value may be assigned to it (6.4.6)
+abbrev pub fitting_value : List Form → TypeId → TypedValue → Option OrdinalRange
+fitting_value types target (value.Ordinal type_id) =
+    if is_assignable types target type_id then range_of types target else None
+fitting_value types target (value.Set base) = fitting_members base (kind_of types target)
+fitting_value types target (value.Text type_id length) = None
+fitting_value types target (value.Whole type_id cells) = None
+
+abbrev pub fitting : List Form → TypeId → Typed → Option OrdinalRange
+fitting types target t = fitting_value types target t.value
+
+-- a structured value that is copied or compared: the type of the variable whose value it is, which a string has none
+-- of, and its cells
 pub record Copy : Type 0 where
   pub source : Option TypeId
   pub cells : ℕ
 
+-- a structured value as it is copied or compared
+abbrev pub whole_copy : TypedValue → Option Copy
+whole_copy (value.Ordinal type_id) = None
+whole_copy (value.Set base) = None
+whole_copy (value.Text type_id length) = Some (record { source = None; cells = length })
+whole_copy (value.Whole type_id cells) = Some (record { source = Some type_id; cells = cells })
+
 -- it may be assigned to a target of a type, which has as many cells (6.4.6)
-abbrev pub copy_of : List Form → TypeId → Typed → Option ℕ → Option Copy
-copy_of types target value None = None
-copy_of types target value (Some cells) =
-    if is_assignable types target value.type_id && nat_eq (cells_of types target) cells
-    then Some (record { source = value.source; cells = cells })
-    else None
+abbrev pub copy_of : List Form → TypeId → TypeId → Copy → Option Copy
+copy_of types target type_id copy =
+    if is_assignable types target type_id && nat_eq (cells_of types target) copy.cells then Some copy else None
+
+abbrev pub copying_value : List Form → TypeId → TypedValue → Option Copy
+copying_value types target (value.Ordinal type_id) = None
+copying_value types target (value.Set base) = None
+copying_value types target (value.Text type_id length) =
+    copy_of types target type_id (record { source = None; cells = length })
+copying_value types target (value.Whole type_id cells) =
+    copy_of types target type_id (record { source = Some type_id; cells = cells })
 
 abbrev pub copying : List Form → TypeId → Typed → Option Copy
-copying types target value = copy_of types target value value.length
+copying types target t = copying_value types target t.value
 
 -- a value for a value parameter of an ordinal type; its site stands at its first token, before those of its own
 unfoldable pub passed_ordinal : TypeId → Written → ℕ → ℕ → Passing (Unit {0})
 passed_ordinal type_id w callee position = do
   id ← site kind.Subrange w.first
   range ← w.typing None >>? (λ types t. or_mismatch w.first (fitting types type_id t))
-  mark (ForValue (record { site = id; range = range }) callee position)
+  mark (ForValue (record { site = id; tests = scalar.Ordinal; range = range }) callee position)
+
+-- the test of a set for a target of a type, at its leading site
+abbrev pub members_test : List Form → TypeId → Place → Typed → Checked RangeTest
+members_test types target place t =
+    and_then (or_mismatch place (fitting types target t)) λ range.
+    and_then (or_mismatch place t.site) λ id.
+    Ok (record { site = id; tests = scalar.Set; range = range })
+
+-- the same of a set type; its site stands at its first token, behind those of its own
+unfoldable pub passed_set : TypeId → Written → ℕ → ℕ → Passing (Unit {0})
+passed_set type_id w callee position = do
+  test ← w.typing (Some kind.SetMember) >>? (λ types t. members_test types type_id w.first t)
+  mark (ForValue test callee position)
 
 -- the same of a structured type
 unfoldable pub passed_whole : TypeId → Written → ℕ → ℕ → Passing (Unit {0})
@@ -301,10 +430,17 @@ passed_whole type_id w callee position = do
   copy ← w.typing None >>? (λ types t. or_mismatch w.first (copying types type_id t))
   mark (ForWhole type_id copy.source copy.cells callee position)
 
+-- a value for a value parameter of a type of a kind
+abbrev pub passed_by_kind : Option TypeKind → TypeId → Written → ℕ → ℕ → Passing (Unit {0})
+passed_by_kind (Some kind_of_type.Structured) = passed_whole
+passed_by_kind (Some (kind_of_type.Set base members)) = passed_set
+passed_by_kind (Some (kind_of_type.Ordinal range)) = passed_ordinal
+passed_by_kind None = passed_ordinal
+
 unfoldable pub passed_value : TypeId → Written → ℕ → ℕ → Passing (Unit {0})
 passed_value type_id w callee position = do
-  structured ← tests_structured type_id
-  (if structured then passed_whole else passed_ordinal) type_id w callee position
+  found ← kind_now type_id
+  passed_by_kind found type_id w callee position
 
 -- an actual parameter, by what the formal one is; there is no other at its place
 abbrev pub passed_to : Option Variable → Written → ℕ → ℕ → Passing (Unit {0})
@@ -373,7 +509,10 @@ denoted (denotes.Text number type_id) place lead = do
   characters ← text_at number
   enter_as (λ n. Text n characters)
   pure (typed_text type_id (length characters) id)
-denoted (denotes.Variable root type_id) place lead = accessed root type_id [] [] place lead
+denoted (denotes.Variable root type_id) place lead = accessed (entire root type_id) [] [] place lead
+denoted (denotes.Field slot position offset type_id) place lead =
+    variable_of place (denotes.Field slot position offset type_id)
+    >>= (λ variable. accessed variable [] [] place lead)
 denoted (denotes.Procedure procedure) place lead = fail (fault.WrongParameters place)
 denoted (denotes.Function function) place lead = fail (fault.WrongParameters place)
 denoted (denotes.Routine block is_function) place lead = function_value block is_function place [] lead
@@ -424,9 +563,27 @@ operand_type op.Div = integer
 operand_type op.Mod = integer
 operand_type op.And = boolean
 
--- both operands are of it
-abbrev pub takes_operands : Operator → Typed → Typed → Bool
-takes_operands operator left right = is_of (operand_type operator) left && is_of (operand_type operator) right
+-- the operation of sets that an operator tells (6.7.2.4)
+abbrev pub set_operation : Operator → Option Dyadic
+set_operation op.Plus = Some dyadic.Union
+set_operation op.Minus = Some dyadic.Difference
+set_operation op.Or = None
+set_operation op.Times = Some dyadic.Intersection
+set_operation op.Div = None
+set_operation op.Mod = None
+set_operation op.And = None
+
+-- the result of an operator on two operands: of its type, where both are, or else a set of both (6.7.2.1)
+abbrev pub result_of : Operator → TypedValue → TypedValue → Option TypedValue
+result_of operator (value.Ordinal left) (value.Ordinal right) =
+    if is_same left (operand_type operator) && is_same right (operand_type operator)
+    then Some (value.Ordinal (operand_type operator))
+    else None
+result_of operator (value.Set left) (value.Set right) =
+    if is_some (set_operation operator) && are_compatible_sets left right
+    then Some (value.Set (joined_base left right))
+    else None
+result_of operator left right = None
 
 -- an operation with a site at its operator
 unfoldable pub tested : (ℕ → Dyadic) → SiteKind → Place → Passing Dyadic
@@ -442,14 +599,28 @@ operation op.Div place = tested dyadic.Div kind.DivisionByZero place
 operation op.Mod place = tested dyadic.Mod kind.ModByZeroOrLess place
 operation op.And place = pure dyadic.And
 
+-- the operation of an operator behind a left operand: that of sets, without a site, behind a set
+abbrev pub set_operation_behind : Operator → TypedValue → Option Dyadic
+set_operation_behind operator (value.Ordinal type_id) = None
+set_operation_behind operator (value.Set base) = set_operation operator
+set_operation_behind operator (value.Text type_id length) = None
+set_operation_behind operator (value.Whole type_id cells) = None
+
+unfoldable pub operation_or : Option Dyadic → Operator → Place → Passing Dyadic
+operation_or None operator place = operation operator place
+operation_or (Some does) operator place = pure does
+
+abbrev pub operation_behind : Operator → Place → Typed → Passing Dyadic
+operation_behind operator place left = operation_or (set_operation_behind operator left.value) operator place
+
 -- an operator and its right operand, where the left one is known: by both it has its site or none, before the sites of
--- the right one
+-- the right one; K1 at the operator where it doesn't take the operands
 unfoldable pub link : Operator → Place → Written → WrittenLink
 link operator place operand left = do
-  tests ← operation operator place
+  tests ← operation_behind operator place left
   enter_as (λ n. OperatorMark n tests)
-  operand.typing None >>? (λ types right. fits (takes_operands operator left right) place right)
-  pure (typed (operand_type operator) left.site)
+  result ← operand.typing None >>? (λ types right. or_mismatch place (result_of operator left.value right.value))
+  pure (record { value = result; site = left.site })
 
 -- operators of one precedence, from left to right
 abbrev pub links : Typed → List WrittenLink → Passing Typed
@@ -463,54 +634,136 @@ begun_by first behind_it lead = do
   f ← first.typing lead
   behind_it f
 
--- the operators of a chain behind its first operand, which begins at a place: an ordinal, as the others are
+-- the operators of a chain behind its first operand, which begins at a place: a scalar, as the others are
 abbrev pub chain_behind : Place → List WrittenLink → Typed → Passing Typed
 chain_behind place rest f = do
   t ← links f rest
-  given (fits (is_none f.length) place t)
+  given (fits (is_scalar_value f.value) place t)
   mark Ends
-  pure (typed t.type_id f.site)
+  pure (record t { site = f.site })
 
 unfoldable pub chain : Written → List WrittenLink → Option SiteKind → Passing Typed
 chain first rest = begun_by first (chain_behind first.first rest)
 
-abbrev pub relation_of : RelationalOperator → Relation
-relation_of relational.Equal = relate.Equal
-relation_of relational.NotEqual = relate.NotEqual
-relation_of relational.Less = relate.Less
-relation_of relational.Greater = relate.Greater
-relation_of relational.LessOrEqual = relate.LessOrEqual
-relation_of relational.GreaterOrEqual = relate.GreaterOrEqual
+-- the relation that an operator tells behind an ordinal or a string
+abbrev pub relation_of : RelationalOperator → Dyadic
+relation_of relational.Equal = dyadic.Relation relate.Equal
+relation_of relational.NotEqual = dyadic.Relation relate.NotEqual
+relation_of relational.Less = dyadic.Relation relate.Less
+relation_of relational.Greater = dyadic.Relation relate.Greater
+relation_of relational.LessOrEqual = dyadic.Relation relate.LessOrEqual
+relation_of relational.GreaterOrEqual = dyadic.Relation relate.GreaterOrEqual
+relation_of relational.In = dyadic.In
 
--- both are ordinals, or both are strings and equally long
-abbrev pub are_alike : Option ℕ → Option ℕ → Bool
-are_alike None None = true
-are_alike (Some left) (Some right) = nat_eq left right
-are_alike left right = false
+-- the relation that an operator tells behind a set: `<` and `>` tell none, nor does `in`
+abbrev pub set_relation_of : RelationalOperator → Option Dyadic
+set_relation_of relational.Equal = Some (dyadic.SetRelation relate_sets.Equal)
+set_relation_of relational.NotEqual = Some (dyadic.SetRelation relate_sets.NotEqual)
+set_relation_of relational.Less = None
+set_relation_of relational.Greater = None
+set_relation_of relational.LessOrEqual = Some (dyadic.SetRelation relate_sets.Included)
+set_relation_of relational.GreaterOrEqual = Some (dyadic.SetRelation relate_sets.Includes)
+set_relation_of relational.In = None
 
--- relations hold between ordinals of compatible types, and between strings of them (6.7.2.5)
-abbrev pub may_compare : List Form → Typed → Typed → Bool
-may_compare types left right =
-    are_alike left.length right.length
-    && (is_compatible types left.type_id right.type_id && (is_none left.length || is_string types left.type_id))
+abbrev pub relation_behind_value : RelationalOperator → TypedValue → Option Dyadic
+relation_behind_value operator (value.Ordinal type_id) = Some (relation_of operator)
+relation_behind_value operator (value.Set base) = set_relation_of operator
+relation_behind_value operator (value.Text type_id length) = Some (relation_of operator)
+relation_behind_value operator (value.Whole type_id cells) = Some (relation_of operator)
 
--- two strings are compared, of these lengths
-unfoldable pub compares : Option ℕ → Option ℕ → Passing (Unit {0})
-compares (Some left) (Some right) = mark (Compared left right)
+-- two whole values are strings of one length, of compatible types
+abbrev pub are_alike : List Form → Option (TypeId × ℕ) → Option (TypeId × ℕ) → Bool
+are_alike types None right = false
+are_alike types (Some left) None = false
+are_alike types (Some left) (Some right) =
+    nat_eq left.1 right.1 && (is_compatible types left.0 right.0 && is_string types left.0)
+
+-- relations hold between ordinals of compatible types, between sets of such, and between strings of them (6.7.2.5)
+abbrev pub may_compare : List Form → TypedValue → TypedValue → Bool
+may_compare types (value.Ordinal left) (value.Ordinal right) = is_compatible types left right
+may_compare types (value.Set left) (value.Set right) = are_compatible_sets left right
+may_compare types left right = are_alike types (whole_type left) (whole_type right)
+
+-- an ordinal may be a member of a set
+abbrev pub may_contain : TypedValue → TypedValue → Bool
+may_contain (value.Ordinal type_id) (value.Set base) = agree is_same base.host (Some type_id)
+may_contain left right = false
+
+-- an operator relates two values
+abbrev pub may_relate : List Form → RelationalOperator → Typed → Typed → Bool
+may_relate types relational.In left right = may_contain left.value right.value
+may_relate types operator left right = may_compare types left.value right.value
+
+-- two strings are compared
+unfoldable pub compares : Option Copy → Option Copy → Passing (Unit {0})
+compares (Some left) (Some right) = mark (Compared left.source left.cells right.source right.cells)
 compares left right = pure tt
 
--- a relation (6.7.2.5) behind its left operand, which has no site; K1 at its operator where its operands can't be
--- compared
+-- a relation (6.7.2.5) behind its left operand, which has no site; K1 at its operator where it doesn't relate its
+-- operands
 abbrev pub relation_behind : RelationalOperator → Place → Written → Typed → Passing Typed
 relation_behind operator place right l = do
-  enter_as (λ n. OperatorMark n (dyadic.Relation (relation_of operator)))
-  r ← right.typing None >>? (λ types t. fits (may_compare types l t) place t)
-  compares l.length r.length
+  does ← given (or_mismatch place (relation_behind_value operator l.value))
+  enter_as (λ n. OperatorMark n does)
+  r ← right.typing None >>? (λ types t. fits (may_relate types operator l t) place t)
+  compares (whole_copy l.value) (whole_copy r.value)
   mark Ends
   pure (typed boolean l.site)
 
 unfoldable pub relation : Written → RelationalOperator → Place → Written → Option SiteKind → Passing Typed
 relation left operator place right = begun_by left (relation_behind operator place right)
+
+-- ---- set constructors (6.7.1)
+
+-- a member of a set, by the host type of those before it: K1 at its first token where it is no ordinal of that type
+abbrev pub member_type : Option TypeId → Place → Option TypeId → Checked TypeId
+member_type host place None = Err (fault.Mismatch place)
+member_type host place (Some type_id) = fits (agree is_same host (Some type_id)) place type_id
+
+abbrev pub member_of : Option TypeId → Place → Typed → Checked TypeId
+member_of host place t = member_type host place (ordinal_type t.value)
+
+-- the same with its leading site
+abbrev pub member_with_site : Option TypeId → Place → Typed → Checked (ℕ × TypeId)
+member_with_site host place t =
+    and_then (member_of host place t) λ type_id.
+    and_then (or_mismatch place t.site) λ id.
+    Ok (id, type_id)
+
+-- a member that stands alone, or first in a range; its site stands at its first token, behind those of its own
+unfoldable pub first_member : Option TypeId → Written → Passing (ℕ × TypeId)
+first_member host w = w.typing (Some kind.SetMember) >>? (λ types t. member_with_site host w.first t)
+
+-- the last one of a range
+unfoldable pub last_member : Option TypeId → Written → Passing TypeId
+last_member host w = w.typing None >>? (λ types t. member_of host w.first t)
+
+-- what a member is given by, and the host type of the set's members
+unfoldable pub member : Option TypeId → Written → Option Written → Passing (Designator × TypeId)
+member host first None = do
+  m ← first_member host first
+  pure (designator.Single m.0, m.1)
+member host first (Some last) = do
+  m ← first_member host first
+  type_id ← last_member (Some m.1) last
+  pure (designator.Range m.0, type_id)
+
+-- those of all members, behind others
+abbrev pub members : List Designator → Option TypeId → List (Written × Option Written)
+    → Passing (List Designator × Option TypeId)
+members made host [] = pure (made, host)
+members made host (m ∷ ms) =
+    member host m.0 m.1 >>= (λ one. members (made ++ one.0 ∷ []) (Some one.1) ms)
+
+-- a set constructor: its members are of one host type, and it is packed or not, as it is needed
+unfoldable pub constructed : Place → List (Written × Option Written) → Option SiteKind → Passing Typed
+constructed place ms lead = do
+  pass place
+  id ← behind lead place
+  enter_as Constructs
+  made ← members [] None ms
+  mark (Constructed made.0 (members_wanted made.0))
+  pure (typed_set (record { host = made.1; packed = None }) id)
 
 -- the function that a name denotes
 abbrev pub as_function : Place → Denotation → Checked RequiredFunction
@@ -520,6 +773,7 @@ as_function place (denotes.Routine block is_function) = Err (fault.WrongParamete
 as_function place (denotes.Constant value type_id) = Err (fault.Mismatch place)
 as_function place (denotes.Text number type_id) = Err (fault.Mismatch place)
 as_function place (denotes.Variable root type_id) = Err (fault.Mismatch place)
+as_function place (denotes.Field slot position offset type_id) = Err (fault.Mismatch place)
 as_function place (denotes.TypeName type_id) = Err (fault.Mismatch place)
 as_function place denotes.Output = Err (fault.Mismatch place)
 
@@ -586,6 +840,8 @@ expression_step (SignedOf sign place term) = written place (signed sign place te
 expression_step (ChainOf first rest) = written first.value.first (chain first.value rest.items)
 expression_step (RelationOf left operator place right) =
     written left.value.first (relation left.value operator place right.value)
+expression_step (SetOf place designators values) =
+    written place (constructed place (members_of designators.items values.items))
 
 -- an expression
 abbrev pub expression : Expr → Written

@@ -1,6 +1,6 @@
 -- The required functions (ISO 7185:1990, 6.6.6), by their rows: the types that one takes and gives, and its operation,
 -- with the site and the values of its test. It says nothing of what a calculation gives.
-use Rattle.std.specs.Prelude.{◌&&◌, ◌+ℤ◌, ◌-ℤ◌, pos, int_lt, Bool, List, Option, Some, None, is_none}
+use Rattle.std.specs.Prelude.{◌+ℤ◌, ◌-ℤ◌, pos, int_lt, Bool, List, Option, Some, None, Err}
 use Rattle.std.specs.Prelude.{if◌then◌else◌}
 use Rattle.place.specs.declared.Place.{Place}
 use Rattle.types.specs.Forms.{Form}
@@ -26,9 +26,13 @@ use Rattle.typed_tree.specs.declared.tree.Monadic.{Monadic}
 use Rattle.typed_tree.specs.declared.tree.Monadic.TheVariants as monadic
 use Rattle.typed_tree.specs.declared.tree.Shift.{Shift}
 use Rattle.typed_tree.specs.declared.tree.Shift.TheVariants as shift
+use Rattle.typed_tree.specs.declared.tree.Scalar.TheVariants as scalar
+use Rattle.typed_tree.specs.declared.fault.TypeFault.TheVariants as fault
 use Rattle.typing.specs.declared.functions.BegunFunction.{BegunFunction}
 use Rattle.typing.specs.declared.functions.BegunFunction.TheVariants as begun
 use Rattle.typing.specs.declared.typed.Typed.{Typed}
+use Rattle.typing.specs.declared.typed.TypedValue.{TypedValue}
+use Rattle.typing.specs.declared.typed.TypedValue.TheVariants as typed_as
 use Rattle.typing.specs.Passing.{Checked, Passing, pure, ◌>>=◌}
 use Rattle.typing.specs.Steps.{fits, site}
 
@@ -92,10 +96,18 @@ begins_as (Tests tested) place = site (test_kind tested) place >>= (λ id. pure 
 abbrev pub operation_on : List Form → TypeId → BegunFunction → Monadic
 operation_on types argument (begun.Calculates does) = monadic.Plain does
 operation_on types argument (begun.Tests id tested) =
-    monadic.Tested (record { site = id; range = passing_values tested (range_of types argument) }) (shift_of tested)
+    monadic.Tested
+    (record { site = id; tests = scalar.Ordinal; range = passing_values tested (range_of types argument) })
+    (shift_of tested)
 
 -- what a function does to its argument, and the type of its result; K1 at the place where it doesn't take the argument
+abbrev pub applied_to : List Form → RequiredFunction → BegunFunction → Place → TypedValue → Checked (Monadic × TypeId)
+applied_to types f operation place (typed_as.Ordinal type_id) =
+    fits (is_taken types f.takes type_id) place
+    (operation_on types type_id operation, given_type f.gives type_id)
+applied_to types f operation place (typed_as.Set base) = Err (fault.Mismatch place)
+applied_to types f operation place (typed_as.Text type_id length) = Err (fault.Mismatch place)
+applied_to types f operation place (typed_as.Whole type_id cells) = Err (fault.Mismatch place)
+
 abbrev pub applied : List Form → RequiredFunction → BegunFunction → Place → Typed → Checked (Monadic × TypeId)
-applied types f operation place argument =
-    fits (is_none argument.length && is_taken types f.takes argument.type_id) place
-    (operation_on types argument.type_id operation, given_type f.gives argument.type_id)
+applied types f operation place argument = applied_to types f operation place argument.value

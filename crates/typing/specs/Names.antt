@@ -10,7 +10,7 @@ use Rattle.syntax_tree.specs.declared.TypeDefinition.{TypeDefinition}
 use Rattle.syntax_tree.specs.declared.TypeDenoter.{TypeDenoter}
 use Rattle.syntax_tree.specs.declared.TypeDenoter.TheOpen.{TypeDenoter-F}
 use Rattle.syntax_tree.specs.declared.TypeDenoter.TheOpen.TypeDenoter-F.{Name as NamedType, Enumerated, Subrange}
-use Rattle.syntax_tree.specs.declared.TypeDenoter.TheOpen.TypeDenoter-F.{Array, Record}
+use Rattle.syntax_tree.specs.declared.TypeDenoter.TheOpen.TypeDenoter-F.{Array, Record, Set}
 use Rattle.syntax_tree.specs.declared.TypeDenoter.TheFolds.{fold-TypeDenoter}
 use Rattle.syntax_tree.specs.Places.{fields_of}
 use Rattle.syntax_tree.specs.declared.VariableGroup.{VariableGroup}
@@ -80,6 +80,7 @@ denoter_step (Subrange first between last) = []
 denoter_step (Array packed place indexes element) = flat_map (λ names. names) indexes.items ++ element.value
 denoter_step (Record packed place names denoters semicolon) =
     flat_map (λ field. field.1) (fields_of names.items denoters.items)
+denoter_step (Set packed place base) = base.value
 
 abbrev pub denoter_names : TypeDenoter → List Name
 denoter_names = fold-TypeDenoter (List Name) denoter_step

@@ -4,8 +4,10 @@
 use Rattle.std.specs.Prelude.{ℕ, ◌++◌, Bool, List, [], ◌∷◌, Option, Result, Ok, Err}
 use Rattle.place.specs.declared.Place.{Place}
 use Rattle.types.specs.Forms.{Form}
+use Rattle.types.specs.declared.form.TypeId.{TypeId}
 use Rattle.scopes.specs.Scopes.{Region}
 use Rattle.typed_tree.specs.declared.fault.TypeFault.{TypeFault}
+use Rattle.typed_tree.specs.declared.tree.PathStep.{PathStep}
 use Rattle.typed_tree.specs.declared.tree.Variable.{Variable}
 use Rattle.typed_tree.specs.Ids.{Stands}
 use Rattle.typed_tree.specs.Look.{Mark, Look}
@@ -27,6 +29,12 @@ pub record Enclosing : Type 0 where
   pub around : List ℕ
   pub cells : ℕ
   pub waiting : List (ℕ × Option Place)
+
+-- a record of a with: the variable in which it lies, by its root number, the way on which it lies there, and its type
+pub record OpenRecord : Type 0 where
+  pub root : ℕ
+  pub steps : List PathStep
+  pub type_id : TypeId
 
 -- what is known at a place of a program
 pub record Passed : Type 0 where
@@ -52,6 +60,8 @@ pub record Passed : Type 0 where
   pub loops : ℕ
   -- the control variables of the for statements round the place, by root number, the outermost first
   pub controls : List ℕ
+  -- the records of the with statements round the place, by slot
+  pub records : List OpenRecord
   -- the variables of blocks round others that those may change, by root number
   pub threatened : List ℕ
   -- the results that are assigned, by root number

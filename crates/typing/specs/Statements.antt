@@ -4,7 +4,7 @@ use Rattle.std.specs.List.{list_any}
 use Rattle.std.specs.Ordering.{int_eq}
 use Rattle.std.specs.Prelude.{ℕ, ℤ, Bool, true, false, not, ◌&&◌, ◌++◌, List, [], ◌∷◌, Option, Some, None, Ok}
 use Rattle.std.specs.Prelude.{Err, if◌then◌else◌, map}
-use Rattle.std.specs.Prelude.{is_none, option_map}
+use Rattle.std.specs.Prelude.{option_map}
 use Rattle.place.specs.declared.Place.{Place}
 use Rattle.syntax_tree.specs.declared.Name.{Name}
 use Rattle.syntax_tree.specs.declared.Expr.{Expr}
@@ -13,7 +13,7 @@ use Rattle.syntax_tree.specs.declared.Expr.TheOpen.{Expr-F}
 use Rattle.syntax_tree.specs.declared.Expr.TheOpen.Expr-F.{Number as NumberOf, Name as NameOf, Call as FunctionOf}
 use Rattle.syntax_tree.specs.declared.Expr.TheOpen.Expr-F.{Parenthesized as ParenthesizedOf, Not as NotOf}
 use Rattle.syntax_tree.specs.declared.Expr.TheOpen.Expr-F.{Signed as SignedOf, Chain as ChainOf, String as StringOf}
-use Rattle.syntax_tree.specs.declared.Expr.TheOpen.Expr-F.{Relation as RelationOf}
+use Rattle.syntax_tree.specs.declared.Expr.TheOpen.Expr-F.{Relation as RelationOf, Set as SetOf}
 use Rattle.syntax_tree.specs.declared.Expr.TheOpen.Expr-F.{Component as ComponentOf}
 use Rattle.syntax_tree.specs.declared.Expr.TheViews.{out-Expr, out-Actual}
 use Rattle.syntax_tree.specs.declared.Link.{Link}
@@ -27,10 +27,14 @@ use Rattle.syntax_tree.specs.declared.Stmt.TheOpen.{Stmt-F}
 use Rattle.syntax_tree.specs.declared.Stmt.TheOpen.Stmt-F.{Empty as EmptyOf, Assign as AssignOf, Call as CallOf}
 use Rattle.syntax_tree.specs.declared.Stmt.TheOpen.Stmt-F.{Compound as CompoundOf, If as IfOf, While as WhileOf}
 use Rattle.syntax_tree.specs.declared.Stmt.TheOpen.Stmt-F.{Repeat as RepeatOf, For as ForOf, Case as CaseOf}
+use Rattle.syntax_tree.specs.declared.Stmt.TheOpen.Stmt-F.{With as WithOf}
+use Rattle.syntax_tree.specs.declared.RecordVariable.{RecordVariable}
 use Rattle.syntax_tree.specs.declared.Stmt.TheFolds.{fold-Stmt}
 use Rattle.types.specs.Forms.{Form}
 use Rattle.types.specs.Forms as form
 use Rattle.types.specs.declared.form.TypeId.{TypeId}
+use Rattle.types.specs.declared.form.TypeKind.{TypeKind}
+use Rattle.types.specs.declared.form.TypeKind.TheVariants as kind_of_type
 use Rattle.types.specs.Types.{integer, boolean, is_compatible, is_ordinal, is_string, form_at}
 use Rattle.scopes.specs.declared.denotation.Denotation.{Denotation}
 use Rattle.scopes.specs.declared.denotation.Denotation.TheVariants as denotes
@@ -43,26 +47,39 @@ use Rattle.typed_tree.specs.declared.tree.Direction.TheVariants as direction
 use Rattle.typed_tree.specs.declared.tree.Representation.{Representation}
 use Rattle.typed_tree.specs.declared.tree.Representation.TheVariants as representation
 use Rattle.typed_tree.specs.declared.tree.Selector.{Selector as TreeSelector}
+use Rattle.typed_tree.specs.declared.tree.Scalar.{Scalar}
+use Rattle.typed_tree.specs.declared.tree.Scalar.TheVariants as scalar
 use Rattle.typed_tree.specs.declared.tree.Variable.{Variable}
-use Rattle.typed_tree.specs.Accesses.{index_count}
+use Rattle.typed_tree.specs.Accesses.{Origin, AtVariable, index_count, root_of, step_of, steps_of}
 use Rattle.typed_tree.specs.WellFormed.{is_one_of}
 use Rattle.typed_tree.specs.Look.{Mark, Access, Assign, Target, WholeTarget, Copied, Fits, Write}
 use Rattle.typed_tree.specs.Look.{Written as WrittenMark, WrittenString, Width}
 use Rattle.typed_tree.specs.Look.{Empty, Compound, If, Then, Else, While, Do, Repeat, Until, For, Controls, ForEnds}
-use Rattle.typed_tree.specs.Look.{Case, Arm, Ends}
-use Rattle.typing.specs.Passing.{Checked, Passing, and_then, pure, fail, given, by_types, mark, each, ◌>>=◌, ◌>>◌}
+use Rattle.typed_tree.specs.Look.{Case, Arm, Ends, Opens, With, WithEnds}
+use Rattle.typing.specs.Passing.{Checked, OpenRecord, Passing, and_then, pure, fail, given, by_types, mark, each}
+use Rattle.typing.specs.Passing.{◌>>=◌, ◌>>◌}
 use Rattle.typing.specs.Passing.{◌>>?◌}
 use Rattle.typing.specs.Steps.{assign_result, fits, or_mismatch, pass, enter_as, enter_loop, site, find, heading_at}
 use Rattle.typing.specs.Steps.{may_change, may_control, begin_control, end_control, enclosing_now, variable_at}
-use Rattle.typing.specs.Steps.{wants_output}
+use Rattle.typing.specs.Steps.{close_record, next_slot, open_record, wants_output}
 use Rattle.typing.specs.Constants.{ordinal_constant, constant_place}
 use Rattle.typing.specs.declared.typed.Typed.{Typed}
-use Rattle.typing.specs.Expressions.{Written, WrittenActual, is_of, as_routine, as_variable, copying, expression}
-use Rattle.typing.specs.Expressions.{fitting, routine_call, selected, tests_structured, written_actual}
+use Rattle.typing.specs.declared.typed.TypedValue.{TypedValue}
+use Rattle.typing.specs.declared.typed.TypedValue.TheVariants as value
+use Rattle.typing.specs.Expressions.{Denoted, Written, WrittenActual, is_of, as_routine, copying, entire, expression}
+use Rattle.typing.specs.Expressions.{variable_of}
+use Rattle.typing.specs.Expressions.{fitting, kind_now, ordinal_type, routine_call, selected, test_kind}
+use Rattle.typing.specs.Expressions.{written_actual}
 
-abbrev pub target_mark : Bool → ℕ → List TreeSelector → TypeId → Mark
-target_mark true root selectors type_id = WholeTarget root selectors (index_count selectors) type_id
-target_mark false root selectors type_id = Target root selectors (index_count selectors)
+-- what is accessed left of `:=`, by the kind of its type
+abbrev pub target_mark : Option TypeKind → Origin → List TreeSelector → TypeId → Mark
+target_mark (Some kind_of_type.Structured) origin selectors type_id =
+    WholeTarget origin selectors (index_count selectors) type_id
+target_mark (Some (kind_of_type.Set base members)) origin selectors type_id =
+    Target origin selectors (index_count selectors)
+target_mark (Some (kind_of_type.Ordinal range)) origin selectors type_id =
+    Target origin selectors (index_count selectors)
+target_mark None origin selectors type_id = Target origin selectors (index_count selectors)
 
 -- the result of a function is assigned by its name, inside its block alone, nested ones included (6.7.3, 6.8.2.2)
 abbrev pub result_target : Place → Bool → Option ℕ → Passing ℕ
@@ -82,16 +99,16 @@ function_target place block = do
   type_id ← given (or_no_variable place found)
   pure (root, type_id)
 
--- the variable left of `:=` that a name denotes, with these selectors behind it: its root and its type. A function's
--- name denotes its result alone, and with selectors no variable
-abbrev pub target_of : Option (ℕ × Bool) → List Selector → Place → Denotation → Passing (ℕ × TypeId)
-target_of None selectors place d = given (as_variable place d)
-target_of (Some routine) [] place d = function_target place routine.0
-target_of (Some routine) (selector ∷ others) place d = given (as_variable place d)
+-- the variable left of `:=` that a name denotes, with these selectors behind it. A function's name denotes its result
+-- alone, and with selectors no variable
+abbrev pub target_of : Option (ℕ × Bool) → List Selector → Place → Denotation → Passing Denoted
+target_of None selectors place d = variable_of place d
+target_of (Some routine) [] place d = function_target place routine.0 >>= (λ v. pure (entire v.0 v.1))
+target_of (Some routine) (selector ∷ others) place d = variable_of place d
 
--- what is accessed left of `:=`: the variable's root, the selectors, and the type
+-- what is accessed left of `:=`: where the access begins, the selectors, and the type
 pub record Accessed : Type 0 where
-  pub root : ℕ
+  pub origin : Origin
   pub selectors : List TreeSelector
   pub type_id : TypeId
 
@@ -99,19 +116,19 @@ unfoldable pub target : Name → List Selector → List Written → Passing Acce
 target name selectors indexes = do
   d ← find name
   variable ← target_of (as_routine d) selectors name.place d
-  may_change name.place variable.0
+  may_change name.place (root_of variable.origin)
   enter_as Access
-  component ← selected [] variable.1 selectors indexes
-  structured ← tests_structured component.1
-  mark (target_mark structured variable.0 component.0 component.1)
-  pure (record { root = variable.0; selectors = component.0; type_id = component.1 })
+  component ← selected variable.selectors variable.type_id selectors indexes
+  found ← kind_now component.1
+  mark (target_mark found variable.origin component.0 component.1)
+  pure (record { origin = variable.origin; selectors = component.0; type_id = component.1 })
 
--- a value that is assigned to an ordinal, and then its test
-unfoldable pub assigned : Accessed → Place → Written → Passing (Unit {0})
-assigned to becomes value = do
-  id ← site kind.Subrange becomes
+-- a value that is assigned to an ordinal or a set, and then its test, whose site stands at `:=`
+unfoldable pub assigned : Scalar → Accessed → Place → Written → Passing (Unit {0})
+assigned tested to becomes value = do
+  id ← site (test_kind tested) becomes
   range ← value.typing None >>? (λ types t. or_mismatch becomes (fitting types to.type_id t))
-  mark (Fits to.root to.selectors (record { site = id; range = range }))
+  mark (Fits to.origin to.selectors (record { site = id; tests = tested; range = range }))
 
 -- a value that is copied to a structured target of a type
 unfoldable pub copied : TypeId → Place → Written → Passing (Unit {0})
@@ -120,13 +137,20 @@ copied type_id becomes value = do
   copy ← value.typing None >>? (λ types t. or_mismatch becomes (copying types type_id t))
   mark (Copied type_id copy.source copy.cells)
 
+-- a value that is assigned to a target of a kind
+abbrev pub assigned_by_kind : Option TypeKind → Accessed → Place → Written → Passing (Unit {0})
+assigned_by_kind (Some kind_of_type.Structured) to becomes value = copied to.type_id becomes value
+assigned_by_kind (Some (kind_of_type.Set base members)) to becomes value = assigned scalar.Set to becomes value
+assigned_by_kind (Some (kind_of_type.Ordinal range)) to becomes value = assigned scalar.Ordinal to becomes value
+assigned_by_kind None to becomes value = assigned scalar.Ordinal to becomes value
+
 -- the variable is accessed first, and then comes the value (6.8.2.2)
 unfoldable pub assignment : Name → List Selector → List Written → Place → Written → Passing (Unit {0})
 assignment name selectors indexes becomes value = do
   enter_as (λ n. Assign n becomes)
   to ← target name selectors indexes
-  structured ← tests_structured to.type_id
-  if structured then copied to.type_id becomes value else assigned to becomes value
+  found ← kind_now to.type_id
+  assigned_by_kind found to becomes value
 
 -- the procedure that a name denotes
 abbrev pub as_procedure : Place → Denotation → Checked RequiredProcedure
@@ -136,6 +160,7 @@ as_procedure place (denotes.Routine block is_function) = Err (fault.WrongParamet
 as_procedure place (denotes.Constant value type_id) = Err (fault.Mismatch place)
 as_procedure place (denotes.Text number type_id) = Err (fault.Mismatch place)
 as_procedure place (denotes.Variable root type_id) = Err (fault.Mismatch place)
+as_procedure place (denotes.Field slot position offset type_id) = Err (fault.Mismatch place)
 as_procedure place (denotes.TypeName type_id) = Err (fault.Mismatch place)
 as_procedure place denotes.Output = Err (fault.Mismatch place)
 
@@ -149,6 +174,7 @@ is_output (denotes.TypeName type_id) = false
 is_output (denotes.Constant value type_id) = false
 is_output (denotes.Text number type_id) = false
 is_output (denotes.Variable root type_id) = false
+is_output (denotes.Field slot position offset type_id) = false
 is_output (denotes.Procedure procedure) = false
 is_output (denotes.Function function) = false
 is_output (denotes.Routine block is_function) = false
@@ -165,6 +191,7 @@ names_file (NotOf place operand) = pure false
 names_file (SignedOf sign place term) = pure false
 names_file (ChainOf first rest) = pure false
 names_file (RelationOf left operator place right) = pure false
+names_file (SetOf place designators members) = pure false
 
 abbrev pub unless_wide : Expr → Option Expr → Passing Bool
 unless_wide value None = names_file (out-Expr value)
@@ -196,10 +223,16 @@ abbrev pub representation_of : List Form → TypeId → Option Representation
 representation_of types id = form_representation (form_at types id)
 
 -- how a value is written: an ordinal by its type, or a string
+abbrev pub written_value : List Form → TypedValue → Option Mark
+written_value types (value.Ordinal type_id) = option_map WrittenMark (representation_of types type_id)
+written_value types (value.Set base) = None
+written_value types (value.Text type_id length) =
+    if is_string types type_id then Some (WrittenString None) else None
+written_value types (value.Whole type_id cells) =
+    if is_string types type_id then Some (WrittenString (Some type_id)) else None
+
 abbrev pub written_as : List Form → Typed → Option Mark
-written_as types t =
-    if is_none t.length then option_map WrittenMark (representation_of types t.type_id)
-    else (if is_string types t.type_id then Some WrittenString else None)
+written_as types t = written_value types t.value
 
 -- a width is an integer; its site is the leading one
 abbrev pub measured : Place → Typed → Checked ℕ
@@ -307,14 +340,27 @@ unfoldable pub bound : ℕ → TypeId → Written → Passing (Unit {0})
 bound control type_id w = do
   id ← site kind.Subrange w.first
   range ← w.typing None >>? (λ types t. or_mismatch w.first (fitting types type_id t))
-  mark (Fits control [] (record { site = id; range = range }))
+  mark (Fits (AtVariable control) [] (record { site = id; tests = scalar.Ordinal; range = range }))
+
+-- the variable that a name denotes as a control variable, by its root and its type; K5 at a field, which is none that a
+-- block declares, and K2 where it denotes no variable
+abbrev pub as_control : Place → Denotation → Checked (ℕ × TypeId)
+as_control place (denotes.Variable root type_id) = Ok (root, type_id)
+as_control place (denotes.Field slot position offset type_id) = Err (fault.Threatened place)
+as_control place (denotes.Constant value type_id) = Err (fault.NotVariable place)
+as_control place (denotes.Text number type_id) = Err (fault.NotVariable place)
+as_control place (denotes.TypeName type_id) = Err (fault.NotVariable place)
+as_control place (denotes.Procedure procedure) = Err (fault.NotVariable place)
+as_control place (denotes.Function function) = Err (fault.NotVariable place)
+as_control place (denotes.Routine block is_function) = Err (fault.NotVariable place)
+as_control place denotes.Output = Err (fault.NotVariable place)
 
 -- a for as far as its `do`, by the root of its control variable
 unfoldable pub for_head : Place → Name → Written → SyntaxDirection → Written → Passing ℕ
 for_head place variable first direction last = do
   pass place
   d ← find variable
-  control ← given (as_variable variable.place d)
+  control ← given (as_control variable.place d)
   by_types (λ types. fits (is_ordinal types control.1) variable.place (tt {0}))
   may_change variable.place control.0
   may_control variable.place control.0
@@ -363,12 +409,17 @@ case_arms type_id before (arm ∷ arms) = do
   arm.1
   case_arms type_id (before ++ row) arms
 
+-- the type of an ordinal; K1 at the place where it is none
+abbrev pub ordinal_of : List Form → Place → Option TypeId → Checked TypeId
+ordinal_of types place None = Err (fault.Mismatch place)
+ordinal_of types place (Some type_id) = fits (is_ordinal types type_id) place type_id
+
 -- a case as far as its `of`, by the type of its index, which is ordinal; the site stands at its word
 unfoldable pub case_head : Place → Written → Passing TypeId
 case_head place index = do
   id ← site kind.Case place
   enter_as (λ n. Case n id)
-  index.typing None >>? (λ types t. fits (is_none t.length && is_ordinal types t.type_id) index.first t.type_id)
+  index.typing None >>? (λ types t. ordinal_of types index.first (ordinal_type t.value))
 
 unfoldable pub case_body : List (List Constant × Passing (Unit {0})) → TypeId → Passing (Unit {0})
 case_body arms type_id = case_arms type_id [] arms >> mark Ends
@@ -376,6 +427,49 @@ case_body arms type_id = case_arms type_id [] arms >> mark Ends
 -- a case (6.8.3.5)
 abbrev pub case_statement : Place → Written → List (List Constant × Passing (Unit {0})) → Passing (Unit {0})
 case_statement place index arms = case_head place index >>= case_body arms
+
+-- a record of a with, as it is opened: what these selectors lead to
+abbrev pub opened_record : Origin → List TreeSelector → TypeId → OpenRecord
+opened_record origin selectors type_id = record {
+  root = root_of origin;
+  steps = steps_of origin ++ map step_of selectors;
+  type_id = type_id;
+}
+
+-- a variable as it is written
+pub record WrittenVariable : Type 0 where
+  pub name : Name
+  pub selectors : List Selector
+  pub indexes : List Written
+
+abbrev pub written_record : RecordVariable → WrittenVariable
+written_record one = record {
+  name = one.name;
+  selectors = one.selectors.items;
+  indexes = map expression one.indexes.items;
+}
+
+-- a record of a with is accessed, and then its fields are names; K1 at its name where it is no record
+unfoldable pub opened : WrittenVariable → Passing (Unit {0})
+opened one = do
+  d ← find one.name
+  variable ← variable_of one.name.place d
+  enter_as Access
+  component ← selected variable.selectors variable.type_id one.selectors one.indexes
+  mark (Opens variable.origin component.0 (index_count component.0))
+  open_record one.name.place (opened_record variable.origin component.0 component.1)
+
+-- a with (6.8.3.10): each of its records is opened before the next is looked up
+unfoldable pub with_statement : Place → List WrittenVariable → Passing (Unit {0}) → Passing (Unit {0})
+with_statement place records body = do
+  pass place
+  first_slot ← next_slot
+  enter_as (λ n. With n first_slot)
+  each opened records
+  mark Do
+  body
+  each (λ _. close_record) records
+  mark (WithEnds first_slot)
 
 abbrev pub statement_step : Stmt-F (Passing (Unit {0})) → Passing (Unit {0})
 statement_step EmptyOf = enter_as Empty
@@ -391,6 +485,8 @@ statement_step (ForOf place variable first direction last body) =
     for_loop place variable (expression first) direction (expression last) body.value
 statement_step (CaseOf place index constants arms semicolon) =
     case_statement place (expression index) (arms_of constants.items arms.items)
+statement_step (WithOf place records body) =
+    with_statement place (map written_record records.items) body.value
 
 -- a statement
 abbrev pub statement : Stmt → Passing (Unit {0})

@@ -3,17 +3,20 @@
 use Rattle.std.specs.Prelude.{ℕ, ℤ, pos, ◌+◌, ◌-◌, ◌++◌, Bool, true, false, not, ◌&&◌, List, [], ◌∷◌, Option, Some}
 use Rattle.std.specs.Prelude.{None}
 use Rattle.std.specs.Prelude.{Result, Ok, Err, if◌then◌else◌, nat_eq, nat_le, nat_lt, length, slice_get, take, get_or}
+use Rattle.std.specs.Prelude.{flat_map}
 use Rattle.std.specs.List.{list_any}
 use Rattle.place.specs.declared.Place.{Place}
 use Rattle.syntax_tree.specs.declared.Name.{Name}
-use Rattle.types.specs.Forms.{Form}
+use Rattle.types.specs.Forms.{FieldForm, Form, Record}
+use Rattle.types.specs.declared.form.RecordField.{RecordField}
 use Rattle.types.specs.declared.form.TypeId.{TypeId}
 use Rattle.types.specs.declared.refusal.TypeRefusal.{TypeRefusal}
 use Rattle.types.specs.declared.refusal.TypeRefusal.TheVariants as refusal
-use Rattle.types.specs.Types.{admitted, cells_of, host_of, most_cells, required_forms}
+use Rattle.types.specs.Types.{admitted, cells_of, field_of, form_at, host_of, most_cells, required_forms}
 pub use Rattle.scopes.specs.Scopes.{innermost, outer}
-use Rattle.scopes.specs.Scopes.{Region, found, opened, opened_beside, define}
+use Rattle.scopes.specs.Scopes.{Region, found, opened, opened_beside, opened_with, define}
 use Rattle.scopes.specs.declared.denotation.Denotation.{Denotation}
+use Rattle.scopes.specs.declared.denotation.Denotation.TheVariants as denotes
 use Rattle.scopes.specs.declared.fault.ScopeFault.{ScopeFault}
 use Rattle.scopes.specs.declared.fault.ScopeFault.TheVariants as scope
 use Rattle.typed_tree.specs.declared.fault.TypeFault.{TypeFault}
@@ -24,7 +27,8 @@ use Rattle.typed_tree.specs.declared.tree.VariableKind.{VariableKind}
 use Rattle.typed_tree.specs.declared.tree.Variable.{Variable}
 use Rattle.typed_tree.specs.WellFormed.{is_local_kind, most_blocks, most_entries, most_variables}
 use Rattle.typing.specs.Names.{folded, required_region}
-use Rattle.typing.specs.Passing.{Headed, Enclosing, Passed, Checked, Passing, after, and_then, pure, mark, ◌>>=◌}
+use Rattle.typing.specs.Passing.{Headed, Enclosing, OpenRecord, Passed, Checked, Passing, after, and_then, pure, mark}
+use Rattle.typing.specs.Passing.{◌>>=◌}
 
 -- the most sites of a program
 abbrev pub most_sites : ℕ
@@ -52,6 +56,7 @@ begins start = record {
   entries = 0;
   loops = 0;
   controls = [];
+  records = [];
   threatened = [];
   assigned = [];
   latest = start;
@@ -162,6 +167,48 @@ begin_control root = λ s. Ok (after tt [] (record s { controls = s.controls ++ 
 unfoldable pub end_control : Passing (Unit {0})
 end_control = λ s. Ok (after tt [] (record s { controls = take (length s.controls - 1) s.controls }))
 
+-- ---- records of with statements
+
+-- how many records stand round the place, which is the slot of the next one
+unfoldable pub next_slot : Passing ℕ
+next_slot = λ s. Ok (after (length s.records) [] s)
+
+-- the record of a slot
+unfoldable pub record_at : ℕ → Passing (Option OpenRecord)
+record_at slot = λ s. Ok (after (slice_get s.records slot) [] s)
+
+-- what the name of a field denotes, by the slot of its record
+abbrev pub field_definition : ℕ → List ℕ → Option RecordField → List (List ℕ × Denotation)
+field_definition slot name None = []
+field_definition slot name (Some field) =
+    (name, denotes.Field slot field.position field.offset field.type_id) ∷ []
+
+abbrev pub definition_of : List Form → TypeId → ℕ → FieldForm → List (List ℕ × Denotation)
+definition_of types id slot field = field_definition slot field.name (field_of types id field.name)
+
+-- what the names of the fields of a type denote; K1 at the place where the type is no record
+abbrev pub field_definitions : List Form → Place → TypeId → ℕ → Option Form → Checked (List (List ℕ × Denotation))
+field_definitions types place id slot (Some (Record packed fields)) = Ok (flat_map (definition_of types id slot) fields)
+field_definitions types place id slot other = Err (fault.Mismatch place)
+
+-- a record is opened, whose fields are names from here on (6.8.3.10); K10 where there are too many
+unfoldable pub open_record : Place → OpenRecord → Passing (Unit {0})
+open_record place opened = λ s.
+    if nat_le most_entries (length s.records) then Err (fault.TooMany place)
+    else and_then
+    (field_definitions s.types place opened.type_id (length s.records) (form_at s.types opened.type_id))
+    (λ definitions. Ok (after tt [] (record s {
+      regions = opened_with definitions ∷ s.regions;
+      records = s.records ++ opened ∷ [];
+    })))
+
+-- the latest one is closed
+unfoldable pub close_record : Passing (Unit {0})
+close_record = λ s. Ok (after tt [] (record s {
+  regions = outer s.regions;
+  records = take (length s.records - 1) s.records;
+}))
+
 -- the region of a block that defines these names, in small letters
 unfoldable pub open_block : List (List ℕ) → Passing (Unit {0})
 open_block names = λ s. Ok (after tt [] (record s { regions = opened names ∷ s.regions }))
@@ -189,6 +236,7 @@ abbrev pub refused : TypeRefusal → Place → TypeFault
 refused refusal.Memory place = fault.Memory
 refused refusal.FirstAboveLast place = fault.FirstAboveLast place
 refused refusal.TooManyCells place = fault.TooManyCells place
+refused refusal.MembersOutOfRange place = fault.MembersOutOfRange place
 
 -- what the table answers, at a place
 abbrev pub added : Place → Result TypeId TypeRefusal → Checked TypeId

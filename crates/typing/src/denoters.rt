@@ -1,4 +1,4 @@
-ghost use Rattle.std.specs.Prelude.{◌≡◌, Ok, Err, IsOk, MatchResult};
+ghost use Rattle.std.specs.Prelude.{◌≡◌, Ok, Err, IsOk, MatchResult, option_map};
 ghost use Rattle.types.specs.Forms.{form_of};
 ghost use Rattle.typing.specs.Steps.{refused, value_of};
 ghost use Rattle.typed_tree.specs.declared.fault.TypeFault.TheVariants.{Memory};
@@ -28,7 +28,7 @@ impl Typer {
         Ok(type_id)
     }
 
-    /// A type of its own, by its form; the rule that the form breaks is told at the place (Y1, Y2).
+    /// A type of its own, by its form; the rule that the form breaks is told at the place (Y1, Y2, Y3).
     #[tactic(auto, unfolding(crate::specs::Steps::add_type))]
     pub fn add_type(&mut self, place: Place, form: TypeForm) -> Result<TypeId, TypeFault>
         ensures taken { Takes (step.add_type place (form_of form) self.old) result self.new }
@@ -90,6 +90,19 @@ impl Typer {
         })
     }
 
+    /// The form of a set type over a base (6.4.3.4); none where that is not ordinal.
+    pub fn set_form(&self, packed: bool, base: TypeId) -> Option<TypeForm>
+        ensures { option_map form_of result ≡ spec.set_form self.now.types packed base }
+    {
+        let range = self.types.range(base)?;
+        Some(TypeForm::Set {
+            packed,
+            host: self.types.host(base),
+            first: range.first,
+            last: range.last,
+        })
+    }
+
     /// The place of the latest token that was passed.
     pub fn latest(&self) -> Place
         ensures { result ≡ self.now.latest }
@@ -113,6 +126,7 @@ fn refused(rule: TypeRefusal, place: Place) -> TypeFault
         TypeRefusal::Memory => TypeFault::Memory,
         TypeRefusal::FirstAboveLast => TypeFault::FirstAboveLast(place),
         TypeRefusal::TooManyCells => TypeFault::TooManyCells(place),
+        TypeRefusal::MembersOutOfRange => TypeFault::MembersOutOfRange(place),
     }
 }
 

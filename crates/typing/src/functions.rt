@@ -3,7 +3,7 @@ ghost use Rattle.std.specs.Prelude.{◌≡◌};
 ghost use Rattle.typing.specs.Functions.{all_but_first, all_but_last, applied, given_type, is_taken};
 ghost use Rattle.typing.specs.Functions.{operation_on, passing_values, shift_of, test_kind};
 
-use crate::typed::Typed;
+use crate::typed::{Typed, TypedValue};
 use crate::typer::Typer;
 use place::Place;
 use scopes::{
@@ -12,7 +12,7 @@ use scopes::{
 };
 use typed_tree::fault::TypeFault;
 use typed_tree::site::SiteKind;
-use typed_tree::tree::{Calculation, Monadic, RangeTest, Shift};
+use typed_tree::tree::{Calculation, Monadic, RangeTest, Scalar, Shift};
 use types::{OrdinalRange, TypeId, TypeTable};
 
 /// The operation of a function at its name, before its argument: the values that pass a test depend on that.
@@ -118,6 +118,7 @@ fn operation_on(types: &TypeTable, argument: TypeId, begun: BegunFunction) -> Mo
         BegunFunction::Tests { site, test } => Monadic::Tested {
             fits: RangeTest {
                 site,
+                tests: Scalar::Ordinal,
                 range: passing_values(test, types.range(argument)),
             },
             does: shift_of(test),
@@ -175,11 +176,12 @@ impl Typer {
     ) -> Result<(Monadic, TypeId), TypeFault>
         ensures { result ≡ applied self.now.types function begun place argument }
     {
-        let id = argument.type_id;
-        if argument.length.is_some() || !is_taken(&self.types, function.takes, id) {
-            return Err(TypeFault::Mismatch(place));
+        match argument.value {
+            TypedValue::Ordinal(id) if is_taken(&self.types, function.takes, id) => {
+                let operation = operation_on(&self.types, id, begun);
+                Ok((operation, given_type(function.gives, id)))
+            }
+            _ => Err(TypeFault::Mismatch(place)),
         }
-        let operation = operation_on(&self.types, id, begun);
-        Ok((operation, given_type(function.gives, id)))
     }
 }

@@ -1,3 +1,5 @@
+use crate::rules::set_operation_behind;
+use crate::typed::Typed;
 use crate::typer::Typer;
 use place::Place;
 use syntax_tree::Operator;
@@ -20,9 +22,26 @@ impl Typer {
         }
     }
 
+    /// The operation of an operator behind a left operand (6.7.2): that of sets, which has no site, behind a set, and
+    /// else one with its site.
+    #[tactic(auto, unfolding(crate::specs::Expressions::operation_or))]
+    pub fn operation_behind(
+        &mut self,
+        operator: Operator,
+        place: Place,
+        left: Typed,
+    ) -> Result<Dyadic, TypeFault>
+        ensures { Takes (spec.operation_behind operator place left self.old) result self.new }
+    {
+        match set_operation_behind(operator, left.value) {
+            Some(operation) => Ok(operation),
+            None => self.operation(operator, place),
+        }
+    }
+
     /// The operation of an operator, with its site (6.7.2).
     #[tactic(auto, unfolding(crate::specs::Expressions::operation, crate::specs::Expressions::tested))]
-    pub fn operation(&mut self, operator: Operator, place: Place) -> Result<Dyadic, TypeFault>
+    fn operation(&mut self, operator: Operator, place: Place) -> Result<Dyadic, TypeFault>
         ensures { Takes (spec.operation operator place self.old) result self.new }
     {
         Ok(match operator {

@@ -1,19 +1,26 @@
 //! The rules of types, of operators and of calls, which need nothing else of a program.
-ghost use Rattle.std.specs.Prelude.{◌≡◌, ◌&&◌, is_none, is_some, nat_eq};
-ghost use Rattle.types.specs.Types.{is_compatible};
+ghost use Rattle.std.specs.Prelude.{◌≡◌, ◌&&◌, Some, nat_eq, option_map};
+ghost use Rattle.types.specs.Types.{agree, cells_of, is_assignable, is_compatible, is_same};
 ghost use Rattle.typing.specs.Steps.{told};
-ghost use Rattle.typing.specs.Expressions.{sign_operation, operand_type, takes_operands, relation_of, may_compare};
-ghost use Rattle.typing.specs.Expressions.{as_function, as_routine, as_variable, fitting, copying};
-ghost use Rattle.typing.specs.Statements.{as_procedure, ends_line, is_output};
-ghost use Rattle.typing.specs.Statements.{representation_of, way};
+ghost use Rattle.typing.specs.Expressions.{sign_operation, operand_type, relation_of, set_relation_of, may_compare};
+ghost use Rattle.typing.specs.Expressions.{are_alike, may_contain, may_relate, relation_behind_value, whole_type};
+ghost use Rattle.typing.specs.Expressions.{as_function, as_routine, copying, fitting, ordinal_type};
+ghost use Rattle.typing.specs.Expressions.{fitting_members, is_ordinal_of, member_of, member_with_site, members_test};
+ghost use Rattle.typing.specs.Expressions.{result_of, set_operation, set_operation_behind, test_kind};
+ghost use Rattle.typing.specs.Statements.{as_control, as_procedure, ends_line, is_output};
+ghost use Rattle.typing.specs.Statements.{ordinal_of, representation_of, way};
 
-use crate::typed::Typed;
+use crate::typed::{Typed, TypedValue};
 use place::Place;
 use scopes::{Denotation, RequiredFunction, RequiredProcedure, ScopeFault};
 use syntax_tree::{Operator, RelationalOperator, Sign};
 use typed_tree::fault::TypeFault;
-use typed_tree::tree::{Calculation, Direction, Monadic, Relation, Representation};
-use types::{ArrayElement, OrdinalRange, TypeForm, TypeId, TypeTable};
+use typed_tree::site::SiteKind;
+use typed_tree::tree::{
+    Calculation, Direction, Dyadic, Monadic, RangeTest, Relation, Representation, Scalar,
+    SetRelation,
+};
+use types::{ArrayElement, OrdinalRange, SetBase, TypeForm, TypeId, TypeKind, TypeTable};
 
 // What the scopes answer, at a place.
 pub(crate) fn placed<T>(answer: Result<T, ScopeFault>, place: Place) -> Result<T, TypeFault>
@@ -50,35 +57,167 @@ pub fn operand_type(operator: Operator) -> TypeId
     }
 }
 
-/// Whether both operands of an operator are of its type.
-pub fn takes_operands(operator: Operator, left: Typed, right: Typed) -> bool
-    ensures { result ≡ takes_operands operator left right }
-{
-    let wanted = operand_type(operator);
-    left.is_of(wanted) && right.is_of(wanted)
-}
-
-/// The relation that an operator tells (6.7.2.5).
-pub fn relation_of(operator: RelationalOperator) -> Relation
-    ensures { result ≡ relation_of operator }
+/// The operation of sets that an operator tells (6.7.2.4).
+pub fn set_operation(operator: Operator) -> Option<Dyadic>
+    ensures { result ≡ set_operation operator }
 {
     match operator {
-        RelationalOperator::Equal => Relation::Equal,
-        RelationalOperator::NotEqual => Relation::NotEqual,
-        RelationalOperator::Less => Relation::Less,
-        RelationalOperator::Greater => Relation::Greater,
-        RelationalOperator::LessOrEqual => Relation::LessOrEqual,
-        RelationalOperator::GreaterOrEqual => Relation::GreaterOrEqual,
+        Operator::Plus => Some(Dyadic::Union),
+        Operator::Minus => Some(Dyadic::Difference),
+        Operator::Times => Some(Dyadic::Intersection),
+        Operator::Or | Operator::Div | Operator::Mod | Operator::And => None,
     }
 }
 
-/// Whether a relation may hold between two operands (6.7.2.5).
-pub fn may_compare(types: &TypeTable, left: Typed, right: Typed) -> bool
+/// The operation of sets that an operator tells behind a left operand, where that is a set.
+pub fn set_operation_behind(operator: Operator, left: TypedValue) -> Option<Dyadic>
+    ensures { result ≡ set_operation_behind operator left }
+{
+    match left {
+        TypedValue::Set(_) => set_operation(operator),
+        TypedValue::Ordinal(_) | TypedValue::Text { .. } | TypedValue::Whole { .. } => None,
+    }
+}
+
+/// The result of an operator on two operands (6.7.2.1): of its type, where both are, or else a set of both.
+pub fn result_of(operator: Operator, left: TypedValue, right: TypedValue) -> Option<TypedValue>
+    ensures { result ≡ result_of operator left right }
+{
+    match (left, right) {
+        (TypedValue::Ordinal(left), TypedValue::Ordinal(right)) => {
+            let wanted = operand_type(operator);
+            (left.same(wanted) && right.same(wanted)).then_some(TypedValue::Ordinal(wanted))
+        }
+        (TypedValue::Set(left), TypedValue::Set(right)) => {
+            let fits = set_operation(operator).is_some() && left.compatible(right);
+            fits.then_some(TypedValue::Set(left.joined(right)))
+        }
+        _ => None,
+    }
+}
+
+// The relation that an operator tells behind an ordinal or a string (6.7.2.5).
+fn relation_of(operator: RelationalOperator) -> Dyadic
+    ensures { result ≡ relation_of operator }
+{
+    match operator {
+        RelationalOperator::Equal => Dyadic::Relation(Relation::Equal),
+        RelationalOperator::NotEqual => Dyadic::Relation(Relation::NotEqual),
+        RelationalOperator::Less => Dyadic::Relation(Relation::Less),
+        RelationalOperator::Greater => Dyadic::Relation(Relation::Greater),
+        RelationalOperator::LessOrEqual => Dyadic::Relation(Relation::LessOrEqual),
+        RelationalOperator::GreaterOrEqual => Dyadic::Relation(Relation::GreaterOrEqual),
+        RelationalOperator::In => Dyadic::In,
+    }
+}
+
+// The relation that an operator tells behind a set.
+fn set_relation_of(operator: RelationalOperator) -> Option<Dyadic>
+    ensures { result ≡ set_relation_of operator }
+{
+    match operator {
+        RelationalOperator::Equal => Some(Dyadic::SetRelation(SetRelation::Equal)),
+        RelationalOperator::NotEqual => Some(Dyadic::SetRelation(SetRelation::NotEqual)),
+        RelationalOperator::LessOrEqual => Some(Dyadic::SetRelation(SetRelation::Included)),
+        RelationalOperator::GreaterOrEqual => Some(Dyadic::SetRelation(SetRelation::Includes)),
+        RelationalOperator::Less | RelationalOperator::Greater | RelationalOperator::In => None,
+    }
+}
+
+/// The relation that an operator tells behind a left operand: none where that is a set, and the operator is `<`, `>` or
+/// `in`.
+pub fn relation_behind(operator: RelationalOperator, left: TypedValue) -> Option<Dyadic>
+    ensures { result ≡ relation_behind_value operator left }
+{
+    match left {
+        TypedValue::Set(_) => set_relation_of(operator),
+        TypedValue::Ordinal(_) | TypedValue::Text { .. } | TypedValue::Whole { .. } => {
+            Some(relation_of(operator))
+        }
+    }
+}
+
+/// Whether an operator relates two operands (6.7.2.5).
+pub fn may_relate(
+    types: &TypeTable,
+    operator: RelationalOperator,
+    left: Typed,
+    right: Typed,
+) -> bool
+    ensures { result ≡ may_relate types.now operator left right }
+{
+    match operator {
+        RelationalOperator::In => may_contain(left.value, right.value),
+        _ => may_compare(types, left.value, right.value),
+    }
+}
+
+// Whether an ordinal may be a member of a set.
+fn may_contain(left: TypedValue, right: TypedValue) -> bool
+    ensures { result ≡ may_contain left right }
+{
+    match (left, right) {
+        (TypedValue::Ordinal(type_id), TypedValue::Set(base)) => agrees(base.host, type_id),
+        _ => false,
+    }
+}
+
+// Whether a host type is this one, as far as it is told.
+fn agrees(host: Option<TypeId>, type_id: TypeId) -> bool
+    ensures { result ≡ agree is_same host (Some type_id) }
+{
+    match host {
+        None => true,
+        Some(host) => host.same(type_id),
+    }
+}
+
+// Whether two ordinals, two sets or two strings may be compared.
+fn may_compare(types: &TypeTable, left: TypedValue, right: TypedValue) -> bool
     ensures { result ≡ may_compare types.now left right }
 {
-    left.length == right.length
-        && types.compatible(left.type_id, right.type_id)
-        && (left.length.is_none() || types.is_string(left.type_id))
+    match (left, right) {
+        (TypedValue::Ordinal(left), TypedValue::Ordinal(right)) => types.compatible(left, right),
+        (TypedValue::Set(left), TypedValue::Set(right)) => left.compatible(right),
+        _ => are_alike(types, left, right),
+    }
+}
+
+// Whether two values are strings of one length, of compatible types.
+fn are_alike(types: &TypeTable, left: TypedValue, right: TypedValue) -> bool
+    ensures { result ≡ are_alike types.now (whole_type left) (whole_type right) }
+{
+    match (left.whole_type(), right.whole_type()) {
+        (Some((left, length)), Some((right, other))) => {
+            length == other && types.compatible(left, right) && types.is_string(left)
+        }
+        _ => false,
+    }
+}
+
+/// A member of a set, by the host type of those before it (6.7.1): K1 at the place where it is no ordinal of that type.
+pub fn member_of(host: Option<TypeId>, place: Place, member: Typed) -> Result<TypeId, TypeFault>
+    ensures { result ≡ member_of host place member }
+{
+    match member.value.ordinal_type() {
+        Some(type_id) if agrees(host, type_id) => Ok(type_id),
+        _ => Err(TypeFault::Mismatch(place)),
+    }
+}
+
+/// The same with its leading site.
+pub fn member_with_site(
+    host: Option<TypeId>,
+    place: Place,
+    member: Typed,
+) -> Result<(u32, TypeId), TypeFault>
+    ensures { result ≡ member_with_site host place member }
+{
+    let type_id = member_of(host, place, member)?;
+    match member.site {
+        Some(site) => Ok((site, type_id)),
+        None => Err(TypeFault::Mismatch(place)),
+    }
 }
 
 /// The function that a name at a place denotes: K3 where it is a procedure, K1 where it is no routine.
@@ -107,12 +246,14 @@ pub fn as_procedure(place: Place, denotation: Denotation) -> Result<RequiredProc
     }
 }
 
-/// The variable that a name at a place denotes, by its root and its type: K2 where it is none.
-pub fn as_variable(place: Place, denotation: Denotation) -> Result<(u32, TypeId), TypeFault>
-    ensures { result ≡ as_variable place denotation }
+/// The variable that a name at a place denotes as a control variable, by its root and its type (6.8.3.9): K5 at a field
+/// of a record, which no block declares, and K2 where it denotes no variable.
+pub fn as_control(place: Place, denotation: Denotation) -> Result<(u32, TypeId), TypeFault>
+    ensures { result ≡ as_control place denotation }
 {
     match denotation {
         Denotation::Variable { root, type_id } => Ok((root, type_id)),
+        Denotation::Field { .. } => Err(TypeFault::Threatened(place)),
         _ => Err(TypeFault::NotVariable(place)),
     }
 }
@@ -146,30 +287,104 @@ pub fn ends_line(procedure: RequiredProcedure) -> bool
 
 /// Whether a value may be the index of an element: an ordinal that is compatible with the index type (6.5.3.2).
 pub fn may_index(types: &TypeTable, element: ArrayElement, value: Typed) -> bool
-    ensures { result ≡ (is_none value.length && is_compatible types.now element.index value.type_id) }
+    ensures { result ≡ is_ordinal_of (is_compatible types.now element.index) value }
 {
-    value.length.is_none() && types.compatible(element.index, value.type_id)
+    match value.value.ordinal_type() {
+        None => false,
+        Some(type_id) => types.compatible(element.index, type_id),
+    }
 }
 
-/// The values of a target's type, if an ordinal value may be assigned to it (6.4.6).
+/// The kind of the site of a test, by what is tested.
+pub fn test_kind(tested: Scalar) -> SiteKind
+    ensures { result ≡ test_kind tested }
+{
+    match tested {
+        Scalar::Ordinal => SiteKind::Subrange,
+        Scalar::Set => SiteKind::SetMember,
+    }
+}
+
+/// The values of a target's type, or those that its members may have, if a scalar value may be assigned to it (6.4.6).
 pub fn fitting(types: &TypeTable, target: TypeId, value: Typed) -> Option<OrdinalRange>
     ensures { result ≡ fitting types.now target value }
 {
-    if value.length.is_some() || !types.assignable(target, value.type_id) {
-        return None;
+    match value.value {
+        TypedValue::Ordinal(type_id) => {
+            if !types.assignable(target, type_id) {
+                return None;
+            }
+            types.range(target)
+        }
+        TypedValue::Set(base) => fitting_members(base, types.kind(target)),
+        TypedValue::Text { .. } | TypedValue::Whole { .. } => None,
     }
-    types.range(target)
 }
 
-/// Whether a structured value may be assigned to a target of a type (6.4.6), which has as many cells.
-pub fn may_copy(types: &TypeTable, target: TypeId, value: Typed) -> bool
-    ensures { result ≡ is_some (copying types.now target value) }
+// The values that members may have, if sets may be assigned to a target of a kind.
+fn fitting_members(base: SetBase, target: Option<TypeKind>) -> Option<OrdinalRange>
+    ensures { result ≡ fitting_members base target }
 {
-    match value.length {
-        None => false,
-        Some(cells) => {
-            types.assignable(target, value.type_id) && types.cells(target) as usize == cells
+    match target {
+        Some(
+            TypeKind::Set {
+                base: target,
+                members,
+            },
+        ) if target.compatible(base) => Some(members),
+        _ => None,
+    }
+}
+
+/// The test of a set for a target of a type, at its leading site (6.4.6): K1 at the place where it may not be assigned.
+pub fn members_test(
+    types: &TypeTable,
+    target: TypeId,
+    place: Place,
+    value: Typed,
+) -> Result<RangeTest, TypeFault>
+    ensures { result ≡ members_test types.now target place value }
+{
+    match (fitting(types, target, value), value.site) {
+        (Some(range), Some(site)) => Ok(RangeTest {
+            site,
+            tests: Scalar::Set,
+            range,
+        }),
+        _ => Err(TypeFault::Mismatch(place)),
+    }
+}
+
+/// The source of a structured value that may be assigned to a target of a type (6.4.6), which has as many cells: the
+/// type of the variable whose value it is, which a string has none of; and its cells.
+pub fn copying(types: &TypeTable, target: TypeId, value: Typed) -> Option<(Option<TypeId>, usize)>
+    ensures { result ≡ option_map (λ copy. (copy.source, copy.cells)) (copying types.now target value) }
+{
+    match value.value {
+        TypedValue::Ordinal(_) | TypedValue::Set(_) => None,
+        TypedValue::Text { type_id, length } => {
+            may_copy(types, target, type_id, length).then_some((None, length))
         }
+        TypedValue::Whole { type_id, cells } => {
+            may_copy(types, target, type_id, cells).then_some((Some(type_id), cells))
+        }
+    }
+}
+
+// Whether a structured value of a type, of so many cells, may be assigned to a target of a type.
+fn may_copy(types: &TypeTable, target: TypeId, type_id: TypeId, cells: usize) -> bool
+    ensures { result ≡ (is_assignable types.now target type_id && nat_eq (cells_of types.now target) cells) }
+{
+    types.assignable(target, type_id) && types.cells(target) as usize == cells
+}
+
+/// The type of an ordinal: K1 at the place where it is none (6.8.3.5).
+pub fn ordinal_of(types: &TypeTable, place: Place, value: Typed) -> Result<TypeId, TypeFault>
+    ensures { result ≡ ordinal_of types.now place (ordinal_type value.value) }
+{
+    match value.value.ordinal_type() {
+        Some(type_id) if types.is_ordinal(type_id) => Ok(type_id),
+        _ => Err(TypeFault::Mismatch(place)),
     }
 }
 

@@ -1,21 +1,58 @@
-ghost use Rattle.std.specs.Prelude.{◌≡◌, ◌&&◌, is_none};
+ghost use Rattle.std.specs.Prelude.{◌≡◌};
 ghost use Rattle.types.specs.Types.{is_ordinal};
-ghost use Rattle.typing.specs.Expressions.{is_of};
+ghost use Rattle.typing.specs.Expressions.{is_of, is_ordinal_of, is_scalar_value, ordinal_type, whole_type};
 
-use types::{TypeId, TypeTable};
+use types::{SetBase, TypeId, TypeTable};
 
 /// What an expression is.
 #[derive(Clone, Copy)]
 pub struct Typed {
-    /// The type of its value: a host type, or a structured type.
-    pub type_id: TypeId,
-    /// How many components its value has, where that is structured, as a string has so many characters; none where it
-    /// is an ordinal.
-    pub length: Option<usize>,
-    /// The type of the variable whose value it is, where that is structured; a string of its own has none.
-    pub source: Option<TypeId>,
+    pub value: TypedValue,
     /// The id of its leading site.
     pub site: Option<u32>,
+}
+
+/// The kind of an expression's value (6.4.1), with its type as far as it has one.
+#[derive(Clone, Copy)]
+pub enum TypedValue {
+    /// An ordinal of this host type.
+    Ordinal(TypeId),
+    /// A set.
+    Set(SetBase),
+    /// A string of its own, of so many characters.
+    Text { type_id: TypeId, length: usize },
+    /// The value of a structured variable, of so many cells.
+    Whole { type_id: TypeId, cells: usize },
+}
+
+impl TypedValue {
+    /// The type of an ordinal.
+    pub fn ordinal_type(self) -> Option<TypeId>
+        ensures { result ≡ ordinal_type self }
+    {
+        match self {
+            TypedValue::Ordinal(type_id) => Some(type_id),
+            TypedValue::Set(_) | TypedValue::Text { .. } | TypedValue::Whole { .. } => None,
+        }
+    }
+
+    /// The type of a string or of another structured value, and how many components it has.
+    pub fn whole_type(self) -> Option<(TypeId, usize)>
+        ensures { result ≡ whole_type self }
+    {
+        match self {
+            TypedValue::Ordinal(_) | TypedValue::Set(_) => None,
+            TypedValue::Text { type_id, length } => Some((type_id, length)),
+            TypedValue::Whole { type_id, cells } => Some((type_id, cells)),
+        }
+    }
+
+    /// Whether it is an ordinal or a set.
+    pub fn is_scalar(self) -> bool
+        ensures { result ≡ is_scalar_value self }
+    {
+        matches!(self, TypedValue::Ordinal(_) | TypedValue::Set(_))
+    }
 }
 
 impl Typed {
@@ -23,13 +60,19 @@ impl Typed {
     pub fn is_of(self, type_id: TypeId) -> bool
         ensures { result ≡ is_of type_id self }
     {
-        self.length.is_none() && self.type_id.same(type_id)
+        match self.value.ordinal_type() {
+            None => false,
+            Some(own) => own.same(type_id),
+        }
     }
 
     /// Whether it is an ordinal, of an ordinal type (6.4.2).
     pub fn is_ordinal(self, types: &TypeTable) -> bool
-        ensures { result ≡ (is_none self.length && is_ordinal types.now self.type_id) }
+        ensures { result ≡ is_ordinal_of (is_ordinal types.now) self }
     {
-        self.length.is_none() && types.is_ordinal(self.type_id)
+        match self.value.ordinal_type() {
+            None => false,
+            Some(own) => types.is_ordinal(own),
+        }
     }
 }

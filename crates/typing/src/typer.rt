@@ -3,10 +3,11 @@ ghost use Rattle.typed_tree.specs.Ids.{AreInOrder};
 ghost use Rattle.typed_tree.specs.declared.fault.TypeFault.TheVariants.{Memory};
 ghost use Rattle.typing.specs.Passing.{Passed};
 ghost use Rattle.typing.specs.Sound.{stands};
-ghost use Rattle.typing.specs.View.{headed_of, enclosing_of};
+ghost use Rattle.typing.specs.View.{headed_of, enclosing_of, record_of};
 ghost use Rattle.typing.specs.declared.typer.TheConstants.{MOST_SITES, MOST_ENTRIES};
 
 use crate::blocks::{EnclosingBlock, PassedHeading};
+use crate::records::OpenRecord;
 use indexmap::IndexSet;
 use place::Place;
 use scopes::Scopes;
@@ -52,6 +53,8 @@ pub struct Typer {
     pub(crate) loops: u32,
     // Those of the for statements round the place, by root number, the outermost first.
     pub(crate) controls: Vec<u32>,
+    // The records of the with statements round the place, by slot.
+    pub(crate) records: Vec<OpenRecord>,
     // Variables of blocks round others, which those may change, by root number.
     pub(crate) threatened: IndexSet<u32>,
     // Results that are assigned, by root number.
@@ -64,6 +67,7 @@ pub struct Typer {
     ghost few_sites: { vec_len sites ≤ MOST_SITES },
     ghost few_entries: { entries ≤ MOST_ENTRIES },
     ghost few_loops: { loops ≤ entries },
+    ghost few_records: { vec_len records ≤ MOST_ENTRIES },
 }
 
 impl Model for Typer {
@@ -81,6 +85,7 @@ impl Model for Typer {
       entries = t.entries;
       loops = t.loops;
       controls = t.controls.items;
+      records = map record_of t.records.items;
       threatened = t.threatened.keys;
       assigned = t.assigned.keys;
       latest = t.latest;
@@ -110,6 +115,7 @@ impl Typer {
             entries: 0,
             loops: 0,
             controls: Vec::new(alloc),
+            records: Vec::new(alloc),
             threatened: IndexSet::new(alloc),
             assigned: IndexSet::new(alloc),
             latest: start,

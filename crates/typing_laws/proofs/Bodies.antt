@@ -34,7 +34,9 @@ use Rattle.typing_laws.proofs.Ready.{Base, base_types, fit_of, heads_passed, amo
 use Rattle.typing_laws.proofs.Reached.{as_long, mapped_longer, get_longer, get_mapped, get_or_is, mapped_get, head_of}
 use Rattle.typing_laws.proofs.Reached.{signature_passed, Reached, reached, IsFurther, as_far, further_still, Here, stands_later, is_round_here}
 use Rattle.typing_laws.proofs.Routines.{Began, Begins}
-use Rattle.typing_laws.proofs.Sound.{AreSound, IsSoundRegion, beside_holds, inside_itself, inside_routine, regions_later, IsSound, among_more, or_right}
+use Rattle.typing_laws.proofs.Sound.{AreSound, IsSoundRegion, beside_holds, declared_in, inside_itself, inside_routine, regions_later, round_inside, IsSound}
+use Rattle.typing_laws.proofs.Sound.{among_more}
+use Rattle.typing_laws.proofs.Sound.{or_right}
 use Rattle.typing.proofs.Ways.{Stay}
 use Rattle.typing_laws.proofs.Went.{Grows, as_high, grow_then, grows, inner as inner_of, same_controls}
 use Rattle.typing_laws.proofs.Steps.{Does, Anything, Nothing, no_sites, silent_leaves, last as last_does, pure_does, quietly, site_does, sited, split_if}
@@ -42,6 +44,7 @@ use Rattle.typing_laws.proofs.Tables.{cells_in}
 use Rattle.typing_laws.proofs.Waiting.{count_append, count_of, one_if, is_place, told_of_it, told_of_others, waits_in}
 use Rattle.typing_laws.specs.Controls.{AreUnthreatened, Each, in_blocks, mark_changes, mark_controls}
 use Rattle.typing_laws.proofs.Spared.{none_held, spared_then}
+use Rattle.typing_laws.proofs.Opened.{opened_then}
 use Rattle.typing_laws.proofs.Kept.{MayChange, changes_of, controls_of, each_append, each_more}
 use Rattle.typing_laws.proofs.Placed.{each_map, each_pair, each_square, placed_as_far, placed_inner}
 
@@ -96,6 +99,8 @@ told_standing here under s number place st is_open = record {
   };
   block = st.block;
   around = st.around;
+  none_open = st.none_open;
+  records = st.records;
   stands = st.stands;
   waiting = λ block waits. opened (by block (nat_eq block number) refl waits);
 }
@@ -227,6 +232,7 @@ built_told here under number old new t = record {
   unthreatened = tt;
   controls_kept = t.controls_kept;
   spared = refl;
+  opened = refl;
 }
 
 pub forward_builds : (here : Here) (under : List Region) (b : Begun) (place : Place) (old now : Passed) (a : After (Unit {0})) → Standing here under old
@@ -296,6 +302,7 @@ fine_standing here under s st = record {
   texts = st.ready.texts;
   block = st.block;
   around = st.around;
+  records = st.records ∙ sym st.none_open;
   stands = st.stands;
   fit = fit_of s (length (heads_passed s.headings)) st.ready.base;
 }
@@ -319,7 +326,7 @@ module _ (look : Look) (number : ℕ) (around parameters : List ℕ) (result : O
 -- what is known where the block of a routine begins
 module _ (here : Here) (under : List Region) (number : ℕ) (headed : Headed) (names : List (List ℕ)) where
   abbrev inner : Here
-  inner = record { block = number; around = here.around ++ here.block ∷ [] }
+  inner = declared_in here number
 
   abbrev entered : Passed → Passed
   entered s = record s {
@@ -334,12 +341,12 @@ module _ (here : Here) (under : List Region) (number : ℕ) (headed : Headed) (n
       let heads = heads_passed s.headings in
       let told = st.ready.base.headed number headed there in
       let region : IsSoundRegion inner s.variables s.types heads headed.region =
-      subst (λ l. IsSoundRegion (record { block = number; around = l }) s.variables s.types heads headed.region) around told.region in
+      subst (λ l. IsSoundRegion (record { block = number; around = l; records = [] }) s.variables s.types heads headed.region) around told.region in
       record {
         ready = record {
           sound = (
             beside_holds (IsSound inner s.variables s.types heads) headed.region names region,
-            regions_later (inside_routine here number) as_long as_long as_long s.regions st.ready.sound,
+            regions_later (inside_routine here number st.none_open) as_long as_long as_long s.regions st.ready.sound,
           );
           under_it = refl;
           base = st.ready.base;
@@ -348,6 +355,8 @@ module _ (here : Here) (under : List Region) (number : ℕ) (headed : Headed) (n
         };
         block = refl;
         around = around;
+        none_open = refl;
+        records = st.records;
         stands = (signature_passed headed, mapped_get signature_passed s.headings number headed there, around);
         waiting = λ block waits. absurd cc;
       }
@@ -392,6 +401,8 @@ module _ (here : Here) (under : List Region) (number : ℕ) (headed : Headed) (n
         };
         block = ap (λ (e : Enclosing). e.block) round_is ∙ st.block;
         around = ap (λ (e : Enclosing). e.around) round_is ∙ st.around;
+        none_open = st.none_open;
+        records = kept.records ∙ inside.records;
         stands = stands_later here (reached s) (reached last) more st.stands;
         waiting = λ block waits.
             let before = ap (λ (e : Enclosing). waits_in e.waiting block) (sym round_is) ∙ waits in
@@ -419,7 +430,7 @@ turned : (m n : ℕ) → Fails (nat_eq m n) → Fails (nat_eq n m)
 turned m n other = grind (arith, nat_tests)
 
 -- what stands round a routine's block is that, or stands round its declarer
-round_parts : (here : Here) (number block : ℕ) → is_round_here (record { block = number; around = here.around ++ here.block ∷ [] }) block ≡ true
+round_parts : (here : Here) (number block : ℕ) → is_round_here (declared_in here number) block ≡ true
     → (block ≡ number) ⊎ (is_round_here here block ≡ true)
 round_parts here number block is = by (nat_eq block number) refl is
   where
@@ -515,14 +526,14 @@ module _ (here : Here) (start middle last : Passed) {first : Look} {second : Loo
 -- from the declarations of a block to its end
 module _ (here : Here) (under : List Region) (number : ℕ) (headed : Headed) (names : List (List ℕ)) where
   abbrev inner_here : Here
-  inner_here = record { block = number; around = here.around ++ here.block ∷ [] }
+  inner_here = declared_in here number
 
   -- what is not round the block isn't round its declarer's
   outside_too : (block : ℕ) → Fails (is_round_here inner_here block) → Fails (is_round_here here block)
   outside_too block outside = by (is_round_here here block) refl
     where
       by : (test : Bool) → is_round_here here block ≡ test → Fails test
-      by true round = absurd (contradicts ((inside_routine here number).keeps block round) outside)
+      by true round = absurd (contradicts (round_inside here number block round) outside)
       by false round = refl
 
   -- the block itself isn't round its declarer's
@@ -831,6 +842,7 @@ routine_block_builds here under number name b places lawful old s a t is =
           (placed_inner mark_controls number headed.around headed.parameters c.result b.end look (inner_of g.way).ends refl);
       controls_kept = same_controls g.way ∙ f.controls_kept ∙ t.controls_kept;
       spared = spared_then [] i.first ended f.spared (spared_then [] look (mark_end ∷ []) (g.spared [] (none_held i.middle.controls)) refl);
+      opened = opened_then [] [] [] i.first ended f.opened (opened_then [] [] [] look (mark_end ∷ []) g.opened refl);
     } in
     let standing =
     left_standing here under number headed names s i.middle p.end.passed s.enclosing refl t.standing t.waits_it o.other f i.standing g in

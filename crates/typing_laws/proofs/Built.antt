@@ -27,7 +27,9 @@ use Rattle.typing_laws.proofs.Ready.{heads_passed}
 use Rattle.typing_laws.proofs.Tables.{HaveTypes, cells_in}
 use Rattle.typing_laws.proofs.Waiting.{waits_in, one_if, count_of, count_append}
 use Rattle.typing_laws.specs.Controls.{AreUnthreatened, Each, in_blocks, mark_changes, mark_controls, spared_behind}
+use Rattle.typing_laws.specs.Opened.{opened_behind}
 use Rattle.typing_laws.proofs.Spared.{spared_then}
+use Rattle.typing_laws.proofs.Opened.{opened_then}
 use Rattle.typing_laws.proofs.Kept.{each_append, each_more}
 use Rattle.typing_laws.proofs.Placed.{each_pair, each_square}
 
@@ -141,6 +143,7 @@ pub record Built (here : Here) (look : Look) (old new : Passed) : Type 0 where
   pub unthreatened : AreUnthreatened look
   pub controls_kept : new.controls ≡ old.controls
   pub spared : spared_behind [] look ≡ Some []
+  pub opened : opened_behind [] look ≡ Some []
 
 pub built_further : {here : Here} {look : Look} {old new : Passed} → Built here look old new
     → IsFurther (reached old) (reached new)
@@ -341,6 +344,7 @@ built_then {here} {look} {more} {old} {now} {new} f g = record {
   unthreatened = all_unthreatened f g;
   controls_kept = g.controls_kept ∙ f.controls_kept;
   spared = spared_then [] look more f.spared g.spared;
+  opened = opened_then [] [] [] look more f.opened g.opened;
 }
 
 -- a step that builds nothing
@@ -365,6 +369,7 @@ built_silent {here} {old} {new} way =
       unthreatened = tt;
       controls_kept = same_controls way;
       spared = refl;
+      opened = refl;
     }
 
 -- ---- where a block stands
@@ -393,6 +398,8 @@ pub record Standing (here : Here) (under : List Region) (s : Passed) : Type 0 wh
   pub ready : Ready here under here.block (heads_passed s.headings) s.variables s
   pub block : s.enclosing.block ≡ here.block
   pub around : s.enclosing.around ≡ here.around
+  pub none_open : here.records ≡ []
+  pub records : s.records ≡ []
   pub stands : StandsIn here (reached s)
   pub waiting : (number : ℕ) → waits_in s.enclosing.waiting number ≡ true → IsOpen here s number
 
@@ -405,6 +412,8 @@ standing_silent {here} {under} {old} {new} st way ready =
       ready = subst (λ h. Ready here under here.block (heads_passed h) new.variables new) (sym q.headings) ready;
       block = ap (λ (e : Enclosing). e.block) q.enclosing ∙ st.block;
       around = ap (λ (e : Enclosing). e.around) q.enclosing ∙ st.around;
+      none_open = st.none_open;
+      records = q.records ∙ st.records;
       stands = stands_later here (reached old) (reached new) (further way) st.stands;
       waiting = λ number waits.
           let o = st.waiting number (ap (λ (e : Enclosing). waits_in e.waiting number) (sym q.enclosing) ∙ waits) in

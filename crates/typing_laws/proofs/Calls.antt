@@ -1,13 +1,16 @@
 -- What calls of routines do: each actual parameter fits the formal one at its place, and there are as many.
-use Rattle.std.proofs.Common.{◌≡◌, ℕ, ◌+◌, ◌<◌, Bool, true, false, ◌&&◌, ◌||◌, not, nat_eq, if◌then◌else◌, List, [], ◌∷◌, ◌++◌, length, Option, Some, None}
+use Rattle.std.proofs.Common.{◌≡◌, ℕ, ◌+◌, ◌<◌, Bool, true, false, ◌||◌, not, nat_eq, if◌then◌else◌, List, [], ◌∷◌, ◌++◌, length, Option, Some, None}
 use Rattle.std.proofs.Common.{Ok, Err, is_none, slice_get, refl, sym, ap, subst, ◌∙◌, arith, append_assoc, length-append, option_map}
+use Rattle.std.specs.Option.{option_and_then}
 use Rattle.std.proofs.lemmas.Bool.{eq-eqb}
 use Rattle.place.specs.declared.Place.{Place}
 use Rattle.syntax_tree.specs.Places.{joined_places}
 use Rattle.types.specs.Forms.{Form}
 use Rattle.types.specs.declared.form.TypeId.{TypeId}
 use Rattle.types.specs.declared.form.OrdinalRange.{OrdinalRange}
-use Rattle.types.specs.Types.{is_assignable, is_ordinal, is_structured, range_of}
+use Rattle.types.specs.declared.form.TypeKind.{TypeKind}
+use Rattle.types.specs.declared.form.TypeKind.TheVariants as kind_of_type
+use Rattle.types.specs.Types.{are_compatible_sets, is_assignable, is_structured, is_structured_kind, kind_of, range_of, scalar_range, scalar_range_of}
 use Rattle.scopes.specs.declared.denotation.Denotation.{Denotation}
 use Rattle.scopes.specs.declared.denotation.Denotation.TheVariants as denotes
 use Rattle.typed_tree.specs.declared.fault.TypeFault.TheVariants as fault
@@ -15,15 +18,21 @@ use Rattle.typed_tree.specs.declared.site.SiteKind.{SiteKind}
 use Rattle.typed_tree.specs.declared.site.SiteKind.TheVariants as kind
 use Rattle.typed_tree.specs.declared.tree.FunctionResult.{FunctionResult}
 use Rattle.typed_tree.specs.declared.tree.RangeTest.{RangeTest}
+use Rattle.typed_tree.specs.declared.tree.Scalar.TheVariants as scalar
 use Rattle.typed_tree.specs.declared.tree.Variable.{Variable}
 use Rattle.typed_tree.specs.Look.{Calls, Called, ForValue, ForWhole}
-use Rattle.typed_tree.specs.WellFormed.{Outline, declarer, is_callable, is_kind_of, is_parameter_kind, is_range_of, is_round, is_value_kind, is_variable_kind}
+use Rattle.typed_tree.specs.WellFormed.{Outline, declarer, holds, is_callable, is_held_by, is_kind_of, is_parameter_kind, is_round, is_value_kind}
+use Rattle.typed_tree.specs.WellFormed.{is_variable_kind}
 use Rattle.typed_tree.specs.WellFormed.{may_call, of_one, passes_value, passes_whole, takes_value, takes_whole}
 use Rattle.typing.specs.Steps.{or_mismatch}
+use Rattle.typing.specs.Passing.{and_then}
 use Rattle.typing.specs.declared.typed.Typed.{Typed}
-use Rattle.typing.specs.Expressions.{Written, WrittenActual, actual, actuals_for, are_as_many, as_routine, Copy, fitting, function_value}
-use Rattle.typing.specs.Expressions.{or_no_result, passed_ordinal, passed_to, passed_value, passed_whole, result_variable, routine_call, typed, unless_width}
-use Rattle.typing_laws.proofs.WholeRanges.{HaveWholeRanges, IsWholeRange}
+use Rattle.typing.specs.declared.typed.TypedValue.{TypedValue}
+use Rattle.typing.specs.declared.typed.TypedValue.TheVariants as value
+use Rattle.typing.specs.Expressions.{Written, WrittenActual, actual, actuals_for, are_as_many, as_routine, Copy, fitting, fitting_members, fitting_value}
+use Rattle.typing.specs.Expressions.{function_value, members_test, or_no_result, passed_by_kind, passed_ordinal, passed_set, passed_to, passed_value}
+use Rattle.typing.specs.Expressions.{passed_whole, result_variable, routine_call, typed, unless_width}
+use Rattle.typing_laws.proofs.WholeRanges.{HaveWholeRanges, IsWholeRange, ordinal_values}
 use Rattle.typing_laws.proofs.Copies.{IsCopyFor, copy_formed, copying_there}
 use Rattle.typing_laws.proofs.Covers.{Covers, covers_any, covers_both, covers_more, covers_none, leads_first}
 use Rattle.typing_laws.proofs.Reached.{Signature, signature_of, head_of, Reached, whole_of, IsFurther, further_still, Here, StandsIn, is_round_here, get_longer}
@@ -33,25 +42,49 @@ use Rattle.typing_laws.proofs.Sound.{IsRoutine, routine_longer}
 use Rattle.typing_laws.proofs.Strings.{there}
 use Rattle.typing_laws.proofs.Steps.{Does, Anything, Nothing, IsSoundThen, joins, quietly, last, checks_types, sited, answered, pure_does, given_does}
 use Rattle.typing_laws.proofs.Steps.{fail_does, mark_does, pass_does, enter_does, site_does, host_type_does, heading_at_does, variable_at_does, led}
-use Rattle.typing_laws.proofs.Steps.{behind_does}
-use Rattle.typing_laws.proofs.Tables.{is_ordinal_longer, is_structured_longer, ordinal_is, range_of_longer}
+use Rattle.typing_laws.proofs.Steps.{IsKnown, behind_does, split}
+use Rattle.typing_laws.proofs.Tables.{has_kind, is_structured_longer, kind_longer}
 use Rattle.typing_laws.proofs.Leading.{IsLed, Types, led_alone, ordinal_types, lt_true, IsFormalAt, formal_later, formal_is, LawfulWritten, covers_test}
 use Rattle.typing_laws.proofs.Leading.{led_covers}
-use Rattle.typing_laws.proofs.Accesses.{round_formed, same_range, tests_structured_does, tested}
+use Rattle.typing_laws.proofs.Accesses.{kind_now_does, round_formed, test_formed}
 
 -- ---- tests
 
-pub fitting_is : (place : Place) (types : List Form) (target : TypeId) (value : Typed) (range : OrdinalRange)
-    → or_mismatch place (fitting types target value) ≡ Ok range → range_of types target ≡ Some range
-fitting_is place types target value range is = by (is_none value.length && is_assignable types target value.type_id) is
+-- the range of a test is that of the target's type
+fitting_range : (types : List Form) (target : TypeId) (v : TypedValue) (range : OrdinalRange) → fitting_value types target v ≡ Some range
+    → scalar_range_of types target ≡ Some range
+fitting_range types target (value.Ordinal type_id) range is = by (is_assignable types target type_id) is
   where
-    by : (test : Bool) → or_mismatch place (if test then range_of types target else None) ≡ Ok range → range_of types target ≡ Some range
-    by true h = there place (range_of types target) range h
+    by : (test : Bool) → (if test then range_of types target else None) ≡ Some range → scalar_range_of types target ≡ Some range
+    by true h = ordinal_values types target range h
     by false h = absurd cc
+fitting_range types target (value.Set base) range is = by (kind_of types target) is
+  where
+    by : (found : Option TypeKind) → fitting_members base found ≡ Some range → option_and_then scalar_range found ≡ Some range
+    by (Some (kind_of_type.Set other members)) h = one (are_compatible_sets other base) h
+      where
+        one : (test : Bool) → (if test then Some members else None) ≡ Some range → Some members ≡ Some range
+        one true g = g
+        one false g = absurd cc
+    by (Some (kind_of_type.Ordinal values)) h = absurd cc
+    by (Some kind_of_type.Structured) h = absurd cc
+    by None h = absurd cc
+fitting_range types target (value.Text type_id length) range is = absurd cc
+fitting_range types target (value.Whole type_id cells) range is = absurd cc
 
-pub fitting_whole : (place : Place) (types : List Form) → HaveWholeRanges types → (target : TypeId) (value : Typed) (range : OrdinalRange)
-    → or_mismatch place (fitting types target value) ≡ Ok range → IsWholeRange range
-fitting_whole place types whole target value range is = whole target range (fitting_is place types target value range is)
+pub fitting_is : (place : Place) (types : List Form) (target : TypeId) (t : Typed) (range : OrdinalRange)
+    → or_mismatch place (fitting types target t) ≡ Ok range → scalar_range_of types target ≡ Some range
+fitting_is place types target t range is = fitting_range types target t.value range (there place (fitting types target t) range is)
+
+-- the range of a type, of numbers of integer
+abbrev pub IsRangeOf : List Form → TypeId → OrdinalRange → Type 0
+IsRangeOf types id range = (scalar_range_of types id ≡ Some range) × IsWholeRange range
+
+pub fitting_whole : (place : Place) (types now : List Form) (target : TypeId) (t : Typed) (range : OrdinalRange) → now ≡ types → HaveWholeRanges types
+    → or_mismatch place (fitting types target t) ≡ Ok range → IsRangeOf now target range
+fitting_whole place types now target t range same whole is =
+    let found = fitting_is place types target t range is in
+    (ap (λ l. scalar_range_of l target) same ∙ found, whole target range found)
 
 -- a parameter that is none by reference is one by value
 by_value : (value variable : Bool) → (value || variable) ≡ true → variable ≡ false → value ≡ true
@@ -131,36 +164,61 @@ module _ (here : Here) where
   -- ---- values that are passed
 
   value_formed : (now : Reached) (callee position : ℕ) (formal : Variable) (fits : RangeTest) (o : Outline) → IsFurther now (whole_of o)
-      → IsFormalAt now callee position formal → is_value_kind formal.kind ≡ true → is_ordinal now.types formal.type_id ≡ true
-      → fits.site < now.sites → range_of now.types formal.type_id ≡ Some fits.range → IsWholeRange fits.range
+      → IsFormalAt now callee position formal → is_value_kind formal.kind ≡ true → holds now.types fits.tests formal.type_id ≡ true
+      → fits.site < now.sites → IsRangeOf now.types formal.type_id fits.range
       → passes_value o here.block fits callee position ≡ true
-  value_formed now callee position formal fits o more at by_value ordinal known range whole =
-      let same = range_of_longer more.types formal.type_id at.stands ∙ range in
-      both_true _ _ (both_true _ _ (lt_true fits.site o.sites (omega (arith, known, more.sites))) whole)
+  value_formed now callee position formal fits o more at by_value held known range =
+      both_true _ _ (both_true _ _ (lt_true fits.site o.sites (omega (arith, known, more.sites))) range.1)
       (ap (of_one (takes_value o fits)) (formal_is now callee position formal o more at)
-      ∙ both_true _ _ by_value
-      (both_true _ _ (is_ordinal_longer more.types formal.type_id at.stands ∙ ordinal) (ap (is_range_of fits.range) same ∙ same_range fits.range)))
+      ∙ both_true _ _ by_value (test_formed here formal.type_id fits now (whole_of o) at.stands more held range.0))
 
   ordinal_does : {least : Reached} (w : Written) (places : List Place) (callee position : ℕ) (formal : Variable) → LawfulWritten here places w
-      → IsFormalAt least callee position formal → is_value_kind formal.kind ≡ true → is_ordinal least.types formal.type_id ≡ true
+      → IsFormalAt least callee position formal → is_value_kind formal.kind ≡ true → holds least.types scalar.Ordinal formal.type_id ≡ true
       → Does here least (Covers 0 places) (passed_ordinal formal.type_id w callee position) Anything
   unfolding passed_ordinal
-  ordinal_does {least} w places callee position formal law at by_value ordinal =
+  ordinal_does {least} w places callee position formal law at by_value held =
       joins (covers_test here kind.Subrange (omega arith) (omega arith) places w law) (site_does kind.Subrange w.first) λ site now one known.
-      last (checks_types {L = IsRangeThere} (law.types now None tt) λ types t range next more same lawful fits _.
-      subst (λ l. IsRangeIn l range) (sym same)
-      (fitting_is w.first types formal.type_id t range fits, fitting_whole w.first types lawful.whole formal.type_id t range fits)) λ range next two is.
+      last (checks_types {L = λ range n. IsRangeOf n.types formal.type_id range} (law.types now None tt) λ types t range next more same lawful fits _.
+      fitting_whole w.first types next.types formal.type_id t range same lawful.whole fits) λ range next two is.
       let seen = further_still one two in
       let there = formal_later least next callee position formal seen at in
-      mark_does (ForValue (record { site = site; range = range }) callee position) refl refl refl
-      (λ o h. value_formed next callee position formal (record { site = site; range = range }) o h there by_value
-      (is_ordinal_longer seen.types formal.type_id at.stands ∙ ordinal) (omega (arith, known, two.sites)) is.0 is.1)
-    where
-      IsRangeIn : List Form → OrdinalRange → Type 0
-      IsRangeIn types range = (range_of types formal.type_id ≡ Some range) × IsWholeRange range
+      let test : RangeTest = record { site = site; tests = scalar.Ordinal; range = range } in
+      mark_does (ForValue test callee position) refl refl refl refl
+      (λ o h. value_formed next callee position formal test o h there by_value
+      (ap (is_held_by scalar.Ordinal) (kind_longer seen.types formal.type_id at.stands) ∙ held) (omega (arith, known, two.sites)) is)
 
-      IsRangeThere : OrdinalRange → Reached → Type 0
-      IsRangeThere range n = IsRangeIn n.types range
+  -- the test of a set names its leading site
+  abbrev IsMembersTest : TypeId → RangeTest → Reached → Type 0
+  IsMembersTest id test now = (test.tests ≡ scalar.Set) × (test.site < now.sites) × IsRangeOf now.types id test.range
+
+  members_test_is : (place : Place) (types : List Form) (id : TypeId) (t : Typed) (test : RangeTest) (now : Reached) → now.types ≡ types
+      → HaveWholeRanges types → IsKnown t.site now → members_test types id place t ≡ Ok test → IsMembersTest id test now
+  members_test_is place types id t test now same whole known is =
+      let x = split (or_mismatch place (fitting types id t)) (λ range. and_then (or_mismatch place t.site) (λ site. Ok (made range site))) test is in
+      let y = split (or_mismatch place t.site) (λ site. Ok (made x.0 site)) test x.2 in
+      let made_is : made x.0 y.0 ≡ test = cc in
+      subst (λ (z : RangeTest). IsMembersTest id z now) made_is (
+        refl,
+        subst (λ z. IsKnown z now) (there place t.site y.0 y.1) known,
+        fitting_whole place types now.types id t x.0 same whole x.1,
+      )
+    where
+      made : OrdinalRange → ℕ → RangeTest
+      made range site = record { site = site; tests = scalar.Set; range = range }
+
+  set_does : {least : Reached} (w : Written) (places : List Place) (callee position : ℕ) (formal : Variable) → LawfulWritten here places w
+      → IsFormalAt least callee position formal → is_value_kind formal.kind ≡ true → holds least.types scalar.Set formal.type_id ≡ true
+      → Does here least (Covers 0 places) (passed_set formal.type_id w callee position) Anything
+  unfolding passed_set
+  set_does {least} w places callee position formal law at by_value held =
+      last (sited (covers_any 2 places) (checks_types {L = IsMembersTest formal.type_id} (law.types least (Some kind.SetMember) (omega arith))
+      λ types t test next more same lawful tests own. members_test_is w.first types formal.type_id t test next same lawful.whole own.0 tests))
+      λ test next more is.
+      let there = formal_later least next callee position formal more at in
+      mark_does (ForValue test callee position) refl refl refl refl
+      (λ o h. value_formed next callee position formal test o h there by_value
+      (ap (λ tested. holds next.types tested formal.type_id) is.0 ∙ ap (is_held_by scalar.Set) (kind_longer more.types formal.type_id at.stands) ∙ held)
+      is.1 is.2)
 
   whole_formed : (now : Reached) (callee position : ℕ) (formal : Variable) (copy : Copy) (o : Outline) → IsFurther now (whole_of o)
       → IsFormalAt now callee position formal → is_value_kind formal.kind ≡ true → is_structured now.types formal.type_id ≡ true
@@ -181,7 +239,7 @@ module _ (here : Here) where
       copying_there w.first next types formal.type_id t copy same lawful (is_structured_longer more.types formal.type_id structured) own.1 copies))
       λ copy next more fits.
       let there = formal_later least next callee position formal more at in
-      mark_does (ForWhole formal.type_id copy.source copy.cells callee position) refl refl refl
+      mark_does (ForWhole formal.type_id copy.source copy.cells callee position) refl refl refl refl
       (λ o h. whole_formed next callee position formal copy o h there by_value
       (is_structured_longer more.types formal.type_id structured) fits)
 
@@ -190,13 +248,15 @@ module _ (here : Here) where
       → Does here least (Covers 0 places) (passed_value formal.type_id w callee position) Anything
   unfolding passed_value
   value_does {least} w places callee position formal law at is =
-      quietly (tests_structured_does here formal.type_id) λ structured now more is_tested.
-      by now structured (formal_later least now callee position formal more at) (tested here now formal.type_id structured is_tested.1)
+      quietly (kind_now_does here formal.type_id) λ found now more of_kind.
+      by now found (formal_later least now callee position formal more at) of_kind.1
     where
-      by : (now : Reached) (structured : Bool) → IsFormalAt now callee position formal → is_structured now.types formal.type_id ≡ structured
-          → Does here now (Covers 0 places) ((if structured then passed_whole else passed_ordinal) formal.type_id w callee position) Anything
-      by now true at h = whole_does w places callee position formal law at is h
-      by now false at h = ordinal_does w places callee position formal law at is (ordinal_is now.types formal.type_id at.stands h)
+      by : (now : Reached) (found : Option TypeKind) → IsFormalAt now callee position formal → kind_of now.types formal.type_id ≡ found
+          → Does here now (Covers 0 places) (passed_by_kind found formal.type_id w callee position) Anything
+      by now (Some kind_of_type.Structured) at h = whole_does w places callee position formal law at is (ap is_structured_kind h)
+      by now (Some (kind_of_type.Set base members)) at h = set_does w places callee position formal law at is (ap (is_held_by scalar.Set) h)
+      by now (Some (kind_of_type.Ordinal range)) at h = ordinal_does w places callee position formal law at is (ap (is_held_by scalar.Ordinal) h)
+      by now None at h = absurd (has_kind now.types formal.type_id at.stands h)
 
   -- ---- actual parameters
 
@@ -311,7 +371,7 @@ module _ (here : Here) where
   unfolding routine_call
   routine_call_does {least} is_function callee place actuals rows routine stands laws =
       let may = may_call_it least is_function callee routine in
-      quietly (enter_does (λ n. Calls n place callee) (λ n. refl) (λ n. refl) (λ n. refl) (λ n o h. refl)) λ _ entered one _.
+      quietly (enter_does (λ n. Calls n place callee) (λ n. refl) (λ n. refl) (λ n. refl) (λ n. refl) (λ n o h. refl)) λ _ entered one _.
       quietly (heading_at_does callee may.signature (get_longer one.headings callee may.signature may.heading)) λ heading now two is.
       let known = get_longer (further_still one two).headings callee may.signature may.heading in
       let same : heading.parameters ≡ may.signature.parameters = ap (λ (s : Signature). s.parameters) is.0 in
@@ -320,7 +380,7 @@ module _ (here : Here) where
       let as_many = subst (λ l. nat_eq (length actuals) (length l) ≡ true) same (count_is place (length actuals) (length heading.parameters) counts) in
       last (actuals_do heading.parameters actuals rows callee 0 laws (parameters_later now next callee 0 heading.parameters three all)) λ _ _ four _.
       let seen = further_still one (further_still two (further_still three four)) in
-      quietly (mark_does (Called is_function callee (length actuals)) refl refl refl
+      quietly (mark_does (Called is_function callee (length actuals)) refl refl refl refl
       (λ o h. called_formed least is_function callee (length actuals) may stands as_many o (further_still seen h))) λ _ _ _ _.
       pure_does heading.result (λ n h. tt)
 

@@ -1,6 +1,7 @@
 -- What declarations do: they add no site and no entry, each name denotes what is sound, and the variables have room.
 use Rattle.std.proofs.Common.{ℤ, pos, nat_le, map, Vec, ◌<◌, ◌≡◌, ℕ, ◌+◌, ◌-◌, ◌≤◌, ◌&&◌, Bool, true, false, nat_eq, nat_lt, if◌then◌else◌, List, [], ◌∷◌, ◌++◌}
-use Rattle.std.proofs.Common.{length, Option, Some, None, Result, Ok, Err, codes, length-append, refl, sym, ap, subst, ◌∙◌, arith, inl, inr, ◌⊎◌, slice_get}
+use Rattle.std.proofs.Common.{length, option_map, Option, Some, None, Result, Ok, Err, codes, length-append, refl, sym, ap, subst, ◌∙◌, arith, inl, inr, ◌⊎◌}
+use Rattle.std.proofs.Common.{slice_get}
 use Rattle.std.proofs.lemmas.Bool.{eq-eqb}
 use Rattle.std.proofs.lemmas.Bool.Decides.{nat_tests}
 use Rattle.std.specs.List.{list_all, list_any}
@@ -19,9 +20,10 @@ use Rattle.syntax_tree.specs.declared.TypeDenoter.TheViews.{roll-TypeDenoter}
 use Rattle.syntax_tree.specs.declared.TypeDenoter.TheFolds.{map-TypeDenoter, fold-roll-TypeDenoter, ind-TypeDenoter}
 use Rattle.syntax_tree.specs.Places.{fields_of}
 use Rattle.syntax_tree.specs.declared.VariableGroup.{VariableGroup}
-use Rattle.types.specs.Forms.{Form, FieldForm, Enumeration, Subrange, Array, Record}
+use Rattle.types.specs.Forms.{Form, FieldForm, Enumeration, Subrange, Array, Record, Set}
 use Rattle.types.specs.declared.form.TypeId.{TypeId}
-use Rattle.types.specs.Types.{char, cells_of, form_range, host_of, is_ordinal, is_same, is_string, most_cells}
+use Rattle.types.specs.declared.form.OrdinalRange.{OrdinalRange}
+use Rattle.types.specs.Types.{char, cells_of, host_of, is_ordinal, is_same, is_string, most_cells, range_of}
 use Rattle.types.proofs.Built.{IsOver}
 use Rattle.scopes.specs.Scopes.{Region, said, put, is_defined, found, define, outer}
 use Rattle.scopes.specs.declared.denotation.Denotation.{Denotation}
@@ -35,18 +37,19 @@ use Rattle.typed_tree.specs.declared.tree.VariableKind.{VariableKind}
 use Rattle.typed_tree.specs.declared.tree.VariableKind.TheVariants as variable
 use Rattle.typed_tree.specs.WellFormed.{is_character, are_characters, is_local_kind, is_parameter_kind, is_result_kind, most_variables, roots_where}
 use Rattle.typing.specs.Names.{folded}
-use Rattle.typing.specs.Passing.{Passed, Checked, After, Passing, after, behind_marks, pure, fail, given, ◌>>=◌, ◌>>◌, ◌>>?◌}
-use Rattle.typing.specs.Steps.{fits, told, value_of, pass, find, declare, add_type, keep_text, latest, give_output, next_root, enclosing_now, reserve}
+use Rattle.typing.specs.Passing.{Passed, Checked, After, Passing, after, behind_marks, by_types, pure, fail, given, ◌>>=◌, ◌>>◌, ◌>>?◌}
+use Rattle.typing.specs.Steps.{fits, or_mismatch, told, value_of, pass, find, declare, add_type, keep_text, latest, give_output, next_root, enclosing_now}
+use Rattle.typing.specs.Steps.{reserve}
 use Rattle.typing.specs.Strings.{string_characters, string_type, string_constant}
 use Rattle.typing.specs.Constants.{as_ordinal, unsigned_constant, constant, ordinal_constant}
 use Rattle.typing.specs.Denoters.{WrittenDenoter, named_type, type_of_name, constants_from, enumeration, between, subrange, index_type, index_types, arrays}
-use Rattle.typing.specs.Denoters.{array, named_fields, grouped_fields, record_type, denoter_step, denoted_type}
+use Rattle.typing.specs.Denoters.{array, named_fields, grouped_fields, record_type, set_form, set_type, denoter_step, denoted_type}
 use Rattle.typing.specs.Routines.{definition, type_definition, declared, local, group}
 use Rattle.typing.specs.Typing.{parameter_of_program}
-use Rattle.typing_laws.proofs.WholeRanges.{IfWhole}
+use Rattle.typing_laws.proofs.WholeRanges.{HaveWholeRanges, IfWhole, form_values, ordinal_values}
 use Rattle.typing_laws.proofs.Tables.{is_string_longer, lawful_more, stands_longer, texts_more}
 use Rattle.typing_laws.proofs.Constants.{IsWhole, IsWholeOrdinal, number_whole, number_sound, constant_is, behind_sound, ordinal_whole}
-use Rattle.typing_laws.proofs.Strings.{AreOfChar, IsStringOf, fit_is, all_of_char, no_characters, char_whole, type_added, string_type_is}
+use Rattle.typing_laws.proofs.Strings.{AreOfChar, IsStringOf, fit_is, all_of_char, no_characters, char_whole, there as is_there, type_added, string_type_is}
 use Rattle.typing_laws.proofs.Grown.{both_true}
 use Rattle.typing_laws.proofs.Owned.{cells_more, declares, parameters_of, results_of, roots_none_more, roots_one_more}
 use Rattle.typing.proofs.Ways.{Nobody, One, Stay, Token, Typed, Text, Output, Define, Declare}
@@ -85,7 +88,7 @@ named_is name (Err scope.NotDeclared) type_id is = absurd cc
 
 -- a form whose values are whole
 abbrev IsWholeForm : Form → Type 0
-IsWholeForm form = IfWhole (form_range form)
+IsWholeForm form = IfWhole (form_values form)
 
 -- the same of a form that is made of no types
 abbrev IsScalarForm : Form → Type 0
@@ -104,6 +107,20 @@ between_whole types place (Some first) (Some last) form is low high =
     subst IsScalarForm fit.1 (both_true _ _ low high, λ number. tt)
 between_whole types place (Some first) None form is low high = absurd cc
 between_whole types place None last form is low high = absurd cc
+
+-- the members of a set are whole, as the values of its base are
+set_whole : (types : List Form) → HaveWholeRanges types → (packed : Bool) (base : TypeId) (form : Form) → set_form types packed base ≡ Some form
+    → IsScalarForm form
+set_whole types whole packed base form is = by (range_of types base) refl is
+  where
+    made : OrdinalRange → Form
+    made range = Set packed (host_of types base) range.first range.last
+
+    by : (found : Option OrdinalRange) → range_of types base ≡ found → option_map made found ≡ Some form → IsScalarForm form
+    by None found h = absurd cc
+    by (Some range) found h =
+        let same : made range ≡ form = cc in
+        subst IsScalarForm same (whole base range (ordinal_values types base range found), λ number. tt)
 
 -- fields of the first so many types
 abbrev AreFieldsOver : ℕ → List FieldForm → Type 0
@@ -638,6 +655,24 @@ module _ (here : Here) (under : List Region) (counted : ℕ) (heads : List Head)
       keeps_then (before (λ s r. (r, λ k field is. absurd cc)) (grouped_fields_keep [] rows ws laws)) λ fields.
       before (λ s is. (is.0, tt, is.1)) (add_type_keeps place (Record packed fields))
 
+  set_keeps : (packed : Bool) (place : Place) (base : WrittenDenoter) → KeepsDenoter base → Keeps counted IsReady (set_type packed place base) IsTyped
+  unfolding set_type
+  set_keeps packed place base law =
+      keeps_then (pass_keeps place) λ _.
+      keeps_then (index_type_keeps base law) λ id.
+      keeps_then (form_keeps id) λ form.
+      before (λ s is. (is.0, is.1.0, is.1.1 (length s.types))) (add_type_keeps place form)
+    where
+      form_keeps : (id : TypeId)
+          → Keeps counted (IsTyped id) (by_types (λ types. or_mismatch place (set_form types packed id))) (λ form s. IsReady s × IsScalarForm form)
+      form_keeps id = record {
+        keeps = λ s a is from.
+            let x = split (or_mismatch place (set_form s.types packed id)) (λ form. Ok (after form [] s)) a is in
+            let same : after x.0 [] s ≡ a = cc in
+            subst (Kept counted s (λ form n. IsReady n × IsScalarForm form)) same
+            (Stay, (from.0, set_whole s.types from.0.base.lawful.whole packed id x.0 (is_there place (set_form s.types packed id) x.0 x.1)));
+      }
+
   -- ---- every denoter
 
   abbrev KeepsTypeDenoter : TypeDenoter → Type 0
@@ -667,6 +702,7 @@ module _ (here : Here) (under : List Region) (counted : ℕ) (heads : List Head)
   denoter_layer (layer.Record packed place rows denoters semicolon) =
       from_layer (bare (layer.Record packed place rows denoters semicolon))
       (record_keeps packed place rows.items _ (rows_keep denoters.items))
+  denoter_layer (layer.Set packed place base) = from_layer (bare (layer.Set packed place base)) (set_keeps packed place _ base.value.1)
 
   denoted_type_keeps : (d : TypeDenoter) → Keeps counted IsReady (denoted_type d) IsTyped
   denoted_type_keeps d =

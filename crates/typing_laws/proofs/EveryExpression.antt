@@ -8,7 +8,9 @@ use Rattle.syntax_tree.specs.declared.Expr.TheOpen as layer
 use Rattle.syntax_tree.specs.declared.Expr.TheViews.{roll-Expr, roll-Link, roll-Actual}
 use Rattle.syntax_tree.specs.declared.Expr.TheFolds.{map-Expr, map-Link, map-Actual, fold-roll-Expr, fold-roll-Link, fold-roll-Actual, ind-Expr, ind-Actual}
 use Rattle.syntax_tree.specs.Places.{Places, joined_places, width_places, expr_places, actual_places, link_places, expression_step as expression_row}
-use Rattle.syntax_tree.specs.Places.{actual_step as actual_row, link_step as link_row}
+use Rattle.syntax_tree.specs.Places.{actual_step as actual_row, link_step as link_row, members_of}
+use Rattle.syntax_tree.specs.declared.Designator.{Designator}
+use Rattle.syntax_tree.specs.declared.Designator.TheVariants as designator
 use Rattle.typing.specs.declared.typed.Typed.{Typed}
 use Rattle.typing.specs.Expressions.{Written, WrittenActual, WrittenLink, expression, written_actual, written_link, expression_step, actual_step, link_step}
 use Rattle.typing.specs.Expressions.{links, only, without_width}
@@ -19,7 +21,7 @@ use Rattle.typing_laws.proofs.Leading.{LawfulWritten, LawfulLink, Types}
 use Rattle.typing_laws.proofs.Accesses.{AreLawfulRows}
 use Rattle.typing_laws.proofs.Calls.{IsLawfulWidth, LawfulActual, AreLawfulActuals}
 use Rattle.typing_laws.proofs.Expressions.{number_does, string_does, named_does, component_does, parenthesized_does, negation_does, signed_does}
-use Rattle.typing_laws.proofs.Operators.{link_does, links_none, links_more, chain_does, relation_does, call_does}
+use Rattle.typing_laws.proofs.Operators.{AreLawfulMembers, link_does, links_none, links_more, chain_does, constructed_does, relation_does, call_does}
 
 module _ (here : Here) where
   abbrev pub LawfulExpr : Expr → Type 0
@@ -113,6 +115,15 @@ module _ (here : Here) where
   rows_lawful [] = tt
   rows_lawful (y ∷ ys) = (y.1, rows_lawful ys)
 
+  members_lawful : (designators : List Designator) (ys : List WithExpr)
+      → AreLawfulMembers here (members_of designators (map expr_places (bare_exprs ys))) (members_of designators (map expression (bare_exprs ys)))
+  members_lawful [] ys = tt
+  members_lawful (designator.Single ∷ designators) [] = tt
+  members_lawful (designator.Single ∷ designators) (y ∷ ys) = (y.1, tt, members_lawful designators ys)
+  members_lawful (designator.Range ∷ designators) [] = tt
+  members_lawful (designator.Range ∷ designators) (y ∷ []) = tt
+  members_lawful (designator.Range ∷ designators) (y ∷ z ∷ ys) = (y.1, z.1, members_lawful designators ys)
+
   expression_layer : (y : layer.Expr-F WithExpr WithActual WithLink) → LawfulExpr (roll-Expr (bare y))
   expression_layer (layer.Number value place) = from_layer (layer.Number value place) (number_does here value place)
   expression_layer (layer.Name name) = from_layer (layer.Name name) (named_does here name)
@@ -129,6 +140,8 @@ module _ (here : Here) where
   expression_layer (layer.Chain first rest) = from_layer (bare (layer.Chain first rest)) (chain_does here _ _ _ _ first.value.1 (links_lawful rest.items))
   expression_layer (layer.Relation left operator place right) =
       from_layer (bare (layer.Relation left operator place right)) (relation_does here _ operator place _ _ _ left.value.1 right.value.1)
+  expression_layer (layer.Set place designators values) =
+      from_layer (bare (layer.Set place designators values)) (constructed_does here place _ _ (members_lawful designators.items values.items))
 
   abbrev width_row : WithExpr → Option WithExpr → Option Places
   width_row value width =

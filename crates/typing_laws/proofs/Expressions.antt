@@ -21,37 +21,30 @@ use Rattle.typed_tree.specs.declared.tree.Monadic.{Monadic}
 use Rattle.typed_tree.specs.declared.tree.Monadic.TheVariants as monadic
 use Rattle.typed_tree.specs.declared.tree.Selector.{Selector as TreeSelector}
 use Rattle.typed_tree.specs.declared.tree.Variable.{Variable}
-use Rattle.typed_tree.specs.Accesses.{index_count}
+use Rattle.typed_tree.specs.Accesses.{index_count, root_of}
 use Rattle.typed_tree.specs.WellFormed.{Outline, monadic_is_well_formed, is_character, is_variable_kind, of_one, takes_variable}
 use Rattle.typed_tree.specs.Look.{Access, Constant, Text, Operation, Applied, ForVariable}
 use Rattle.typing.specs.Passing.{Checked, pure, ◌>>=◌, ◌>>◌}
 use Rattle.typing.specs.Steps.{enter_as, value_of}
 use Rattle.typing.specs.Strings.{string_characters, string_type}
 use Rattle.typing.specs.declared.typed.Typed.{Typed}
-use Rattle.typing.specs.Expressions.{Written, written, written_variable, typed, typed_text, number, spelled, string, as_variable, component, denoted, named}
+use Rattle.typing.specs.Expressions.{Written, written, written_variable, typed, typed_text, number, spelled, string, component, denoted, entire, named}
 use Rattle.typing.specs.Expressions.{parenthesized, prefixed, negation, signed, sign_operation, is_of_packed, passable, passed_variable}
 use Rattle.typing_laws.proofs.Reached.{Reached, IsFurther, further_still, Here}
 use Rattle.typing_laws.proofs.Kept.{change_later}
-use Rattle.typing_laws.proofs.Sound.{IsVariable, variable_later}
 use Rattle.typing_laws.proofs.Covers.{Covers, Leads, leads_first}
 use Rattle.typing_laws.proofs.Grown.{both_true}
 use Rattle.typing_laws.proofs.Strings.{AreOfChar, fit_is, all_of_char, no_characters, char_whole, string_type_does}
 use Rattle.typing_laws.proofs.Tables.{is_string_longer}
-use Rattle.typing_laws.proofs.Steps.{Does, Anything, Nothing, IsSoundThen, IsFound, joins, quietly, last, checks, sited, mark_does, change_does, text_at_does}
+use Rattle.typing_laws.proofs.Steps.{Does, Anything, Nothing, IsFound, joins, quietly, last, checks, sited, mark_does, change_does, text_at_does}
 use Rattle.typing_laws.proofs.Steps.{pass_does, pure_does, given_does, by_types_does, fail_does, find_does, enter_does, may_change_does, led, IsKnown}
 use Rattle.typing_laws.proofs.Steps.{behind_does}
 use Rattle.typing_laws.proofs.Leading.{IsLed, Types, led_alone, known_later, ordinal_types, IsFormalAt, formal_later, formal_is, LawfulWritten}
 use Rattle.typing_laws.proofs.Leading.{no_variable_lawful, led_covers}
-use Rattle.typing_laws.proofs.Accesses.{AreLawfulRows, accessed_does, leads_nowhere, leads_later, leads_formed, selected_does}
+use Rattle.typing_laws.proofs.Opened.{open_in, stands_there}
+use Rattle.typing_laws.proofs.Accesses.{AreLawfulRows, accessed_does, entire_denoted, leads_later, leads_formed, selected_does}
+use Rattle.typing_laws.proofs.Accesses.{variable_does}
 use Rattle.typing_laws.proofs.Calls.{function_does}
-
--- a variable that a name denotes is one that the block or one round it declares
-pub variable_is : (here : Here) (now : Reached) (place : Place) (d : Denotation) (variable : ℕ × TypeId)
-    → as_variable place d ≡ Ok variable → IsSoundThen here d now → IsVariable here now.variables now.types variable.0 variable.1
-variable_is here now place (denotes.Variable root type_id) variable is sound =
-    let same : (root, type_id) ≡ variable = cc in
-    subst (λ (v : ℕ × TypeId). IsVariable here now.variables now.types v.0 v.1) same sound
-variable_is here now place other variable is sound = absurd cc
 
 module _ (here : Here) where
   -- ---- constants and variables
@@ -68,7 +61,7 @@ module _ (here : Here) where
           quietly (given_does (value_of value place)) λ v _ _ is.
           let fit = fit_is (nat_le value 2147483647) place (pos value) v is in
           joins (leads_first 2 place (led lead) []) (behind_does lead place) λ id now _ known.
-          quietly (enter_does (λ n. Constant n (pos value)) (λ n. refl) (λ n. refl) (λ n. refl) (λ n o h. fit.0)) λ _ _ one _.
+          quietly (enter_does (λ n. Constant n (pos value)) (λ n. refl) (λ n. refl) (λ n. refl) (λ n. refl) (λ n o h. fit.0)) λ _ _ one _.
           pure_does (typed integer id) (λ n h. ordinal_types integer id now n (further_still one h) known)
 
   -- two or more characters
@@ -77,10 +70,10 @@ module _ (here : Here) where
       (string_type place (length cs) >>= (λ type_id. enter_as (λ n. Text n cs) >> pure (typed_text type_id (length cs) id))) Types
   text_does place id {least} cs known more all =
       quietly (string_type_does place (length cs) more) λ type_id _ one made.
-      quietly (enter_does (λ n. Text n cs) (λ n. refl) (λ n. refl) (λ n. refl) (λ n o h. both_true _ _ made.0 all)) λ _ _ two _.
+      quietly (enter_does (λ n. Text n cs) (λ n. refl) (λ n. refl) (λ n. refl) (λ n. refl) (λ n o h. both_true _ _ made.0 all)) λ _ _ two _.
       pure_does (typed_text type_id (length cs) id) (λ n h. (
         known_later id least n (further_still one (further_still two h)) known,
-        λ count long. is_string_longer (further_still two h).types type_id made.1,
+        is_string_longer (further_still two h).types type_id made.1,
       ))
 
   spelled_does : (place : Place) (id : Option ℕ) {least : Reached} (cs : List ℕ) → IsKnown id least → AreOfChar cs
@@ -88,7 +81,7 @@ module _ (here : Here) where
   unfolding spelled
   spelled_does place id [] known all = absurd (no_characters all)
   spelled_does place id {least} (c ∷ []) known all =
-      quietly (enter_does (λ n. Constant n (pos c)) (λ n. refl) (λ n. refl) (λ n. refl) (λ n o h. char_whole c all.1)) λ _ _ more _.
+      quietly (enter_does (λ n. Constant n (pos c)) (λ n. refl) (λ n. refl) (λ n. refl) (λ n. refl) (λ n o h. char_whole c all.1)) λ _ _ more _.
       pure_does (typed char id) (λ n h. ordinal_types char id least n (further_still more h) known)
   spelled_does place id (c ∷ d ∷ cs) known all = text_does place id (c ∷ d ∷ cs) known (omega arith) all.1
 
@@ -113,7 +106,7 @@ module _ (here : Here) where
       by : {least : Reached} → Does here least (Leads place (led lead) []) (denoted (denotes.Constant value type_id) place lead) Types
       by =
           joins (leads_first 2 place (led lead) []) (behind_does lead place) λ id now _ known.
-          quietly (enter_does (λ n. Constant n value) (λ n. refl) (λ n. refl) (λ n. refl) (λ n o h. sound.0)) λ _ _ more _.
+          quietly (enter_does (λ n. Constant n value) (λ n. refl) (λ n. refl) (λ n. refl) (λ n. refl) (λ n o h. sound.0)) λ _ _ more _.
           pure_does (typed type_id id) (λ n h. ordinal_types type_id id now n (further_still more h) known)
   denoted_does (denotes.Text number type_id) place {least} lead is sound = led_covers here 2 place [] (led lead) (led_alone lead is) by
     where
@@ -121,14 +114,17 @@ module _ (here : Here) where
       by =
           joins (leads_first 2 place (led lead) []) (behind_does lead place) λ id now seen known.
           quietly (text_at_does number) λ cs _ one are.
-          quietly (enter_does (λ n. Text n cs) (λ n. refl) (λ n. refl) (λ n. refl) (λ n o h. are)) λ _ _ two _.
+          quietly (enter_does (λ n. Text n cs) (λ n. refl) (λ n. refl) (λ n. refl) (λ n. refl) (λ n o h. are)) λ _ _ two _.
           pure_does (typed_text type_id (length cs) id) (λ n h.
           let later = further_still one (further_still two h) in (
             known_later id now n later known,
-            λ count long. is_string_longer (further_still seen later).types type_id sound.0,
+            is_string_longer (further_still seen later).types type_id sound.0,
           ))
   denoted_does (denotes.Variable root type_id) place {least} lead is sound =
-      accessed_does here root type_id [] [] [] place lead is tt (leads_nowhere here root type_id least sound.0 sound.1)
+      accessed_does here (entire root type_id) [] [] [] place lead is tt (entire_denoted here root type_id least sound.0 sound.1)
+  denoted_does (denotes.Field slot position offset type_id) place lead is sound =
+      quietly (variable_does here place (denotes.Field slot position offset type_id) sound) λ variable _ _ found.
+      accessed_does here variable [] [] [] place lead is tt found
   denoted_does (denotes.Procedure procedure) place lead is sound = fail_does (fault.WrongParameters place)
   denoted_does (denotes.Function function) place lead is sound = fail_does (fault.WrongParameters place)
   denoted_does (denotes.Routine block is_function) place lead is sound = function_does here block is_function place [] [] lead is sound.0 sound.1 tt
@@ -154,23 +150,21 @@ module _ (here : Here) where
   passed_does {least} name selectors rows ws callee position formal laws at is =
       sited (λ sites has. ([], sites, refl, tt, has))
       (quietly (find_does name) λ d now one sound.
-      quietly (given_does (as_variable name.place d)) λ variable there two it_is.
-      let found = variable_is here now name.place d variable it_is sound.0 in
-      let start = leads_nowhere here variable.0 variable.1 now found sound.1 in
-      let found_there = variable_later here now there variable.0 variable.1 two found in
-      quietly (may_change_does name.place variable.0 variable.1 found_there) λ _ changed three may.
-      quietly (enter_does Access (λ n. refl) (λ n. refl) (λ n. refl) (λ n o h. refl)) λ _ entered four _.
-      let seen = further_still two (further_still three four) in
-      last (selected_does here variable.0 [] variable.1 selectors rows ws laws (leads_later here variable.0 [] variable.1 now entered seen start))
-      λ component met five l.
-      quietly (by_types_does (λ types. passable types formal.type_id variable.1 component.0 component.1 name.place)) λ _ next six fits.
-      let same = passable_is next.types formal.type_id variable.1 component.0 component.1 name.place fits.1 in
-      let led = leads_later here variable.0 component.0 component.1 met next six l in
-      let formal_there = formal_later least next callee position formal (further_still one (further_still seen (further_still five six))) at in
-      let may_there = change_later here changed next variable.0 (further_still four (further_still five six)) may in
-      change_does (ForVariable formal.type_id variable.0 component.0 (index_count component.0) callee position) variable.0
-      refl refl refl refl may_there
-      (λ o h. both_true _ _ (leads_formed here variable.0 component.0 component.1 next led (λ id. is_same id formal.type_id) o h same)
+      quietly (variable_does here name.place d sound) λ variable there two found.
+      let origin = variable.origin in
+      quietly (may_change_does name.place (root_of origin) found.type_id found.of_root) λ _ changed three may.
+      quietly (enter_does Access (λ n. refl) (λ n. refl) (λ n. refl) (λ n. refl) (λ n o h. refl)) λ _ entered four _.
+      let start = leads_later here origin variable.selectors variable.type_id there entered (further_still three four) found.leads_to in
+      last (selected_does here origin variable.selectors variable.type_id selectors rows ws laws start) λ component met five l.
+      quietly (by_types_does (λ types. passable types formal.type_id variable.from component.0 component.1 name.place)) λ _ next six fits.
+      let same = passable_is next.types formal.type_id variable.from component.0 component.1 name.place fits.1 in
+      let led = leads_later here origin component.0 component.1 met next six l in
+      let seen = further_still two (further_still three (further_still four (further_still five six))) in
+      let formal_there = formal_later least next callee position formal (further_still one seen) at in
+      let may_there = change_later here changed next (root_of origin) (further_still four (further_still five six)) may in
+      change_does (ForVariable formal.type_id origin component.0 (index_count component.0) callee position) (root_of origin)
+      refl refl refl refl (stands_there (open_in here) (open_in here) origin led.opens) may_there
+      (λ o h. both_true _ _ (leads_formed here origin component.0 component.1 next led (λ id. is_same id formal.type_id) o h same)
       (ap (of_one (takes_variable formal.type_id)) (formal_is next callee position formal o h formal_there)
       ∙ both_true _ _ is (eq-eqb formal.type_id.index formal.type_id.index refl))))
 
@@ -189,10 +183,8 @@ module _ (here : Here) where
     begins = (selector_places selectors rows, refl);
     types = λ least lead is.
         quietly (find_does name) λ d now _ sound.
-        quietly (given_does (as_variable name.place d)) λ variable there one it_is.
-        let found = variable_is here now name.place d variable it_is sound.0 in
-        accessed_does here variable.0 variable.1 selectors rows ws name.place lead is laws
-        (leads_later here variable.0 [] variable.1 now there one (leads_nowhere here variable.0 variable.1 now found sound.1));
+        quietly (variable_does here name.place d sound) λ variable _ _ found.
+        accessed_does here variable selectors rows ws name.place lead is laws found;
     passes = λ least callee position formal at is. passed_does name selectors rows ws callee position formal laws at is;
   }
 
@@ -229,9 +221,9 @@ module _ (here : Here) where
       by least lead =
           quietly (pass_does place) λ _ _ _ _.
           joins (leads_first 2 place (led lead) places) (behind_does lead place) λ id now _ known.
-          quietly (enter_does Operation (λ n. refl) (λ n. refl) (λ n. refl) (λ n o h. refl)) λ _ next one _.
+          quietly (enter_does Operation (λ n. refl) (λ n. refl) (λ n. refl) (λ n. refl) (λ n o h. refl)) λ _ next one _.
           last (checks {L = Anything} (law.types next None tt) λ types t b n more is _. tt) λ _ _ two _.
-          quietly (mark_does (Applied does) refl refl refl (λ o h. formed o)) λ _ _ three _.
+          quietly (mark_does (Applied does) refl refl refl refl (λ o h. formed o)) λ _ _ three _.
           pure_does (typed type_id id) (λ n h. ordinal_types type_id id now n (further_still one (further_still two (further_still three h))) known)
 
   pub negation_does : (place : Place) (places : List Place) (operand : Written) → LawfulWritten here places operand

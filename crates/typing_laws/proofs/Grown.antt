@@ -10,6 +10,7 @@ use Rattle.typed_tree.specs.declared.tree.Variable.{Variable}
 use Rattle.typed_tree.specs.Ids.{Stands}
 use Rattle.typed_tree.specs.WellFormed.{Outline, is_parameter_kind}
 use Rattle.typed_tree.specs.Look.{Look, is_formed_mark}
+use Rattle.typed_tree.specs.Records.{OpenRecord}
 use Rattle.typing.specs.Passing.{Enclosing, Passed}
 use Rattle.typing.proofs.Ways.{Owner, Nobody, Way, Then}
 use Rattle.typing_laws.proofs.Reached.{get_longer, Signature, signature_passed, Head, head_of, Reached, reached, whole_of}
@@ -17,6 +18,8 @@ use Rattle.typing_laws.proofs.Reached.{IsFurther, further_still, mapped_longer, 
 use Rattle.typing_laws.proofs.Sound.{AreSound, inside_itself, regions_later}
 use Rattle.typing_laws.proofs.Tables.{AreLawful, AreTexts, stands_longer, is_ordinal_longer}
 use Rattle.typing_laws.specs.Controls.{Each, mark_changes, mark_controls, spared_behind}
+use Rattle.typing_laws.specs.Opened.{opened_behind}
+use Rattle.typing_laws.proofs.Opened.{open_in, opened_then}
 use Rattle.typing_laws.proofs.Spared.{AreHeld, spared_then}
 use Rattle.typing_laws.proofs.Reached.{apart_kept}
 use Rattle.typing_laws.proofs.Went.{Grows, grows, inner, same_controls}
@@ -94,6 +97,7 @@ pub record Fine (here : Here) (s : Passed) : Type 0 where
   pub texts : AreTexts s.texts
   pub block : s.enclosing.block ≡ here.block
   pub around : s.enclosing.around ≡ here.around
+  pub records : s.records ≡ here.records
   pub stands : StandsIn here (reached s)
   pub fit : AreFit (reached s)
 
@@ -104,8 +108,8 @@ pub record IsFree (here : Here) (old new : Passed) (root : ℕ) : Type 0 where
   pub own : nat_eq variable.block here.block ≡ true
   pub free : Fails (list_any (nat_eq root) old.threatened)
 
--- a form of a block that looks so
-pub record Grown (here : Here) (look : Look) (old new : Passed) : Type 0 where
+-- a form of a block that looks so; behind it the tree tells of these records that they are open
+pub record Nested (here : Here) (behind : List OpenRecord) (look : Look) (old new : Passed) : Type 0 where
   pub way : Way true Nobody 0 0 look old new
   pub lawful : AreLawful new.types
   pub texts : AreTexts new.texts
@@ -113,6 +117,11 @@ pub record Grown (here : Here) (look : Look) (old new : Passed) : Type 0 where
   pub controls : Each (IsFree here old new) (controls_of look)
   pub formed : (o : Outline) → IsFurther (reached new) (whole_of o) → list_all (is_formed_mark o here.block) look ≡ true
   pub spared : (roots : List ℕ) → AreHeld roots old.controls → spared_behind roots look ≡ Some roots
+  pub opened : opened_behind (open_in here) look ≡ Some behind
+
+-- one that leaves them as they are
+abbrev pub Grown : Here → Look → Passed → Passed → Type 0
+Grown here look old new = Nested here (open_in here) look old new
 
 -- the sites that come, of which something holds
 pub record Sited (Has : List Stands → Type 0) (old new : Passed) : Type 0 where
@@ -148,7 +157,7 @@ pub further : {acts : Bool} {owner : Owner} {from to : ℕ} {look : Look} {old n
     → IsFurther (reached old) (reached new)
 further {old = old} {new = new} way = grown_further old new (grows way) (same_controls way)
 
-pub fine_later : {here : Here} {look : Look} {old new : Passed} → Grown here look old new → Fine here old → Fine here new
+pub fine_later : {here : Here} {behind : List OpenRecord} {look : Look} {old new : Passed} → Nested here behind look old new → Fine here old → Fine here new
 fine_later {here} {old = old} {new = new} g f =
     let more = further g.way in
     let kept = inner g.way in
@@ -160,6 +169,7 @@ fine_later {here} {old = old} {new = new} g f =
       texts = g.texts;
       block = ap (λ (e : Enclosing). e.block) kept.enclosing ∙ f.block;
       around = ap (λ (e : Enclosing). e.around) kept.enclosing ∙ f.around;
+      records = kept.records ∙ f.records;
       stands = stands_later here (reached old) (reached new) more f.stands;
       fit = fit_later (reached old) (reached new) more (ap (map signature_passed) kept.headings) f.fit;
     }
@@ -170,9 +180,9 @@ free_before true b more is = let same : false ≡ true = sym is ∙ more refl in
 free_before false b more is = refl
 
 -- one form, and then another
-pub grown_then : {here : Here} {look more : Look} {old now new : Passed} → Grown here look old now → Grown here more now new
-    → Grown here (look ++ more) old new
-grown_then {here} {look} {more} {old} {now} {new} f g = record {
+pub grown_then : {here : Here} {behind : List OpenRecord} {look more : Look} {old now new : Passed} → Grown here look old now
+    → Nested here behind more now new → Nested here behind (look ++ more) old new
+grown_then {here} {behind} {look} {more} {old} {now} {new} f g = record {
   way = Then f.way g.way;
   lawful = g.lawful;
   texts = g.texts;
@@ -200,4 +210,5 @@ grown_then {here} {look} {more} {old} {now} {new} f g = record {
   formed = λ o h.
       list_all-append (is_formed_mark o here.block) look more ∙ both_true _ _ (f.formed o (further_still (further g.way) h)) (g.formed o h);
   spared = λ roots held. spared_then roots look more (f.spared roots held) (g.spared roots (subst (AreHeld roots) (sym (same_controls f.way)) held));
+  opened = opened_then (open_in here) (open_in here) behind look more f.opened g.opened;
 }

@@ -33,8 +33,8 @@ use Rattle.typing.specs.Routines.{group_types, heading, parameter_kind, paramete
 use Rattle.typing_laws.proofs.Owned.{Fails, block_cells_longer, cells_of_block, declares, other_block, roots_of}
 use Rattle.typing_laws.proofs.Reached.{IsLonger, as_long, longer_still, one_longer, get_longer, get_mapped, Signature, signature_passed, Head, head_of, reached}
 use Rattle.typing_laws.proofs.Reached.{Here, is_round_here, StandsIn}
-use Rattle.typing_laws.proofs.Sound.{IsSound, AreSound, IsSoundRegion, found_holds, opened_holds, inside_itself, inside_routine, regions_later}
-use Rattle.typing_laws.proofs.Ready.{Base, IsHeaded, IsOrdinalAt, IsPlacedAt, base_heading, heads_passed, placed_longer, type_stands}
+use Rattle.typing_laws.proofs.Sound.{IsSound, AreSound, IsSoundRegion, declared_in, found_holds, opened_holds, inside_itself, inside_routine, regions_later}
+use Rattle.typing_laws.proofs.Ready.{Base, IsHeaded, IsOrdinalAt, IsPlacedAt, base_heading, heads_passed, placed_longer, type_stands, within}
 use Rattle.typing.proofs.Ways.{Of, Way}
 use Rattle.typing_laws.proofs.Went.{Grows, grows, no_mark, same_controls, silent}
 use Rattle.typing_laws.proofs.Keeping.{Ready, Keeps, keeps_then, pure_keeps, aside, before}
@@ -279,6 +279,7 @@ result_regions number place (Some id) s a is =
 pub record HeadingAdded (here : Here) (under : List Region) (number : ℕ) (old new : Passed) : Type 0 where
   pub sites : new.sites ≡ old.sites
   pub controls_kept : new.controls ≡ old.controls
+  pub records_kept : new.records ≡ old.records
   pub grows : Grows old new
   pub regions : new.regions ≡ old.regions
   pub enclosing : new.enclosing ≡ old.enclosing
@@ -294,6 +295,7 @@ pub record Entering (here : Here) (under : List Region) (number : ℕ) (pending 
   pub ready : Ready here under here.block (heads_passed s.headings ++ pending ∷ []) s.variables s
   pub block : s.enclosing.block ≡ here.block
   pub around : s.enclosing.around ≡ here.around
+  pub none_open : here.records ≡ []
   pub stands : StandsIn here (reached s)
   pub number_is : number ≡ length s.headings
   pub owned : list_all (λ v. nat_lt v.block number) s.variables ≡ true
@@ -367,7 +369,7 @@ innermost_sound here variables types heads (region ∷ regions) sound = sound.0
 
 module _ (here : Here) (under : List Region) (number : ℕ) (name : Name) (groups : List FormalGroup) (of_result : Option Name) where
   abbrev inner : Here
-  inner = record { block = number; around = here.around ++ here.block ∷ [] }
+  inner = declared_in here number
 
   abbrev pending : Head
   pending = record { around = here.around ++ here.block ∷ []; is_function = not (is_none of_result) }
@@ -518,7 +520,7 @@ module _ (here : Here) (under : List Region) (number : ℕ) (name : Name) (group
       length-append (heads_passed s.headings) (pending ∷ []) ∙ ap (λ n. n + 1) (heads_count s.headings ∙ sym e.number_is) in
       let there : number < length heads = omega (arith, counted) in
       let ready : Ready inner under number heads n3.variables n3 = record {
-        sound = regions_later (inside_routine here number) as_long as_long as_long s.regions e.ready.sound;
+        sound = regions_later (inside_routine here number e.none_open) as_long as_long as_long s.regions e.ready.sound;
         under_it = e.ready.under_it;
         base = e.ready.base;
         texts = e.ready.texts;
@@ -623,9 +625,9 @@ module _ (here : Here) (under : List Region) (number : ℕ) (name : Name) (group
             ordinal_later r.start.types last.types r.start.variables last.variables root r.ready.base.have_types (grows p.way).types (grows p.way).variables
             (result_ordinal heads r.id r.root r.start root r.result_is r.ordinal told);
         region =
-            subst (λ h. IsSoundRegion (record { block = number; around = headed.around }) last.variables last.types h headed.region)
+            subst (λ h. IsSoundRegion (within number headed) last.variables last.types h headed.region)
             (sym same_heads)
-            (subst (λ l. IsSoundRegion (record { block = number; around = l }) last.variables last.types heads headed.region) (sym around)
+            (subst (λ l. IsSoundRegion (record { block = number; around = l; records = [] }) last.variables last.types heads headed.region) (sym around)
             (innermost_sound inner last.variables last.types heads last.regions p.ready.sound));
       } in
       let base =
@@ -646,6 +648,7 @@ module _ (here : Here) (under : List Region) (number : ℕ) (name : Name) (group
       let added : HeadingAdded here under number s new = record {
         sites = (silent p.way).sites ∙ (silent r.way).sites;
         controls_kept = same_controls p.way ∙ same_controls r.way;
+        records_kept = (silent p.way).records ∙ (silent r.way).records;
         grows = record {
           types = types;
           variables = variables;

@@ -4,6 +4,7 @@ use Rattle.std.specs.Option.{option_and_then}
 use Rattle.std.proofs.lemmas.Bool.Decides.{nat_tests}
 use Rattle.place.specs.declared.Place.{Place}
 use Rattle.types.specs.declared.form.TypeId.{TypeId}
+use Rattle.types.specs.declared.sets.SetBase.{SetBase}
 use Rattle.typed_tree.specs.declared.fault.TypeFault.TheVariants as fault
 use Rattle.typed_tree.specs.declared.site.SiteKind.{SiteKind}
 use Rattle.typed_tree.specs.declared.tree.Heading.{Heading}
@@ -13,7 +14,7 @@ use Rattle.typed_tree.specs.Ids.{Stands}
 use Rattle.typed_tree.specs.Sites.{number_of}
 use Rattle.typing.specs.Passing.{Passing}
 use Rattle.typing.specs.declared.typed.Typed.{Typed}
-use Rattle.typing.specs.Expressions.{Written, WrittenLink, no_variable, typed, written}
+use Rattle.typing.specs.Expressions.{Written, WrittenLink, no_variable, typed, typed_set, written}
 use Rattle.typing_laws.proofs.Copies.{HasSource, source_longer}
 use Rattle.typing_laws.proofs.Covers.{AreAbove, Covers, Leads, covers_ahead, covers_lower, leads_covers}
 use Rattle.typing_laws.proofs.Reached.{Signature, signature_of, Reached, whole_of, IsFurther, Here, get_longer, get_mapped}
@@ -42,19 +43,20 @@ known_later (Some id) now next more known = omega (arith, more.sites, known)
 pub lt_true : (a b : ℕ) → a < b → nat_lt a b ≡ true
 lt_true a b h = grind (arith, nat_tests)
 
--- a typed expression has a leading site that is known, and where it is structured, the type of its source
+-- a typed expression has a leading site that is known, and where it is structured, it is so by its type
 abbrev pub Types : Typed → Reached → Type 0
-Types t now = IsKnown t.site now × HasSource now.types t
+Types t now = IsKnown t.site now × HasSource now.types t.value
 
 pub types_later : (t : Typed) (now next : Reached) → IsFurther now next → Types t now → Types t next
-types_later t now next more types = (
-  known_later t.site now next more types.0,
-  λ cells long. source_longer more.types t.type_id t.source (types.1 cells long),
-)
+types_later t now next more types = (known_later t.site now next more types.0, source_longer more.types t.value types.1)
 
 -- an ordinal
 pub ordinal_types : (type_id : TypeId) (id : Option ℕ) (now next : Reached) → IsFurther now next → IsKnown id now → Types (typed type_id id) next
-ordinal_types type_id id now next more known = (known_later id now next more known, λ cells long. absurd cc)
+ordinal_types type_id id now next more known = (known_later id now next more known, tt)
+
+-- a set
+pub set_types : (base : SetBase) (id : Option ℕ) (now next : Reached) → IsFurther now next → IsKnown id now → Types (typed_set base id) next
+set_types base id now next more known = (known_later id now next more known, tt)
 
 -- ---- formal parameters
 

@@ -7,7 +7,10 @@ mod Covers
 mod Owned
 mod Kept
 mod Spared
+mod Opened
+mod OwnBlocks
 pub mod Sparing
+pub mod Beginnings
 pub mod Unthreatened
 pub mod Grown
 mod Numbers
@@ -23,6 +26,7 @@ pub mod Expressions
 pub mod Operators
 pub mod EveryExpression
 pub mod Targets
+mod Opening
 pub mod Statements
 mod Waiting
 mod Ready
@@ -37,4 +41,5 @@ pub mod Blocks
 mod Ordered
 pub mod Outlines
 pub mod Programs
+mod There
 pub mod Trees

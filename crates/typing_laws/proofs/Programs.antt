@@ -49,13 +49,15 @@ use Rattle.typing_laws.proofs.Strings.{behind_nothing}
 use Rattle.typing_laws.proofs.Tables.{no_texts, required_lawful}
 use Rattle.typing_laws.proofs.Waiting.{count_append, count_of, count_range, one_if, same_counts, waits_in}
 use Rattle.typing_laws.specs.Controls.{AreUnthreatened, mark_changes, mark_controls, spared_behind}
+use Rattle.typing_laws.specs.Opened.{opened_behind}
 use Rattle.typing_laws.proofs.Spared.{none_held, spared_then}
+use Rattle.typing_laws.proofs.Opened.{opened_then}
 use Rattle.typing_laws.proofs.Placed.{placed_inner}
 
 -- ---- where a program begins
 
 abbrev program_here : Here
-program_here = record { block = 0; around = [] }
+program_here = record { block = 0; around = []; records = [] }
 
 abbrev round_it : List Region
 round_it = required_region ∷ []
@@ -107,6 +109,8 @@ begins_standing program block = record {
   };
   block = refl;
   around = refl;
+  none_open = refl;
+  records = refl;
   stands = (signature_passed program_heading, refl, refl);
   waiting = λ number waits. absurd cc;
 }
@@ -285,6 +289,11 @@ module _ (program : Program) (a : After (Unit {0})) (w : Whole program a) where
       ap (spared_behind []) w.look
       ∙ spared_then [] w.first ended w.built.spared (spared_then [] w.second (mark_end ∷ []) (w.grown.spared [] (none_held w.middle.controls)) refl)
 
+  -- each access begins at what is there
+  are_opened : opened_behind [] a.look ≡ Some []
+  are_opened =
+      ap (opened_behind []) w.look ∙ opened_then [] [] [] w.first ended w.built.opened (opened_then [] [] [] w.second (mark_end ∷ []) w.grown.opened refl)
+
   -- the types, variables and headings fit each other
   base : Base a.passed.types a.passed.variables a.passed.headings (length (heads_passed a.passed.headings))
   base =
@@ -366,6 +375,7 @@ module _ (program : Program) (a : After (Unit {0})) (w : Whole program a) where
         subst (λ n. list_all (λ (v : Variable). nat_lt v.block n) a.passed.variables ≡ true) (heads_count a.passed.headings) base.by_blocks;
     unthreatened = has_controls;
     spared = are_spared;
+    opened = are_opened;
     assigned = results_assigned way refl;
     few_sites = few_sites way (omega arith);
     types = w.grown.lawful.begin;

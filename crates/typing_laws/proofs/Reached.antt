@@ -9,7 +9,7 @@ use Rattle.types.specs.Forms.{Form}
 use Rattle.typed_tree.specs.declared.tree.Variable.{Variable}
 use Rattle.typed_tree.specs.declared.tree.Heading.{Heading}
 use Rattle.typed_tree.specs.WellFormed.{Outline, is_one_of}
-use Rattle.typing.specs.Passing.{Headed, Passed}
+use Rattle.typing.specs.Passing.{Headed, OpenRecord, Passed}
 
 -- ---- longer lists
 
@@ -168,10 +168,11 @@ further_still f g = record {
 
 -- ---- the block round a place
 
--- its number, and the blocks round it
+-- its number, and the blocks round it; and the records of with statements that are open
 pub record Here : Type 0 where
   pub block : ℕ
   pub around : List ℕ
+  pub records : List OpenRecord
 
 -- a block is this one, or stands round it
 abbrev pub is_round_here : Here → ℕ → Bool

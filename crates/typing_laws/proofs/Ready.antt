@@ -36,7 +36,7 @@ IsPlacedAt headings (suc block) headed =
     × (outer : Headed) × (slice_get headings last ≡ Some outer) × (headed.around ≡ outer.around ++ last ∷ [])
 
 abbrev pub within : ℕ → Headed → Here
-within block headed = record { block = block; around = headed.around }
+within block headed = record { block = block; around = headed.around; records = [] }
 
 -- an ordinal variable that a block declares
 abbrev pub IsOrdinalAt : List Form → List Variable → ℕ → Type 0

@@ -137,6 +137,7 @@ module _ (here : Here) (under : List Region) where
         ready = ready1;
         block = st.block;
         around = st.around;
+        none_open = st.none_open;
         stands = st.stands;
         number_is = refl;
         owned = subst (λ m. list_all (λ (v : Variable). nat_lt v.block m) s.variables ≡ true) (heads_count s.headings) st.ready.base.by_blocks;
@@ -174,6 +175,8 @@ module _ (here : Here) (under : List Region) where
               ready = added.ready;
               block = ap (λ (e : Enclosing). e.block) added.enclosing ∙ st.block;
               around = ap (λ (e : Enclosing). e.around) added.enclosing ∙ st.around;
+              none_open = st.none_open;
+              records = added.records_kept ∙ st.records;
               stands = stands_later here (reached s) (reached new) (grown_further s new added.grows added.controls_kept) st.stands;
               waiting = λ block waits.
                   let o = st.waiting block (ap (λ (e : Enclosing). waits_in e.waiting block) (sym added.enclosing) ∙ waits) in

@@ -1,7 +1,8 @@
 -- What holds of all that names denote: a constant is a whole number, a variable is one of the block or of one round it, of
 -- the type that it has there, a routine is one that such a block declares, and a type stands in the table.
 use Rattle.std.proofs.Common.{◌≡◌, ℕ, ◌<◌, Bool, true, false, cond, nat_eq, List, [], ◌∷◌, ◌++◌, Option, Some, None, Ok, Err, if◌then◌else◌, fold, refl, ap}
-use Rattle.std.proofs.Common.{subst, arith, length, slice_get, ◌||◌}
+use Rattle.std.proofs.Common.{sym}
+use Rattle.std.proofs.Common.{subst, arith, length, slice_get, ◌||◌, ◌∙◌}
 use Rattle.std.proofs.lemmas.Bool.{eq-eqb, eqb-true}
 use Rattle.std.specs.Cmp.Lexicographic.{pointwise}
 use Rattle.types.specs.Forms.{Form}
@@ -11,11 +12,14 @@ use Rattle.scopes.specs.Scopes.{Region, said, decided, found, put, opened, listi
 use Rattle.scopes.specs.declared.fault.ScopeFault.TheVariants.{DeclaredTwice}
 use Rattle.scopes.specs.declared.denotation.Denotation.{Denotation}
 use Rattle.scopes.specs.declared.denotation.Denotation.TheVariants as denotes
+use Rattle.types.specs.Types.{field_at}
 use Rattle.typed_tree.specs.declared.tree.Variable.{Variable}
+use Rattle.typed_tree.specs.Accesses.{field_type, lying}
 use Rattle.typed_tree.specs.WellFormed.{is_whole, is_one_of, of_one, declarer}
 use Rattle.typing.specs.Names.{required_region}
+use Rattle.typing.specs.Passing.{OpenRecord}
 use Rattle.typing_laws.proofs.Reached.{IsLonger, Here, Head, Reached, IsFurther, is_round_here, get_longer}
-use Rattle.typing_laws.proofs.Tables.{is_string_longer, stands_longer}
+use Rattle.typing_laws.proofs.Tables.{field_of_longer, is_string_longer, lying_longer, stands_longer}
 
 -- ---- what holds of each thing that is denoted
 
@@ -55,7 +59,7 @@ module _ (Holds : Denotation → Type 0) where
 
   -- ---- definitions
 
-  put_holds : (region : Region) (name : List ℕ) (says : Option Denotation) → HoldsOfRegion region → Says says → HoldsOfRegion (put region name says)
+  pub put_holds : (region : Region) (name : List ℕ) (says : Option Denotation) → HoldsOfRegion region → Says says → HoldsOfRegion (put region name says)
   put_holds [] name says all one = (one, tt)
   put_holds (entry ∷ entries) name says all one = by (pointwise nat_eq name entry.0) (put_holds entries name says all.1 one)
     where
@@ -118,6 +122,23 @@ pub record IsVariable (here : Here) (variables : List Variable) (types : List Fo
   pub of_type : variable.type_id ≡ type_id
   pub stands : type_id.index < length types
 
+-- a record that lies in a variable of a block or of one round it
+pub record IsRecord (here : Here) (variables : List Variable) (types : List Form) (opened : OpenRecord) : Type 0 where
+  pub variable : Variable
+  pub is_there : slice_get variables opened.root ≡ Some variable
+  pub is_visible : is_round_here here variable.block ≡ true
+  pub stands : variable.type_id.index < length types
+  pub lies : lying types opened.steps variable.type_id ≡ Some opened.type_id
+  pub ends : opened.type_id.index < length types
+
+-- a field of the record that is open in a slot
+pub record IsField (here : Here) (variables : List Variable) (types : List Form) (slot position offset : ℕ) (type_id : TypeId) : Type 0 where
+  pub opened : OpenRecord
+  pub is_open : slice_get here.records slot ≡ Some opened
+  pub is_record : IsRecord here variables types opened
+  pub leads : field_type offset (field_at types opened.type_id position) ≡ Some type_id
+  pub stands : type_id.index < length types
+
 -- a routine that a block or one round it declares
 pub record IsRoutine (here : Here) (heads : List Head) (block : ℕ) (is_function : Bool) : Type 0 where
   pub head : Head
@@ -130,6 +151,7 @@ abbrev pub IsSound : Here → List Variable → List Form → List Head → Deno
 IsSound here variables types heads (denotes.Constant value type_id) = is_whole value ≡ true
 IsSound here variables types heads (denotes.Text number type_id) = is_string types type_id ≡ true
 IsSound here variables types heads (denotes.Variable root type_id) = IsVariable here variables types root type_id
+IsSound here variables types heads (denotes.Field slot position offset type_id) = IsField here variables types slot position offset type_id
 IsSound here variables types heads (denotes.Procedure procedure) = Unit {0}
 IsSound here variables types heads (denotes.Function function) = Unit {0}
 IsSound here variables types heads (denotes.Routine block is_function) = IsRoutine here heads block is_function
@@ -152,12 +174,13 @@ required_sound here variables types heads there =
 
 -- ---- in blocks inside
 
--- what stands round the one, stands round the other
+-- what stands round the one, stands round the other, and what is open there is open here
 pub record IsInside (outer inner : Here) : Type 0 where
   pub keeps : (block : ℕ) → is_round_here outer block ≡ true → is_round_here inner block ≡ true
+  pub opened : (slot : ℕ) (opened : OpenRecord) → slice_get outer.records slot ≡ Some opened → slice_get inner.records slot ≡ Some opened
 
 pub inside_itself : {here : Here} → IsInside here here
-inside_itself = record { keeps = λ block is. is }
+inside_itself = record { keeps = λ block is. is; opened = λ slot opened is. is }
 
 pub among_more : (blocks : List ℕ) (last block : ℕ) → is_one_of blocks block ≡ true → is_one_of (blocks ++ last ∷ []) block ≡ true
 among_more [] last block is = absurd cc
@@ -180,9 +203,13 @@ pub or_right : (a b : Bool) → b ≡ true → (a || b) ≡ true
 or_right true b is = refl
 or_right false b is = is
 
--- a routine's block is inside its declarer's
-pub inside_routine : (here : Here) (number : ℕ) → IsInside here (record { block = number; around = here.around ++ here.block ∷ [] })
-inside_routine here number = record { keeps = λ block is. or_right (nat_eq block number) _ (by block (nat_eq block here.block) refl is) }
+-- a block of a number that another declares, where no record is open
+abbrev pub declared_in : Here → ℕ → Here
+declared_in here number = record { block = number; around = here.around ++ here.block ∷ []; records = [] }
+
+-- it stands round what it is declared in
+pub round_inside : (here : Here) (number block : ℕ) → is_round_here here block ≡ true → is_round_here (declared_in here number) block ≡ true
+round_inside here number block is = or_right (nat_eq block number) _ (by block (nat_eq block here.block) refl is)
   where
     by : (block : ℕ) (test : Bool) → nat_eq block here.block ≡ test → (test || is_one_of here.around block) ≡ true
         → is_one_of (here.around ++ here.block ∷ []) block ≡ true
@@ -190,6 +217,13 @@ inside_routine here number = record { keeps = λ block is. or_right (nat_eq bloc
         let at : block ≡ here.block = eqb-true block here.block same in
         subst (λ b. is_one_of (here.around ++ b ∷ []) block ≡ true) at (among_last here.around block)
     by block false same h = among_more here.around here.block block h
+
+-- a routine's block is inside its declarer's
+pub inside_routine : (here : Here) (number : ℕ) → here.records ≡ [] → IsInside here (declared_in here number)
+inside_routine here number none = record {
+  keeps = round_inside here number;
+  opened = λ slot opened is. ap (λ (all : List OpenRecord). slice_get all slot) (sym none) ∙ is;
+}
 
 -- where more has come
 pub variable_later : (here : Here) (now next : Reached) (root : ℕ) (type_id : TypeId) → IsFurther now next
@@ -226,6 +260,16 @@ module _ {outer inner : Here} (inside : IsInside outer inner) {old_variables new
     stands = stands_longer types type_id sound.stands;
   }
 
+  pub record_more : (opened : OpenRecord) → IsRecord outer old_variables old opened → IsRecord inner new_variables new opened
+  record_more opened r = record {
+    variable = r.variable;
+    is_there = get_longer variables opened.root r.variable r.is_there;
+    is_visible = inside.keeps r.variable.block r.is_visible;
+    stands = stands_longer types r.variable.type_id r.stands;
+    lies = lying_longer types opened.steps r.variable.type_id r.stands ∙ r.lies;
+    ends = stands_longer types opened.type_id r.ends;
+  }
+
   of_one_more : (found : Option ℕ) → of_one (is_round_here outer) found ≡ true → of_one (is_round_here inner) found ≡ true
   of_one_more None is = absurd cc
   of_one_more (Some block) is = inside.keeps block is
@@ -235,6 +279,13 @@ module _ {outer inner : Here} (inside : IsInside outer inner) {old_variables new
   sound_more (denotes.Constant value type_id) sound = sound
   sound_more (denotes.Text number type_id) sound = is_string_longer types type_id sound
   sound_more (denotes.Variable root type_id) sound = variable_more root type_id sound
+  sound_more (denotes.Field slot position offset type_id) sound = record {
+    opened = sound.opened;
+    is_open = inside.opened slot sound.opened sound.is_open;
+    is_record = record_more sound.opened sound.is_record;
+    leads = ap (field_type offset) (field_of_longer types sound.opened.type_id sound.is_record.ends position) ∙ sound.leads;
+    stands = stands_longer types type_id sound.stands;
+  }
   sound_more (denotes.Procedure procedure) sound = tt
   sound_more (denotes.Function function) sound = tt
   sound_more (denotes.Routine block is_function) sound = record {

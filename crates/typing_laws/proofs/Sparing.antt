@@ -15,25 +15,40 @@ use Rattle.typed_tree.specs.declared.tree.Expr.{Expr}
 use Rattle.typed_tree.specs.declared.tree.Link.{Link}
 use Rattle.typed_tree.specs.declared.tree.Passed.{Passed}
 use Rattle.typed_tree.specs.declared.tree.Expr.TheOpen.{Expr-F, Passed-F, Link-F}
-use Rattle.typed_tree.specs.declared.tree.Expr.TheOpen.Expr-F.{Constant, Variable, Monadic as MonadicOf, Chain, Compare, Call as CallOf}
+use Rattle.typed_tree.specs.declared.tree.Expr.TheOpen.Expr-F.{Constant, Variable, Monadic as MonadicOf, Chain, Compare, Call as CallOf, Set}
 use Rattle.typed_tree.specs.declared.tree.Expr.TheOpen.Passed-F.{Value as PassedValue, Whole as PassedWhole, Reference}
 use Rattle.typed_tree.specs.declared.tree.Expr.TheFolds.{map-Expr, map-Passed, map-Link, fold-roll-Expr, fold-roll-Passed, fold-roll-Link, ind-Expr, ind-Passed}
 use Rattle.typed_tree.specs.declared.tree.Expr.TheViews.{roll-Expr, roll-Passed, roll-Link}
 use Rattle.typed_tree.specs.declared.tree.Stmt.{Stmt}
 use Rattle.typed_tree.specs.declared.tree.Stmt.TheOpen.{Stmt-F}
 use Rattle.typed_tree.specs.declared.tree.Stmt.TheOpen.Stmt-F.{Empty, Assign, Write, Compound, If, While, Repeat, For, Case, Copy, Call as Calling}
+use Rattle.typed_tree.specs.declared.tree.Stmt.TheOpen.Stmt-F.{With}
+use Rattle.typed_tree.specs.declared.tree.Access.{Access}
+use Rattle.typed_tree.specs.declared.tree.Base.{Base}
+use Rattle.typed_tree.specs.declared.tree.Base.TheVariants as base
+use Rattle.typed_tree.specs.declared.tree.WithRecord.{WithRecord}
+use Rattle.typed_tree.specs.Accesses.{AtVariable, origin_by, origin_of, root_of}
 use Rattle.typed_tree.specs.declared.tree.Stmt.TheFolds.{map-Stmt, fold-roll-Stmt, ind-Stmt}
 use Rattle.typed_tree.specs.declared.tree.Stmt.TheViews.{roll-Stmt}
 use Rattle.typed_tree.specs.Entries.{joined}
-use Rattle.typed_tree.specs.WellFormed.{placed}
+use Rattle.typed_tree.specs.WellFormed.{placed, source_of}
 use Rattle.typed_tree.specs.Look.{Look, Mark, Ends, Then, Else, Do, Until, Fits, Controls, ForEnds, Target, WholeTarget, Width, Written}
+use Rattle.typed_tree.specs.Look.{WithEnds, look_record}
 use Rattle.typed_tree.specs.Look.{WrittenString, whole_look, passed_look, link_look, expression_look, look_expr, look_passed}
 use Rattle.typed_tree.specs.Look.{look_link, look_whole, look_width, look_written, look_parameter, arms_look, statement_look, look_stmt}
 use Rattle.typed_tree.specs.Threats.{Spares, all_so, all_spare, expr_spares, indexes_so, is_none_of, link_spares, passed_spares, spares, spares_in_expr}
 use Rattle.typed_tree.specs.Threats.{spares_in_indexes, spares_in_link, spares_in_parameter, spares_in_passed, spares_in_whole, spares_in_width}
-use Rattle.typed_tree.specs.Threats.{spares_in_written, statement_spares}
+use Rattle.typed_tree.specs.Threats.{spares_in_record, spares_in_written, statement_spares}
 use Rattle.typing_laws.specs.Controls.{mark_behind, spared_behind}
 use Rattle.typing_laws.proofs.Spared.{spared_append}
+
+-- an access begins in the variable of its root
+pub origin_root : (access : Access) → root_of (origin_of access) ≡ access.root
+origin_root access = by access.base
+  where
+    by : (b : Base) → root_of (origin_by access.root b) ≡ access.root
+    by base.Variable = refl
+    by (base.Record slot steps) = refl
 
 -- ---- forms one after another
 
@@ -178,7 +193,7 @@ so_link_layer y roots = link_spares roots (map-Link Expr Passed Link Bool Bool B
 
 tells_layer : (y : Expr-F ToldExpr ToldPassed ToldLink) → Tells (layer (bare y)) (so_layer (bare y))
 tells_layer (Constant number value) = nothing
-tells_layer (Variable access indexes defined) =
+tells_layer (Variable access indexes held defined) =
     tells_before (joined (map look_expr (map (λ e. e.0) indexes.items))) _ (λ roots. spares_in_indexes roots (map (λ e. e.0) indexes.items)) (λ roots. refl)
     (tells_indexes indexes.items)
 tells_layer (MonadicOf number operation operand) =
@@ -203,6 +218,15 @@ tells_layer (Compare number relation left left_indexes right right_indexes) =
 tells_layer (CallOf call actuals) =
     tells_before (joined (placed call.block 0 (map look_passed (map (λ p. p.0) actuals.items)))) _
     (λ roots. all_so (map (spares_in_passed roots) (map (λ p. p.0) actuals.items))) (λ roots. refl) (tells_placed actuals.items call.block 0)
+tells_layer (Set number designators members) =
+    tells_before (joined (map look_expr (map (λ e. e.0) members.items))) _ (λ roots. spares_in_indexes roots (map (λ e. e.0) members.items)) (λ roots. refl)
+    (tells_indexes members.items)
+
+-- what the origin of an access says of its root
+spares_origin : (access : Access) (roots : List ℕ)
+    → (if is_none_of roots (root_of (origin_of access)) && true then Some roots else None)
+    ≡ (if is_none_of roots access.root && true then Some roots else None)
+spares_origin access roots = ap (λ (root : ℕ). if is_none_of roots root && true then Some roots else None) (origin_root access)
 
 tells_passed_layer : (y : Passed-F ToldExpr ToldPassed ToldLink) (callee position : ℕ)
     → Tells (passed_layer (bare_passed y) callee position) (so_passed_layer (bare_passed y))
@@ -214,7 +238,7 @@ tells_passed_layer (PassedWhole type_id value indexes) callee position =
     (tells_whole value (map look_expr inside) (λ roots. map (spares_in_expr roots) inside) (tells_indexes indexes.items))
 tells_passed_layer (Reference type_id access indexes) callee position =
     tells_change (joined (map look_expr (map (λ e. e.0) indexes.items))) _ access.root
-    (λ roots. spares_in_indexes roots (map (λ e. e.0) indexes.items)) (λ roots. refl) (tells_indexes indexes.items)
+    (λ roots. spares_in_indexes roots (map (λ e. e.0) indexes.items)) (spares_origin access) (tells_indexes indexes.items)
 
 tells_link_layer : (y : Link-F ToldExpr ToldPassed ToldLink) → Tells (link_layer (bare_link y)) (so_link_layer (bare_link y))
 tells_link_layer y = y.operand.1
@@ -268,7 +292,7 @@ tells_written : (value : WrittenValue) → Tells (look_written value) (λ roots.
 tells_written (Ordinal value representation) =
     tells_before (look_expr value) (Written representation) (λ roots. spares_in_expr roots value) (λ roots. refl) (tells_expr value)
 tells_written (String value indexes) =
-    tells_before (look_whole value indexes.items) WrittenString (λ roots. spares_in_whole roots value indexes.items) (λ roots. refl)
+    tells_before (look_whole value indexes.items) (WrittenString (source_of value)) (λ roots. spares_in_whole roots value indexes.items) (λ roots. refl)
     (tells_value value indexes.items)
 
 tells_width : (width : Option TotalWidth) → Tells (look_width width) (λ roots. spares_in_width roots width)
@@ -315,6 +339,15 @@ tells_arms (row ∷ rows) (arm ∷ arms) =
     tells_then (look_stmt arm.0) (arms_look rows (map look_stmt (map (λ s. s.0) arms))) (spares arm.0) (all_spare (map spares (map (λ s. s.0) arms))) arm.1
     (tells_arms rows arms)
 
+tells_records : (records : List WithRecord) → Tells (flat_map look_record records) (λ roots. all_so (map (spares_in_record roots) records))
+tells_records [] = nothing
+tells_records (one ∷ records) =
+    tells_then (look_record one) (flat_map look_record records) (λ roots. spares_in_record roots one)
+    (λ roots. all_so (map (spares_in_record roots) records))
+    (tells_before (joined (map look_expr one.indexes.items)) _ (λ roots. spares_in_indexes roots one.indexes.items) (λ roots. refl)
+    (tells_exprs one.indexes.items))
+    (tells_records records)
+
 -- the statement of a for spares its control variable too
 tells_body : (control : ℕ) (body : Stmt) → TellsStmt body
     → Tells (Controls control ∷ (look_stmt body ++ (ForEnds ∷ []))) (λ roots. spares body (control ∷ roots))
@@ -360,16 +393,16 @@ tells_stmt_layer (Empty number) = nothing
 tells_stmt_layer (Assign assignment) =
     let target = assignment.target in
     let value = look_expr assignment.value in
-    let end = Fits target.root target.selectors.items assignment.fits in
-    tells_assigned assignment.indexes.items (Target target.root target.selectors.items (length assignment.indexes.items)) target.root (value ++ (end ∷ []))
-    (λ roots. spares_in_expr roots assignment.value) (λ roots. refl)
+    let end = Fits (origin_of target) target.selectors.items assignment.fits in
+    tells_assigned assignment.indexes.items (Target (origin_of target) target.selectors.items (length assignment.indexes.items)) target.root
+    (value ++ (end ∷ [])) (λ roots. spares_in_expr roots assignment.value) (spares_origin target)
     (tells_before value end (λ roots. spares_in_expr roots assignment.value) (λ roots. refl) (tells_expr assignment.value))
 tells_stmt_layer (Copy copying) =
     let target = copying.target in
     let value = look_whole copying.value copying.value_indexes.items in
     let so = λ (roots : List ℕ). spares_in_whole roots copying.value copying.value_indexes.items in
-    tells_assigned copying.indexes.items (WholeTarget target.root target.selectors.items (length copying.indexes.items) copying.type_id) target.root
-    (value ++ (_ ∷ [])) so (λ roots. refl) (tells_before value _ so (λ roots. refl) (tells_value copying.value copying.value_indexes.items))
+    tells_assigned copying.indexes.items (WholeTarget (origin_of target) target.selectors.items (length copying.indexes.items) copying.type_id) target.root
+    (value ++ (_ ∷ [])) so (spares_origin target) (tells_before value _ so (λ roots. refl) (tells_value copying.value copying.value_indexes.items))
 tells_stmt_layer (Write writing) =
     tells_before (flat_map look_parameter writing.parameters.items) Ends (λ roots. all_so (map (spares_in_parameter roots) writing.parameters.items))
     (λ roots. refl) (tells_parameters writing.parameters.items)
@@ -394,8 +427,8 @@ tells_stmt_layer (Repeat head statements) =
 tells_stmt_layer (For head body) = λ roots behind is.
     let first = look_expr head.first.value in
     let last = look_expr head.last.value in
-    let inside = Fits head.control [] head.last.fits ∷ Controls head.control ∷ (look_stmt body.value.0 ++ (ForEnds ∷ [])) in
-    let more = Fits head.control [] head.first.fits ∷ (last ++ inside) in
+    let inside = Fits (AtVariable head.control) [] head.last.fits ∷ Controls head.control ∷ (look_stmt body.value.0 ++ (ForEnds ∷ [])) in
+    let more = Fits (AtVariable head.control) [] head.first.fits ∷ (last ++ inside) in
     let in_body = λ (all : List ℕ). spares body.value.0 (head.control ∷ all) in
     let in_last = λ (all : List ℕ). spares_in_expr all head.last.value in
     let one = changed (is_none_of roots head.control) roots behind (first ++ more) is in
@@ -407,6 +440,11 @@ tells_stmt_layer (Case head arms) =
     let so = all_spare (map spares (map (λ s. s.0) arms.items)) in
     tells_then (look_expr head.index) (inside ++ (Ends ∷ [])) (λ roots. spares_in_expr roots head.index) so (tells_expr head.index)
     (tells_before inside Ends so (λ roots. refl) (tells_arms head.constants.items arms.items))
+tells_stmt_layer (With head body) =
+    let so = λ (roots : List ℕ). all_so (map (spares_in_record roots) head.records.items) in
+    tells_then (flat_map look_record head.records.items) (Do ∷ (look_stmt body.value.0 ++ (WithEnds head.first_slot ∷ []))) so (spares body.value.0)
+    (tells_records head.records.items)
+    (tells_before (look_stmt body.value.0) (WithEnds head.first_slot) (spares body.value.0) (λ roots. refl) body.value.1)
 
 -- how a statement looks tells what it spares
 pub tells_stmt : (s : Stmt) → TellsStmt s

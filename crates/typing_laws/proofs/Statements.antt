@@ -1,6 +1,6 @@
 -- What statements do, form by form, and the law of every statement, by induction over its form.
 use Rattle.std.proofs.Common.{◌≡◌, ℕ, ℤ, Vec, ap, ◌∙◌, nat_eq, Bool, true, false, if◌then◌else◌, List, [], ◌∷◌, ◌++◌, map, Option, Some, None, Ok}
-use Rattle.std.proofs.Common.{refl, sym, slice_get, subst, append_assoc, arith, is_none, option_map, ◌&&◌}
+use Rattle.std.proofs.Common.{refl, sym, slice_get, subst, append_assoc, arith, option_map, ◌&&◌, ◌<◌}
 use Rattle.std.specs.List.{flat_map}
 use Rattle.std.specs.declared.alloc.Global.{Global}
 use Rattle.place.specs.declared.Place.{Place}
@@ -21,7 +21,10 @@ use Rattle.syntax_tree.specs.Places.{Places, selector_places, joined_places, exp
 use Rattle.syntax_tree.specs.Places.{statement_step as statement_row}
 use Rattle.types.specs.Forms.{Form}
 use Rattle.types.specs.declared.form.TypeId.{TypeId}
-use Rattle.types.specs.Types.{integer, is_ordinal, is_string, is_structured, range_of}
+use Rattle.types.specs.declared.form.TypeKind.{TypeKind}
+use Rattle.types.specs.declared.form.TypeKind.TheVariants as kind_of_type
+use Rattle.types.specs.Types.{integer, is_ordinal, is_string, is_structured, is_structured_kind, kind_of}
+use Rattle.scopes.specs.declared.denotation.Denotation.TheVariants as denotes
 use Rattle.scopes.specs.declared.denotation.Denotation.{Denotation}
 use Rattle.scopes.specs.declared.denotation.RequiredProcedure.{RequiredProcedure}
 use Rattle.typed_tree.specs.declared.fault.TypeFault.TheVariants as fault
@@ -29,39 +32,49 @@ use Rattle.typed_tree.specs.declared.site.SiteKind.{SiteKind}
 use Rattle.typed_tree.specs.declared.site.SiteKind.TheVariants as kind
 use Rattle.typed_tree.specs.declared.tree.Representation.{Representation}
 use Rattle.typed_tree.specs.Ids.{Stands}
+use Rattle.typed_tree.specs.Sites.{number_of}
 use Rattle.typed_tree.specs.declared.tree.Variable.{Variable}
 use Rattle.typed_tree.specs.Look.{Assign, Copied, Fits, Write, Written as WrittenMark, Width, Empty, Compound, If, Then, Else, While, Do, Repeat, Until, For}
 use Rattle.typed_tree.specs.Look.{Case, Arm, Ends, Mark, WrittenString, is_formed_mark}
-use Rattle.typed_tree.specs.WellFormed.{Outline, is_declared, is_local_kind, of_one}
+use Rattle.typed_tree.specs.declared.tree.RangeTest.{RangeTest}
+use Rattle.typed_tree.specs.declared.tree.Scalar.{Scalar}
+use Rattle.typed_tree.specs.declared.tree.Scalar.TheVariants as scalar
+use Rattle.typed_tree.specs.Accesses.{AtVariable}
+use Rattle.typed_tree.specs.WellFormed.{Outline, holds, is_declared, is_held_by, is_local_kind, is_text, of_one}
 use Rattle.typing.specs.Passing.{Passing, and_then, each, ◌>>?◌}
 use Rattle.typing.proofs.Ways.{numbers_of}
 use Rattle.typing.specs.Steps.{fits, is_local, or_mismatch}
 use Rattle.typing.specs.declared.typed.Typed.{Typed}
-use Rattle.typing.specs.Expressions.{Written, WrittenActual, fitting, is_of, as_routine, as_variable, expression, written_actual}
-use Rattle.typing.specs.Statements.{Accessed, assigned, copied, assignment, as_procedure, ends_line, is_output, names_file, unless_wide, is_file}
+use Rattle.typing.specs.declared.typed.TypedValue.{TypedValue}
+use Rattle.typing.specs.declared.typed.TypedValue.TheVariants as value
+use Rattle.typing.specs.Expressions.{Written, WrittenActual, fitting, is_of, as_routine, expression, test_kind, written_actual}
+use Rattle.typing.specs.Statements.{Accessed, as_control, assigned_by_kind, written_value}
+use Rattle.typing.specs.Statements.{assigned, copied, assignment, as_procedure, ends_line, is_output, names_file, unless_wide, is_file}
 use Rattle.typing.specs.Statements.{written_values, has_values, representation_of, written_as, measured, width, parameter, write, required_call, declared_call}
 use Rattle.typing.specs.Statements.{call_by, procedure_call, compound, condition, alternative, tested, choice, while_loop, repeat_loop, way, bound, for_head}
 use Rattle.typing.specs.Statements.{for_loop, case_arms, case_head, case_body, case_statement, statement_step, statement}
-use Rattle.typing_laws.proofs.Tables.{is_structured_longer}
-use Rattle.typing_laws.proofs.WholeRanges.{IsWholeRange}
+use Rattle.typing_laws.proofs.Opened.{open_in, stands_there}
+use Rattle.typing_laws.proofs.Tables.{has_kind, is_string_longer, is_structured_longer, kind_longer, ordinal_held}
 use Rattle.typing_laws.proofs.Copies.{IsCopyFor, copy_formed, copying_there}
 use Rattle.typing_laws.proofs.Covers.{Covers, covers_both, covers_none, covers_behind, covers_skip, covers_lower, leads_first}
 use Rattle.typing_laws.proofs.Grown.{heads_of, both_true}
 use Rattle.typing_laws.proofs.Reached.{Reached, whole_of, IsFurther, further_still, Here, StandsIn, get_longer}
-use Rattle.typing_laws.proofs.Sound.{IsRoutine, variable_later}
-use Rattle.typing_laws.proofs.Steps.{Does, Anything, Nothing, IsFound, joins, quietly, last, checks, checks_types, sited, pure_does, given_does, by_types_does}
+use Rattle.typing_laws.proofs.Sound.{IsRoutine, IsVariable, variable_later}
+use Rattle.typing_laws.proofs.Steps.{Does, Anything, Nothing, IsFound, IsSoundThen, joins, quietly, last, checks, checks_types, sited, pure_does, given_does}
+use Rattle.typing_laws.proofs.Steps.{by_types_does}
 use Rattle.typing_laws.proofs.Steps.{fail_does, find_does, pass_does, wants_output_does, mark_does, enter_does, enter_loop_does, may_change_does}
 use Rattle.typing_laws.specs.Controls.{is_bracket}
 use Rattle.typing_laws.proofs.Steps.{for_body_does, site_does, IsKnown, controlled_does}
 use Rattle.typing_laws.proofs.Leading.{IsLed, Types, lt_true, LawfulWritten, covers_test, led_covers}
-use Rattle.typing_laws.proofs.Accesses.{AreLawfulRows, LeadsTo, fits_formed, leads_nowhere, leads_later, tested as tested_is, tests_structured_does}
-use Rattle.typing_laws.proofs.Accesses.{ordinal_formed}
-use Rattle.typing_laws.proofs.Calls.{IsLawfulWidth, LawfulActual, fitting_is, fitting_whole, routine_is, routine_call_does}
-use Rattle.typing_laws.proofs.Expressions.{variable_is}
+use Rattle.typing_laws.proofs.Accesses.{AreLawfulRows, LeadsTo, fits_formed, kind_now_does, leads_nowhere, leads_later, ordinal_formed}
+use Rattle.typing_laws.proofs.Calls.{IsLawfulWidth, IsRangeOf, LawfulActual, fitting_whole, routine_is, routine_call_does}
 use Rattle.typing_laws.proofs.Constants.{row_does}
 use Rattle.typing_laws.proofs.Strings.{there, fit_is}
 use Rattle.typing_laws.proofs.EveryExpression.{expression_lawful, actual_lawful, indexes_lawful, every_actual_lawful}
+use Rattle.typed_tree.specs.Records.{OpenRecord}
 use Rattle.typing_laws.specs.Controls.{mark_changes}
+use Rattle.typing_laws.specs.Opened.{mark_opened}
+use Rattle.typing_laws.proofs.Opening.{with_does}
 use Rattle.typing_laws.proofs.Targets.{IsAccessed, target_does}
 
 -- ---- tests
@@ -75,20 +88,35 @@ measured_is place t id is = by (is_of integer t) t.site is
     by false s h = absurd cc
 
 -- a mark that says how a value is written is no entry
-abbrev IsForm : Mark → Type 0
-IsForm one =
+abbrev IsForm : Mark → Reached → Type 0
+IsForm one now =
     (numbers_of one ≡ ([], [], [])) × (mark_changes one ≡ []) × (is_bracket one ≡ false)
-    × ((o : Outline) (block : ℕ) → is_formed_mark o block one ≡ true)
+    × ((records : List OpenRecord) → mark_opened one records ≡ Some records)
+    × ((o : Outline) (block : ℕ) → IsFurther now (whole_of o) → is_formed_mark o block one ≡ true)
 
-form_is : (place : Place) (types : List Form) (t : Typed) (form : Mark) → or_mismatch place (written_as types t) ≡ Ok form → IsForm form
-form_is place types t form is = by (is_none t.length) (representation_of types t.type_id) (is_string types t.type_id) (there place (written_as types t) form is)
+form_is : (place : Place) (types : List Form) (t : Typed) (form : Mark) (now : Reached) → now.types ≡ types
+    → or_mismatch place (written_as types t) ≡ Ok form → IsForm form now
+form_is place types t form now same is = by t.value (ap (λ l. written_as l t) same ∙ there place (written_as types t) form is)
   where
-    by : (ordinal : Bool) (representation : Option Representation) (string : Bool)
-        → (if ordinal then option_map WrittenMark representation else (if string then Some WrittenString else None)) ≡ Some form → IsForm form
-    by true (Some r) string h = let same : WrittenMark r ≡ form = cc in subst IsForm same (refl, refl, refl, λ o block. refl)
-    by true None string h = absurd cc
-    by false r true h = let same : WrittenString ≡ form = cc in subst IsForm same (refl, refl, refl, λ o block. refl)
-    by false r false h = absurd cc
+    ordinal : (representation : Option Representation) → option_map WrittenMark representation ≡ Some form → IsForm form now
+    ordinal (Some r) h =
+        let one : WrittenMark r ≡ form = cc in subst (λ (m : Mark). IsForm m now) one (refl, refl, refl, (λ records. refl), λ o block more. refl)
+    ordinal None h = absurd cc
+
+    of_string : (id : TypeId) (source : Option TypeId)
+        → ((o : Outline) → IsFurther now (whole_of o) → is_string now.types id ≡ true → is_text o.types source ≡ true)
+        → (string : Bool) → is_string now.types id ≡ string → (if string then Some (WrittenString source) else None) ≡ Some form → IsForm form now
+    of_string id source text true string h =
+        let one : WrittenString source ≡ form = cc in
+        subst (λ (m : Mark). IsForm m now) one (refl, refl, refl, (λ records. refl), λ o block more. text o more string)
+    of_string id source text false string h = absurd cc
+
+    by : (v : TypedValue) → written_value now.types v ≡ Some form → IsForm form now
+    by (value.Ordinal type_id) h = ordinal (representation_of now.types type_id) h
+    by (value.Set base) h = absurd cc
+    by (value.Text type_id length) h = of_string type_id None (λ o more string. refl) (is_string now.types type_id) refl h
+    by (value.Whole type_id cells) h =
+        of_string type_id (Some type_id) (λ o more string. is_string_longer more.types type_id string) (is_string now.types type_id) refl h
 
 module _ (here : Here) where
   pub record LawfulStatement (places : List Place) (p : Passing (Unit {0})) : Type 0 where
@@ -102,25 +130,28 @@ module _ (here : Here) where
 
   -- the range of a test is that of the type
   ranges_do : {least : Reached} {Has : List Stands → Type 0} {p : Passing Typed} (id : TypeId) (place : Place) → Does here least Has p Types
-      → Does here least Has (p >>? (λ types t. or_mismatch place (fitting types id t)))
-      (λ range n. (range_of n.types id ≡ Some range) × IsWholeRange range)
-  ranges_do id place typed =
-      checks_types typed λ types t range n more same lawful fits _. (
-        ap (λ l. range_of l id) same ∙ fitting_is place types id t range fits,
-        fitting_whole place types lawful.whole id t range fits,
-      )
+      → Does here least Has (p >>? (λ types t. or_mismatch place (fitting types id t))) (λ range n. IsRangeOf n.types id range)
+  ranges_do id place typed = checks_types typed λ types t range n more same lawful fits _. fitting_whole place types n.types id t range same lawful.whole fits
 
-  assigned_does : {least : Reached} (to : Accessed) (becomes : Place) (places : List Place) (value : Written) → IsAccessed here to least
-      → LawfulWritten here places value → Does here least (Covers 0 (becomes ∷ places)) (assigned to becomes value) Anything
+  -- the kind of the site of a test
+  test_above : (tested : Scalar) → 0 < number_of (test_kind tested)
+  test_above scalar.Ordinal = omega arith
+  test_above scalar.Set = omega arith
+
+  assigned_does : {least : Reached} (tested : Scalar) (to : Accessed) (becomes : Place) (places : List Place) (value : Written) → IsAccessed here to least
+      → holds least.types tested to.type_id ≡ true → LawfulWritten here places value
+      → Does here least (Covers 0 (becomes ∷ places)) (assigned tested to becomes value) Anything
   unfolding assigned
-  assigned_does {least} to becomes places value led law =
-      led_covers here 0 becomes places (kind.Subrange ∷ []) (omega arith, tt)
-      (joins (leads_first 0 becomes (kind.Subrange ∷ []) places) (site_does kind.Subrange becomes) λ site there one known.
+  assigned_does {least} tested to becomes places value led held law =
+      led_covers here 0 becomes places (test_kind tested ∷ []) (test_above tested, tt)
+      (joins (leads_first 0 becomes (test_kind tested ∷ []) places) (site_does (test_kind tested) becomes) λ site there one known.
       last (ranges_do to.type_id becomes (typed_does there places value None law tt)) λ range n more is.
-      mark_does (Fits to.root to.selectors (record { site = site; range = range })) refl refl refl
-      (λ o h.
-      let led_there = leads_later here to.root to.selectors to.type_id least n (further_still one more) led in
-      fits_formed here to.root to.selectors to.type_id (record { site = site; range = range }) n o led_there h (omega (arith, known, more.sites)) is.0 is.1))
+      let test : RangeTest = record { site = site; tests = tested; range = range } in
+      let seen = further_still one more in
+      let led_there = leads_later here to.origin to.selectors to.type_id least n seen led in
+      let held_there = ap (is_held_by tested) (kind_longer seen.types to.type_id led.stands) ∙ held in
+      mark_does (Fits to.origin to.selectors test) refl refl refl (stands_there (open_in here) (open_in here) to.origin led.opens)
+      (λ o h. fits_formed here to.origin to.selectors to.type_id test n o led_there h (omega (arith, known, more.sites)) held_there is.0 is.1))
 
   copied_does : {least : Reached} (id : TypeId) (becomes : Place) (places : List Place) (value : Written) → is_structured least.types id ≡ true
       → LawfulWritten here places value → Does here least (Covers 0 (becomes ∷ places)) (copied id becomes value) Anything
@@ -132,14 +163,19 @@ module _ (here : Here) where
       λ types t copy n more same lawful copies own.
       let again = is_structured_longer (further_still one more).types id structured in
       copying_there becomes n types id t copy same lawful again own.1 copies) λ copy n two fits.
-      mark_does (Copied id copy.source copy.cells) refl refl refl
+      mark_does (Copied id copy.source copy.cells) refl refl refl refl
       (λ o h. copy_formed here.block n id copy o h (is_structured_longer (further_still one two).types id structured) fits))
 
-  value_does : {least : Reached} (structured : Bool) (to : Accessed) (becomes : Place) (places : List Place) (value : Written) → IsAccessed here to least
-      → is_structured least.types to.type_id ≡ structured → LawfulWritten here places value
-      → Does here least (Covers 0 (becomes ∷ places)) (if structured then copied to.type_id becomes value else assigned to becomes value) Anything
-  value_does true to becomes places value led is law = copied_does to.type_id becomes places value is law
-  value_does false to becomes places value led is law = assigned_does to becomes places value led law
+  value_does : {least : Reached} (found : Option TypeKind) (to : Accessed) (becomes : Place) (places : List Place) (value : Written) → IsAccessed here to least
+      → kind_of least.types to.type_id ≡ found → LawfulWritten here places value
+      → Does here least (Covers 0 (becomes ∷ places)) (assigned_by_kind found to becomes value) Anything
+  value_does (Some kind_of_type.Structured) to becomes places value led is law =
+      copied_does to.type_id becomes places value (ap is_structured_kind is) law
+  value_does (Some (kind_of_type.Set base members)) to becomes places value led is law =
+      assigned_does scalar.Set to becomes places value led (ap (is_held_by scalar.Set) is) law
+  value_does (Some (kind_of_type.Ordinal range)) to becomes places value led is law =
+      assigned_does scalar.Ordinal to becomes places value led (ap (is_held_by scalar.Ordinal) is) law
+  value_does {least} None to becomes places value led is law = absurd (has_kind least.types to.type_id led.stands is)
 
   assignment_does : (name : Name) (selectors : List Selector) (rows : List (List Place)) (ws : List Written) (becomes : Place) (places : List Place)
       (value : Written) → AreLawfulRows here rows ws → LawfulWritten here places value
@@ -148,11 +184,10 @@ module _ (here : Here) where
   assignment_does name selectors rows ws becomes places value laws law = record {
     passes = λ least.
         sited (λ sites. covers_skip 0 name.place (selector_places selectors rows ++ (becomes ∷ places)) sites)
-        (quietly (enter_does (λ n. Assign n becomes) (λ n. refl) (λ n. refl) (λ n. refl) (λ n m h. refl)) λ _ _ _ _.
+        (quietly (enter_does (λ n. Assign n becomes) (λ n. refl) (λ n. refl) (λ n. refl) (λ n. refl) (λ n m h. refl)) λ _ _ _ _.
         joins (covers_both 0 (selector_places selectors rows) (becomes ∷ places)) (target_does here name selectors rows ws laws) λ to now _ led.
-        quietly (tests_structured_does here to.type_id) λ structured next one is_tested.
-        value_does structured to becomes places value (leads_later here to.root to.selectors to.type_id now next one led)
-        (tested_is here next to.type_id structured is_tested.1) law);
+        quietly (kind_now_does here to.type_id) λ found next one of_kind.
+        value_does found to becomes places value (leads_later here to.origin to.selectors to.type_id now next one led) of_kind.1 law);
   }
 
   -- ---- what is written
@@ -191,7 +226,7 @@ module _ (here : Here) where
   width_does least places (Some w) law =
       last (checks {L = λ id n. IsKnown (Some id) n} (typed_does least places w (Some kind.Width) law (omega arith)) λ types t id n more is known.
       subst (λ z. IsKnown z n) (measured_is w.first t id is) known.0) λ id n more known.
-      mark_does (Width id) refl refl refl (λ m h. lt_true id m.sites (omega (arith, known, h.sites)))
+      mark_does (Width id) refl refl refl refl (λ m h. lt_true id m.sites (omega (arith, known, h.sites)))
 
   parameter_does : (least : Reached) (places : List Place) (a : WrittenActual) → LawfulActual here places a
       → Does here least (Covers 0 places) (parameter a) Anything
@@ -199,9 +234,9 @@ module _ (here : Here) where
   parameter_does least places a law =
       sited (λ sites. subst (λ p. Covers 0 p sites) (sym law.places_are))
       (joins (covers_both 0 law.of_value law.of_width)
-      (checks {L = λ form n. IsForm form} (typed_does least law.of_value a.value None law.value tt) λ types t form n more is _.
-      form_is a.value.first types t form is) λ form now _ is.
-      quietly (mark_does form is.0 is.1 is.2 (λ o h. is.3 o here.block)) λ _ next _ _.
+      (checks_types {L = IsForm} (typed_does least law.of_value a.value None law.value tt) λ types t form n more same lawful is _.
+      form_is a.value.first types t form n same is) λ form now _ is.
+      quietly (mark_does form is.0 is.1 is.2 (is.3 (open_in here)) (λ o h. is.4 o here.block h)) λ _ next _ _.
       width_does next law.of_width a.width law.width)
 
   parameters_do : (least : Reached) (values : List Actual)
@@ -217,13 +252,13 @@ module _ (here : Here) where
   unfolding write
   write_does least name actuals procedure =
       quietly (wants_output_does name.place) λ _ _ _ _.
-      quietly (enter_does (λ n. Write n name.place (ends_line procedure)) (λ n. refl) (λ n. refl) (λ n. refl)
+      quietly (enter_does (λ n. Write n name.place (ends_line procedure)) (λ n. refl) (λ n. refl) (λ n. refl) (λ n. refl)
       (λ n m h. refl)) λ _ _ _ _.
       quietly (written_values_do actuals) λ values now _ among.
       sited among
       (quietly (given_does (has_values name.place procedure values)) λ _ there _ _.
       last (parameters_do there values) λ _ m _ _.
-      mark_does Ends refl refl refl (λ n h. refl))
+      mark_does Ends refl refl refl refl (λ n h. refl))
 
   joined_mapped : (actuals : List Actual) → joined_places (map actual_places actuals) ≡ flat_map actual_places actuals
   joined_mapped [] = refl
@@ -263,9 +298,9 @@ module _ (here : Here) where
   unfolding compound
   compound_does places statements row = record {
     passes = λ least.
-        quietly (enter_does Compound (λ n. refl) (λ n. refl) (λ n. refl) (λ n m h. refl)) λ _ now _ _.
+        quietly (enter_does Compound (λ n. refl) (λ n. refl) (λ n. refl) (λ n. refl) (λ n m h. refl)) λ _ now _ _.
         last (row now) λ _ m _ _.
-        mark_does Ends refl refl refl (λ n h. refl);
+        mark_does Ends refl refl refl refl (λ n h. refl);
   }
 
   -- ---- branches
@@ -284,7 +319,7 @@ module _ (here : Here) where
   unfolding alternative
   alternative_does least places None law =
       sited (λ sites none. subst (Covers 0 places) (sym none) (covers_none 0 places)) (pure_does {K = Anything} tt (λ n h. tt))
-  alternative_does least places (Some other) law = quietly (mark_does Else refl refl refl (λ n h. refl)) λ _ now _ _. law.passes now
+  alternative_does least places (Some other) law = quietly (mark_does Else refl refl refl refl (λ n h. refl)) λ _ now _ _. law.passes now
 
   tested_does : (least : Reached) (place : Place) (places : List Place) (w : Written) → LawfulWritten here places w
       → Does here least (Covers 0 (place ∷ places)) (tested place w) Anything
@@ -292,9 +327,9 @@ module _ (here : Here) where
   tested_does least place places w law =
       sited (λ sites. covers_skip 0 place places sites)
       (quietly (pass_does place) λ _ _ _ _.
-      quietly (enter_does If (λ n. refl) (λ n. refl) (λ n. refl) (λ n m h. refl)) λ _ now _ _.
+      quietly (enter_does If (λ n. refl) (λ n. refl) (λ n. refl) (λ n. refl) (λ n m h. refl)) λ _ now _ _.
       last (condition_does now places w law) λ _ _ _ _.
-      mark_does Then refl refl refl (λ n h. refl))
+      mark_does Then refl refl refl refl (λ n h. refl))
 
   choice_does : (place : Place) (tests first second : List Place) (w : Written) (consequence : Passing (Unit {0})) (other : Option (Passing (Unit {0})))
       → LawfulWritten here tests w → LawfulStatement first consequence → IsLawfulAlternative second other
@@ -305,7 +340,7 @@ module _ (here : Here) where
         joins (covers_both 0 (place ∷ tests) (first ++ second)) (tested_does least place tests w law) λ _ there _ _.
         joins (covers_both 0 first second) (one.passes there) λ _ next _ _.
         last (alternative_does next second other two) λ _ _ _ _.
-        mark_does Ends refl refl refl (λ n h. refl);
+        mark_does Ends refl refl refl refl (λ n h. refl);
   }
 
   -- ---- loops
@@ -317,11 +352,11 @@ module _ (here : Here) where
     passes = λ least.
         sited (λ sites. covers_skip 0 place (tests ++ inside) sites)
         (quietly (pass_does place) λ _ _ _ _.
-        quietly (enter_loop_does (λ n l. While n l place) (λ n l. refl) (λ n l. refl) (λ n l. refl) (λ n l m h. refl)) λ _ now _ _.
+        quietly (enter_loop_does (λ n l. While n l place) (λ n l. refl) (λ n l. refl) (λ n l. refl) (λ n l. refl) (λ n l m h. refl)) λ _ now _ _.
         joins (covers_both 0 tests inside) (condition_does now tests w law) λ _ _ _ _.
-        quietly (mark_does Do refl refl refl (λ n h. refl)) λ _ there _ _.
+        quietly (mark_does Do refl refl refl refl (λ n h. refl)) λ _ there _ _.
         last (one.passes there) λ _ _ _ _.
-        mark_does Ends refl refl refl (λ n h. refl));
+        mark_does Ends refl refl refl refl (λ n h. refl));
   }
 
   repeat_does : (place : Place) (inside tests : List Place) (statements : List (Passing (Unit {0}))) (w : Written)
@@ -332,24 +367,27 @@ module _ (here : Here) where
     passes = λ least.
         sited (λ sites. covers_skip 0 place (inside ++ tests) sites)
         (quietly (pass_does place) λ _ _ _ _.
-        quietly (enter_loop_does (λ n l. Repeat n l place) (λ n l. refl) (λ n l. refl) (λ n l. refl) (λ n l m h. refl)) λ _ now _ _.
+        quietly (enter_loop_does (λ n l. Repeat n l place) (λ n l. refl) (λ n l. refl) (λ n l. refl) (λ n l. refl) (λ n l m h. refl)) λ _ now _ _.
         joins (covers_both 0 inside tests) (row now) λ _ _ _ _.
-        quietly (mark_does Until refl refl refl (λ n h. refl)) λ _ there _ _.
+        quietly (mark_does Until refl refl refl refl (λ n h. refl)) λ _ there _ _.
         last (condition_does there tests w law) λ _ _ _ _.
-        mark_does Ends refl refl refl (λ n h. refl));
+        mark_does Ends refl refl refl refl (λ n h. refl));
   }
 
   -- the test of a bound stands before its first token's own sites
-  bound_does : (least : Reached) (control : ℕ) (type_id : TypeId) (places : List Place) (w : Written) → LeadsTo here control [] type_id least
-      → LawfulWritten here places w → Does here least (Covers 0 places) (bound control type_id w) Anything
+  bound_does : (least : Reached) (control : ℕ) (type_id : TypeId) (places : List Place) (w : Written)
+      → LeadsTo here (AtVariable control) [] type_id least → holds least.types scalar.Ordinal type_id ≡ true → LawfulWritten here places w
+      → Does here least (Covers 0 places) (bound control type_id w) Anything
   unfolding bound
-  bound_does least control type_id places w led law =
+  bound_does least control type_id places w led held law =
       joins (covers_test here kind.Subrange (omega arith) (omega arith) places w law) (site_does kind.Subrange w.first) λ id there one known.
       last (ranges_do type_id w.first (law.types there None tt)) λ range n more is.
-      mark_does (Fits control [] (record { site = id; range = range })) refl refl refl
-      (λ o h.
-      let led_there = leads_later here control [] type_id least n (further_still one more) led in
-      fits_formed here control [] type_id (record { site = id; range = range }) n o led_there h (omega (arith, known, more.sites)) is.0 is.1)
+      let test : RangeTest = record { site = id; tests = scalar.Ordinal; range = range } in
+      let seen = further_still one more in
+      let led_there = leads_later here (AtVariable control) [] type_id least n seen led in
+      let held_there = ap (is_held_by scalar.Ordinal) (kind_longer seen.types type_id led.stands) ∙ held in
+      mark_does (Fits (AtVariable control) [] test) refl refl refl refl
+      (λ o h. fits_formed here (AtVariable control) [] type_id test n o led_there h (omega (arith, known, more.sites)) held_there is.0 is.1)
 
   -- a variable of the variable declaration part of the block
   local_formed : (root : ℕ) (now : Reached) (o : Outline) → IsFurther now (whole_of o) → is_local here.block (slice_get now.variables root) ≡ true
@@ -370,23 +408,36 @@ module _ (here : Here) where
       sited (λ sites has. covers_skip 0 place (name.place ∷ (firsts ++ lasts)) sites (covers_skip 0 name.place (firsts ++ lasts) sites has))
       (quietly (pass_does place) λ _ _ _ _.
       quietly (find_does name) λ denotation now _ sound.
-      quietly (given_does (as_variable name.place denotation)) λ control there more is.
-      let found = variable_is here now name.place denotation control is sound.0 in
+      quietly (given_does (as_control name.place denotation)) λ control there more is.
+      let found = control_is now name.place denotation control is sound.0 in
       let led = leads_nowhere here control.0 control.1 now found sound.1 in
       quietly (by_types_does (λ types. fits (is_ordinal types control.1) name.place (tt {0}))) λ _ tests still fit.
       let ordinal = (fit_is (is_ordinal tests.types control.1) name.place (tt {0}) (tt {0}) fit.1).0 in
-      let seen = leads_later here control.0 [] control.1 now tests (further_still more still) led in
+      let seen = leads_later here (AtVariable control.0) [] control.1 now tests (further_still more still) led in
       let found_there = variable_later here now tests control.0 control.1 (further_still more still) found in
+      let held = ordinal_held tests.types control.1 ordinal in
       quietly (may_change_does name.place control.0 control.1 found_there) λ _ changed further may.
-      controlled_does name.place control.0 (λ n l. For n l place control.0 (way d)) _ (λ n l. refl) (λ n l. refl) (λ n l. refl) (λ n l. refl) may
+      controlled_does name.place control.0 (λ n l. For n l place control.0 (way d)) _ (λ n l. refl) (λ n l. refl) (λ n l. refl) (λ n l. refl)
+      (λ n l. refl) may
       (λ known later local n l o h.
       both_true _ _ (local_formed control.0 known o h local)
-      (ordinal_formed here control.0 [] control.1 tests o seen ordinal (further_still further (further_still later h))))
+      (ordinal_formed here (AtVariable control.0) [] control.1 tests o seen ordinal (further_still further (further_still later h))))
       (λ now later.
-      let led_now = leads_later here control.0 [] control.1 tests now (further_still further later) seen in
-      joins (covers_both 0 firsts lasts) (bound_does now control.0 control.1 firsts first led_now one) λ _ next more _.
-      last (bound_does next control.0 control.1 lasts end (leads_later here control.0 [] control.1 now next more led_now) two) λ _ _ _ _.
+      let ahead = further_still further later in
+      let led_now = leads_later here (AtVariable control.0) [] control.1 tests now ahead seen in
+      let held_now = ap (is_held_by scalar.Ordinal) (kind_longer ahead.types control.1 seen.stands) ∙ held in
+      joins (covers_both 0 firsts lasts) (bound_does now control.0 control.1 firsts first led_now held_now one) λ _ next more _.
+      let held_next = ap (is_held_by scalar.Ordinal) (kind_longer more.types control.1 led_now.stands) ∙ held_now in
+      last (bound_does next control.0 control.1 lasts end (leads_later here (AtVariable control.0) [] control.1 now next more led_now) held_next two)
+      λ _ _ _ _.
       pure_does control.0 (λ n h. tt)))
+    where
+      control_is : (now : Reached) (place : Place) (denotation : Denotation) (control : ℕ × TypeId) → as_control place denotation ≡ Ok control
+          → IsSoundThen here denotation now → IsVariable here now.variables now.types control.0 control.1
+      control_is now place (denotes.Variable root type_id) control h sound =
+          let same : (root, type_id) ≡ control = cc in
+          subst (λ (v : ℕ × TypeId). IsVariable here now.variables now.types v.0 v.1) same sound
+      control_is now place other control h sound = absurd cc
 
   for_does : (place : Place) (name : Name) (firsts lasts inside : List Place) (first : Written) (d : SyntaxDirection) (end : Written)
       (body : Passing (Unit {0}))
@@ -408,7 +459,7 @@ module _ (here : Here) where
   case_head_does least place places w law =
       led_covers here 0 place places (kind.Case ∷ []) (omega arith, tt)
       (joins (leads_first 0 place (kind.Case ∷ []) places) (site_does kind.Case place) λ id there _ known.
-      quietly (enter_does (λ n. Case n id) (λ n. refl) (λ n. refl) (λ n. refl)
+      quietly (enter_does (λ n. Case n id) (λ n. refl) (λ n. refl) (λ n. refl) (λ n. refl)
       (λ n m h. lt_true id m.sites (omega (arith, known, h.sites)))) λ _ now _ _.
       checks {L = Anything} (typed_does now places w None law tt) λ types t b n more is _. tt)
 
@@ -421,93 +472,106 @@ module _ (here : Here) where
     passes = λ least.
         joins (covers_both 0 (place ∷ tests) inside) (case_head_does least place tests w law) λ type_id there _ _.
         last (row there type_id) λ _ _ _ _.
-        mark_does Ends refl refl refl (λ n h. refl);
+        mark_does Ends refl refl refl refl (λ n h. refl);
   }
 
-  -- ---- every statement
+-- ---- every statement, whatever records are open
 
-  abbrev LawfulStmt : Stmt → Type 0
-  LawfulStmt w = LawfulStatement (stmt_places w) (statement w)
+abbrev LawfulStmt : Stmt → Type 0
+LawfulStmt w = (here : Here) → LawfulStatement here (stmt_places w) (statement w)
 
-  abbrev WithStmt : Type 0
-  WithStmt = (w : Stmt) × LawfulStmt w
+abbrev WithStmt : Type 0
+WithStmt = (w : Stmt) × LawfulStmt w
 
-  abbrev bare : layer.Stmt-F WithStmt → layer.Stmt-F Stmt
-  bare y = map-Stmt WithStmt Stmt (λ w. w.0) y
+abbrev bare : layer.Stmt-F WithStmt → layer.Stmt-F Stmt
+bare y = map-Stmt WithStmt Stmt (λ w. w.0) y
 
-  from_layer : (d : layer.Stmt-F Stmt)
-      → LawfulStatement (statement_row (map-Stmt Stmt Places stmt_places d)) (statement_step (map-Stmt Stmt (Passing (Unit {0})) statement d))
-      → LawfulStmt (roll-Stmt d)
-  from_layer d law =
-      subst (λ p. LawfulStatement p (statement (roll-Stmt d))) (sym (fold-roll-Stmt Places statement_row d))
-      (subst (LawfulStatement _) (sym (fold-roll-Stmt (Passing (Unit {0})) statement_step d)) law)
+from_layer : (d : layer.Stmt-F Stmt)
+    → ((here : Here)
+    → LawfulStatement here (statement_row (map-Stmt Stmt Places stmt_places d)) (statement_step (map-Stmt Stmt (Passing (Unit {0})) statement d)))
+    → LawfulStmt (roll-Stmt d)
+from_layer d law here =
+    subst (λ p. LawfulStatement here p (statement (roll-Stmt d))) (sym (fold-roll-Stmt Places statement_row d))
+    (subst (LawfulStatement here _) (sym (fold-roll-Stmt (Passing (Unit {0})) statement_step d)) (law here))
 
-  abbrev bare_row : List WithStmt → List Stmt
-  bare_row ys = map (λ (y : WithStmt). y.0) ys
+abbrev bare_row : List WithStmt → List Stmt
+bare_row ys = map (λ (y : WithStmt). y.0) ys
 
-  row_lawful : (ys : List WithStmt) (least : Reached)
-      → Does here least (Covers 0 (joined_places (map stmt_places (bare_row ys)))) (each (λ s. s) (map statement (bare_row ys))) Anything
-  row_lawful [] least = pure_does tt (λ n h. tt)
-  row_lawful (y ∷ ys) least =
-      joins (covers_both 0 (stmt_places y.0) (joined_places (map stmt_places (bare_row ys)))) (y.1.passes least) λ _ now _ _.
-      row_lawful ys now
+row_lawful : (here : Here) (ys : List WithStmt) (least : Reached)
+    → Does here least (Covers 0 (joined_places (map stmt_places (bare_row ys)))) (each (λ s. s) (map statement (bare_row ys))) Anything
+row_lawful here [] least = pure_does tt (λ n h. tt)
+row_lawful here (y ∷ ys) least =
+    joins (covers_both 0 (stmt_places y.0) (joined_places (map stmt_places (bare_row ys)))) ((y.1 here).passes least) λ _ now _ _.
+    row_lawful here ys now
 
-  abbrev arms_row : List (Vec Constant Global) → List WithStmt → List Place
-  arms_row rows ys = flat_map arm_places (arms_of rows (map stmt_places (bare_row ys)))
+abbrev arms_row : List (Vec Constant Global) → List WithStmt → List Place
+arms_row rows ys = flat_map arm_places (arms_of rows (map stmt_places (bare_row ys)))
 
-  arms_lawful : (rows : List (Vec Constant Global)) (ys : List WithStmt) (type_id : TypeId) (before : List ℤ) (least : Reached)
-      → Does here least (Covers 0 (arms_row rows ys)) (case_arms type_id before (arms_of rows (map statement (bare_row ys)))) Anything
-  arms_lawful [] ys type_id before least = pure_does tt (λ n h. tt)
-  arms_lawful (row ∷ rows) [] type_id before least = pure_does tt (λ n h. tt)
-  arms_lawful (row ∷ rows) (y ∷ ys) type_id before least =
-      sited behind_constants
-      (quietly (row_does here type_id before [] row.items refl) λ values _ _ whole.
-      quietly (mark_does (Arm values) refl refl refl (λ n h. whole)) λ _ now _ _.
-      joins (covers_both 0 (stmt_places y.0) (arms_row rows ys)) (y.1.passes now) λ _ there _ _.
-      arms_lawful rows ys type_id (before ++ values) there)
-    where
-      behind_constants : (sites : List Stands) → Covers 0 (stmt_places y.0 ++ arms_row rows ys) sites → Covers 0 (arms_row (row ∷ rows) (y ∷ ys)) sites
-      behind_constants sites has =
-          subst (λ p. Covers 0 p sites) (sym (append_assoc (flat_map constant_places row.items) (stmt_places y.0) (arms_row rows ys)))
-          (covers_behind 0 (flat_map constant_places row.items) (stmt_places y.0 ++ arms_row rows ys) sites has)
+arms_lawful : (here : Here) (rows : List (Vec Constant Global)) (ys : List WithStmt) (type_id : TypeId) (before : List ℤ) (least : Reached)
+    → Does here least (Covers 0 (arms_row rows ys)) (case_arms type_id before (arms_of rows (map statement (bare_row ys)))) Anything
+arms_lawful here [] ys type_id before least = pure_does tt (λ n h. tt)
+arms_lawful here (row ∷ rows) [] type_id before least = pure_does tt (λ n h. tt)
+arms_lawful here (row ∷ rows) (y ∷ ys) type_id before least =
+    sited behind_constants
+    (quietly (row_does here type_id before [] row.items refl) λ values _ _ whole.
+    quietly (mark_does (Arm values) refl refl refl refl (λ n h. whole)) λ _ now _ _.
+    joins (covers_both 0 (stmt_places y.0) (arms_row rows ys)) ((y.1 here).passes now) λ _ there _ _.
+    arms_lawful here rows ys type_id (before ++ values) there)
+  where
+    behind_constants : (sites : List Stands) → Covers 0 (stmt_places y.0 ++ arms_row rows ys) sites → Covers 0 (arms_row (row ∷ rows) (y ∷ ys)) sites
+    behind_constants sites has =
+        subst (λ p. Covers 0 p sites) (sym (append_assoc (flat_map constant_places row.items) (stmt_places y.0) (arms_row rows ys)))
+        (covers_behind 0 (flat_map constant_places row.items) (stmt_places y.0 ++ arms_row rows ys) sites has)
 
-  statement_layer : (y : layer.Stmt-F WithStmt) → LawfulStmt (roll-Stmt (bare y))
-  statement_layer layer.Empty =
-      from_layer layer.Empty (record { passes = λ least. enter_does Empty (λ n. refl) (λ n. refl) (λ n. refl) (λ n m h. refl) })
-  statement_layer (layer.Assign name selectors indexes becomes value) =
-      from_layer (layer.Assign name selectors indexes becomes value)
-      (assignment_does name selectors.items (map expr_places indexes.items) (map expression indexes.items) becomes (expr_places value) (expression value)
-      (indexes_lawful here indexes.items) (expression_lawful here value))
-  statement_layer (layer.Call name actuals) = from_layer (layer.Call name actuals) (call_does name actuals.items)
-  statement_layer (layer.Compound statements) = from_layer (bare (layer.Compound statements)) (compound_does _ _ (row_lawful statements.items))
-  statement_layer (layer.If place condition consequence None) =
-      from_layer (bare (layer.If place condition consequence None))
-      (choice_does place (expr_places condition) _ [] (expression condition) _ None (expression_lawful here condition) consequence.value.1 tt)
-  statement_layer (layer.If place condition consequence (Some other)) =
-      from_layer (bare (layer.If place condition consequence (Some other)))
-      (choice_does place (expr_places condition) _ _ (expression condition) _ _ (expression_lawful here condition) consequence.value.1 other.value.1)
-  statement_layer (layer.While place condition body) =
-      from_layer (bare (layer.While place condition body))
-      (while_does place (expr_places condition) _ (expression condition) _ (expression_lawful here condition) body.value.1)
-  statement_layer (layer.Repeat place statements condition) =
-      from_layer (bare (layer.Repeat place statements condition))
-      (repeat_does place _ (expr_places condition) _ (expression condition) (row_lawful statements.items) (expression_lawful here condition))
-  statement_layer (layer.For place name first d end body) =
-      from_layer (bare (layer.For place name first d end body))
-      (for_does place name (expr_places first) (expr_places end) _ (expression first) d (expression end) _ (expression_lawful here first)
-      (expression_lawful here end) body.value.1)
-  statement_layer (layer.Case place index constants arms semicolon) =
-      from_layer (bare (layer.Case place index constants arms semicolon))
-      (case_does place (expr_places index) _ (expression index) _ (expression_lawful here index)
-      (λ least type_id. arms_lawful constants.items arms.items type_id [] least))
+statement_layer : (y : layer.Stmt-F WithStmt) → LawfulStmt (roll-Stmt (bare y))
+statement_layer layer.Empty =
+    from_layer layer.Empty
+    (λ here. record { passes = λ least. enter_does Empty (λ n. refl) (λ n. refl) (λ n. refl) (λ n. refl) (λ n m h. refl) })
+statement_layer (layer.Assign name selectors indexes becomes value) =
+    from_layer (layer.Assign name selectors indexes becomes value)
+    (λ here. assignment_does here name selectors.items (map expr_places indexes.items) (map expression indexes.items) becomes (expr_places value)
+    (expression value) (indexes_lawful here indexes.items) (expression_lawful here value))
+statement_layer (layer.Call name actuals) = from_layer (layer.Call name actuals) (λ here. call_does here name actuals.items)
+statement_layer (layer.Compound statements) =
+    from_layer (bare (layer.Compound statements)) (λ here. compound_does here _ _ (row_lawful here statements.items))
+statement_layer (layer.If place condition consequence None) =
+    from_layer (bare (layer.If place condition consequence None))
+    (λ here. choice_does here place (expr_places condition) _ [] (expression condition) _ None (expression_lawful here condition)
+    (consequence.value.1 here) tt)
+statement_layer (layer.If place condition consequence (Some other)) =
+    from_layer (bare (layer.If place condition consequence (Some other)))
+    (λ here. choice_does here place (expr_places condition) _ _ (expression condition) _ _ (expression_lawful here condition)
+    (consequence.value.1 here) (other.value.1 here))
+statement_layer (layer.While place condition body) =
+    from_layer (bare (layer.While place condition body))
+    (λ here. while_does here place (expr_places condition) _ (expression condition) _ (expression_lawful here condition) (body.value.1 here))
+statement_layer (layer.Repeat place statements condition) =
+    from_layer (bare (layer.Repeat place statements condition))
+    (λ here. repeat_does here place _ (expr_places condition) _ (expression condition) (row_lawful here statements.items)
+    (expression_lawful here condition))
+statement_layer (layer.For place name first d end body) =
+    from_layer (bare (layer.For place name first d end body))
+    (λ here. for_does here place name (expr_places first) (expr_places end) _ (expression first) d (expression end) _ (expression_lawful here first)
+    (expression_lawful here end) (body.value.1 here))
+statement_layer (layer.Case place index constants arms semicolon) =
+    from_layer (bare (layer.Case place index constants arms semicolon))
+    (λ here. case_does here place (expr_places index) _ (expression index) _ (expression_lawful here index)
+    (λ least type_id. arms_lawful here constants.items arms.items type_id [] least))
+statement_layer (layer.With place records body) =
+    from_layer (bare (layer.With place records body)) (λ here. record {
+      passes = λ least. with_does here records.items (statement body.value.0) (stmt_places body.value.0) (λ inside. (body.value.1 inside).passes) least place;
+    })
 
-  -- every statement
-  pub statement_lawful : (w : Stmt) → LawfulStmt w
-  statement_lawful = ind-Stmt LawfulStmt (λ x y is. subst (λ z. LawfulStmt (roll-Stmt z)) is (statement_layer y))
+every_statement : (w : Stmt) → LawfulStmt w
+every_statement = ind-Stmt LawfulStmt (λ x y is. subst (λ z. LawfulStmt (roll-Stmt z)) is (statement_layer y))
 
-  pub statements_lawful : (ws : List Stmt) (least : Reached)
-      → Does here least (Covers 0 (flat_map stmt_places ws)) (each (λ s. s) (map statement ws)) Anything
-  statements_lawful [] least = pure_does tt (λ n h. tt)
-  statements_lawful (w ∷ ws) least =
-      joins (covers_both 0 (stmt_places w) (flat_map stmt_places ws)) ((statement_lawful w).passes least) λ _ now _ _.
-      statements_lawful ws now
+-- every statement
+pub statement_lawful : (here : Here) (w : Stmt) → LawfulStatement here (stmt_places w) (statement w)
+statement_lawful here w = every_statement w here
+
+pub statements_lawful : (here : Here) (ws : List Stmt) (least : Reached)
+    → Does here least (Covers 0 (flat_map stmt_places ws)) (each (λ s. s) (map statement ws)) Anything
+statements_lawful here [] least = pure_does tt (λ n h. tt)
+statements_lawful here (w ∷ ws) least =
+    joins (covers_both 0 (stmt_places w) (flat_map stmt_places ws)) ((statement_lawful here w).passes least) λ _ now _ _.
+    statements_lawful here ws now

@@ -42,6 +42,8 @@ use Rattle.typing_laws.specs.Results.{is_target}
 use Rattle.typing_laws.proofs.Kept.{MayChange, change_later, changes_of, controls_of, each_more}
 use Rattle.typing_laws.proofs.Went.{ended_control, same_controls}
 use Rattle.typing_laws.proofs.Spared.{AreHeld, apart_held, one_mark, spared_append}
+use Rattle.typing_laws.proofs.Opened.{one_opened, open_in, opened_then}
+use Rattle.typing_laws.specs.Opened.{mark_opened}
 
 -- a form has grown what is known, with such sites, and its answer has this
 abbrev pub Leaves : {A : Type 0} → Here → (List Stands → Type 0) → Passed → (A → Reached → Type 0) → After A → Type 0
@@ -179,6 +181,7 @@ grown_plain way lawful texts = record {
   controls = tt;
   formed = λ o h. refl;
   spared = λ roots held. refl;
+  opened = refl;
 }
 
 -- a step that leaves the types, the texts and the sites
@@ -270,12 +273,16 @@ all_apart here s roots (root ∷ changes) held may =
     both_true (is_none_of roots root) (list_all (is_none_of roots) changes) (apart_held roots s.controls root held may.0.apart)
     (all_apart here s roots changes held may.1)
 
+-- a form that may stand where it does, and leaves the records that are open
+abbrev pub IsOpenedIn : Here → Mark → Type 0
+IsOpenedIn here one = mark_opened one (open_in here) ≡ Some (open_in here)
+
 -- no entry, but well formed
-marked_does : {here : Here} {least : Reached} (one : Mark) → numbers_of one ≡ ([], [], []) → is_bracket one ≡ false
+marked_does : {here : Here} {least : Reached} (one : Mark) → numbers_of one ≡ ([], [], []) → is_bracket one ≡ false → IsOpenedIn here one
     → ((now : Reached) → IsFurther least now → Each (MayChange here now) (mark_changes one ++ [])) → mark_controls one ≡ []
     → ((o : Outline) → IsFurther least (whole_of o) → is_formed_mark o here.block one ≡ true)
     → Does here least Nothing (mark one) Anything
-marked_does {here} {least} one none plain changes no_control formed = record {
+marked_does {here} {least} one none plain opens changes no_control formed = record {
   does = λ s a is fine h.
       let same : after tt (one ∷ []) s ≡ a = cc in
       subst (Leaves here Nothing s Anything) same (
@@ -287,6 +294,7 @@ marked_does {here} {least} one none plain changes no_control formed = record {
           controls = subst (λ (l : List ℕ). Each (IsFree here s s) (l ++ [])) (sym no_control) tt;
           formed = λ o more. both_true _ true (formed o (further_still h more)) refl;
           spared = λ roots held. one_mark one roots plain (all_apart here s roots (mark_changes one) held (changes (reached s) h));
+          opened = one_opened one (open_in here) (open_in here) opens;
         },
         no_sites refl,
         tt,
@@ -299,28 +307,30 @@ no_control (For number loop_number place control direction) none = absurd cc
 no_control other none = refl
 
 pub mark_does : {here : Here} {least : Reached} (one : Mark) → numbers_of one ≡ ([], [], []) → mark_changes one ≡ [] → is_bracket one ≡ false
+    → IsOpenedIn here one
     → ((o : Outline) → IsFurther least (whole_of o) → is_formed_mark o here.block one ≡ true)
     → Does here least Nothing (mark one) Anything
-mark_does {here} one none no_change plain formed =
-    marked_does one none plain (λ now more. subst (λ (l : List ℕ). Each (MayChange here now) (l ++ [])) (sym no_change) tt)
+mark_does {here} one none no_change plain opens formed =
+    marked_does one none plain opens (λ now more. subst (λ (l : List ℕ). Each (MayChange here now) (l ++ [])) (sym no_change) tt)
     (no_control one no_change) formed
 
 -- one that changes a variable
 pub change_does : {here : Here} {least : Reached} (one : Mark) (root : ℕ) → numbers_of one ≡ ([], [], []) → mark_changes one ≡ root ∷ []
-    → mark_controls one ≡ [] → is_bracket one ≡ false → MayChange here least root
+    → mark_controls one ≡ [] → is_bracket one ≡ false → IsOpenedIn here one → MayChange here least root
     → ((o : Outline) → IsFurther least (whole_of o) → is_formed_mark o here.block one ≡ true) → Does here least Nothing (mark one) Anything
-change_does {here} {least} one root none change no_control plain may formed =
-    marked_does one none plain
+change_does {here} {least} one root none change no_control plain opens may formed =
+    marked_does one none plain opens
     (λ now more. subst (λ (l : List ℕ). Each (MayChange here now) (l ++ [])) (sym change) (change_later here least now root more may, tt)) no_control formed
 
 -- an entry, with the next number
 pub enter_does : {here : Here} {least : Reached} (marked : ℕ → Mark) → ((k : ℕ) → numbers_of (marked k) ≡ (k ∷ [], [], []))
     → ((k : ℕ) → mark_changes (marked k) ≡ [])
     → ((k : ℕ) → is_bracket (marked k) ≡ false)
+    → ((k : ℕ) → IsOpenedIn here (marked k))
     → ((k : ℕ) (o : Outline) → IsFurther least (whole_of o) → is_formed_mark o here.block (marked k) ≡ true)
     → Does here least Nothing (enter_as marked) Anything
 unfolding enter
-enter_does {here} {least} marked entry no_change plain formed = record {
+enter_does {here} {least} marked entry no_change plain opens formed = record {
   does = λ s a is fine h.
       let x = split (if nat_le most_entries s.entries then Err (fault.TooMany s.latest) else Ok (after s.entries [] (record s { entries = s.entries + 1 })))
       (λ b. behind_marks b.look (mark (marked b.answer) b.passed)) a is in
@@ -337,6 +347,7 @@ enter_does {here} {least} marked entry no_change plain formed = record {
           controls = subst (λ (l : List ℕ). Each (IsFree here s new) (l ++ [])) (sym (no_control (marked number) (no_change number))) tt;
           formed = λ o more. both_true _ true (formed number o (further_still h more)) refl;
           spared = λ roots held. one_mark (marked number) roots (plain number) (ap (list_all (is_none_of roots)) (no_change number));
+          opened = one_opened (marked number) (open_in here) (open_in here) (opens number);
         },
         no_sites refl,
         tt,
@@ -352,13 +363,13 @@ enter_does {here} {least} marked entry no_change plain formed = record {
 
 -- a loop, with the next two numbers
 enter_loop_at : {here : Here} (marked : ℕ → ℕ → Mark) → ((k l : ℕ) → numbers_of (marked k l) ≡ (k ∷ [], l ∷ [], []))
-    → ((k l : ℕ) → is_bracket (marked k l) ≡ false) → (s : Passed) (a : After (Unit {0}))
+    → ((k l : ℕ) → is_bracket (marked k l) ≡ false) → ((k l : ℕ) → IsOpenedIn here (marked k l)) → (s : Passed) (a : After (Unit {0}))
     → ((k l : ℕ) → Each (MayChange here (reached s)) (mark_changes (marked k l) ++ []))
     → ((k l : ℕ) (new : Passed) → new.variables ≡ s.variables → Each (IsFree here s new) (mark_controls (marked k l) ++ []))
     → ((k l : ℕ) (o : Outline) → IsFurther (reached s) (whole_of o) → is_formed_mark o here.block (marked k l) ≡ true)
     → Fine here s → enter_loop marked s ≡ Ok a → Leaves here Nothing s Anything a
 unfolding begin_loop enter
-enter_loop_at {here} marked loop plain s a changes controls formed fine is = by (nat_le most_entries s.entries) refl is
+enter_loop_at {here} marked loop plain opens s a changes controls formed fine is = by (nat_le most_entries s.entries) refl is
   where
     by : (test : Bool) → nat_le most_entries s.entries ≡ test
         → and_then (and_then (if test then Err (fault.TooMany s.latest) else Ok (after s.entries [] (record s { entries = s.entries + 1 })))
@@ -380,6 +391,7 @@ enter_loop_at {here} marked loop plain s a changes controls formed fine is = by 
             formed = λ o more. both_true _ true (formed s.entries s.loops o more) refl;
             spared = λ roots held.
                 one_mark made roots (plain s.entries s.loops) (all_apart here s roots (mark_changes made) held (changes s.entries s.loops));
+            opened = one_opened made (open_in here) (open_in here) (opens s.entries s.loops);
           },
           no_sites refl,
           tt,
@@ -388,11 +400,12 @@ enter_loop_at {here} marked loop plain s a changes controls formed fine is = by 
 pub enter_loop_does : {here : Here} {least : Reached} (marked : ℕ → ℕ → Mark) → ((k l : ℕ) → numbers_of (marked k l) ≡ (k ∷ [], l ∷ [], []))
     → ((k l : ℕ) → mark_changes (marked k l) ≡ [])
     → ((k l : ℕ) → is_bracket (marked k l) ≡ false)
+    → ((k l : ℕ) → IsOpenedIn here (marked k l))
     → ((k l : ℕ) (o : Outline) → IsFurther least (whole_of o) → is_formed_mark o here.block (marked k l) ≡ true)
     → Does here least Nothing (enter_loop marked) Anything
-enter_loop_does {here} {least} marked loop no_change plain formed = record {
+enter_loop_does {here} {least} marked loop no_change plain opens formed = record {
   does = λ s a is fine h.
-      enter_loop_at marked loop plain s a
+      enter_loop_at marked loop plain opens s a
       (λ k l. subst (λ (m : List ℕ). Each (MayChange here (reached s)) (m ++ [])) (sym (no_change k l)) tt)
       (λ k l new same. subst (λ (m : List ℕ). Each (IsFree here s new) (m ++ [])) (sym (no_control (marked k l) (no_change k l))) tt)
       (λ k l o more. formed k l o (further_still h more)) fine is;
@@ -459,13 +472,14 @@ may_change_does {here} {least} place root type_id known = record {
 pub controlled_does : {here : Here} {least : Reached} {B : Type 0} {Has : List Stands → Type 0} {L : B → Reached → Type 0} (place : Place) (root : ℕ)
     (marked : ℕ → ℕ → Mark) (rest : Passing B) → ((k l : ℕ) → numbers_of (marked k l) ≡ (k ∷ [], l ∷ [], []))
     → ((k l : ℕ) → mark_changes (marked k l) ≡ root ∷ [])
-    → ((k l : ℕ) → mark_controls (marked k l) ≡ root ∷ []) → ((k l : ℕ) → is_bracket (marked k l) ≡ false) → MayChange here least root
+    → ((k l : ℕ) → mark_controls (marked k l) ≡ root ∷ []) → ((k l : ℕ) → is_bracket (marked k l) ≡ false)
+    → ((k l : ℕ) → IsOpenedIn here (marked k l)) → MayChange here least root
     → ((now : Reached) → IsFurther least now → is_local here.block (slice_get now.variables root) ≡ true → (k l : ℕ) (o : Outline)
     → IsFurther now (whole_of o) → is_formed_mark o here.block (marked k l) ≡ true)
     → ((now : Reached) → IsFurther least now → Does here now Has rest L)
     → Does here least Has (may_control place root >>= (λ _. enter_loop marked >>= (λ _. rest))) L
 unfolding may_control
-controlled_does {here} {least} {B} {Has} {L} place root marked rest loop changes controls plain may formed law = record {
+controlled_does {here} {least} {B} {Has} {L} place root marked rest loop changes controls plain opens may formed law = record {
   does = λ s b is fine h.
       let own = is_local s.enclosing.block (slice_get s.variables root) in
       let free = not (list_any (nat_eq root) s.threatened) in
@@ -483,7 +497,7 @@ controlled_does {here} {least} {B} {Has} {L} place root marked rest loop changes
       let none = second_of own (list_any (nat_eq root) s.threatened) test.0 in
       let changed = change_later here least (reached s) root h may in
       let first =
-      enter_loop_at marked loop plain s u.0
+      enter_loop_at marked loop plain opens s u.0
       (λ k l. subst (λ (m : List ℕ). Each (MayChange here (reached s)) (m ++ [])) (sym (changes k l)) (changed, tt))
       (λ k l new same. subst (λ (m : List ℕ). Each (IsFree here s new) (m ++ [])) (sym (controls k l))
       (is_free s new changed.variable changed.is_there same local none, tt))
@@ -538,9 +552,9 @@ held_more roots controls root held other is =
     by false own there held is = ap (λ (b : Bool). b || false) (held is)
 
 -- a bracket tells nothing else
-ended_flat : {A : Type 0} (f : Mark → List A) (look : Look) → f ForEnds ≡ [] → flat_map f (look ++ (ForEnds ∷ [])) ≡ flat_map f look
-ended_flat f look none =
-    flat_map-append f look (ForEnds ∷ []) ∙ ap (λ l. flat_map f look ++ (l ++ [])) none ∙ append-nil (flat_map f look)
+pub ended_flat : {A : Type 0} (f : Mark → List A) (look : Look) (end : Mark) → f end ≡ [] → flat_map f (look ++ (end ∷ [])) ≡ flat_map f look
+ended_flat f look end none =
+    flat_map-append f look (end ∷ []) ∙ ap (λ l. flat_map f look ++ (l ++ [])) none ∙ append-nil (flat_map f look)
 
 module _ (root : ℕ) (look : Look) (s new : Passed) where
   abbrev inside : Passed
@@ -564,7 +578,7 @@ module _ (root : ℕ) (look : Look) (s new : Passed) where
     lawful = g.lawful;
     texts = g.texts;
     changes =
-        subst (Each (MayChange here (reached behind_it))) (sym (ended_flat mark_changes look refl))
+        subst (Each (MayChange here (reached behind_it))) (sym (ended_flat mark_changes look ForEnds refl))
         (each_more (MayChange here (reached new)) (MayChange here (reached behind_it)) (changes_of look) (λ other m. record {
           variable = m.variable;
           is_there = m.is_there;
@@ -573,7 +587,7 @@ module _ (root : ℕ) (look : Look) (s new : Passed) where
           apart = still_apart (same_controls g.way) other m.apart;
         }) g.changes);
     controls =
-        subst (Each (IsFree here s behind_it)) (sym (ended_flat mark_controls look refl))
+        subst (Each (IsFree here s behind_it)) (sym (ended_flat mark_controls look ForEnds refl))
         (each_more (IsFree here inside new) (IsFree here s behind_it) (controls_of look) (λ other c. record {
           variable = c.variable;
           is_there = c.is_there;
@@ -593,6 +607,7 @@ module _ (root : ℕ) (look : Look) (s new : Passed) where
     spared = λ roots held.
         spared_append (root ∷ roots) look (ForEnds ∷ [])
         ∙ ap (option_and_then (λ (behind : List ℕ). spared_behind behind (ForEnds ∷ []))) (g.spared (root ∷ roots) (held_more roots s.controls root held));
+    opened = opened_then (open_in here) (open_in here) (open_in here) look (ForEnds ∷ []) g.opened refl;
   }
 
 -- so many control variables more
@@ -603,6 +618,7 @@ fine_inside s controls fine = record {
   texts = fine.texts;
   block = fine.block;
   around = fine.around;
+  records = fine.records;
   stands = fine.stands;
   fit = record {
     fits = λ block signature is.
@@ -699,6 +715,7 @@ fine_with_result s root fine = record {
   texts = fine.texts;
   block = fine.block;
   around = fine.around;
+  records = fine.records;
   stands = fine.stands;
   fit = fine.fit;
 }
@@ -715,6 +732,7 @@ grown_assigned {here} {look} {s} {new} root told g = record {
       (λ other c. record { variable = c.variable; is_there = c.is_there; own = c.own; free = c.free }) g.controls;
   formed = g.formed;
   spared = g.spared;
+  opened = g.opened;
 }
 
 -- ---- texts

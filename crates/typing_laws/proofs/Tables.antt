@@ -8,19 +8,28 @@ use Rattle.std.proofs.lemmas.Option.{slice_get-get_or, slice_get_within}
 use Rattle.types.specs.Forms.{Form, Integer}
 use Rattle.types.specs.declared.form.TypeId.{TypeId}
 use Rattle.types.specs.declared.form.TypeKind.{TypeKind}
-use Rattle.types.specs.declared.form.TypeKind.TheVariants.{Ordinal, Structured}
-use Rattle.types.specs.declared.refusal.TypeRefusal.TheVariants.{TooManyCells, FirstAboveLast}
+use Rattle.types.specs.declared.form.ArrayElement.{ArrayElement}
+use Rattle.types.specs.declared.form.RecordField.{RecordField}
+use Rattle.types.specs.declared.form.TypeKind.TheVariants as kind
+use Rattle.types.specs.declared.refusal.TypeRefusal.TheVariants.{TooManyCells, FirstAboveLast, MembersOutOfRange}
 use Rattle.types.specs.Types.{BeginWithRequired, Counted, admitted_cells, cells_of, char, counted, element_of, entry_cells, few, field_at, form_cells}
-use Rattle.types.specs.Types.{form_at, form_kind, form_range, is_ordinal, is_string, is_structured, is_structured_kind, kind_range, range_of, is_turned}
-use Rattle.types.specs.Types.{most_cells, required_forms, string_in, string_length}
+use Rattle.types.specs.Types.{form_at, form_kind, form_range, has_outside_members, is_ordinal, is_string, is_structured, is_structured_kind, is_turned}
+use Rattle.types.specs.Types.{kind_of, kind_range, most_cells, required_forms, scalar_range, string_in, string_length}
 use Rattle.types.proofs.Built.{AreBuilt, IsOver, built_more, required_built, string_elements}
 use Rattle.types.proofs.Counts.{counted_more, one_cell}
-use Rattle.types.proofs.Longer.{cells_longer, element_longer, field_at_longer, form_longer, ordinal_longer, range_longer, string_stays}
+use Rattle.types.proofs.Elements.{is_array}
+use Rattle.types.proofs.Fields.{is_field}
+use Rattle.types.proofs.Longer.{cells_longer, element_longer, field_at_longer, form_longer, ordinal_longer, string_stays}
 use Rattle.types.proofs.Strings.{indexes, string_cells}
+use Rattle.typed_tree.specs.declared.tree.PathStep.{PathStep}
+use Rattle.typed_tree.specs.declared.tree.PathStep.TheVariants as path
+use Rattle.typed_tree.specs.declared.tree.Scalar.{Scalar}
+use Rattle.typed_tree.specs.declared.tree.Scalar.TheVariants as scalar
 use Rattle.typed_tree.specs.declared.tree.Variable.{Variable}
-use Rattle.typed_tree.specs.WellFormed.{are_characters}
+use Rattle.typed_tree.specs.Accesses.{lying, stepped}
+use Rattle.typed_tree.specs.WellFormed.{are_characters, holds, is_held_by}
 use Rattle.typing_laws.proofs.Reached.{IsLonger}
-use Rattle.typing_laws.proofs.WholeRanges.{HaveWholeRanges, IfWhole, required_have, whole_more}
+use Rattle.typing_laws.proofs.WholeRanges.{HaveWholeRanges, IfWhole, form_values, required_have, whole_more}
 
 -- ---- the kinds of types
 
@@ -32,18 +41,64 @@ structured_stands types id is = by (form_at types id) refl is
     by None found h = absurd cc
     by (Some form) found h = slice_get_within types id.index form found
 
--- what stands there and isn't structured is ordinal
-pub ordinal_is : (types : List Form) (id : TypeId) → id.index < length types → is_structured types id ≡ false → is_ordinal types id ≡ true
-ordinal_is types id stands plain = by (form_at types id) refl plain
+-- what stands there has a kind
+pub has_kind : (types : List Form) (id : TypeId) → id.index < length types → kind_of types id ≡ None → ⊥
+has_kind types id stands = by (form_at types id) refl
   where
-    of_kind : (kind : TypeKind) → is_structured_kind (Some kind) ≡ false → is_some (kind_range kind) ≡ true
-    of_kind (Ordinal range) h = refl
-    of_kind Structured h = absurd cc
-
-    by : (form : Option Form) → form_at types id ≡ form → is_structured_kind (option_map form_kind form) ≡ false
-        → is_some (option_and_then form_range form) ≡ true
+    by : (form : Option Form) → form_at types id ≡ form → option_map form_kind form ≡ None → ⊥
     by None found h = let known = slice_get-get_or types id.index Integer stands in absurd cc
-    by (Some form) found h = of_kind (form_kind form) h
+    by (Some form) found h = absurd cc
+
+-- a variable of an ordinal type holds an ordinal
+pub ordinal_held : (types : List Form) (id : TypeId) → is_ordinal types id ≡ true → holds types scalar.Ordinal id ≡ true
+ordinal_held types id is = by (form_at types id) is
+  where
+    of_kind : (found : TypeKind) → is_some (kind_range found) ≡ true → is_held_by scalar.Ordinal (Some found) ≡ true
+    of_kind (kind.Ordinal range) h = refl
+    of_kind (kind.Set base members) h = absurd cc
+    of_kind kind.Structured h = absurd cc
+
+    by : (form : Option Form) → is_some (option_and_then form_range form) ≡ true → is_held_by scalar.Ordinal (option_map form_kind form) ≡ true
+    by None h = absurd cc
+    by (Some form) h = of_kind (form_kind form) h
+
+-- what a variable holds is a scalar, of a type that stands in the table
+pub held_scalar : (held : Scalar) (found : Option TypeKind) → is_held_by held found ≡ true → is_some (option_and_then scalar_range found) ≡ true
+held_scalar scalar.Ordinal (Some (kind.Ordinal range)) is = refl
+held_scalar scalar.Set (Some (kind.Set base members)) is = refl
+held_scalar scalar.Ordinal (Some (kind.Set base members)) is = absurd cc
+held_scalar scalar.Ordinal (Some kind.Structured) is = absurd cc
+held_scalar scalar.Ordinal None is = absurd cc
+held_scalar scalar.Set (Some (kind.Ordinal range)) is = absurd cc
+held_scalar scalar.Set (Some kind.Structured) is = absurd cc
+held_scalar scalar.Set None is = absurd cc
+
+-- ---- ways in values
+
+-- a step leads to a type before
+stepped_before : (types : List Form) (step : PathStep) (id part : TypeId) → stepped types step id ≡ Some part → part.index < id.index
+stepped_before types path.Element id part is = by (element_of types id) refl is
+  where
+    by : (found : Option ArrayElement) → element_of types id ≡ found → option_map (λ (e : ArrayElement). e.type_id) found ≡ Some part
+        → part.index < id.index
+    by None found h = absurd cc
+    by (Some e) found h = let same : e.type_id ≡ part = cc in subst (λ (z : TypeId). z.index < id.index) same (is_array types id e found).type_before
+stepped_before types (path.Field position) id part is = by (field_at types id position) refl is
+  where
+    by : (found : Option RecordField) → field_at types id position ≡ found → option_map (λ (f : RecordField). f.type_id) found ≡ Some part
+        → part.index < id.index
+    by None found h = absurd cc
+    by (Some f) found h = let same : f.type_id ≡ part = cc in subst (λ (z : TypeId). z.index < id.index) same (is_field types id position f found).type_before
+
+pub lying_stands : (types : List Form) (steps : List PathStep) (id part : TypeId) → id.index < length types → lying types steps id ≡ Some part
+    → part.index < length types
+lying_stands types [] id part stands is = let same : id ≡ part = cc in subst (λ (z : TypeId). z.index < length types) same stands
+lying_stands types (step ∷ steps) id part stands is = by (stepped types step id) refl is (λ next. lying_stands types steps next part)
+  where
+    by : (found : Option TypeId) → stepped types step id ≡ found → option_and_then (lying types steps) found ≡ Some part
+        → ((next : TypeId) → next.index < length types → lying types steps next ≡ Some part → part.index < length types) → part.index < length types
+    by None there h more = absurd cc
+    by (Some next) there h more = more next (omega (arith, stands, stepped_before types step id next there)) h
 
 -- ---- longer tables
 
@@ -67,8 +122,11 @@ module _ {old new : List Form} (longer : IsLonger old new) where
     pub is_ordinal_longer : is_ordinal new id ≡ is_ordinal old id
     is_ordinal_longer = ap (λ types. is_ordinal types id) longer.goes_on ∙ ordinal_longer old longer.more id there
 
-    pub range_of_longer : range_of new id ≡ range_of old id
-    range_of_longer = ap (λ types. range_of types id) longer.goes_on ∙ range_longer old longer.more id there
+    pub kind_longer : kind_of new id ≡ kind_of old id
+    kind_longer = ap (λ types. kind_of types id) longer.goes_on ∙ ap (option_map form_kind) (form_longer old longer.more id there)
+
+    pub form_at_longer : form_at new id ≡ form_at old id
+    form_at_longer = ap (λ types. form_at types id) longer.goes_on ∙ form_longer old longer.more id there
 
     pub cells_of_longer : cells_of new id ≡ cells_of old id
     cells_of_longer = ap (λ types. cells_of types id) longer.goes_on ∙ cells_longer old longer.more id there
@@ -78,6 +136,21 @@ module _ {old new : List Form} (longer : IsLonger old new) where
 
     pub field_of_longer : (position : ℕ) → field_at new id position ≡ field_at old id position
     field_of_longer position = ap (λ types. field_at types id position) longer.goes_on ∙ field_at_longer old longer.more id there position
+
+  -- what lies on a way is of the same type
+  pub lying_longer : (steps : List PathStep) (id : TypeId) → id.index < length old → lying new steps id ≡ lying old steps id
+  lying_longer [] id there = refl
+  lying_longer (step ∷ steps) id there = ap (option_and_then (lying new steps)) (one step) ∙ by (stepped old step id) refl (lying_longer steps)
+    where
+      one : (s : PathStep) → stepped new s id ≡ stepped old s id
+      one path.Element = ap (option_map (λ (e : ArrayElement). e.type_id)) (element_of_longer id there)
+      one (path.Field position) = ap (option_map (λ (f : RecordField). f.type_id)) (field_of_longer id there position)
+
+      by : (found : Option TypeId) → stepped old step id ≡ found
+          → ((next : TypeId) → next.index < length old → lying new steps next ≡ lying old steps next)
+          → option_and_then (lying new steps) found ≡ option_and_then (lying old steps) found
+      by None h more = refl
+      by (Some next) h more = more next (omega (arith, there, stepped_before old step id next h))
 
   -- what is structured is so there
   pub is_structured_longer : (id : TypeId) → is_structured old id ≡ true → is_structured new id ≡ true
@@ -136,12 +209,15 @@ few_is m cells is = by (nat_lt most_cells m) refl is
     by false h e = grind (arith, nat_tests)
 
 pub admitted_few : (types : List Form) (form : Form) (cells : ℕ) → admitted_cells types form ≡ Ok cells → form_cells (counted types) form ≤ most_cells
-admitted_few types form cells is = by (is_turned form) is
+admitted_few types form cells is = by (is_turned form) (has_outside_members form) is
   where
-    by : (test : Bool) → (if test then Err FirstAboveLast else ok_or (few (form_cells (counted types) form)) TooManyCells) ≡ Ok cells
+    by : (test outside : Bool)
+        → (if test then Err FirstAboveLast
+        else if outside then Err MembersOutOfRange else ok_or (few (form_cells (counted types) form)) TooManyCells) ≡ Ok cells
         → form_cells (counted types) form ≤ most_cells
-    by true h = absurd cc
-    by false h = few_is (form_cells (counted types) form) cells h
+    by true outside h = absurd cc
+    by false true h = absurd cc
+    by false false h = few_is (form_cells (counted types) form) cells h
 
 each_few : (entries : List Counted) (entry : Counted) → ((k : ℕ) → entry_cells (slice_get entries k) ≤ most_cells) → entry.cells ≤ most_cells
     → (n : ℕ) → entry_cells (slice_get (entries ++ entry ∷ []) n) ≤ most_cells
@@ -151,7 +227,7 @@ each_few (first ∷ entries) entry all one zero = all zero
 each_few (first ∷ entries) entry all one (suc n) = each_few entries entry (λ k. all (suc k)) one n
 
 -- a type more, which is admitted
-pub lawful_more : (types : List Form) (form : Form) (cells : ℕ) → AreLawful types → IfWhole (form_range form) → IsOver (length types) form
+pub lawful_more : (types : List Form) (form : Form) (cells : ℕ) → AreLawful types → IfWhole (form_values form) → IsOver (length types) form
     → admitted_cells types form ≡ Ok cells → AreLawful (types ++ form ∷ [])
 lawful_more types form cells are whole over admits =
     let entry : Counted = record { form = form; cells = form_cells (counted types) form } in

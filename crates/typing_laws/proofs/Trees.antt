@@ -16,6 +16,7 @@ use Rattle.typed_tree.specs.Entries.{AreNumbered, of_block}
 use Rattle.typed_tree.specs.Ids.{AreByPlace}
 use Rattle.typed_tree.specs.Look.{Look, Mark, BlockEnds, are_formed, blocks_of_look, entries_of_look, loops_of_look, heading_look, look_block, look_stmt}
 use Rattle.typed_tree.specs.Look.{mark_blocks, tree_look}
+use Rattle.typed_tree.specs.Kinds.{are_held}
 use Rattle.typed_tree.specs.Loops.{loops_of}
 use Rattle.types.specs.Types.{BeginWithRequired}
 use Rattle.typed_tree.specs.WellFormed.{IsWellFormed, heading_of, is_well_formed_block, most_entries, most_variables, outline_of}
@@ -30,7 +31,9 @@ use Rattle.typing_laws.specs.Lawful.{IsOutlineOf, Lawful, TellsHeading, TellsHea
 use Rattle.typing_laws.proofs.Grown.{both_true}
 use Rattle.typing_laws.proofs.Programs.{typing_is_lawful}
 use Rattle.typing_laws.proofs.Reached.{mapped_get}
+use Rattle.typing_laws.proofs.There.{all_there}
 use Rattle.typing_laws.proofs.Unthreatened.{are_unthreatened}
+use Rattle.typing_laws.specs.Opened.{opened_behind}
 use Rattle.typing_laws.specs.Controls.{AreUnthreatened, spared_behind}
 
 -- ---- the headings that a tree's look tells
@@ -123,9 +126,9 @@ module _ (program : Program) (a : After (Unit {0})) (tree : Tree) (lawful : Lawf
   pub has_types : BeginWithRequired tree.types
   has_types = subst BeginWithRequired (sym left.types) lawful.types
 
-  -- it is well formed, if its table of loops is
-  pub is_well_formed : HasLoops tree → IsWellFormed tree
-  is_well_formed loops = record {
+  -- it is well formed, if its table of loops is, and if operands are sets or numbers as they are taken
+  pub is_well_formed : HasLoops tree → are_held tree.blocks.items ≡ true → IsWellFormed tree
+  is_well_formed loops held = record {
     few_variables = subst (λ variables. length variables ≤ most_variables) (sym left.variables) lawful.few_variables;
     few_blocks = subst (λ n. n ≤ most_entries) (sym count) lawful.few_blocks;
     required = has_types;
@@ -140,6 +143,8 @@ module _ (program : Program) (a : After (Unit {0})) (tree : Tree) (lawful : Lawf
         let plain : number ≡ 0 + number = omega arith in
         subst (λ n. is_well_formed_block (outline_of tree) n block ≡ true) plain (block_formed number block is));
     loops = loops_have_rows tree tree.loops.items has_bodies loops loops_are_numbered;
+    held = held;
+    there = all_there tree has_bodies (ap (opened_behind []) looks ∙ lawful.opened);
     bodies = has_bodies;
     unthreatened =
         are_unthreatened tree has_bodies (subst AreUnthreatened (sym looks) lawful.unthreatened) (ap (spared_behind []) looks ∙ lawful.spared);
@@ -151,7 +156,8 @@ module _ (program : Program) (a : After (Unit {0})) (tree : Tree) (lawful : Lawf
 -- ---- the typed tree of a program
 
 pub typed_tree_is_well_formed : (program : Program) (tree : Tree) (typed : IsTyped program tree)
-    → length tree.blocks.items ≡ length typed.left.headings → tree.bodies.items ≡ blocks_of_look (tree_look tree) → IsWellFormed tree
-typed_tree_is_well_formed program tree typed count bodies =
+    → length tree.blocks.items ≡ length typed.left.headings → tree.bodies.items ≡ blocks_of_look (tree_look tree) → are_held tree.blocks.items ≡ true
+    → IsWellFormed tree
+typed_tree_is_well_formed program tree typed count bodies held =
     let a : After (Unit {0}) = after tt (tree_look tree) typed.left in
-    is_well_formed program a tree (typing_is_lawful program a typed.typed) refl typed.is_left count bodies typed.has_loops
+    is_well_formed program a tree (typing_is_lawful program a typed.typed) refl typed.is_left count bodies typed.has_loops held

@@ -1,9 +1,9 @@
 -- In a tree that looks as a typed one does, no block threatens the control variables of another, and no for statement its own.
 use Rattle.std.specs.declared.alloc.Global.{Global}
-use Rattle.std.proofs.Common.{Vec, ℤ, ◌≡◌, ℕ, suc, zero, ◌+◌, Bool, true, false, ◌&&◌, ◌||◌, not, nat_eq, if◌then◌else◌, List, [], ◌∷◌, ◌++◌, length, map}
+use Rattle.std.proofs.Common.{Vec, ℤ, ◌≡◌, ℕ, suc, ◌+◌, Bool, true, false, ◌&&◌, ◌||◌, not, nat_eq, if◌then◌else◌, List, [], ◌∷◌, ◌++◌, length, map}
 use Rattle.std.proofs.Common.{Option, Some, None, slice_get, refl, sym, ap, subst, ◌∙◌, arith, append_assoc, ⊎_elim}
 use Rattle.std.specs.Prelude.{IsPermutation, flat_map}
-use Rattle.std.specs.List.{Contains, list_all, list_any, range_with_len}
+use Rattle.std.specs.List.{list_all, range_with_len}
 use Rattle.std.specs.Option.{option_and_then}
 use Rattle.std.proofs.lemmas.Bool.{and_from, cases_Bool, eqb-true, eq-eqb, or_cases, or_left, or_right}
 use Rattle.std.proofs.lemmas.Grind.{flat_map-append}
@@ -12,26 +12,23 @@ use Rattle.typed_tree.specs.declared.tree.Block.{Block}
 use Rattle.typed_tree.specs.declared.tree.Tree.{Tree}
 use Rattle.typed_tree.specs.declared.tree.Stmt.{Stmt}
 use Rattle.typed_tree.specs.declared.tree.Stmt.TheOpen.{Stmt-F}
-use Rattle.typed_tree.specs.declared.tree.Stmt.TheOpen.Stmt-F.{Compound, If, While, Repeat, For, Case}
+use Rattle.typed_tree.specs.declared.tree.Stmt.TheOpen.Stmt-F.{Compound, If, While, Repeat, For, Case, With}
+use Rattle.typed_tree.specs.Accesses.{AtVariable}
 use Rattle.typed_tree.specs.declared.tree.Stmt.TheFolds.{map-Stmt, fold-roll-Stmt, ind-Stmt}
 use Rattle.typed_tree.specs.declared.tree.Stmt.TheViews.{roll-Stmt}
 use Rattle.typed_tree.specs.Entries.{joined, of_block}
 use Rattle.typed_tree.specs.Loops.{Inside, all_inside, controls_of, inside_of, statement_inside}
 use Rattle.typed_tree.specs.Look.{Look, Mark, Ends, Else, Then, Do, Until, Fits, Controls, ForEnds, arms_look, heading_look, look_block}
-use Rattle.typed_tree.specs.Look.{look_expr, look_stmt, statement_look, tree_look}
+use Rattle.typed_tree.specs.Look.{WithEnds, look_expr, look_record, look_stmt, statement_look, tree_look}
 use Rattle.typed_tree.specs.Threats.{controls_but, is_none_of, spares}
-use Rattle.typed_tree.proofs.Blocks.{among_bodies}
 use Rattle.typed_tree.proofs.Quiet.{inner_stmt}
-use Rattle.std.proofs.lemmas.Option.{slice_get_within}
 use Rattle.typing_laws.specs.Controls.{AreUnthreatened, Each, IsKeptBy, in_blocks, mark_behind, mark_changes, mark_controls, spared_behind}
 use Rattle.typing_laws.proofs.Kept.{changes_of}
+use Rattle.typing_laws.proofs.OwnBlocks.{among, has, look_at, none_some, own_block}
 use Rattle.typing_laws.proofs.Placed.{placed_as_far, placed_inner}
 use Rattle.typing_laws.proofs.Sparing.{cut, some_same, tells_stmt}
 
 -- ---- the control variables of a statement are told by how it looks
-
-abbrev has : List ℕ → ℕ → Bool
-has roots root = list_any (λ one. nat_eq one root) roots
 
 abbrev told_in : Look → List ℕ
 told_in look = flat_map mark_controls look
@@ -103,9 +100,9 @@ controls_layer (Repeat head statements) = all_told statements.items (Until ∷ (
 controls_layer (For head body) = λ root is.
     let own = (inside_of body.value.0).controls in
     let last = look_expr head.last.value in
-    let inside = Fits head.control [] head.last.fits ∷ Controls head.control ∷ (look_stmt body.value.0 ++ (ForEnds ∷ [])) in
+    let inside = Fits (AtVariable head.control) [] head.last.fits ∷ Controls head.control ∷ (look_stmt body.value.0 ++ (ForEnds ∷ [])) in
     let first = look_expr head.first.value in
-    let more = Fits head.control [] head.first.fits ∷ (last ++ inside) in
+    let more = Fits (AtVariable head.control) [] head.first.fits ∷ (last ++ inside) in
     let told = behind_others first more own
     (behind_others last inside own (before_others (look_stmt body.value.0) (ForEnds ∷ []) own body.value.1)) in
     ⊎_elim (λ same. or_left (nat_eq head.control root) (has (told_in (first ++ more)) root) same)
@@ -116,6 +113,9 @@ controls_layer (Case head arms) =
     let controls = (all_inside (map inside_of (map (λ (s : Told). s.0) arms.items))).controls in
     behind_others (look_expr head.index) (inside ++ (Ends ∷ [])) controls
     (before_others inside (Ends ∷ []) controls (arms_told head.constants.items arms.items))
+controls_layer (With head body) =
+    behind_others (flat_map look_record head.records.items) (Do ∷ (look_stmt body.value.0 ++ (WithEnds head.first_slot ∷ [])))
+    (inside_of body.value.0).controls (before_others (look_stmt body.value.0) (WithEnds head.first_slot ∷ []) (inside_of body.value.0).controls body.value.1)
 controls_layer other = λ root is. absurd cc
 
 controls_told : (s : Stmt) → HasControls (look_stmt s) (inside_of s).controls
@@ -205,20 +205,14 @@ each_at Holds f (first ∷ roots) rest all root is =
     ⊎_elim (λ same. subst (λ (n : ℕ). Holds (f n)) (eqb-true first root same) all.0) (λ later. each_at Holds f roots rest all.1 root later)
     (or_cases (nat_eq first root) (has roots root) is)
 
-none_some : {A : Type 0} {x : A} → ◌≡◌ {A = Option A} None (Some x) → ⊥
-none_some is = absurd cc
-
 each_rest : {A : Type 0} (Holds : A → Type 0) (xs rest : List A) → Each Holds (xs ++ rest) → Each Holds rest
 each_rest Holds [] rest all = all
 each_rest Holds (x ∷ xs) rest all = each_rest Holds xs rest all.1
 
 module _ (tree : Tree) where
-  abbrev look_at : ℕ → Look
-  look_at number = of_block look_block number (slice_get tree.blocks.items number)
-
   -- a block's own part of what is told block by block
   part_of : (roots : Mark → List ℕ) (Holds : ℕ × ℕ → Type 0) → ((number : ℕ) (block : Block) → roots (heading_look number block.heading block.end) ≡ [])
-      → (bodies : List ℕ) → Each Holds (in_blocks roots (flat_map look_at bodies)) → (number : ℕ) (block : Block)
+      → (bodies : List ℕ) → Each Holds (in_blocks roots (flat_map (look_at tree) bodies)) → (number : ℕ) (block : Block)
       → slice_get tree.blocks.items number ≡ Some block
       → has bodies number ≡ true → (root : ℕ) → has (flat_map roots (look_stmt block.body)) root ≡ true → Holds (number, root)
   part_of roots Holds none [] all number block is among root told = absurd cc
@@ -226,12 +220,12 @@ module _ (tree : Tree) where
       by (slice_get tree.blocks.items first) refl all
       (λ rest differs. part_of roots Holds none bodies rest number block is (sym (ap (λ (b : Bool). b || has bodies number) differs) ∙ among) root told)
     where
-      rest_is : (other : Block) → in_blocks roots (look_block first other ++ flat_map look_at bodies)
-          ≡ map (λ (one : ℕ). (first, one)) (flat_map roots (look_stmt other.body)) ++ in_blocks roots (flat_map look_at bodies)
+      rest_is : (other : Block) → in_blocks roots (look_block first other ++ flat_map (look_at tree) bodies)
+          ≡ map (λ (one : ℕ). (first, one)) (flat_map roots (look_stmt other.body)) ++ in_blocks roots (flat_map (look_at tree) bodies)
       rest_is other =
           placed_as_far roots first other.heading.around.items other.heading.parameters.items other.heading.result other.end (look_stmt other.body)
-          (flat_map look_at bodies)
-          ∙ ap (λ l. l ++ in_blocks roots (flat_map look_at bodies))
+          (flat_map (look_at tree) bodies)
+          ∙ ap (λ l. l ++ in_blocks roots (flat_map (look_at tree) bodies))
           (placed_inner roots first other.heading.around.items other.heading.parameters.items other.heading.result other.end (look_stmt other.body)
           (inner_stmt other.body) (none first other))
 
@@ -239,8 +233,8 @@ module _ (tree : Tree) where
       gone there same = none_some (sym there ∙ ap (slice_get tree.blocks.items) same ∙ is)
 
       by : (found : Option Block) → slice_get tree.blocks.items first ≡ found
-          → Each Holds (in_blocks roots (of_block look_block first found ++ flat_map look_at bodies))
-          → (Each Holds (in_blocks roots (flat_map look_at bodies)) → nat_eq first number ≡ false → Holds (number, root)) → Holds (number, root)
+          → Each Holds (in_blocks roots (of_block look_block first found ++ flat_map (look_at tree) bodies))
+          → (Each Holds (in_blocks roots (flat_map (look_at tree) bodies)) → nat_eq first number ≡ false → Holds (number, root)) → Holds (number, root)
       by None there all later =
           ⊎_elim (λ same. absurd (gone there (eqb-true first number same))) (λ differs. later all differs) (cases_Bool (nat_eq first number))
       by (Some other) there all later =
@@ -249,48 +243,24 @@ module _ (tree : Tree) where
           (λ same.
           let here : Some other ≡ Some block = sym there ∙ ap (slice_get tree.blocks.items) (eqb-true first number same) ∙ is in
           subst (λ (n : ℕ). Holds (n, root)) (eqb-true first number same)
-          (each_at Holds (λ (one : ℕ). (first, one)) (flat_map roots (look_stmt other.body)) (in_blocks roots (flat_map look_at bodies)) parts root
+          (each_at Holds (λ (one : ℕ). (first, one)) (flat_map roots (look_stmt other.body)) (in_blocks roots (flat_map (look_at tree) bodies)) parts root
           (subst (λ (b : Block). has (flat_map roots (look_stmt b.body)) root ≡ true) (sym (some_same other block here)) told)))
           (λ differs. later (each_rest Holds (map (λ (one : ℕ). (first, one)) (flat_map roots (look_stmt other.body)))
-          (in_blocks roots (flat_map look_at bodies)) parts) differs)
+          (in_blocks roots (flat_map (look_at tree) bodies)) parts) differs)
           (cases_Bool (nat_eq first number))
 
   -- each block leaves none of its for statements open
-  own_spared : (bodies : List ℕ) (behind : List ℕ) → spared_behind [] (flat_map look_at bodies) ≡ Some behind → (number : ℕ) (block : Block)
+  own_spared : (bodies : List ℕ) (behind : List ℕ) → spared_behind [] (flat_map (look_at tree) bodies) ≡ Some behind → (number : ℕ) (block : Block)
       → slice_get tree.blocks.items number ≡ Some block → has bodies number ≡ true → spared_behind [] (look_stmt block.body) ≡ Some []
-  own_spared [] behind all number block is among = absurd cc
-  own_spared (first ∷ bodies) behind all number block is among =
-      let parts = cut [] behind (look_at first) (flat_map look_at bodies) all in
-      by (slice_get tree.blocks.items first) refl parts.0 parts.1 parts.2
-      (λ rest differs. own_spared bodies behind rest number block is (sym (ap (λ (b : Bool). b || has bodies number) differs) ∙ among))
+  own_spared = own_block tree spared_behind [] (λ last is. sym (some_same [] last is)) cut ended
     where
-      ended : (other : Block) (mid : List ℕ) → spared_behind [] (look_block first other) ≡ Some mid
+      ended : (number : ℕ) (other : Block) (mid : List ℕ) → spared_behind [] (look_block number other) ≡ Some mid
           → (spared_behind [] (look_stmt other.body) ≡ Some []) × (mid ≡ [])
-      ended other mid one =
-          let parts = cut [] mid (look_stmt other.body) (heading_look first other.heading other.end ∷ []) one in
+      ended number other mid one =
+          let parts = cut [] mid (look_stmt other.body) (heading_look number other.heading other.end ∷ []) one in
           let told = tells_stmt other.body [] parts.0 parts.1 in
           let last : Some parts.0 ≡ Some mid = parts.2 in
           (parts.1 ∙ ap Some told.1, sym (some_same parts.0 mid last) ∙ told.1)
-
-      gone : slice_get tree.blocks.items first ≡ None → first ≡ number → ⊥
-      gone there same = none_some (sym there ∙ ap (slice_get tree.blocks.items) same ∙ is)
-
-      by : (found : Option Block) → slice_get tree.blocks.items first ≡ found → (mid : List ℕ) → spared_behind [] (of_block look_block first found) ≡ Some mid
-          → spared_behind mid (flat_map look_at bodies) ≡ Some behind
-          → (spared_behind [] (flat_map look_at bodies) ≡ Some behind → nat_eq first number ≡ false → spared_behind [] (look_stmt block.body) ≡ Some [])
-          → spared_behind [] (look_stmt block.body) ≡ Some []
-      by None there mid one rest later =
-          ⊎_elim (λ same. absurd (gone there (eqb-true first number same)))
-          (λ differs. later (subst (λ (all : List ℕ). spared_behind all (flat_map look_at bodies) ≡ Some behind) (sym (some_same [] mid one)) rest) differs)
-          (cases_Bool (nat_eq first number))
-      by (Some other) there mid one rest later =
-          let k = ended other mid one in
-          ⊎_elim
-          (λ same.
-          let here : Some other ≡ Some block = sym there ∙ ap (slice_get tree.blocks.items) (eqb-true first number same) ∙ is in
-          subst (λ (b : Block). spared_behind [] (look_stmt b.body) ≡ Some []) (some_same other block here) k.0)
-          (λ differs. later (subst (λ (all : List ℕ). spared_behind all (flat_map look_at bodies) ≡ Some behind) k.1 rest) differs)
-          (cases_Bool (nat_eq first number))
 
   -- a control variable of another block is that of a block of another number
   elsewhere : (but start : ℕ) (blocks : List Block) (root : ℕ) → has (controls_but but start blocks) root ≡ true
@@ -327,23 +297,16 @@ module _ (tree : Tree) where
 
   module _ (bodies : IsPermutation (range_with_len 0 (length tree.blocks.items)) tree.bodies.items) (unthreatened : AreUnthreatened (tree_look tree))
       (spared : spared_behind [] (tree_look tree) ≡ Some []) where
-    among : (number : ℕ) (block : Block) → slice_get tree.blocks.items number ≡ Some block → has tree.bodies.items number ≡ true
-    among number block is = by tree.bodies.items (among_bodies tree bodies number (slice_get_within tree.blocks.items number block is))
-      where
-        by : (xs : List ℕ) → Contains xs number → has xs number ≡ true
-        by [] inside = absurd (omega (arith, inside.1))
-        by (x ∷ xs) (zero, less, same) = or_left (nat_eq x number) (has xs number) (eq-eqb x number same)
-        by (x ∷ xs) (suc k, less, same) = or_right (nat_eq x number) (has xs number) (by xs (k, omega (arith, less), same))
-
     apart : (number : ℕ) (block : Block) → slice_get tree.blocks.items number ≡ Some block → (root : ℕ) → has (changes_of (look_stmt block.body)) root ≡ true
         → has (controls_but number 0 tree.blocks.items) root ≡ true → ⊥
     apart number block is root changes controls =
         let k = elsewhere number 0 tree.blocks.items root controls in
         let plain : 0 + k.0 ≡ k.0 = omega arith in
-        let kept = part_of mark_controls (IsKeptBy (tree_look tree)) (λ n b. refl) tree.bodies.items unthreatened k.0 k.1 k.2 (among k.0 k.1 k.2) root
+        let kept = part_of mark_controls (IsKeptBy (tree_look tree)) (λ n b. refl) tree.bodies.items unthreatened k.0 k.1 k.2
+        (among tree bodies k.0 k.1 k.2) root
         (controls_told k.1.body root k.4) in
         let same = part_of mark_changes (λ (change : ℕ × ℕ). change.1 ≡ root → change.0 ≡ k.0) (λ n b. refl) tree.bodies.items kept number block is
-        (among number block is) root changes refl in
+        (among tree bodies number block is) root changes refl in
         let differs : nat_eq k.0 number ≡ false = subst (λ (n : ℕ). nat_eq n number ≡ false) plain k.3 in
         let alike : nat_eq k.0 number ≡ true = eq-eqb k.0 number (sym same) in
         no (sym differs ∙ alike)
@@ -355,6 +318,6 @@ module _ (tree : Tree) where
         → spares block.body (controls_but number 0 tree.blocks.items) ≡ true
     are_unthreatened number block is =
         let extra = controls_but number 0 tree.blocks.items in
-        let own = own_spared tree.bodies.items [] spared number block is (among number block is) in
+        let own = own_spared tree.bodies.items [] spared number block is (among tree bodies number block is) in
         let all = look_with (look_stmt block.body) [] extra [] (all_not extra (changes_of (look_stmt block.body)) (apart number block is)) own in
         (tells_stmt block.body extra extra all).0

@@ -1,5 +1,6 @@
 -- What each way leaves as it is, and what it makes longer.
-use Rattle.std.proofs.Common.{◌≡◌, ℕ, ◌-◌, ◌||◌, if◌then◌else◌, Bool, true, false, nat_eq, List, [], ◌∷◌, ◌++◌, length, take, refl, ap, ap₂, ◌∙◌, arith}
+use Rattle.std.proofs.Common.{◌≡◌, ℕ, zero, suc, ◌-◌, ◌||◌, if◌then◌else◌, Bool, true, false, nat_eq, List, [], ◌∷◌, ◌++◌, length, take, refl, ap, ap₂, ◌∙◌}
+use Rattle.std.proofs.Common.{arith}
 use Rattle.std.proofs.Common.{length-append}
 use Rattle.std.specs.List.{list_any}
 use Rattle.std.proofs.lemmas.Grind.{flat_map-append}
@@ -8,9 +9,11 @@ use Rattle.typed_tree.specs.Look.{Look, ForEnds, blocks_of_look, mark_blocks}
 use Rattle.typed_tree.specs.declared.tree.Variable.{Variable}
 use Rattle.typed_tree.specs.Ids.{Stands}
 use Rattle.typed_tree.specs.WellFormed.{variables_of}
-use Rattle.typing.specs.Passing.{Headed, Passed}
+use Rattle.scopes.specs.Scopes.{Region, outer}
+use Rattle.typing.specs.Passing.{Headed, OpenRecord, Passed}
 use Rattle.typing.specs.Steps.{with_one}
-use Rattle.typing.proofs.Ways.{Owner, Nobody, Of, Step, Entry, Loop, Marked, Site, Threat, Typed, Define, Declare, Heading, Token}
+use Rattle.typing.proofs.Ways.{Owner, Nobody, Of, Step, Entry, Loop, Marked, Site, Threat, Typed, Define, Declare, Heading, Token, Text, Output}
+use Rattle.typing.proofs.Ways.{Record, RecordEnds}
 use Rattle.typing.proofs.Ways.{Way, Stay, One, Then, Controlled, Assigned}
 use Rattle.typing_laws.proofs.Owned.{Fails, others_kept}
 use Rattle.typing_laws.proofs.Reached.{IsLonger, as_long, longer_still, one_longer}
@@ -119,15 +122,19 @@ grows (Assigned root way told) = grows way
 -- ---- control variables
 
 -- the last one ends
-take_front : (roots : List ℕ) (root : ℕ) → take (length roots) (roots ++ root ∷ []) ≡ roots
-take_front [] root = refl
-take_front (first ∷ roots) root = ap (λ (more : List ℕ). first ∷ more) (take_front roots root)
+pub take_front : {A : Type 0} (all more : List A) → take (length all) (all ++ more) ≡ all
+take_front [] more = by more
+  where
+    by : {A : Type 0} (more : List A) → take 0 more ≡ []
+    by [] = refl
+    by (x ∷ more) = refl
+take_front (first ∷ all) more = ap (λ rest. first ∷ rest) (take_front all more)
 
-pub ended_control : (roots : List ℕ) (root : ℕ) → take (length (roots ++ root ∷ []) - 1) (roots ++ root ∷ []) ≡ roots
-ended_control roots root =
-    let counted = length-append roots (root ∷ []) in
-    let one_less : length (roots ++ root ∷ []) - 1 ≡ length roots = omega (arith, counted) in
-    ap (λ (n : ℕ). take n (roots ++ root ∷ [])) one_less ∙ take_front roots root
+pub ended_control : {A : Type 0} (all : List A) (one : A) → take (length (all ++ one ∷ []) - 1) (all ++ one ∷ []) ≡ all
+ended_control all one =
+    let counted = length-append all (one ∷ []) in
+    let one_less : length (all ++ one ∷ []) - 1 ≡ length all = omega (arith, counted) in
+    ap (λ (n : ℕ). take n (all ++ one ∷ [])) one_less ∙ take_front all (one ∷ [])
 
 controls_step : {acts : Bool} {owner : Owner} {from to : ℕ} {look : Look} {old new : Passed} → Step acts owner from to look old new
     → new.controls ≡ old.controls
@@ -145,30 +152,62 @@ same_controls {old = old} (Controlled root way) = ap (λ (all : List ℕ). take 
 
 -- ---- forms that declare nothing
 
--- they leave the regions, the variables, the headings and the block round the place, and no block ends in them
-pub record IsInner (look : Look) (old new : Passed) : Type 0 where
-  pub regions : new.regions ≡ old.regions
+-- the regions under so many that were opened, and the records before as many
+abbrev pub under : ℕ → List Region → List Region
+under zero regions = regions
+under (suc depth) regions = under depth (outer regions)
+
+abbrev pub before : ℕ → List OpenRecord → List OpenRecord
+before zero records = records
+before (suc depth) records = before depth (take (length records - 1) records)
+
+-- they leave the regions, the records, the variables, the headings and the block round the place, and no block ends in them
+pub record IsInner (from to : ℕ) (look : Look) (old new : Passed) : Type 0 where
+  pub regions : under to new.regions ≡ under from old.regions
+  pub records : before to new.records ≡ before from old.records
   pub variables : new.variables ≡ old.variables
   pub headings : new.headings ≡ old.headings
   pub enclosing : new.enclosing ≡ old.enclosing
   pub ends : blocks_of_look look ≡ []
 
-inner_step : {acts : Bool} {from to : ℕ} {look : Look} {old new : Passed} → Step acts Nobody from to look old new → IsInner look old new
-inner_step (Entry one few is) = record { regions = refl; variables = refl; headings = refl; enclosing = refl; ends = ap (λ n. n.2 ++ []) is }
-inner_step (Loop one few is) = record { regions = refl; variables = refl; headings = refl; enclosing = refl; ends = ap (λ n. n.2 ++ []) is }
-inner_step (Marked one none) = record { regions = refl; variables = refl; headings = refl; enclosing = refl; ends = ap (λ n. n.2 ++ []) none }
+-- a form that leaves all of these
+inner_mark : {depth : ℕ} {look : Look} {s : Passed} (new : Passed) → new.regions ≡ s.regions → new.records ≡ s.records → new.variables ≡ s.variables
+    → new.headings ≡ s.headings → new.enclosing ≡ s.enclosing → blocks_of_look look ≡ [] → IsInner depth depth look s new
+inner_mark {depth = depth} new regions records variables headings enclosing ends = record {
+  regions = ap (under depth) regions;
+  records = ap (before depth) records;
+  variables = variables;
+  headings = headings;
+  enclosing = enclosing;
+  ends = ends;
+}
+
+inner_step : {acts : Bool} {from to : ℕ} {look : Look} {old new : Passed} → Step acts Nobody from to look old new → IsInner from to look old new
+inner_step {new = new} (Entry one few is) = inner_mark new refl refl refl refl refl (ap (λ n. n.2 ++ []) is)
+inner_step {new = new} (Loop one few is) = inner_mark new refl refl refl refl refl (ap (λ n. n.2 ++ []) is)
+inner_step {new = new} (Marked one none) = inner_mark new refl refl refl refl refl (ap (λ n. n.2 ++ []) none)
+inner_step {from = depth} {old = old} (Record region opened) = record {
+  regions = refl;
+  records = ap (before depth) (ended_control old.records opened);
+  variables = refl;
+  headings = refl;
+  enclosing = refl;
+  ends = refl;
+}
+inner_step RecordEnds = record { regions = refl; records = refl; variables = refl; headings = refl; enclosing = refl; ends = refl }
 inner_step (Define name denotation regions defines is) = absurd defines
 inner_step (Declare variable cells owns) = absurd owns
-inner_step other = record { regions = refl; variables = refl; headings = refl; enclosing = refl; ends = refl }
+inner_step {new = new} other = inner_mark new refl refl refl refl refl refl
 
-pub inner : {acts : Bool} {from to : ℕ} {look : Look} {old new : Passed} → Way acts Nobody from to look old new → IsInner look old new
-inner Stay = record { regions = refl; variables = refl; headings = refl; enclosing = refl; ends = refl }
+pub inner : {acts : Bool} {from to : ℕ} {look : Look} {old new : Passed} → Way acts Nobody from to look old new → IsInner from to look old new
+inner Stay = record { regions = refl; records = refl; variables = refl; headings = refl; enclosing = refl; ends = refl }
 inner (One step) = inner_step step
 inner (Then {look = look} {more = more} first second) =
     let f = inner first in
     let g = inner second in
     record {
       regions = g.regions ∙ f.regions;
+      records = g.records ∙ f.records;
       variables = g.variables ∙ f.variables;
       headings = g.headings ∙ f.headings;
       enclosing = g.enclosing ∙ f.enclosing;
@@ -176,16 +215,40 @@ inner (Then {look = look} {more = more} first second) =
     }
 inner (Assigned root way told) =
     let f = inner way in
-    record { regions = f.regions; variables = f.variables; headings = f.headings; enclosing = f.enclosing; ends = f.ends }
+    record { regions = f.regions; records = f.records; variables = f.variables; headings = f.headings; enclosing = f.enclosing; ends = f.ends }
 inner (Controlled {look = look} root way) =
     let f = inner way in
     record {
       regions = f.regions;
+      records = f.records;
       variables = f.variables;
       headings = f.headings;
       enclosing = f.enclosing;
       ends = flat_map-append mark_blocks look (ForEnds ∷ []) ∙ ap (λ l. l ++ []) f.ends;
     }
+
+-- the same among more regions that were opened before
+deeper_step : {from to : ℕ} {look : Look} {old new : Passed} → Step true Nobody from to look old new → Step true Nobody (suc from) (suc to) look old new
+deeper_step (Token place) = Token place
+deeper_step (Entry one few is) = Entry one few is
+deeper_step (Loop one few is) = Loop one few is
+deeper_step (Marked one none) = Marked one none
+deeper_step (Site kind place few) = Site kind place few
+deeper_step (Threat root) = Threat root
+deeper_step (Typed form) = Typed form
+deeper_step (Text characters) = Text characters
+deeper_step Output = Output
+deeper_step (Define name denotation regions defines is) = absurd defines
+deeper_step (Declare variable cells owns) = absurd owns
+deeper_step (Record region opened) = Record region opened
+deeper_step RecordEnds = RecordEnds
+
+pub deeper : {from to : ℕ} {look : Look} {old new : Passed} → Way true Nobody from to look old new → Way true Nobody (suc from) (suc to) look old new
+deeper Stay = Stay
+deeper (One step) = One (deeper_step step)
+deeper (Then first second) = Then (deeper first) (deeper second)
+deeper (Controlled root way) = Controlled root (deeper way)
+deeper (Assigned root way told) = Assigned root (deeper way) told
 
 -- ---- definitions
 
@@ -203,6 +266,7 @@ pub record Silent (counted : ℕ) (old new : Passed) : Type 0 where
   pub sites : new.sites ≡ old.sites
   pub threatened : new.threatened ≡ old.threatened
   pub headings : new.headings ≡ old.headings
+  pub records : new.records ≡ old.records
   pub enclosing : record (new.enclosing) { cells = 0 } ≡ record (old.enclosing) { cells = 0 }
   pub others : (block : ℕ) → Fails (nat_eq counted block) → variables_of block new.variables ≡ variables_of block old.variables
 
@@ -211,6 +275,7 @@ silent_step {old = old} (Declare variable cells owns) = record {
   sites = refl;
   threatened = refl;
   headings = refl;
+  records = refl;
   enclosing = refl;
   others = λ block other. others_kept block old.variables variable (ap (λ n. nat_eq n block) owns ∙ other);
 }
@@ -218,6 +283,7 @@ silent_step other = record {
   sites = refl;
   threatened = refl;
   headings = refl;
+  records = refl;
   enclosing = refl;
   others = λ block other. refl;
 }
@@ -227,6 +293,7 @@ silent Stay = record {
   sites = refl;
   threatened = refl;
   headings = refl;
+  records = refl;
   enclosing = refl;
   others = λ block other. refl;
 }
@@ -238,6 +305,7 @@ silent (Then first second) =
       sites = g.sites ∙ f.sites;
       threatened = g.threatened ∙ f.threatened;
       headings = g.headings ∙ f.headings;
+      records = g.records ∙ f.records;
       enclosing = g.enclosing ∙ f.enclosing;
       others = λ block other. g.others block other ∙ f.others block other;
     }

@@ -4,15 +4,16 @@
 use Rattle.std.specs.Prelude.{◌≡◌, ℕ, ◌++◌, Bool, true, false, List, [], ◌∷◌, Option, Some, None, if◌then◌else◌, map}
 use Rattle.std.specs.List.{list_all}
 use Rattle.std.specs.Option.{option_and_then}
+use Rattle.typed_tree.specs.Accesses.{root_of}
 use Rattle.typed_tree.specs.Look.{Look, Mark, For, ForVariable, Target, WholeTarget, Controls, ForEnds}
 use Rattle.typed_tree.specs.Look.{blocks_of_look, next_of}
 use Rattle.typed_tree.specs.Threats.{is_none_of}
 
--- the variable that a form alone may change, by its root
+-- the variable that a form alone may change, by its root: a record of a with may be in it
 abbrev pub mark_changes : Mark → List ℕ
-mark_changes (Target root selectors indexes) = root ∷ []
-mark_changes (WholeTarget root selectors indexes type_id) = root ∷ []
-mark_changes (ForVariable type_id root selectors indexes callee position) = root ∷ []
+mark_changes (Target origin selectors indexes) = root_of origin ∷ []
+mark_changes (WholeTarget origin selectors indexes type_id) = root_of origin ∷ []
+mark_changes (ForVariable type_id origin selectors indexes callee position) = root_of origin ∷ []
 mark_changes (For number loop_number place control direction) = control ∷ []
 mark_changes other = []
 

@@ -16,6 +16,7 @@ use Rattle.typing.specs.Passing.{After}
 use Rattle.typing.specs.Steps.{most_sites}
 use Rattle.typing.specs.Typing.{typing}
 use Rattle.typing_laws.specs.Controls.{AreUnthreatened, spared_behind}
+use Rattle.typing_laws.specs.Opened.{opened_behind}
 use Rattle.typing_laws.specs.Results.{are_assigned}
 
 -- the block of a number has this heading: the blocks round it, its parameters and its result
@@ -65,6 +66,8 @@ pub record Lawful (program : Program) (a : After (Unit {0})) : Type 0 where
   pub unthreatened : AreUnthreatened a.look
   -- and the statement of that for changes it nowhere
   pub spared : spared_behind [] a.look ≡ Some []
+  -- each access begins at a variable, or at a record of a with that is open there
+  pub opened : opened_behind [] a.look ≡ Some []
   -- the result of each function is assigned somewhere
   pub assigned : are_assigned a.look ≡ true
   pub few_variables : length a.passed.variables ≤ most_variables

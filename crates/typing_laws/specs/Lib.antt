@@ -1,3 +1,4 @@
 pub mod Controls
+pub mod Opened
 pub mod Results
 pub mod Lawful

@@ -2,12 +2,13 @@
 -- there.
 use Rattle.std.specs.Prelude.{ℕ, List, [], ◌∷◌, Some, flat_map, nat_eq, Bool}
 use Rattle.std.specs.List.{list_all, list_any}
+use Rattle.typed_tree.specs.Accesses.{root_of}
 use Rattle.typed_tree.specs.Look.{Look, Mark, BlockEnds, Target, WholeTarget}
 
 -- the variable left of `:=`
 abbrev pub mark_targets : Mark → List ℕ
-mark_targets (Target root selectors indexes) = root ∷ []
-mark_targets (WholeTarget root selectors indexes type_id) = root ∷ []
+mark_targets (Target origin selectors indexes) = root_of origin ∷ []
+mark_targets (WholeTarget origin selectors indexes type_id) = root_of origin ∷ []
 mark_targets other = []
 
 -- the result of the function whose block ends

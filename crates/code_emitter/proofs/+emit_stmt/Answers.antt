@@ -11,6 +11,10 @@ use Rattle.code_emitter.specs.Pieces.{arm_code, arm_end, guarded_code, jumps_out
 use Rattle.code_emitter.proofs.Emitted.{gets_is, kept_before, left_is, left_none, left_placed, next_of, place_behind}
 use Rattle.code_emitter.proofs.Statements.{arm_ends, arm_gets, arms_none, arms_split, case_gets, for_gets, guarded_gets, if_else_gets, jumps_none}
 use Rattle.code_emitter.proofs.Statements.{jumps_split, while_gets}
+use Rattle.std.proofs.Common.{rules, length}
+use Rattle.code_scheme.specs.Code.{with_code}
+use Rattle.code_emitter.specs.Pieces.{among}
+use Rattle.code_emitter.proofs.Records.{with_gets}
 use Rattle.code_emitter.proofs.+emit_stmt.Goals as goal
 
 pub case::emit_arm-returns-clause-emits : goal.case::emit_arm-returns-clause-emits
@@ -207,3 +211,18 @@ emit::emit_stmt-returns-in-For-clause-emits t c =
     gets_is c.emit_for.ensures.emits
     (ap (λ s. for_code head (stmt_code s) scope place) c.deref-in-For.ensures
     ∙ sym (ap (λ s. stmt_code s scope place) c.in-For.is ∙ stmt_code-For scope place head c.in-For.body))
+
+pub with::emit_with-returns-clause-emits : goal.with::emit_with-returns-clause-emits
+with::emit_with-returns-clause-emits t c =
+    let scope = c.args.scope.now in
+    let records = c.as_slice-records.result.now in
+    let body = stmt_code c.args.body.now in
+    let held = c.emit_records-depth.new.held.items in
+    let cells = c.unwrap_or-cells.result in
+    let tells = c.held_records-held.ensures.held in
+    let many : cells ≡ capped (length records) = search rules in
+    let inside = gets_is c.emit_within-inside.ensures.emits
+    (ap (λ h. body (among scope h cells) (place_of c.emit_records-depth.new.code)) c.as_slice.ensures.value) in
+    gets_is (with_gets scope records body held cells c.held_records-held.ensures.few many c.held_records-held.ensures.emits
+    (c.emit_records-depth.ensures.emits tells) (c.emit_records-depth.ensures.held tells) inside c.emit_release.ensures)
+    (ap (λ rs. with_code rs body scope (place_of c.args.code.now)) c.as_slice-records.ensures.value)

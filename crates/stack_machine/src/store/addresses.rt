@@ -2,7 +2,6 @@ ghost use Rattle.std.specs.Prelude.{◌≡◌, ◌+◌, ◌<◌, ◌≤◌, IfOk
 ghost use Rattle.stack_machine.specs.Addresses as addresses;
 ghost use Rattle.stack_machine.specs.Frames as frames;
 
-use crate::cell::Cell;
 use crate::stop::MachineFault;
 use crate::store::{Store, address_of, in_use};
 
@@ -15,7 +14,7 @@ impl Store {
     {
         self.has_room_after(0)?;
         let frame = self.base(level, self.used)? as i32;
-        self.replace(0, Cell::Number(frame.wrapping_add_unsigned(offset)));
+        self.replace_by_number(0, frame.wrapping_add_unsigned(offset));
         Ok(())
     }
 
@@ -27,7 +26,7 @@ impl Store {
         self.has(1)?;
         self.has_room_after(1)?;
         let address = self.number_at(1)?;
-        self.replace(1, Cell::Number(address.wrapping_add_unsigned(offset)));
+        self.replace_by_number(1, address.wrapping_add_unsigned(offset));
         Ok(())
     }
 
@@ -38,7 +37,7 @@ impl Store {
     {
         let (address, index) = self.operands()?;
         let distance = index.wrapping_sub(low).wrapping_mul(size.cast_signed());
-        self.replace(2, Cell::Number(address.wrapping_add(distance)));
+        self.replace_by_number(2, address.wrapping_add(distance));
         Ok(())
     }
 
@@ -50,8 +49,7 @@ impl Store {
         self.has_room_after(1)?;
         let address = self.number_at(1)?;
         let place = address_of(address.wrapping_add_unsigned(offset), self.used - 1)?;
-        let cell = self.cells.get(place);
-        self.replace(1, cell);
+        self.replace_by_copy(1, place);
         Ok(())
     }
 
@@ -63,8 +61,7 @@ impl Store {
         let used = self.used - 2;
         let address = self.number_at(2)?;
         let place = address_of(address, used)?;
-        let cell = self.cells.get(used + 1);
-        self.cells.put(place, cell);
+        self.cells.copy(used + 1, place);
         self.used = used;
         Ok(())
     }

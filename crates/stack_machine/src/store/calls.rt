@@ -102,8 +102,7 @@ impl Store {
     {
         let first = self.used - results;
         for offset in 0..results {
-            let cell = self.cells.get(first + offset);
-            self.cells.put(self.frame + offset, cell);
+            self.cells.copy(first + offset, self.frame + offset);
         }
     }
 }
@@ -121,7 +120,7 @@ fn not_outside(link: Cell, bound: usize) -> Result<(), MachineFault>
 {
     match link {
         Cell::Number(number) => address_of(number, bound).map(|_| ()),
-        Cell::Undefined => Ok(()),
+        Cell::Undefined | Cell::Set(_) => Ok(()),
     }
 }
 
@@ -132,6 +131,6 @@ fn link_below(link: Cell, bound: usize) -> Result<usize, MachineFault>
 {
     match link {
         Cell::Number(number) => address_of(number, bound),
-        Cell::Undefined => Err(MachineFault::WrongKind),
+        Cell::Undefined | Cell::Set(_) => Err(MachineFault::WrongKind),
     }
 }

@@ -23,6 +23,6 @@ returns-in-Some c =
     let tree = c.args.state.now.table.now in
     let state = seen c.args.state.now in
     let same : to_z w32 (of_z w32 c.args.number) ≡ c.args.number = search rules in
-    c.limit_of_actual.ensures c.args.root
+    c.limit_of_actual.ensures
     ∙ ap (λ (n : ℤ). option_map (limit_moved n) (limit_of_actual tree state c.args.root (said_found (Some c.in-Some.actual)))) same
     ∙ ap (λ (found : Option Actual). option_map (limit_moved c.args.number) (limit_of_actual tree state c.args.root found)) c.in-Some.ensures

@@ -1,16 +1,17 @@
 use Rattle.std.proofs.Common.{◌∙◌, ap, cond, None, sym}
-use Rattle.checker_state.specs.Forms.{bound_of}
-use Rattle.checker_expressions.specs.Walk.{piece_of}
+use Rattle.checker_rows.specs.Rows.{is_ordinal_variable}
+use Rattle.checker_expressions.specs.Walk.{form_by, piece_of}
 use Rattle.checker_expressions.proofs.Forms.{bound-same, indexes-hold}
 use Rattle.checker_expressions.proofs.walk.form_before.Goals as goal
 
 pub returns-then-hold_call : goal.returns-then-hold_call
 returns-then-hold_call c =
-    let form = (piece_of c.args.index.now).form in
-    sym (ap (λ b. cond b None (bound_of form)) (indexes-hold c.args.later.now ∙ sym c.hold_call.ensures ∙ c.if-hold_call.true))
+    let form = form_by (is_ordinal_variable c.args.rows.now) (piece_of c.args.index.now) in
+    sym (ap (λ b. cond b None form) (indexes-hold c.args.later.now ∙ sym c.hold_call.ensures ∙ c.if-hold_call.true))
 
 pub returns-else-hold_call : goal.returns-else-hold_call
 returns-else-hold_call c =
-    let form = (piece_of c.args.index.now).form in
-    c.bound_form.ensures ∙ sym (bound-same c.args.index.now)
-    ∙ sym (ap (λ b. cond b None (bound_of form)) (indexes-hold c.args.later.now ∙ sym c.hold_call.ensures ∙ c.if-hold_call.false))
+    let ordinal = is_ordinal_variable c.args.rows.now in
+    let form = form_by ordinal (piece_of c.args.index.now) in
+    c.bound_form.ensures ∙ sym (bound-same ordinal c.args.index.now)
+    ∙ sym (ap (λ b. cond b None form) (indexes-hold c.args.later.now ∙ sym c.hold_call.ensures ∙ c.if-hold_call.false))

@@ -3,7 +3,7 @@ use Rattle.std.proofs.lemmas.Option.{slice_get_past}
 use Rattle.std.specs.Prelude.{OnOk, flat_map}
 use Rattle.std.specs.Option.{option_map, option_and_then}
 use Rattle.types.specs.Forms.{Form, Array, Record, form_of, field_form}
-use Rattle.types.specs.Types.{form_at, range_of}
+use Rattle.types.specs.Types.{form_at, range_of, scalar_range}
 use Rattle.types.specs.declared.form.Field.{Field}
 use Rattle.checker_rows.specs.declared.leaf.RowRanges.{RowRanges}
 use Rattle.checker_rows.specs.Leaves.{scalar}
@@ -60,7 +60,7 @@ returns-in_default-form-2 n c =
     let all : map (ranges_on c.args.way) (part_leaves types c.args.part) ≡ c.scalar-in_default-form-2.result ∷ [] =
     ap (λ part. map (ranges_on c.args.way) (part_leaves types part)) c.in-Some.is
     ∙ scalar_ranges types c.args.way c.in-Some.id form is c.in_default-form-2.not-Array c.in_default-form-2.not-Record
-    ∙ ap (λ values. ranges_on c.args.way (scalar (Some c.in-Some.id) values) ∷ []) (sym c.range.ensures)
+    ∙ ap (λ values. ranges_on c.args.way (scalar (Some c.in-Some.id) values) ∷ []) (ap scalar_range (sym c.kind.ensures) ∙ sym c.scalar_range.ensures)
     ∙ ap (λ r. r ∷ []) (sym c.scalar-in_default-form-2.ensures) in
     subst (λ l. OnOk c.add_row-in_default-form-2.result (c.add_row-in_default-form-2.new.rows.items ≡ c.args.rows.now.items ++ l)) (sym all)
     c.add_row-in_default-form-2.ensures

@@ -1,8 +1,10 @@
+use Rattle.checker_rows.specs.Rows.{is_ordinal_variable}
 use Rattle.checker_state.proofs.FormsOf.{chain-literal, variable-literal}
 use Rattle.checker_state.proofs.forms.literal.Goals as goal
 
 pub returns-in-Chain : goal.returns-in-Chain
-returns-in-Chain c = chain-literal c.args.expression.now c.in-Chain.first c.in-Chain.rest c.in-Chain.is
+returns-in-Chain c = chain-literal (is_ordinal_variable c.args.rows.now) c.args.expression.now c.in-Chain.first c.in-Chain.rest c.in-Chain.is
 
 pub returns-in-Variable : goal.returns-in-Variable
-returns-in-Variable c = variable-literal c.args.expression.now c.in-Variable.access c.in-Variable.indexes c.in-Variable.defined c.in-Variable.is
+returns-in-Variable c = variable-literal (is_ordinal_variable c.args.rows.now) c.args.expression.now
+    c.in-Variable.access c.in-Variable.indexes c.in-Variable.defined c.in-Variable.is

@@ -1,4 +1,4 @@
-use Rattle.std.proofs.Common.{◌≡◌, ℕ, ◌+◌, List, [], ◌∷◌, ◌++◌, map, max, ap, ◌∙◌, sym, refl, drop, arith}
+use Rattle.std.proofs.Common.{rules, ◌≡◌, ℕ, ◌+◌, false, List, [], ◌∷◌, ◌++◌, map, max, ap, ◌∙◌, sym, refl, drop, arith}
 use Rattle.std.proofs.lemmas.List.{drop_all, take_all}
 use Rattle.std.specs.Prelude.{fold, pos}
 use Rattle.std.specs.List.{flat_map}
@@ -18,6 +18,14 @@ use Rattle.code_emitter.proofs.Emitted.{gets_is, gets_then, left_all, left_each,
 use Rattle.code_emitter.proofs.Walking.{at_place, walked_as, walked_element, walked_field, walked_without}
 use Rattle.code_emitter.proofs.Reaching.{from_needs}
 use Rattle.code_emitter.proofs.expression.+emit_expr.Goals.{emit_selectors-in-Field, emit_selectors-in-Element+in-Some, emit_selectors-in-Element+in_default}
+use Rattle.code_emitter.proofs.expression.+emit_expr.Goals.{emit_designators-in-Single, emit_designators-in-Range+in-Some-get}
+use Rattle.typed_tree.specs.declared.tree.Designator.{Designator}
+use Rattle.typed_tree.specs.declared.tree.Designator.TheVariants as designator
+use Rattle.code_scheme.specs.Code.{designators_code}
+use Rattle.code_scheme.specs.Depth.{designators_depth}
+use Rattle.code_scheme.proofs.Depths.{set_takes_one}
+use Rattle.code_emitter.specs.Pieces.{held_sets}
+use Rattle.code_emitter.proofs.Gathering.{gathered_as, gathered_left, gathered_single, gathered_span, no_member_depths, no_members}
 use Rattle.code_emitter.proofs.expression.+emit_expr.Goals as goal
 
 -- behind two values of so many components
@@ -26,7 +34,7 @@ order_code r n = instr.Compare n ∷ instr.LoadConstant (pos 0) ∷ relation_ins
 
 pub emit_address-returns-clause-needs : goal.emit_address-returns-clause-needs
 emit_address-returns-clause-needs t c =
-    let refers = c.home-refers.result.refers in
+    let refers = c.begun-refers.result.refers in
     let depths = index_depths c.args.indexes.now in
     c.emit_selectors.ensures.needs
     ∙ ap (λ selectors. capped (access_depth selectors depths)) (c.selectors_from-selectors.ensures ∙ ap (selectors_from refers) c.as_slice.ensures.value)
@@ -120,6 +128,80 @@ emit_expr-returns-in-Compare-clause-emits t c =
     ++ (whole_code scope right (index_codes scope c.in-Compare.right_indexes.items) ++ order_code r n)) c.row_length.ensures
     ∙ sym (ap (expr_code scope) c.in-Compare.is
     ∙ expr_code-Compare scope c.in-Compare.number r left c.in-Compare.left_indexes right c.in-Compare.right_indexes))
+
+pub emit_designators-loop-designator-init : goal.emit_designators-loop-designator-init
+emit_designators-loop-designator-init t c =
+    let designators = c.args.designators.now in
+    let members = c.args.members.now in
+    record {
+      in_range = omega arith;
+      emits = left_first c.args.code.now (designators_code false designators (index_codes c.args.scope.now members));
+      least = omega arith;
+      most = omega arith;
+      needs = omega (arith, set_takes_one 0 designators (index_depths members));
+    }
+
+pub emit_designators-loop-designator-preserved : goal.emit_designators-loop-designator-preserved
+emit_designators-loop-designator-preserved t c =
+    let scope = c.args.scope.now in
+    let before = c.args.code.now in
+    let designators = c.args.designators.now in
+    let members = c.args.members.now in
+    let i = c.loop-designator.designator-index in
+    let next = c.loop-designator.next in
+    let some = c.loop-designator.some in
+    let depth = c.loop-designator.depth in
+    let left = drop (i + 1) designators in
+    let now = c.loop-designator.code in
+    let inside = c.loop-designator-test.true in
+    let first = c.in-Some.first.now in
+    let lookup = c.in-Some.ensures.lookup in
+    let there = at_place members next first first lookup.3.0 (sym lookup.1) in
+    let at = λ (one : Designator) (here : drop i designators ≡ one ∷ left).
+    gathered_left scope before designators members now (drop i designators) (one ∷ left) next some depth here c.loop-designator.invariant in
+    let held : c.from-held.result ≡ held_sets some = search rules in
+    elim c.match-designator.branch [
+      | emit_designators-in-Single w ↦
+          let more : w.max-depth.result ≡ max depth (capped (w.emit_expr-value.result + held_sets some)) =
+          omega (arith, w.max-depth.ensures, w.saturating_add.ensures, held) in
+          gathered_as scope before designators members _ _ left _ _ _ _ _ _ w.code-is w.next-is w.some-is w.depth-is
+          (gathered_single scope before designators members now w.emit_expr-value.new.code w.emit_single.new.code left w.in-Single.site next some depth
+          w.emit_expr-value.result w.max-depth.result first (at (designator.Single w.in-Single.site) (at_place designators i _ _ inside w.in-Single.is))
+          lookup.3.0 there w.emit_expr-value.ensures.emits w.emit_single.ensures w.emit_expr-value.ensures.needs more)
+      | emit_designators-in-Range+in-Some-get w ↦
+          let last = w.in-Some-get.last.now in
+          let lookup' = w.in-Some-get.ensures.lookup in
+          let two : drop (next + 1) members ≡ last ∷ drop (next + 1 + 1) members = at_place members (next + 1) last last lookup'.3.0 (sym lookup'.1) in
+          let behind : next + 1 + 1 ≡ next + 2 = omega arith in
+          let all = there ∙ ap (λ es. first ∷ es) (two ∙ ap (λ n. last ∷ drop n members) behind) in
+          let more : w.max-depth-in-Range.result
+          ≡ max depth (capped (max w.emit_expr-begin.result (capped (w.emit_expr-end.result + 1)) + held_sets some)) =
+          w.max-depth-in-Range.ensures ∙ ap (max depth) (w.saturating_add-in-Range-2.ensures
+          ∙ omega (arith, w.max.ensures, w.saturating_add-in-Range.ensures, held)) in
+          gathered_as scope before designators members _ _ left _ _ _ _ _ _ w.code-is w.next-is w.some-is w.depth-is
+          (gathered_span scope before designators members now w.emit_expr-begin.new.code w.emit_expr-end.new.code w.emit_span.new.code left
+          w.in-Range.site next some depth w.emit_expr-begin.result w.emit_expr-end.result w.max-depth-in-Range.result first last
+          (at (designator.Range w.in-Range.site) (at_place designators i _ _ inside w.in-Range.is)) lookup'.3.0 all w.emit_expr-begin.ensures.emits
+          w.emit_expr-end.ensures.emits w.emit_span.ensures w.emit_expr-begin.ensures.needs w.emit_expr-end.ensures.needs more)
+    ]
+
+pub emit_designators-returns-in_default-clause-emits : goal.emit_designators-returns-in_default-clause-emits
+emit_designators-returns-in_default-clause-emits t c =
+    let some = c.loop-designator.some in
+    let left = drop c.loop-designator.designator-index c.args.designators.now in
+    left_none c.loop-designator.invariant.emits
+    (ap (λ es. designators_code some left (index_codes c.args.scope.now es))
+    (drop_all c.loop-designator.next c.args.members.now c.in_default.ensures.lookup.3)
+    ∙ no_members some left)
+
+pub emit_designators-returns-in_default-clause-needs : goal.emit_designators-returns-in_default-clause-needs
+emit_designators-returns-in_default-clause-needs t c =
+    let held = held_sets c.loop-designator.some in
+    let left = drop c.loop-designator.designator-index c.args.designators.now in
+    let none = ap (λ es. designators_depth held left (index_depths es))
+    (drop_all c.loop-designator.next c.args.members.now c.in_default.ensures.lookup.3)
+    ∙ no_member_depths held left in
+    omega (arith, none, c.loop-designator.invariant.needs, c.loop-designator.invariant.least, c.loop-designator.invariant.most)
 
 pub emit_selectors-loop-selector-init : goal.emit_selectors-loop-selector-init
 emit_selectors-loop-selector-init t c =

@@ -5,6 +5,7 @@ use Rattle.code_scheme.specs.Code.{link_code, passed_code}
 use Rattle.code_scheme.specs.Depth.{actuals_depth, call_depth, link_depth, passed_depth}
 use Rattle.code_scheme.specs.Sizes.{capped}
 use Rattle.code_emitter.proofs.Emitted.{Left}
+use Rattle.code_emitter.proofs.Gathering.{Gathered}
 use Rattle.code_emitter.proofs.Walking.{Walked}
 use Rattle.code_emitter.proofs.expression.+emit_expr.Given as goal
 
@@ -17,6 +18,10 @@ invariant-emit_expr-loop-link l = record {
 abbrev pub invariant-emit_selectors-loop-selector : goal.invariant-emit_selectors-loop-selector
 invariant-emit_selectors-loop-selector l =
     Walked l.scope l.initial.code l.selectors l.indexes l.code (drop l.selector-index l.selectors) l.next l.depth
+
+abbrev pub invariant-emit_designators-loop-designator : goal.invariant-emit_designators-loop-designator
+invariant-emit_designators-loop-designator l =
+    Gathered l.scope l.initial.code l.designators l.members l.code (drop l.designator-index l.designators) l.next l.some l.depth
 
 abbrev pub invariant-emit_call-loop-actual : goal.invariant-emit_call-loop-actual
 invariant-emit_call-loop-actual l =

@@ -4,7 +4,7 @@ pub returns : goal.returns
 returns c = record {
   cells = c.components_are_cells.ensures;
   once = c.components_stand_once.ensures;
-  ordinals = c.ordinals_have_one_component.ensures;
+  scalars = c.scalars_have_one_component.ensures;
   elements = c.elements_lie_in_order.ensures;
   fields = c.fields_lie_in_order.ensures;
   pieces = c.pieces_use_turns_exactly.ensures;

@@ -255,3 +255,12 @@ grouped_fields-returns t c =
     c.next.ensures.steps in
     groups_end denoted_type rows denoters c.args.typer.now (length here.yielded) (map field_form here.fields.items) here.typer all
     here.invariant.left
+
+-- ---- a set
+
+-- the names of its base stay known while its word is passed
+pub set_type-index_type-requires : goal.set_type-index_type-requires
+set_type-index_type-requires t c =
+    let base = denoter_names c.args.base.now in
+    let known = names_stay (pass c.args.place) (pass_keeps c.args.place) tt [] c.args.typer.now c.pass.new.self c.pass.ensures base c.requires.known in
+    (search (rules, the_lemmas), known)

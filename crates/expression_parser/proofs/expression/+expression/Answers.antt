@@ -8,7 +8,7 @@ use Rattle.reading.specs.Lexemes.{identifier}
 use Rattle.reading.specs.Reading.{separated}
 use Rattle.reading.specs.Outline.{has_items}
 use Rattle.reading.specs.Trees.{actual_outline, expr_outline}
-use Rattle.reading.proofs.Uses.{actual_no_more, below_no_more}
+use Rattle.reading.proofs.Uses.{actual_no_more, below_no_more, member_no_more}
 use Rattle.token_cursor.specs.Cursor.{Makes}
 use Rattle.token_cursor.proofs.Keeping.{followed_makes, not_put, was_put}
 use Rattle.token_cursor.proofs.Turns.{list_ends, list_goes, parts_fewer, parts_stop}
@@ -17,6 +17,7 @@ use Rattle.expression_parser.specs.Levels as level_spec
 use Rattle.expression_parser.specs.Selecting.{is_index, Selects}
 use Rattle.expression_parser.proofs.Built.{built_call, built_component, built_link, built_name}
 use Rattle.expression_parser.proofs.Chains.{link_fewer, links_end, links_go, links_stop}
+use Rattle.expression_parser.proofs.Members.{was_member, no_member, members_go, members_fewer, members_end, members_stop}
 use Rattle.expression_parser.proofs.Named.{alone_named, call_named, component_named, factor_named, empty_items, filled_items, has_mapped, has_rows, no_rows}
 use Rattle.expression_parser.proofs.Parentheses.{parenthesized_is}
 use Rattle.expression_parser.proofs.Selectors.{SelectorsSoFar, selectors_begin, selectors_end, selectors_fewer, selectors_go, selectors_stop}
@@ -151,6 +152,48 @@ selectors-returns t c =
     c.selector.new.indexes.items c.loop-indexes.within c.loop-indexes.cursor.rest.now c.selector.new.cursor c.loop-indexes.invariant
     (subst (λ r. Selects c.loop-indexes.within (spec.selector (expression_below c.args.levels) c.loop-indexes.within c.loop-indexes.cursor.rest.now) r
     c.selector.new.cursor c.loop-indexes.indexes.items c.selector.new.indexes.items) e c.selector.ensures)
+
+-- ---- the members of a set
+
+pub member_list-returns-in_err-put : goal.member_list-returns-in_err-put
+member_list-returns-in_err-put t c =
+    let part = spec.member (expression_below c.args.levels) in
+    let here = c.loop-members.cursor.rest.now in
+    let stops : ¬ (c.in_err-put.field-0.0 ≡ Memory)
+    → separated symbol.Comma part c.args.cursor.now.rest.now ≡ Err (c.in_err-put.field-0.0, c.member.new.cursor.rest.now) =
+    λ other. members_stop part c.loop-members.members.items c.loop-members.designators.items c.loop-members.invariant _
+    (no_member (part here) c.member.new.cursor c.loop-members.members.items c.member.new.members.items c.loop-members.designators.items
+    c.put.new.list.items c.member.result c.in_err-put.field-0.0 c.member.ensures c.in_err-put.ensures other) in
+    search rules
+
+pub member_list-loop-members-smaller : goal.member_list-loop-members-smaller
+member_list-loop-members-smaller t c =
+    let part = spec.member (expression_below c.args.levels) in
+    let here = c.loop-members.cursor.rest.now in
+    let was = was_member (part here) c.member.new.cursor c.loop-members.members.items c.member.new.members.items c.loop-members.designators.items
+    c.put.new.list.items c.member.result c.member.ensures c.in_ok-put.ensures in
+    members_fewer part c.member.new.cursor c.loop-members.members.items c.member.new.members.items c.loop-members.designators.items c.put.new.list.items
+    c.loop-members.invariant was (member_no_more (expression_below c.args.levels) (below_no_more c.args.levels)) c.in-Some.field-0
+    c.take_symbol.new.self.rest.now c.in-Some.ensures
+
+pub member_list-loop-members-preserved : goal.member_list-loop-members-preserved
+member_list-loop-members-preserved t c =
+    let part = spec.member (expression_below c.args.levels) in
+    let here = c.loop-members.cursor.rest.now in
+    let was = was_member (part here) c.member.new.cursor c.loop-members.members.items c.member.new.members.items c.loop-members.designators.items
+    c.put.new.list.items c.member.result c.member.ensures c.in_ok-put.ensures in
+    members_go part c.member.new.cursor c.loop-members.members.items c.member.new.members.items c.loop-members.designators.items c.put.new.list.items
+    c.loop-members.invariant was (member_no_more (expression_below c.args.levels) (below_no_more c.args.levels)) c.in-Some.field-0
+    c.take_symbol.new.self.rest.now c.in-Some.ensures
+
+pub member_list-returns-in_default : goal.member_list-returns-in_default
+member_list-returns-in_default t c =
+    let part = spec.member (expression_below c.args.levels) in
+    let here = c.loop-members.cursor.rest.now in
+    let was = was_member (part here) c.member.new.cursor c.loop-members.members.items c.member.new.members.items c.loop-members.designators.items
+    c.put.new.list.items c.member.result c.member.ensures c.in_ok-put.ensures in
+    members_end part c.member.new.cursor c.loop-members.members.items c.member.new.members.items c.loop-members.designators.items c.put.new.list.items
+    c.loop-members.invariant was c.take_symbol.new.self.rest.now c.in_default.ensures
 
 -- ---- actual parameters
 

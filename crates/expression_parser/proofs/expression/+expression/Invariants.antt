@@ -1,11 +1,12 @@
 use Rattle.std.proofs.Common.{◌+◌, ◌-◌, ◌*◌, length, map}
 use Rattle.lexer.specs.declared.token.Symbol.TheVariants as symbol
-use Rattle.reading.specs.Expressions.{actual, expression_below}
+use Rattle.reading.specs.Expressions.{actual, expression_below, member}
 use Rattle.reading.specs.Reading.{loop, separated}
 use Rattle.reading.specs.Trees.{actual_outline, link_outline}
 use Rattle.token_cursor.specs.Level.{level_number}
 use Rattle.token_cursor.proofs.Turns.{Parts, Turns}
 use Rattle.expression_parser.specs.Levels.{links, turn_of}
+use Rattle.expression_parser.proofs.Members.{MembersSoFar}
 use Rattle.expression_parser.proofs.Selectors.{SelectorsSoFar}
 use Rattle.expression_parser.proofs.expression.+expression.Given as goal
 
@@ -38,6 +39,18 @@ decreases-named l = 20 * l.levels + 7
 
 abbrev pub decreases-parenthesized : goal.decreases-parenthesized
 decreases-parenthesized l = 20 * l.levels + 7
+
+abbrev pub decreases-set : goal.decreases-set
+decreases-set l = 20 * l.levels + 7
+
+abbrev pub decreases-members : goal.decreases-members
+decreases-members l = 20 * l.levels + 6
+
+abbrev pub decreases-member_list : goal.decreases-member_list
+decreases-member_list l = 20 * l.levels + 5
+
+abbrev pub decreases-member : goal.decreases-member
+decreases-member l = 20 * l.levels + 4
 
 abbrev pub decreases-selectors : goal.decreases-selectors
 decreases-selectors l = 20 * l.levels + 6
@@ -79,6 +92,14 @@ invariant-selectors-loop-indexes l =
 
 abbrev pub decreases-selectors-loop-indexes : goal.decreases-selectors-loop-indexes
 decreases-selectors-loop-indexes l = length l.cursor.rest.now
+
+abbrev pub invariant-member_list-loop-members : goal.invariant-member_list-loop-members
+invariant-member_list-loop-members l =
+    MembersSoFar (separated symbol.Comma (member (expression_below l.levels)) l.fn.cursor.rest.now) l.designators.items l.members.items
+    (separated symbol.Comma (member (expression_below l.levels)) l.cursor.rest.now)
+
+abbrev pub decreases-member_list-loop-members : goal.decreases-member_list-loop-members
+decreases-member_list-loop-members l = length l.cursor.rest.now
 
 abbrev pub invariant-actual_list-loop-actuals : goal.invariant-actual_list-loop-actuals
 invariant-actual_list-loop-actuals l =

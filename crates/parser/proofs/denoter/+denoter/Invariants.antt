@@ -18,8 +18,11 @@ decreases-structured l = 4 * l.levels + 3
 abbrev pub decreases-array : goal.decreases-array
 decreases-array l = 4 * l.levels + 2
 
-abbrev pub decreases-element : goal.decreases-element
-decreases-element l = 4 * l.levels + 1
+abbrev pub decreases-part : goal.decreases-part
+decreases-part l = 4 * l.levels + 1
+
+abbrev pub decreases-set : goal.decreases-set
+decreases-set l = 4 * l.levels + 2
 
 abbrev pub decreases-indexes : goal.decreases-indexes
 decreases-indexes l = 4 * l.levels + 1

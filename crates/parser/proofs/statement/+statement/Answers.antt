@@ -54,6 +54,12 @@ statement-returns-in-Some-Word-Case t c =
     (sym (statement_is c.args.levels c.in_ok-levels.levels c.args.cursor.now.rest.now (Some (kind.Word word.Case)) c.in_ok-levels.ensures.left (cc)))
     c.case_of.ensures
 
+pub statement-returns-in-Some-Word-With : goal.statement-returns-in-Some-Word-With
+statement-returns-in-Some-Word-With t c =
+    subst (λ o. Makes stmt_outline o c.with_fields.result c.with_fields.new.cursor)
+    (sym (statement_is c.args.levels c.in_ok-levels.levels c.args.cursor.now.rest.now (Some (kind.Word word.With)) c.in_ok-levels.ensures.left (cc)))
+    c.with_fields.ensures
+
 -- ---- statements one behind another
 
 pub statements-returns-in_err-put : goal.statements-returns-in_err-put

@@ -32,6 +32,9 @@ decreases-for_loop l = 4 * l.levels + 3
 abbrev pub decreases-case_of : goal.decreases-case_of
 decreases-case_of l = 4 * l.levels + 3
 
+abbrev pub decreases-with_fields : goal.decreases-with_fields
+decreases-with_fields l = 4 * l.levels + 3
+
 abbrev pub decreases-arms : goal.decreases-arms
 decreases-arms l = 4 * l.levels + 1
 

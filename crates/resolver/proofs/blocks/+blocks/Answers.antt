@@ -24,26 +24,26 @@ body-routines-requires t c =
     (search (rules, the_lemmas), subst (λ l. AreKnownRoutines l new.regions) (sym c.deref.ensures.value) known)
 
 -- its routines stop
-pub body-returns-in_err-routines : goal.body-returns-in_err-routines
-body-returns-in_err-routines t c =
+pub body-returns-in_err-routines-clause-made : goal.body-returns-in_err-routines-clause-made
+body-returns-in_err-routines-clause-made t c =
     let b = c.args.written.now in
     let why = c.in_err-routines.field-0.0 in
     let refused = subst (λ l. IsFault (each (λ (r : TypedRoutine). r.typing) (map typed_routine l) c.declare.new.typer) why) c.deref.ensures.value
-    c.in_err-routines.ensures in
+    c.in_err-routines.ensures.made in
     let stops = routines_stop b c.args.typer.now c.declare.new.typer c.in_ok-declare.ensures why refused in
     search (rules, stops)
 
 -- its statements
-pub body-returns : goal.body-returns
-body-returns t c =
+pub body-returns-clause-made : goal.body-returns-clause-made
+body-returns-clause-made t c =
     let b = c.args.written.now in
-    let own = c.in_ok-routines.ensures in
+    let own = c.in_ok-routines.ensures.made in
     let there = c.routines.new.typer in
     let passes = subst (λ l. each (λ (r : TypedRoutine). r.typing) (map typed_routine l) c.declare.new.typer ≡ Ok (after tt (look_made own.0) there))
     c.deref.ensures.value own.2 in
     body_answers b c.args.typer.now c.declare.new.typer there c.statement_part.new.typer c.args.made.now.items c.routines.new.made.items own.0 own.1
     c.in_ok-declare.ensures passes c.statement_part.result
-    (subst (λ l. MakesStmt (statement_part l there) c.statement_part.result c.statement_part.new.typer) c.deref-2.ensures.value c.statement_part.ensures)
+    (subst (λ l. MakesStmt (statement_part l there) c.statement_part.result c.statement_part.new.typer) c.deref-2.ensures.value c.statement_part.ensures.made)
 
 -- the next routine is made
 pub routines-loop-next-preserved : goal.routines-loop-next-preserved
@@ -52,36 +52,37 @@ routines-loop-next-preserved t c =
     let here = c.loop-next in
     let r = c.next-item.result in
     let new = c.routine.new.typer in
-    let own = c.in_ok-routine.ensures in
+    let own = c.in_ok-routine.ensures.made in
     record {
       from =
           routine_next written c.args.typer.now c.args.made.now.items here.next-index here.made.items here.typer here.invariant.from r
           c.loop-next-test.true c.next-item.is own.0 c.routine.new.made.items new own.1 own.2;
       known =
           routines_stay (typed_routine r).typing (routine_keeps r) tt (look_made own.0) here.typer new own.2 written here.invariant.known;
+      held = λ before. c.routine.ensures.held (here.invariant.held before);
     }
 
 -- ---- the block of a routine
 
-pub routine_block-returns-in_err-begun : goal.routine_block-returns-in_err-begun
-routine_block-returns-in_err-begun t c =
+pub routine_block-returns-in_err-begun-clause-made : goal.routine_block-returns-in_err-begun-clause-made
+routine_block-returns-in_err-begun-clause-made t c =
     let stops = begun_stops c.args.number c.args.name.now (typed_block c.args.written.now) c.args.typer.now c.in_err-begun.field-0.0
     c.in_err-begun.ensures.begun in
     search (rules, stops)
 
 -- its declarations or its statements stop
-pub routine_block-returns-in_err-body : goal.routine_block-returns-in_err-body
-routine_block-returns-in_err-body t c =
+pub routine_block-returns-in_err-body-clause-made : goal.routine_block-returns-in_err-body-clause-made
+routine_block-returns-in_err-body-clause-made t c =
     let begins = c.in_ok-begun.ensures.begun in
     let stops = block_stops c.args.number c.args.name.now (typed_block c.args.written.now) c.args.typer.now c.begin_block.new.typer
-    (enclosing_of c.in_ok-begun.begun.round) begins.0 begins.1 c.in_err-body.field-0.0 c.in_err-body.ensures in
+    (enclosing_of c.in_ok-begun.begun.round) begins.0 begins.1 c.in_err-body.field-0.0 c.in_err-body.ensures.made in
     search (rules, stops)
 
 -- it ends
-pub routine_block-returns : goal.routine_block-returns
-routine_block-returns t c =
+pub routine_block-returns-clause-made : goal.routine_block-returns-clause-made
+routine_block-returns-clause-made t c =
     let begins = c.in_ok-begun.ensures.begun in
-    let typed = c.in_ok-body.ensures in
+    let typed = c.in_ok-body.ensures.made in
     routine_answers c.args.number c.args.name.now c.args.written.now c.args.typer.now c.begin_block.new.typer c.body.new.typer c.end_routine.new.typer
     c.in_ok-begun.begun begins.0 begins.1 begins.2 typed.0 c.in_ok-body.body typed.2 c.args.made.now.items c.body.new.made.items
-    c.end_routine.new.made.items typed.1 c.end_routine.result c.end_routine.ensures
+    c.end_routine.new.made.items typed.1 c.end_routine.result c.end_routine.ensures.made

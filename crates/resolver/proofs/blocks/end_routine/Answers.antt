@@ -1,8 +1,8 @@
 use Rattle.resolver.proofs.blocks.end_routine.Goals as goal
 
 -- the block is made
-pub returns : goal.returns
-returns c = record {
+pub returns-clause-made : goal.returns-clause-made
+returns-clause-made c = record {
   result = c.in_ok-result.result;
   later = c.result_at_end.new.self;
   tests = c.in_ok-result.ensures;

@@ -3,14 +3,14 @@ use Rattle.typed_tree.proofs.Looks.{look_procedure_call}
 use Rattle.typing.specs.Statements.{declared_call}
 use Rattle.resolver.proofs.calls.declared_call.Goals as goal
 
-pub returns-then-is_function : goal.returns-then-is_function
+pub returns-then-is_function-clause-made : goal.returns-then-is_function-clause-made
 unfolding declared_call
-returns-then-is_function c = search rules
+returns-then-is_function-clause-made c = search rules
 
-pub returns-in_err-made : goal.returns-in_err-made
+pub returns-in_err-made-clause-made : goal.returns-in_err-made-clause-made
 unfolding declared_call
-returns-in_err-made c = search rules
+returns-in_err-made-clause-made c = search rules
 
-pub returns : goal.returns
+pub returns-clause-made : goal.returns-clause-made
 unfolding declared_call
-returns c = search (rules, look_procedure_call)
+returns-clause-made c = search (rules, look_procedure_call)

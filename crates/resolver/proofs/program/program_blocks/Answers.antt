@@ -8,16 +8,16 @@ use Rattle.resolver.proofs.BlockForms.{program_made, program_stops}
 use Rattle.resolver.proofs.program.program_blocks.Goals as goal
 
 -- its block stops
-pub returns-in_err-body : goal.returns-in_err-body
-returns-in_err-body c =
-    let stops = program_stops c.args.program.now c.args.typer.now c.requires.begun c.in_err-body.field-0.0 c.in_err-body.ensures in
+pub returns-in_err-body-clause-made : goal.returns-in_err-body-clause-made
+returns-in_err-body-clause-made c =
+    let stops = program_stops c.args.program.now c.args.typer.now c.requires.begun c.in_err-body.field-0.0 c.in_err-body.ensures.made in
     search (rules, stops)
 
 -- its blocks are made
-pub returns : goal.returns
-returns c =
+pub returns-clause-made : goal.returns-clause-made
+returns-clause-made c =
     let program = c.args.program.now in
-    let typed = c.in_ok-body.ensures in
+    let typed = c.in_ok-body.ensures.made in
     let body = c.in_ok-body.body in
     let heading : Heading = record { around = c.new.result; parameters = c.new-2.result; result = None } in
     let made : MadeBlock = record { number = 0; block = record { heading = heading; body = body; end = (out-Block program.block).end } } in

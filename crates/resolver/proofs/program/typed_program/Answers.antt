@@ -1,4 +1,5 @@
 use Rattle.std.proofs.Common.{rules, ◌∙◌, ap, subst, sym}
+use Rattle.typed_tree.specs.Kinds.{are_held}
 use Rattle.resolver.specs.Made.{AreArranged}
 use Rattle.resolver.specs.Table.{IsTableOf}
 use Rattle.resolver.proofs.BlockForms.{parameters_stop}
@@ -20,4 +21,5 @@ returns c =
     (subst (AreArranged are.made) (sym (ap (λ v. v.items) c.tree.ensures.blocks)) are.laid_out.arranged)
     (ap (λ v. v.items) c.tree.ensures.bodies ∙ are.laid_out.bodies)
     (subst (IsTableOf are.made) (sym (ap (λ v. v.items) c.tree.ensures.loops)) are.laid_out.loops)
+    (ap (λ v. are_held v.items) c.tree.ensures.blocks ∙ are.laid_out.held)
     c.tree.ensures.left

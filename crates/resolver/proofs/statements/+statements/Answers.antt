@@ -1,11 +1,16 @@
 use Rattle.std.proofs.Common.{rules, ◌<◌, ◌≤◌, [], ◌∷◌, ◌++◌, length, map, Ok, sym, ap, subst, ◌∙◌, arith, vec_len, vec_capacity}
 use Rattle.std.proofs.lemmas.Bool.Decides.{nat_tests}
+use Rattle.typed_tree.specs.Kinds.{is_held_stmt}
 use Rattle.typed_tree.specs.Look.{look_stmt}
+use Rattle.typed_tree.specs.Tests.{all_hold}
 use Rattle.typing.specs.Passing.{after, each}
-use Rattle.typing.specs.Statements.{statement, constant_row, case_arms}
+use Rattle.typing.specs.Statements.{statement, constant_row, case_arms, with_statement}
+use Rattle.typing.specs.Steps.{next_slot}
+use Rattle.typed_tree.proofs.Looks.{look_with}
 use Rattle.syntax_tree.specs.Places.{arms_of}
 use Rattle.typing.specs.Outcomes.{IsFault}
 use Rattle.resolver.proofs.CaseArms.{stands_at, arm_goes, arm_made, arm_left_out, arms_end}
+use Rattle.resolver.proofs.HeldStatements.{held_more}
 use Rattle.resolver.proofs.MadeRows.{row_goes_on, row_stops}
 use Rattle.resolver.proofs.statements.+statements.Goals as goal
 use Rattle.resolver.proofs.statements.+statements.Goals.{case_arms-in-Some+in_ok-constant_row+in_ok-statement, case_arms-in_default}
@@ -16,25 +21,28 @@ statements-loop-next-preserved t c = record {
   from =
       row_goes_on statement (λ s. s) look_stmt c.args.written.now c.args.typer.now c.loop-next.next-index c.next-item.result c.loop-next.made.items
       c.loop-next.typer c.loop-next-test.true c.next-item.is c.loop-next.invariant.from c.in_ok-statement.field-0 c.push_reserved.new.self.items
-      c.statement.new.typer c.push_reserved.ensures.items c.in_ok-statement.ensures;
+      c.statement.new.typer c.push_reserved.ensures.items c.in_ok-statement.ensures.made;
+  held =
+      held_more is_held_stmt c.loop-next.made.items c.in_ok-statement.field-0 c.push_reserved.new.self.items c.push_reserved.ensures.items
+      c.loop-next.invariant.held c.in_ok-statement.ensures.held;
   count = omega (arith, c.push_reserved.ensures.len);
   room = omega (arith, c.push_reserved.ensures.capacity);
 }
 
 -- it is refused
-pub statements-returns-in_err-statement : goal.statements-returns-in_err-statement
-statements-returns-in_err-statement t c =
+pub statements-returns-in_err-statement-clause-made : goal.statements-returns-in_err-statement-clause-made
+statements-returns-in_err-statement-clause-made t c =
     let why = c.in_err-statement.field-0.0 in
     let stops : IsFault (each (λ s. s) (map statement c.args.written.now) c.args.typer.now) why =
     row_stops statement (λ s. s) look_stmt c.args.written.now c.args.typer.now c.loop-next.next-index c.next-item.result c.loop-next.made.items
-    c.loop-next.typer c.loop-next-test.true c.next-item.is c.loop-next.invariant.from why c.in_err-statement.ensures in
+    c.loop-next.typer c.loop-next-test.true c.next-item.is c.loop-next.invariant.from why c.in_err-statement.ensures.made in
     search rules
 
 -- ---- the arms of a case
 
 -- the constants before the next one are refused
-pub case_arms-returns-in_err-constant_row : goal.case_arms-returns-in_err-constant_row
-case_arms-returns-in_err-constant_row t c =
+pub case_arms-returns-in_err-constant_row-clause-made : goal.case_arms-returns-in_err-constant_row-clause-made
+case_arms-returns-in_err-constant_row-clause-made t c =
     let here = c.loop-index in
     let there : here.index < length c.args.constants.now = grind (arith, nat_tests, c.in-Some.ensures.lookup.0) in
     let goes = arm_goes c.args.type_id c.args.constants.now c.args.written.now c.args.typer.now here.index here.rows.items here.seen.keys here.arms.items
@@ -43,8 +51,8 @@ case_arms-returns-in_err-constant_row t c =
     search (rules, goes)
 
 -- the next one is refused
-pub case_arms-returns-in_err-statement : goal.case_arms-returns-in_err-statement
-case_arms-returns-in_err-statement t c =
+pub case_arms-returns-in_err-statement-clause-made : goal.case_arms-returns-in_err-statement-clause-made
+case_arms-returns-in_err-statement-clause-made t c =
     let here = c.loop-index in
     let there : here.index < length c.args.constants.now = grind (arith, nat_tests, c.in-Some.ensures.lookup.0) in
     let goes = arm_goes c.args.type_id c.args.constants.now c.args.written.now c.args.typer.now here.index here.rows.items here.seen.keys here.arms.items
@@ -53,8 +61,8 @@ case_arms-returns-in_err-statement t c =
     search (rules, goes)
 
 -- all are made
-pub case_arms-returns : goal.case_arms-returns
-case_arms-returns t c =
+pub case_arms-returns-clause-made : goal.case_arms-returns-clause-made
+case_arms-returns-clause-made t c =
     let here = c.loop-index in
     arms_end c.args.type_id c.args.constants.now c.args.written.now c.args.typer.now here.index here.rows.items here.seen.keys here.arms.items here.typer
     here.invariant.from c.loop-index-test.false
@@ -86,7 +94,10 @@ case_arms-loop-index-preserved t c =
                 row.field-0 w.constant_row.new.typer (ap (λ l. constant_row type_id seen [] l now) (sym w.deref.ensures.value) ∙ row.ensures.0)
                 made.field-0 new.typer new.rows.items new.seen.keys new.arms.items (ap (λ v. v.items) w.rows-is ∙ w.push_reserved.ensures.items)
                 (ap (λ s. s.keys) w.seen-is ∙ row.ensures.1) (ap (λ v. v.items) w.arms-is ∙ w.push_reserved-in-Some.ensures.items)
-                (made.ensures ∙ ap (λ n. Ok (after tt (look_stmt made.field-0) n)) (sym w.typer-is));
+                (made.ensures.made ∙ ap (λ n. Ok (after tt (look_stmt made.field-0) n)) (sym w.typer-is));
+            held =
+                held_more is_held_stmt arms made.field-0 new.arms.items (ap (λ v. v.items) w.arms-is ∙ w.push_reserved-in-Some.ensures.items)
+                here.invariant.held made.ensures.held;
             rows = omega (arith, ap vec_len w.rows-is, w.push_reserved.ensures.len);
             rows_room = omega (arith, ap vec_capacity w.rows-is, w.push_reserved.ensures.capacity);
             arms = omega (arith, ap vec_len w.arms-is, w.push_reserved-in-Some.ensures.len);
@@ -98,9 +109,28 @@ case_arms-loop-index-preserved t c =
             from =
                 arm_left_out type_id constants written old i rows seen arms now left new.rows.items new.seen.keys new.arms.items new.typer none
                 (ap (λ v. v.items) w.rows-is) (ap (λ s. s.keys) w.seen-is) (ap (λ v. v.items) w.arms-is) w.typer-is;
+            held = ap (λ v. all_hold (map is_held_stmt v.items)) w.arms-is ∙ here.invariant.held;
             rows = omega (arith, ap vec_len w.rows-is);
             rows_room = omega (arith, ap vec_capacity w.rows-is);
             arms = omega (arith, ap vec_len w.arms-is);
             arms_room = omega (arith, ap vec_capacity w.arms-is);
           }
     ]
+
+-- ---- a with
+
+pub with-returns-in_err-number-clause-made : goal.with-returns-in_err-number-clause-made
+unfolding with_statement next_slot
+with-returns-in_err-number-clause-made t c = search rules
+
+pub with-returns-in_err-opened-clause-made : goal.with-returns-in_err-opened-clause-made
+unfolding with_statement next_slot
+with-returns-in_err-opened-clause-made t c = search rules
+
+pub with-returns-in_err-body-clause-made : goal.with-returns-in_err-body-clause-made
+unfolding with_statement next_slot
+with-returns-in_err-body-clause-made t c = search rules
+
+pub with-returns-clause-made : goal.with-returns-clause-made
+unfolding with_statement next_slot
+with-returns-clause-made t c = search (rules, look_with)

@@ -1,6 +1,10 @@
-use Rattle.std.proofs.Common.{true, false, ◌∙◌, sym, ap, subst, refl, List, [], ◌∷◌, ◌++◌, None, Some, length, map}
+use Rattle.std.proofs.Common.{Bool, true, false, ◌∙◌, sym, ap, refl, List, [], ◌∷◌, ◌++◌, None, Some, length, map}
 use Rattle.typed_tree.specs.declared.tree.Stmt.{Stmt}
-use Rattle.typed_tree.specs.Entries.{entries_of_expression, entries_of_statement}
+use Rattle.typed_tree.specs.declared.tree.Tree.{Tree}
+use Rattle.typed_tree.specs.declared.tree.WithRecord.{WithRecord}
+use Rattle.std.specs.Prelude.{flat_map}
+use Rattle.typed_tree.specs.Entries.{entries_of_expression, entries_of_record, entries_of_statement}
+use Rattle.checker_rows.specs.Rows.{is_ordinal_variable}
 use Rattle.checker_state.specs.State.{State}
 use Rattle.checker_state.specs.declared.value.Known.{Known}
 use Rattle.checker_loops.specs.View.{said_way}
@@ -8,13 +12,16 @@ use Rattle.checker_loops.specs.Ways.{Way, turn_begun, turn_ended, way_of, way_ou
 use Rattle.checker_state.specs.Loops.{with_undefined}
 use Rattle.checker_expressions.specs.Visits.{all_counted}
 use Rattle.checker_expressions.specs.Walk.{Walking, ◌>>=◌, changed_by, give, value_walk, with_state}
-use Rattle.cert_checker.specs.Walk.{all_of, begin_way, bounds_walk, branches, case_walk, choice_walk, for_turns, for_walk, from_entry, index_walk, parted}
-use Rattle.cert_checker.specs.Walk.{repeat_round}
+use Rattle.cert_checker.specs.Walk.{all_of, begin_way, bounds_walk, branches, case_walk, choice_walk, either_of, for_turns, for_walk, from_entry}
+use Rattle.cert_checker.specs.Walk.{index_walk, parted}
+use Rattle.cert_checker.specs.Walk.{record_walk, repeat_round, with_walk}
 use Rattle.cert_checker.specs.Walk.{here, loop_walk, repeat_walk, rounds_of, statement_walk, tested_way, where_so, while_walk}
-use Rattle.cert_checker.specs.View.{Goes, else_entries, else_walk, statements_entries}
+use Rattle.checker_expressions.specs.View.{state_of}
+use Rattle.cert_checker.specs.View.{context_of, else_entries, else_walk, statements_entries}
 use Rattle.cert_checker.proofs.Steps.{all-end, all-step, counted-end, counted-step, counted-then, goes-from_entry, goes-give, goes-here, goes-then, moved}
 use Rattle.cert_checker.proofs.StepsLayers.{entries-If, goes-as, statement-Case, statement-For, statement-If, statement-Repeat, statement-While}
-use Rattle.cert_checker.proofs.StepsWays.{loop-alike, loop-done, parted-done, round_of_parts, rounds-go, then-assoc}
+use Rattle.cert_checker.proofs.StepsLayers.{statement-With}
+use Rattle.cert_checker.proofs.StepsWays.{loop-alike, loop-done, parted-done, round_of_parts, rounds-go, then-assoc, ways-done}
 use Rattle.cert_checker.proofs.StepsCase.{arms-begin, arms-end, arms-step, case-tested}
 use Rattle.cert_checker.proofs.walk.Walk.+statement.Goals as goal
 
@@ -53,15 +60,20 @@ statement-returns-in-If-clause-goes t c =
     let one = statement_walk c.deref-in-If.result.now in
     let other = else_walk it.alternative in
     let known = c.expression-known.result in
+    let where_known : Bool → Walking (Unit {0}) = λ truth context. changed_by (where_so context.tree truth condition known) context in
     let form = λ (first : Walking (Unit {0})). from_entry it.number (choice_walk condition first other) in
     goes-as (statement_walk c.args.statement.now) (form one)
     (ap statement_walk it.is ∙ statement-If it.number condition it.consequence it.alternative
     ∙ ap (λ (s : Stmt). form (statement_walk s)) (sym c.deref-in-If.ensures))
     (goes-from_entry it.number (choice_walk condition one other)
-    (goes-then (value_walk condition) (branches condition one other) c.expression-known.ensures.goes
-    (parted-done (where_so true condition known) (where_so false condition known) one other c.mark-mark.result.length c.mark-mark.ensures
-    c.go_where.ensures c.statement.ensures.goes c.leave-first.ensures.long c.leave-first.ensures.back c.go_where-in-If.ensures c.alternative.ensures.goes
-    c.join_behind.ensures.long c.join_behind.ensures.meets)))
+    (goes-then (value_walk condition) (λ known context. branches context.tree condition one other known context) c.expression-known.ensures.goes
+    (goes-here
+    (λ context state. either_of context ((where_known true >>= λ _. one) context state) ((where_known false >>= λ _. other) context state))
+    (λ context. branches context.tree condition one other known context) refl
+    (ways-done (where_known true >>= λ _. one) (where_known false >>= λ _. other) c.mark-mark.result.length c.mark-mark.ensures
+    (goes-then (where_known true) (λ _. one) c.go_where.ensures c.statement.ensures.goes) c.leave-first.ensures.long c.leave-first.ensures.back
+    (goes-then (where_known false) (λ _. other) c.go_where-in-If.ensures c.alternative.ensures.goes) c.join_behind.ensures.long
+    c.join_behind.ensures.meets))))
 
 pub statement-returns-in-If-clause-counts : goal.statement-returns-in-If-clause-counts
 statement-returns-in-If-clause-counts t c =
@@ -104,6 +116,13 @@ statement-returns-in-Case-clause-goes t c =
     goes-as (statement_walk c.args.statement.now) (form c.deref-in-Case.result.now)
     (ap statement_walk it.is ∙ statement-Case it.head it.arms ∙ ap form (sym c.deref-in-Case.ensures.value)) c.case.ensures.goes
 
+pub statement-returns-in-With-clause-goes : goal.statement-returns-in-With-clause-goes
+statement-returns-in-With-clause-goes t c =
+    let it = c.in-With in
+    let form = λ (s : Stmt). from_entry it.head.number (with_walk it.head (statement_walk s)) in
+    goes-as (statement_walk c.args.statement.now) (form c.deref-in-With.result.now)
+    (ap statement_walk it.is ∙ statement-With it.head it.body ∙ ap form (sym c.deref-in-With.ensures)) c.with_statement.ensures.goes
+
 -- ---- loops
 
 pub while_loop-returns-clause-goes : goal.while_loop-returns-clause-goes
@@ -111,12 +130,15 @@ while_loop-returns-clause-goes t c =
     let head = c.args.head.now in
     let condition = head.condition in
     let body = statement_walk c.args.body.now in
+    let again : Known → State → Walking (Unit {0}) = λ known tested context. with_state (where_so context.tree true condition known tested) context in
+    let out : Tree → Known → State → State = λ tree known tested. where_so tree false condition known tested in
+    let whole = λ (known : Known) (tested : State). again known tested >>= λ _. body in
     goes-from_entry head.number (while_walk head body)
-    (loop-done head.loop_number head.place None (value_walk condition)
-    (λ known tested. with_state (where_so true condition known tested) >>= λ _. body) (λ known tested. where_so false condition known tested)
-    c.mark-mark.result.length c.enter_loop.ensures c.expression-known.ensures.goes c.mark-mark.ensures
-    (goes-then (changed_by (where_so true condition c.expression-known.result)) (λ _. body) c.go_where.ensures c.statement.ensures.goes)
-    c.leave_loop.ensures c.leave-turn.ensures.long c.leave-turn.ensures.back c.go_where-2.ensures)
+    (goes-here (loop_walk head.loop_number head.place None (round_of_parts (value_walk condition) whole out)) (while_walk head body) refl
+    (loop-done head.loop_number head.place None (value_walk condition) whole out c.mark-mark.result.length c.enter_loop.ensures
+    c.expression-known.ensures.goes c.mark-mark.ensures
+    (goes-then (again c.expression-known.result (state_of c.expression-known.new.self.flow)) (λ _. body) c.go_where.ensures c.statement.ensures.goes)
+    c.leave_loop.ensures c.leave-turn.ensures.long c.leave-turn.ensures.back c.go_where-2.ensures))
 
 pub while_loop-returns-clause-counts : goal.while_loop-returns-clause-counts
 while_loop-returns-clause-counts t c =
@@ -130,14 +152,16 @@ repeat_loop-returns-clause-goes t c =
     let head = c.args.head.now in
     let condition = head.condition in
     let body = all_of (map statement_walk c.args.statements.now) in
-    let again = λ (known : Known) (tested : State). with_state (where_so false condition known tested) in
-    let out = λ (known : Known) (tested : State). where_so true condition known tested in
+    let again : Known → State → Walking (Unit {0}) = λ known tested context. with_state (where_so context.tree false condition known tested) context in
+    let out : Tree → Known → State → State = λ tree known tested. where_so tree true condition known tested in
     let parts = round_of_parts (body >>= λ _. value_walk condition) again out in
+    let context = context_of c.args.self.now in
     goes-from_entry head.number (repeat_walk head body)
     (goes-here (loop_walk head.loop_number head.place None parts) (repeat_walk head body)
-    (loop-alike head.loop_number head.place None parts (repeat_round body condition)
-    (λ context state. then-assoc body (λ _. value_walk condition) (λ known. here >>= λ tested. (again known tested >>= λ _. give (out known tested)))
-    context state) _ _)
+    (loop-alike head.loop_number head.place None parts (repeat_round context.tree body condition) context
+    (λ rounds state. then-assoc body (λ _. value_walk condition)
+    (λ known. here >>= λ tested. (again known tested >>= λ _ inner. give (out inner.tree known tested) inner)) (record context { rounds = rounds }) state)
+    (state_of c.args.self.now.flow))
     (loop-done head.loop_number head.place None (body >>= λ _. value_walk condition) again out c.mark-mark.result.length c.enter_loop.ensures
     (goes-then body (λ _. value_walk condition) c.statements.ensures.goes c.expression-known.ensures.goes) c.mark-mark.ensures c.go_where.ensures
     c.leave_loop.ensures c.leave-turn.ensures.long c.leave-turn.ensures.back c.go_where-2.ensures))
@@ -157,11 +181,14 @@ for_loop-returns-clause-goes t c =
     let body = statement_walk c.args.body.now in
     let from = c.expression-from.result in
     let to = c.expression-to.result in
+    let way : Known → Known → Tree → Way = λ from to tree. way_of (is_ordinal_variable tree) head from to in
     goes-from_entry head.number (bounds_walk head body)
-    (goes-then (value_walk head.first.value) (λ from. value_walk head.last.value >>= λ to. for_walk head body (way_of head from to))
+    (goes-then (value_walk head.first.value) (λ from. value_walk head.last.value >>= λ to context. for_walk head body (way from to context.tree) context)
     c.expression-from.ensures.goes
-    (goes-then (value_walk head.last.value) (λ to. for_walk head body (way_of head from to)) c.expression-to.ensures.goes
-    (subst (λ (way : Way). Goes (for_walk head body way) c.expression-to.new.self c.for_statement.new.self tt) c.of.ensures c.for_statement.ensures.goes)))
+    (goes-then (value_walk head.last.value) (λ to context. for_walk head body (way from to context.tree) context) c.expression-to.ensures.goes
+    (goes-here (for_walk head body (said_way c.of-way.result)) (λ context. for_walk head body (way from to context.tree) context)
+    (ap (λ (w : Way). for_walk head body w (context_of c.expression-to.new.self) (state_of c.expression-to.new.self.flow))
+    (c.of-way.ensures ∙ ap (way from to) c.table.ensures)) c.for_statement.ensures.goes)))
 
 pub for_loop-returns-clause-counts : goal.for_loop-returns-clause-counts
 for_loop-returns-clause-counts t c =
@@ -201,7 +228,7 @@ turns-returns-clause-goes t c =
     let steady = said_way c.steady_in-steady.result in
     rounds-go head body way steady c.steady_in-steady.ensures
     (loop-done head.loop_number head.place (Some way.control) (changed_by (turn_begun steady) >>= λ _. body)
-    (λ _ tested. with_state (turn_ended steady tested)) (λ _ tested. way_out steady tested) c.mark-mark.result.length c.enter_loop.ensures
+    (λ _ tested. with_state (turn_ended steady tested)) (λ _ _ tested. way_out steady tested) c.mark-mark.result.length c.enter_loop.ensures
     (goes-then (changed_by (turn_begun steady)) (λ _. body) (moved c.begin_turn.ensures) c.statement.ensures.goes) c.mark-mark.ensures
     (moved c.end_turn.ensures) c.leave_loop.ensures c.leave-turn.ensures.long c.leave-turn.ensures.back (moved c.leave.ensures))
 
@@ -212,9 +239,9 @@ case-returns-clause-goes t c =
     let head = c.args.head.now in
     let arms = c.args.arms.now in
     goes-from_entry head.number (index_walk head (map statement_walk arms))
-    (goes-then (value_walk head.index) (case_walk head (map statement_walk arms)) c.expression-known.ensures.goes
-    (case-tested head arms (length arms) c.entire.result c.deref.result.now c.range.result c.expression-known.result refl c.entire.ensures
-    c.deref.ensures.value c.range.ensures c.test_index.ensures c.arms.ensures.goes))
+    (goes-then (value_walk head.index) (λ known context. case_walk context.tree head (map statement_walk arms) known context) c.expression-known.ensures.goes
+    (case-tested head arms (length arms) c.table.result.now c.entire-index.result c.deref.result.now c.range.result c.expression-known.result refl
+    c.table.ensures c.entire-index.ensures c.deref.ensures.value c.range.ensures c.test_index.ensures c.arms.ensures.goes))
 
 pub case-returns-clause-counts : goal.case-returns-clause-counts
 case-returns-clause-counts t c =
@@ -254,3 +281,23 @@ pub arms-returns-clause-counts : goal.arms-returns-clause-counts
 arms-returns-clause-counts t c =
     let here = c.loop-number in
     counted-end statements_entries entries_of_statement (λ x xs. refl) c.args.arms.now here.number _ c.loop-number-test.false refl here.invariant.1
+
+-- ---- a with
+
+pub with_statement-returns-clause-goes : goal.with_statement-returns-clause-goes
+with_statement-returns-clause-goes t c =
+    let head = c.args.head.now in
+    let body = statement_walk c.args.body.now in
+    let form = λ (records : List WithRecord). all_of (map record_walk records) >>= λ _. body in
+    goes-from_entry head.number (with_walk head body)
+    (goes-here (form c.deref.result.now) (with_walk head body)
+    (ap (λ (records : List WithRecord). form records (context_of c.args.self.now) (state_of c.args.self.now.flow)) c.deref.ensures.value)
+    (goes-then (all_of (map record_walk c.deref.result.now)) (λ _. body) c.records.ensures.goes c.statement.ensures.goes))
+
+pub with_statement-returns-clause-counts : goal.with_statement-returns-clause-counts
+with_statement-returns-clause-counts t c =
+    let number = c.args.head.now.number in
+    let rest = entries_of_statement c.args.body.now in
+    let first = flat_map entries_of_record c.deref.result.now in
+    counted-then (number ∷ []) (first ++ rest) _ c.tick.ensures (counted-then first rest _ c.records.ensures.counts c.statement.ensures.counts)
+    ∙ ap (λ (records : List WithRecord). all_counted (number ∷ (flat_map entries_of_record records ++ rest)) c.args.visits.now) c.deref.ensures.value

@@ -1,6 +1,3 @@
-use Rattle.std.proofs.Common.{ap, ◌∙◌, List}
-use Rattle.typed_tree.specs.declared.tree.Selector.{Selector}
-use Rattle.checker_rows.specs.Rows.{rows_accessed}
 use Rattle.checker_rows.specs.View.{numbers}
 use Rattle.checker_state.specs.View.{said_reach}
 use Rattle.cert_checker.proofs.Assigned.{paired-goes}
@@ -8,8 +5,5 @@ use Rattle.cert_checker.proofs.walk.Walk.copy_to.Goals as goal
 
 pub returns : goal.returns
 returns c =
-    let target = c.args.copying.now.target in
-    paired-goes c.args.copying.now.becomes target.root target.selectors.items (said_reach c.args.reach) c.args.self.now c.table.result.now
-    (numbers c.accessed-rows.result) c.table.ensures
-    (c.accessed-rows.ensures ∙ ap (λ (s : List Selector). rows_accessed c.table.result.now target.root s) c.deref.ensures.value)
-    c.args.ranges.now c.store_to.ensures
+    paired-goes c.args.copying.now.becomes c.args.copying.now.target (said_reach c.args.reach) c.args.self.now c.table.result.now
+    (numbers c.accessed-rows.result) c.table.ensures c.accessed-rows.ensures c.args.ranges.now c.store_to.ensures

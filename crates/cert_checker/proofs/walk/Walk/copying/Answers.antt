@@ -1,4 +1,5 @@
 use Rattle.std.proofs.Common.{ap, ap₂, ◌∙◌, ℕ, List, ◌∷◌, ◌++◌, subst}
+use Rattle.typed_tree.specs.Accesses.{origin_of}
 use Rattle.typed_tree.specs.Entries.{access_entries, index_entries, whole_entries}
 use Rattle.typed_tree.specs.declared.tree.Expr.{Expr}
 use Rattle.typed_tree.specs.Calls.{whole_holds_call}
@@ -20,7 +21,7 @@ returns-clause-goes c =
     c.deref-4.ensures.value
     (c.whole_holds_call-holds_call.ensures ∙ ap (λ (some : List Expr). whole_holds_call copying.value some) c.deref-3.ensures.value)
     c.reach_stored-reach.ensures
-    (subst (λ (ranges : List Interval). Goes (copy_to copying.becomes target.root target.selectors.items held ranges) c.whole_value-ranges.new.self
+    (subst (λ (ranges : List Interval). Goes (copy_to copying.becomes (origin_of target) target.selectors.items held ranges) c.whole_value-ranges.new.self
     c.copy_to.new.self tt) c.deref-5.ensures.value c.copy_to.ensures)
 
 pub returns-clause-counts : goal.returns-clause-counts

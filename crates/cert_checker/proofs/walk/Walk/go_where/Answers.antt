@@ -1,13 +1,15 @@
-use Rattle.std.proofs.Common.{sym, subst}
-use Rattle.checker_state.specs.declared.value.Known.{Known}
+use Rattle.std.proofs.Common.{subst}
+use Rattle.domain.specs.Interval.{Interval}
+use Rattle.checker_rows.specs.Rows.{is_ordinal_variable}
+use Rattle.checker_state.specs.Conditions.{branched}
 use Rattle.checker_expressions.specs.Walk.{changed_by}
 use Rattle.cert_checker.specs.View.{Goes, at_state}
-use Rattle.cert_checker.specs.Walk.{where_so}
 use Rattle.cert_checker.proofs.Steps.{moved}
 use Rattle.cert_checker.proofs.walk.Walk.go_where.Goals as goal
 
 pub returns : goal.returns
 returns c =
     let old = c.args.self.now in
-    subst (λ (known : Known). Goes (changed_by (where_so c.args.truth c.args.condition.now known)) old (at_state c.branch-self.new.self old) tt)
-    (sym c.range.ensures) (moved c.branch-self.ensures)
+    let ordinal = is_ordinal_variable old.flow.state.table.now in
+    subst (λ (range : Interval). Goes (changed_by (branched ordinal c.args.truth c.args.condition.now range)) old (at_state c.branch-self.new.self old) tt)
+    c.range.ensures (moved c.branch-self.ensures)

@@ -7,30 +7,35 @@ use Rattle.typed_tree.specs.declared.tree.Passed.{Passed}
 use Rattle.typed_tree.specs.declared.tree.RangeTest.{RangeTest}
 use Rattle.typed_tree.specs.declared.tree.Selector.{Selector}
 use Rattle.typed_tree.specs.declared.tree.Whole.{Whole}
+use Rattle.typed_tree.specs.Accesses.{origin_of}
 use Rattle.typed_tree.specs.Entries.{entries_of_expression, entries_of_passed, index_entries, joined, whole_entries}
+use Rattle.typed_tree.specs.declared.tree.Designator.{Designator}
+use Rattle.typed_tree.specs.declared.tree.Tree.{Tree}
+use Rattle.checker_rows.specs.Rows.{is_ordinal_variable}
 use Rattle.checker_state.specs.Bounds.{Bound}
-use Rattle.checker_state.specs.Forms.{bound_of}
-use Rattle.checker_state.specs.Stores.{Reach, entire}
+use Rattle.checker_state.specs.Stores.{Reach}
 use Rattle.checker_state.specs.View.{said_reach}
 use Rattle.checker_state.specs.declared.value.Known.{Known}
-use Rattle.checker_state.specs.declared.value.Known.TheVariants.{Ordinal}
+use Rattle.checker_state.specs.declared.value.Known.TheVariants.{Ordinal, Set}
+use Rattle.checker_state.specs.Values.{known_range}
 use Rattle.checker_calls.specs.declared.actuals.Actual.{Actual as KeptActual}
 use Rattle.checker_calls.specs.Actuals.{OfRows, OfValue, OfVariable}
 use Rattle.checker_calls.specs.View.{said_actual}
-use Rattle.checker_expressions.specs.View.{entries_of_link}
-use Rattle.checker_expressions.specs.Walk.{Walking, ◌>>=◌, access_walk, actuals_hold_call, actuals_walk, call_walk, called, called_block, combined}
-use Rattle.checker_expressions.specs.Walk.{deeper}
+use Rattle.checker_expressions.specs.View.{entries_of_link, said_gathering}
+use Rattle.checker_expressions.specs.Walk.{Context, Gathering, Walking, ◌>>=◌, access_walk, actuals_hold_call, actuals_walk, call_walk, called}
+use Rattle.checker_expressions.specs.Walk.{called_block, combined}
+use Rattle.checker_expressions.specs.Walk.{deeper, form_by, form_in, gathered, members_walk, none_gathered, reach_at, set, set_walk}
 use Rattle.checker_expressions.specs.Walk.{enter, fitting, function_walk, give, in_turn, index_pieces, index_test, indexes_walk, link_walk, operated, ordinal}
-use Rattle.checker_expressions.specs.Walk.{passed_piece_of, piece_of, range_in, related_walk, result_of, result_walk, text_range, value_use}
+use Rattle.checker_expressions.specs.Walk.{passed_piece_of, piece_of, related_walk, result_of, result_walk, text_range, value_use}
 use Rattle.checker_expressions.specs.Walk.{value_walk}
 use Rattle.checker_expressions.specs.Walk.{variable_passed, variable_walk, whole_passed, whole_use, whole_walk}
 use Rattle.checker_expressions.proofs.Counted.{counts-then}
-use Rattle.checker_expressions.proofs.Flows.{goes-as, goes-behind, goes-mapped, goes-then}
+use Rattle.checker_expressions.proofs.Flows.{goes-alike, goes-as, goes-behind, goes-give, goes-mapped, goes-then}
 use Rattle.checker_expressions.proofs.Forms.{bound-same}
-use Rattle.checker_expressions.proofs.InTurn.{entries-cut, index-end, index-step, index_at, passed-begun, passed-end, passed-pushed, passed-step, prefixed}
-use Rattle.checker_expressions.proofs.InTurn.{turn-end, turn-step}
+use Rattle.checker_expressions.proofs.InTurn.{entries-cut, index-end, index-step, index_at, member-end, member-step, ordinal_in, passed-begun, passed-end}
+use Rattle.checker_expressions.proofs.InTurn.{passed-pushed, passed-step, prefixed, turn-end, turn-step}
 use Rattle.checker_expressions.proofs.Unrolled.{actuals-hold, entries-Chain, entries-Compare, link-walks, passed-Reference, passed-Value, passed-Whole}
-use Rattle.checker_expressions.proofs.Unrolled.{value-Call, value-Chain, value-Compare, value-Monadic, value-Variable}
+use Rattle.checker_expressions.proofs.Unrolled.{value-Call, value-Chain, value-Compare, value-Monadic, value-Set, value-Variable}
 use Rattle.checker_expressions.proofs.flow.Flow.+expression.Goals as goal
 
 -- ---- an expression
@@ -39,8 +44,20 @@ pub expression-returns-in-Variable-clause-goes : goal.expression-returns-in-Vari
 expression-returns-in-Variable-clause-goes t c =
     let it = c.in-Variable in
     goes-as
-    (sym (ap value_walk it.is ∙ value-Variable it.access it.indexes it.defined
-    ∙ ap (λ (items : List Expr). variable_walk it.access (index_pieces items) it.defined) (sym c.deref.ensures.value))) c.variable.ensures.goes
+    (sym (ap value_walk it.is ∙ value-Variable it.access it.indexes it.holds it.defined
+    ∙ ap (λ (items : List Expr). variable_walk it.holds it.access (index_pieces items) it.defined) (sym c.deref.ensures.value))) c.variable.ensures.goes
+
+pub expression-returns-in-Set-clause-goes : goal.expression-returns-in-Set-clause-goes
+expression-returns-in-Set-clause-goes t c =
+    let it = c.in-Set in
+    let designators = c.deref-in-Set.result.now in
+    let members = c.deref-in-Set-2.result.now in
+    let inner = members_walk (index_pieces members) (none_gathered designators) in
+    goes-as
+    (sym (ap value_walk it.is ∙ value-Set it.number it.designators it.members
+    ∙ ap₂ (λ (d : List Designator) (m : List Expr). set_walk it.number d (index_pieces m)) (sym c.deref-in-Set.ensures.value)
+    (sym c.deref-in-Set-2.ensures.value)))
+    (goes-behind it.number (inner >>= set) (goes-mapped inner Set c.members.ensures.goes refl))
 
 pub expression-returns-in-Monadic-clause-goes : goal.expression-returns-in-Monadic-clause-goes
 expression-returns-in-Monadic-clause-goes t c =
@@ -137,8 +154,35 @@ link-returns-clause-goes t c =
 pub variable-returns-clause-goes : goal.variable-returns-clause-goes
 variable-returns-clause-goes t c =
     let access = c.args.access.now in
-    goes-then (access_walk access (index_pieces c.args.indexes.now)) (λ reach. value_use access.root access.selectors.items reach c.args.defined)
-    c.access-reach.ensures.goes c.used.ensures
+    goes-then (access_walk access (index_pieces c.args.indexes.now))
+    (λ reach. value_use c.args.holds (origin_of access) access.selectors.items reach c.args.defined) c.access-reach.ensures.goes c.used.ensures
+
+pub members-loop-member-preserved : goal.members-loop-member-preserved
+members-loop-member-preserved t c =
+    let here = c.loop-member in
+    let items = c.args.members.now in
+    let member = c.member-item.result in
+    record {
+      goes = λ result new goes.
+          here.invariant.goes result new
+          (member-step items here.member-index member (said_gathering here.gathering) c.loop-member-test.true c.member-item.is
+          c.expression-known.ensures.goes
+          (goes-as (ap (gathered (said_gathering here.gathering)) c.range.ensures) c.gathered-gathering.ensures) goes);
+      counts =
+          entries-cut entries_of_expression items here.member-index member here.visits c.loop-member-test.true c.member-item.is
+          c.expression-known.ensures.counts ∙ here.invariant.counts;
+    }
+
+pub members-loop-member-init : goal.members-loop-member-init
+members-loop-member-init t c =
+    let walk = λ (gathering : Gathering). members_walk (index_pieces c.args.members.now) gathering in
+    record { goes = λ result new goes. goes-as (ap walk c.of-gathering.ensures) goes; counts = refl }
+
+pub members-returns-clause-goes : goal.members-returns-clause-goes
+members-returns-clause-goes t c =
+    let here = c.loop-member in
+    here.invariant.goes here.gathering.hull here.self
+    (member-end c.args.members.now here.member-index (said_gathering here.gathering) here.self c.loop-member-test.false)
 
 pub related-returns-clause-goes : goal.related-returns-clause-goes
 related-returns-clause-goes t c =
@@ -158,15 +202,16 @@ whole_value-returns-in-Variable-clause-goes t c =
     let it = c.in-Variable in
     let pieces = index_pieces c.args.indexes.now in
     goes-as (sym (ap (λ (value : Whole). whole_walk value pieces) it.is))
-    (goes-then (access_walk it.access pieces) (λ reach. whole_use it.type_id it.access.root it.access.selectors.items reach it.defined)
+    (goes-then (access_walk it.access pieces) (λ reach. whole_use it.type_id (origin_of it.access) it.access.selectors.items reach it.defined)
     c.access-reach.ensures.goes c.used_whole.ensures)
 
 pub access-returns-clause-goes : goal.access-returns-clause-goes
 access-returns-clause-goes t c =
     let access = c.args.access.now in
     let pieces = index_pieces c.args.indexes.now in
-    goes-behind access.number (indexes_walk access.selectors.items pieces entire)
-    (goes-as (ap (λ (selectors : List Selector). indexes_walk selectors pieces entire) c.deref.ensures.value) c.indexes.ensures.goes)
+    goes-behind access.number (indexes_walk access.selectors.items pieces (reach_at (origin_of access)))
+    (goes-as (ap₂ (λ (selectors : List Selector) (reach : Reach). indexes_walk selectors pieces reach) c.deref.ensures.value
+    (c.begun-reach.ensures access.root)) c.indexes.ensures.goes)
 
 pub indexes-loop-i-preserved : goal.indexes-loop-i-preserved
 indexes-loop-i-preserved t c =
@@ -176,9 +221,11 @@ indexes-loop-i-preserved t c =
     let more = drop (here.i + 1) items in
     let reach = said_reach here.reach in
     let range = c.index-range.result in
-    let reach_is : said_reach c.deeper-reach.result ≡ deeper (index_at index more range) reach =
+    let ordinal = ordinal_in c.index-range.new.self in
+    let reach_is : said_reach c.deeper-reach.result ≡ deeper (index_at ordinal index more range) reach =
     c.deeper-reach.ensures ∙ ap (λ (form : Option Bound). deeper (record { form = form; range = range }) reach) c.form_before-form.ensures
-    ∙ ap (λ (later : List Expr). deeper (index_at index later range) reach) (take_rest items (here.i + 1)) in
+    ∙ ap (λ (later : List Expr). deeper (index_at (is_ordinal_variable c.table.result.now) index later range) reach) (take_rest items (here.i + 1))
+    ∙ ap (λ (t : Tree). deeper (index_at (is_ordinal_variable t) index more range) reach) c.table.ensures in
     record {
       goes = λ result new goes.
           here.invariant.goes result new
@@ -244,12 +291,18 @@ actuals-returns-clause-goes t c =
 pub actual-returns-in-Value-clause-goes : goal.actual-returns-in-Value-clause-goes
 actual-returns-in-Value-clause-goes t c =
     let it = c.in-Value in
-    let form = bound_of (piece_of it.value).form in
-    let behind = λ (known : Known). fitting it.fits known >>= λ passed. give (OfValue (range_in passed) form) in
+    let mid = c.fitting.new.self in
+    let form = form_by (ordinal_in mid) (piece_of it.value) in
+    let last = λ (passed : Known) (context : Context). give (OfValue (known_range passed) (form_in context (piece_of it.value))) context in
+    let behind = λ (known : Known). fitting it.fits known >>= last in
     goes-as (sym (ap (λ (actual : Passed). (passed_piece_of actual).walk) it.is ∙ passed-Value it.value it.fits))
     (goes-then (value_walk it.value) behind c.expression-known.ensures.goes
-    (goes-mapped (fitting it.fits c.expression-known.result) (λ passed. OfValue (range_in passed) form) c.fitting.ensures
-    (ap₂ OfValue (sym (ap range_in c.range.ensures)) (c.bound_form.ensures ∙ sym (bound-same it.value)))))
+    (goes-then (fitting it.fits c.expression-known.result) last c.fitting.ensures
+    (goes-alike (give (OfValue (known_range c.fitting.result) form)) (last c.fitting.result) (λ claims. refl)
+    (goes-as (ap give (ap₂ OfValue c.range-range.ensures
+    (c.bound_form.ensures ∙ sym (bound-same (is_ordinal_variable c.table.result.now) it.value)
+    ∙ ap (λ (t : Tree). form_by (is_ordinal_variable t) (piece_of it.value)) c.table.ensures)))
+    (goes-give _ mid)))))
 
 pub actual-returns-in-Whole-clause-goes : goal.actual-returns-in-Whole-clause-goes
 actual-returns-in-Whole-clause-goes t c =
@@ -262,10 +315,8 @@ actual-returns-in-Whole-clause-goes t c =
 pub actual-returns-in-Reference-clause-goes : goal.actual-returns-in-Reference-clause-goes
 actual-returns-in-Reference-clause-goes t c =
     let it = c.in-Reference in
-    let reach = said_reach c.access.result in
     goes-as
     (sym (ap (λ (actual : Passed). (passed_piece_of actual).walk) it.is ∙ passed-Reference it.type_id it.access it.indexes
-    ∙ ap (λ (items : List Expr). variable_passed it.access (index_pieces items)) (sym c.deref-in-Reference-2.ensures.value)))
-    (goes-mapped (access_walk it.access (index_pieces c.deref-in-Reference-2.result.now))
-    (λ reached. OfVariable it.access.root it.access.selectors.items reached) c.access.ensures.goes
-    (ap (λ (selectors : List Selector). OfVariable it.access.root selectors reach) c.deref-in-Reference.ensures.value))
+    ∙ ap (λ (items : List Expr). variable_passed it.access (index_pieces items)) (sym c.deref-in-Reference.ensures.value)))
+    (goes-mapped (access_walk it.access (index_pieces c.deref-in-Reference.result.now))
+    (λ reached. OfVariable (origin_of it.access) it.access.selectors.items reached) c.access.ensures.goes refl)

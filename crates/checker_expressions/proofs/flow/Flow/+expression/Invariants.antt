@@ -2,13 +2,14 @@ use Rattle.std.proofs.Common.{◌≡◌, List, map, drop}
 use Rattle.typed_tree.specs.Entries.{entries_of_passed, index_entries, joined}
 use Rattle.checker_calls.specs.Actuals.{Actual}
 use Rattle.checker_calls.specs.View.{said_actual}
-use Rattle.checker_state.specs.Stores.{Reach, entire}
+use Rattle.domain.specs.Interval.{Interval}
+use Rattle.checker_state.specs.Stores.{Reach}
 use Rattle.checker_state.specs.View.{said_reach}
 use Rattle.checker_state.specs.declared.value.Known.{Known}
 use Rattle.checker_expressions.specs.declared.flow.Flow.{Flow}
-use Rattle.checker_expressions.specs.View.{Goes, entries_of_link}
+use Rattle.checker_expressions.specs.View.{Goes, entries_of_link, said_gathering}
 use Rattle.checker_expressions.specs.Visits.{all_counted}
-use Rattle.checker_expressions.specs.Walk.{actuals_walk, in_turn, index_pieces, indexes_walk, link_walk, passed_piece_of}
+use Rattle.checker_expressions.specs.Walk.{actuals_walk, in_turn, index_pieces, indexes_walk, link_walk, members_walk, none_gathered, passed_piece_of}
 use Rattle.checker_expressions.proofs.InTurn.{prefixed}
 use Rattle.checker_expressions.proofs.flow.Flow.+expression.Given as goal
 
@@ -25,9 +26,19 @@ invariant-in_turn-loop-link l = record {
 abbrev pub invariant-indexes-loop-i : goal.invariant-indexes-loop-i
 invariant-indexes-loop-i l = record {
   goes : (result : Reach) (new : Flow) → Goes (indexes_walk l.left (index_pieces (drop l.i l.indexes)) (said_reach l.reach)) l.self new result
-      → Goes (indexes_walk l.selectors (index_pieces l.indexes) entire) l.fn.self new result;
+      → Goes (indexes_walk l.selectors (index_pieces l.indexes) (said_reach l.fn.begun)) l.fn.self new result;
   counts : all_counted (joined (index_entries (drop l.i l.indexes))) l.visits
       ≡ all_counted (joined (index_entries l.indexes)) l.fn.visits;
+}
+
+-- the same over the member expressions that are left
+abbrev pub invariant-members-loop-member : goal.invariant-members-loop-member
+invariant-members-loop-member l = record {
+  goes : (result : Interval) (new : Flow)
+      → Goes (members_walk (index_pieces (drop l.member-index l.members)) (said_gathering l.gathering)) l.self new result
+      → Goes (members_walk (index_pieces l.members) (none_gathered l.designators)) l.fn.self new result;
+  counts : all_counted (joined (index_entries (drop l.member-index l.members))) l.visits
+      ≡ all_counted (joined (index_entries l.members)) l.fn.visits;
 }
 
 -- the same over the actual parameters that are left, behind those that were passed

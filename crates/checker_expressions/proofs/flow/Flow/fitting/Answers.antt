@@ -1,13 +1,19 @@
-use Rattle.std.proofs.Common.{ap, refl, sym, ◌∙◌}
-use Rattle.checker_state.specs.declared.value.Known.TheVariants.{Ordinal}
-use Rattle.checker_expressions.specs.Walk.{◌>>=◌, fitting, ordinal, within}
-use Rattle.checker_expressions.proofs.Flows.{goes-as, goes-mapped}
+use Rattle.std.proofs.Common.{◌≡◌, ◌∙◌, ap, ap₂, refl}
+use Rattle.domain.specs.Interval.{is_included}
+use Rattle.checker_rows.specs.Limits.{limits_of}
+use Rattle.checker_state.specs.Values.{known_range, unless_none}
+use Rattle.checker_expressions.specs.Walk.{limited, tested_value}
+use Rattle.checker_expressions.proofs.Flows.{goes-as, goes-checked}
 use Rattle.checker_expressions.proofs.flow.Flow.fitting.Goals as goal
 
 pub returns : goal.returns
 returns c =
     let fits = c.args.fits in
-    let range = c.range-range.result in
-    goes-as
-    (sym (ap (fitting fits) c.range-range.ensures ∙ ap (λ limits. within limits fits.site range >>= ordinal) (sym c.limits.ensures)))
-    (goes-mapped (within c.limits.result fits.site range) Ordinal c.within.ensures refl)
+    let known = c.args.known in
+    let passed = c.limited-passed.result in
+    let closed = c.lies_in-closed.result in
+    let passed_is : passed ≡ limited (limits_of fits.range) known = c.limited-passed.ensures ∙ ap (λ l. limited l known) c.limits-limits.ensures in
+    let closed_is : closed ≡ is_included (known_range known) (limits_of fits.range) =
+    c.lies_in-closed.ensures ∙ ap (is_included (known_range known)) c.limits-limits.ensures in
+    goes-as (ap₂ (λ closed passed. tested_value closed fits.site passed) closed_is passed_is)
+    (goes-checked (tested_value closed fits.site passed) closed fits.site (unless_none passed) passed (λ claims. refl) c.check.ensures c.unless_none.ensures)

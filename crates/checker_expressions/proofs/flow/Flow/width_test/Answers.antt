@@ -1,5 +1,5 @@
-use Rattle.std.proofs.Common.{ap, refl, sym}
-use Rattle.checker_expressions.specs.Walk.{positive, width_test}
+use Rattle.std.proofs.Common.{ap, refl}
+use Rattle.checker_expressions.specs.Walk.{◌>>=◌, give, positive}
 use Rattle.checker_expressions.proofs.Flows.{goes-as, goes-mapped}
 use Rattle.checker_expressions.proofs.flow.Flow.width_test.Goals as goal
 
@@ -7,4 +7,4 @@ pub returns : goal.returns
 returns c =
     let site = c.args.site in
     let range = c.range-range.result in
-    goes-as (sym (ap (width_test site) c.range-range.ensures)) (goes-mapped (positive site range) (λ _. tt) c.positive.ensures refl)
+    goes-as (ap (λ r. positive site r >>= λ _. give tt) c.range-range.ensures) (goes-mapped (positive site range) (λ _. tt) c.positive.ensures refl)

@@ -6,6 +6,8 @@ use Rattle.meaning.specs.Meaning.{selected, values_of}
 use Rattle.meaning.specs.Meaning.{OfPlace}
 use Rattle.interpreter_state.specs.Views.{place_seen}
 use Rattle.interpreter.specs.Pending.{giving_place, operands_of, pending_of, resumed}
+use Rattle.typed_tree.specs.Accesses.{origin_of}
+use Rattle.interpreter.proofs.Activating.{starts_there}
 use Rattle.interpreter.proofs.Resuming.{goes_on_below}
 use Rattle.interpreter.proofs.Unrolling.{selecting-on}
 use Rattle.interpreter.proofs.interpreter.Run.access.Goals as goal
@@ -22,7 +24,7 @@ returns-clause-does c = λ env outer s agrees.
     (λ env next. resumed env (work.Select c.deref.result c.args.indexes) (resumed env later next)) (OfPlace place ∷ operands_of old) c.plan.result _
     c.push.ensures.same c.in_ok-push.ensures.top
     (ap (λ (p : Option Place). giving_place (selected access.selectors.items indexes env p) (resumed env later works) (operands_of old) s)
-    (agrees.visible.variables access.root ∙ sym c.in_ok-place.ensures)
+    (starts_there env outer old s (origin_of access) agrees ∙ sym c.in_ok-place.ensures)
     ∙ ap (λ (l : List Selector). giving_place (selected l indexes env place) (resumed env later works) (operands_of old) s) (sym c.deref.ensures.value)
     ∙ sym (selecting-on env c.deref.result.now c.args.indexes.now place (resumed env later works) (operands_of old) s))
     agrees c.plan.ensures.does

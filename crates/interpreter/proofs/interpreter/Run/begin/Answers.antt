@@ -1,11 +1,10 @@
 use Rattle.std.proofs.Common.{◌≡◌, ◌+◌, ◌-◌, ◌∷◌, [], ℕ, suc, List, filter, map, reverse, refl, sym, arith, ◌∙◌, ap, subst}
 use Rattle.interpreter_state.specs.declared.activation.Activation.{Activation}
-use Rattle.interpreter_state.specs.declared.work.Caller.{Caller}
 use Rattle.interpreter_state.specs.declared.work.Work.{Work}
 use Rattle.typed_tree.specs.WellFormed.{is_one_of}
 use Rattle.meaning.specs.Effect.{and_then}
 use Rattle.meaning.specs.Meaning.{Argument, assign_all, effect_of, environment_of}
-use Rattle.interpreter_state.specs.Views.{Visible, operand_seen, pairs_passed, visible_in}
+use Rattle.interpreter_state.specs.Views.{Visible, operand_seen, pairs_passed, records_in, visible_in}
 use Rattle.interpreter_state.proofs.Sees.{own_of, sees_inner}
 use Rattle.interpreter.specs.declared.interpreter.Run.{Run}
 use Rattle.interpreter.specs.Pending.{Sees, operands_of, pending_of}
@@ -59,7 +58,6 @@ returns-clause-does c = λ env outer s agrees.
     let stored = c.in_ok-assign_all.ensures.agrees visible start sees_there agrees.store in
     let after = stored.0 in
     let stores = ap (λ l. assign_all tree visible l arguments start) (sym c.deref.ensures.value) ∙ stored.1 in
-    let caller : Caller = record { activation = c.replace-activation.result; pending = c.replace-pending.result } in
     let begun : ℕ → Run → Run = λ n r. record old {
       turns = left;
       called = n;
@@ -76,10 +74,11 @@ returns-clause-does c = λ env outer s agrees.
       store = new.store;
     }))) told ∙ ap (begun (old.called + 1)) (sym same) in
     let outer_there = behind env outer old s there new.activation in
-    let agreed = agrees_begun old new caller env outer s left number block arguments after agrees some c.requires
+    let agreed = agrees_begun old new c.replace-activation.result c.replace-pending.result env outer s left number block arguments after agrees some c.requires
     (ap (λ (r : Run). visible_in r.activation) same ∙ ap visible_in c.replace-activation.ensures.after ∙ sees)
     (ap (λ (r : Run). r.activation.depth) same ∙ ap (λ (a : Activation). a.depth) c.replace-activation.ensures.after ∙ c.in_ok-activation.ensures.depth)
     (ap (λ (r : Run). r.callers.items) same ∙ c.in_ok-push.ensures.items) c.replace-activation.ensures.value (ap (λ v. v.items) c.replace-pending.ensures.value)
+    (ap (λ (r : Run). records_in r.activation) same ∙ ap records_in c.replace-activation.ensures.after ∙ c.in_ok-activation.ensures.records)
     stored.2 alike in
     let none : new.pending.items ≡ [] =
     ap (λ (r : Run). r.pending.items) same ∙ ap (λ v. v.items) c.replace-pending.ensures.after ∙ c.new.ensures.items in

@@ -24,9 +24,10 @@ returns-in-Some-clause-does c = λ env outer s agrees.
     let next = pending_of env outer (reverse old.pending.items) in
     let site = c.args.head.now.site in
     let rows = c.args.head.now.constants.items in
-    let arms = c.args.arms.now in
+    let arms = c.args.arms.now.items in
     let index = c.popped_number-index.ensures in
-    let found = arm_taken _ rows arms operands _ _ c.deref.ensures.value index.top c.arm_at.ensures
+    let found = arm_taken _ rows arms operands _ _ c.deref.ensures.value index.top
+    (c.arm_at.ensures ∙ ap (λ (l : List Stmt). arm_at c.deref.result.now l c.popped_number-index.result) c.deref-2.ensures.value)
     ∙ ap (option_map (λ (arm : Bor Stmt). arm.now)) c.in-Some.is in
     goes_on_below old c.popped_number-index.new.self c.do_next.new.self env outer s (executing c.in-Some.arm.now) (below_top operands) c.do_next.result _
     index.same index.below
@@ -41,9 +42,10 @@ returns-in-None-clause-does c = λ env outer s agrees.
     let next = pending_of env outer (reverse old.pending.items) in
     let site = c.args.head.now.site in
     let rows = c.args.head.now.constants.items in
-    let arms = c.args.arms.now in
+    let arms = c.args.arms.now.items in
     let index = c.popped_number-index.ensures in
-    let found = arm_taken _ rows arms operands _ _ c.deref.ensures.value index.top c.arm_at.ensures
+    let found = arm_taken _ rows arms operands _ _ c.deref.ensures.value index.top
+    (c.arm_at.ensures ∙ ap (λ (l : List Stmt). arm_at c.deref.result.now l c.popped_number-index.result) c.deref-2.ensures.value)
     ∙ ap (option_map (λ (arm : Bor Stmt). arm.now)) c.in-None.is in
     stops_below old c.popped_number-index.new.self env outer s _ _ index.same
     (ap (λ (r : Reply (Unit {0})). and_then r (λ _. next (below_top operands)))
@@ -54,8 +56,9 @@ pub returns-in-Some-clause-fewer : goal.returns-in-Some-clause-fewer
 returns-in-Some-clause-fewer c =
     let arm = c.in-Some.arm.now in
     let rows = c.deref.result.now in
-    let found : arm_at rows c.args.arms.now c.popped_number-index.result ≡ Some arm =
-    sym c.arm_at.ensures ∙ ap (option_map (λ (arm : Bor Stmt). arm.now)) c.in-Some.is in
+    let found : arm_at rows c.args.arms.now.items c.popped_number-index.result ≡ Some arm =
+    sym (c.arm_at.ensures ∙ ap (λ (l : List Stmt). arm_at rows l c.popped_number-index.result) c.deref-2.ensures.value)
+    ∙ ap (option_map (λ (arm : Bor Stmt). arm.now)) c.in-Some.is in
     let adds = λ (r : Run). Adds (1 + size_of_statement arm) r c.do_next.result c.do_next.new.self in
     adds_within c.args.self.now c.do_next.new.self c.do_next.result _ _ (subst adds c.popped_number-index.ensures.same c.do_next.ensures.size)
-    (size-found rows c.args.arms.now c.popped_number-index.result arm found)
+    (size-found rows c.args.arms.now.items c.popped_number-index.result arm found)

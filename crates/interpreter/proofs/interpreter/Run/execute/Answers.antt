@@ -17,7 +17,8 @@ returns-in_ok-put-in-Some c = λ s fresh.
     let outer : Resumption = λ operands. give tt in
     let first : slice_get tree.blocks.items 0 ≡ Some block =
     sym (ap (λ l. slice_get l 0) c.deref.ensures.value) ∙ sym c.first.ensures.value ∙ ap option_copied c.in-Some.is in
-    let agreed = agrees_first old begun block.heading s fresh c.in_ok-activation-in-Some.ensures.visible refl refl in
+    let agreed = agrees_first old begun block.heading s fresh c.in_ok-activation-in-Some.ensures.visible refl refl
+    c.in_ok-activation-in-Some.ensures.records in
     ends_alike c.finish.new.self _ (rest_of env outer begun s) c.finish.result
     (begins_with_block _ block tree (suc old.turns) (operands_of old) s c.put.new.pending.items old.pending.items c.in_ok-put-in-Some.ensures fresh.pending refl
     first)

@@ -36,6 +36,7 @@ returns-clause-does c = λ env outer s agrees.
       output = agrees.output;
       turns = agrees.turns;
       activations = agrees.activations;
+      records = agrees.records;
     } in
     let agreed : Agrees env outer new after = subst (λ (r : Run). Agrees env outer r after) (sym same) moved in
     let does : ℤ → ℤ → Type 0 = λ n m.

@@ -21,6 +21,7 @@ returns-in_ok-push-clause-does c = λ env outer s agrees.
         output = c.in_ok-push.ensures.items ∙ ap (λ out. out ++ 10 ∷ []) agrees.output;
         turns = agrees.turns;
         activations = agrees.activations;
+        records = agrees.records;
       },
       ap (λ (b : Bool). line_ending b (pending_of env outer (reverse old.pending.items)) (operands_of old) s) c.if-ends_line.true,
     )

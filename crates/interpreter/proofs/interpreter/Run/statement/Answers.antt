@@ -2,7 +2,7 @@ use Rattle.std.proofs.Common.{reverse, refl}
 use Rattle.interpreter.specs.Pending.{operands_of}
 use Rattle.interpreter.proofs.Resuming.{continues_as, goes_on_to}
 use Rattle.interpreter.proofs.Unrolling.{entered, does-Empty, does-Assign, does-Copy, does-Write, does-Compound}
-use Rattle.interpreter.proofs.Unrolling.{does-If, does-While, does-Repeat, does-For, does-Case, does-procedure}
+use Rattle.interpreter.proofs.Unrolling.{does-If, does-While, does-Repeat, does-For, does-Case, does-With, does-procedure}
 use Rattle.interpreter.proofs.interpreter.Run.statement.Goals as goal
 
 pub returns-in-Empty-clause-does : goal.returns-in-Empty-clause-does
@@ -68,7 +68,7 @@ returns-in-Repeat-clause-does c = λ env outer s agrees.
     let old = c.args.self.now in
     let given = c.in-Repeat in
     continues_as env outer old c.repeat_round.new.self _ _ c.repeat_round.result
-    (does-Repeat given.head given.statements c.args.statement.now given.is c.deref-in-Repeat.result.now c.deref-in-Repeat.ensures.value env outer
+    (does-Repeat given.head given.statements c.args.statement.now given.is given.statements.items refl env outer
     (reverse old.pending.items) (operands_of old) s)
     (c.repeat_round.ensures.does env outer (entered given.head.number env s) agrees)
 
@@ -86,7 +86,7 @@ returns-in-Case-clause-does c = λ env outer s agrees.
     let old = c.args.self.now in
     let given = c.in-Case in
     continues_as env outer old c.plan-in-Case.new.self _ _ c.plan-in-Case.result
-    (does-Case given.head given.arms c.args.statement.now given.is c.deref-in-Case.result.now c.deref-in-Case.ensures.value env outer
+    (does-Case given.head given.arms c.args.statement.now given.is given.arms.items refl env outer
     (reverse old.pending.items) (operands_of old) s)
     (c.plan-in-Case.ensures.does env outer (entered given.head.number env s) agrees)
 
@@ -97,3 +97,12 @@ returns-in-Call-clause-does c = λ env outer s agrees.
     continues_as env outer old c.procedure.new.self _ _ c.procedure.result
     (does-procedure given c.args.statement.now c.in-Call.is env outer (reverse old.pending.items) (operands_of old) s)
     (c.procedure.ensures.does env outer (entered given.call.number env s) agrees)
+
+pub returns-in-With-clause-does : goal.returns-in-With-clause-does
+returns-in-With-clause-does c = λ env outer s agrees.
+    let old = c.args.self.now in
+    let given = c.in-With in
+    continues_as env outer old c.with.new.self _ _ c.with.result
+    (does-With given.head given.body c.args.statement.now given.is c.deref-in-With.result.now c.deref-in-With.ensures.value given.body.value refl env outer
+    (reverse old.pending.items) (operands_of old) s)
+    (c.with.ensures.does env outer (entered given.head.number env s) agrees)

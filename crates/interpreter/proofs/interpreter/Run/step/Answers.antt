@@ -90,3 +90,18 @@ returns-in-Discard-clause-does c = does_as c.args.self.now c.discard.new.self c.
 
 pub returns-in-Activate-clause-does : goal.returns-in-Activate-clause-does
 returns-in-Activate-clause-does c = does_as c.args.self.now c.activate.new.self c.args.work _ c.activate.result c.in-Activate.is c.activate.ensures.does
+
+pub returns-in-Gather-clause-does : goal.returns-in-Gather-clause-does
+returns-in-Gather-clause-does c = does_as c.args.self.now c.gather.new.self c.args.work _ c.gather.result c.in-Gather.is c.gather.ensures.does
+
+pub returns-in-AddMember-clause-does : goal.returns-in-AddMember-clause-does
+returns-in-AddMember-clause-does c = does_as c.args.self.now c.add_member.new.self c.args.work _ c.add_member.result c.in-AddMember.is c.add_member.ensures.does
+
+pub returns-in-AddRange-clause-does : goal.returns-in-AddRange-clause-does
+returns-in-AddRange-clause-does c = does_as c.args.self.now c.add_range.new.self c.args.work _ c.add_range.result c.in-AddRange.is c.add_range.ensures.does
+
+pub returns-in-With-clause-does : goal.returns-in-With-clause-does
+returns-in-With-clause-does c = does_as c.args.self.now c.with.new.self c.args.work _ c.with.result c.in-With.is c.with.ensures.does
+
+pub returns-in-Within-clause-does : goal.returns-in-Within-clause-does
+returns-in-Within-clause-does c = does_as c.args.self.now c.within.new.self c.args.work _ c.within.result c.in-Within.is c.within.ensures.does

@@ -32,6 +32,7 @@ returns-in_ok-keep-in-Some-clause-does c = λ env outer s agrees.
       output = agreed.output;
       turns = agreed.turns;
       activations = agreed.activations;
+      records = agreed.records;
     } in
     let works = reverse old.pending.items in (
       env,

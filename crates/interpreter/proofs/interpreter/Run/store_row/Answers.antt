@@ -40,6 +40,7 @@ returns-clause-does c = λ env outer s agrees.
       output = agreed.output;
       turns = agreed.turns;
       activations = agreed.activations;
+      records = agreed.records;
     } in
     let works = reverse old.pending.items in
     let below = below_top (below_top operands) in (

@@ -23,6 +23,7 @@ returns-clause-does c = λ env outer s agrees.
       output = agrees.output;
       turns = refl;
       activations = agrees.activations;
+      records = agrees.records;
     } in
     let works = pending_of env outer (reverse old.pending.items) in
     let tested = giving (value_of c.args.condition.now env) (resumed env c.args.later works) in

@@ -21,6 +21,7 @@ returns-clause-does c = λ env outer s agrees.
       output = agrees.output;
       turns = refl;
       activations = agrees.activations;
+      records = agrees.records;
     } in
     let works = pending_of env outer (reverse old.pending.items) in
     continues_as env outer old c.plan.new.self _ _ c.plan.result

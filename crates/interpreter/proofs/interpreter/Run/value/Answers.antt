@@ -1,7 +1,7 @@
 use Rattle.std.proofs.Common.{reverse, refl}
 use Rattle.interpreter.specs.Pending.{operands_of}
 use Rattle.interpreter.proofs.Resuming.{continues_as}
-use Rattle.interpreter.proofs.Unrolling.{entered, does-Variable, does-Monadic, does-Chain, does-Compare, does-Call}
+use Rattle.interpreter.proofs.Unrolling.{entered, does-Variable, does-Monadic, does-Chain, does-Compare, does-Call, does-Set}
 use Rattle.interpreter.proofs.interpreter.Run.value.Goals as goal
 
 pub returns-in-Variable-clause-does : goal.returns-in-Variable-clause-does
@@ -9,7 +9,7 @@ returns-in-Variable-clause-does c = λ env outer s agrees.
     let old = c.args.self.now in
     let given = c.in-Variable in
     continues_as env outer old c.access.new.self _ _ c.access.result
-    (does-Variable given.access given.indexes given.defined c.args.expression.now given.is c.deref.result.now c.deref.ensures.value env outer
+    (does-Variable given.access given.indexes given.holds given.defined c.args.expression.now given.is c.deref.result.now c.deref.ensures.value env outer
     (reverse old.pending.items) (operands_of old) s)
     (c.access.ensures.does env outer (entered given.access.number env s) agrees)
 
@@ -48,3 +48,12 @@ returns-in-Call-clause-does c = λ env outer s agrees.
     (does-Call given.call given.actuals c.args.expression.now given.is given.call refl c.deref-in-Call.result.now c.deref-in-Call.ensures.value env outer
     (reverse old.pending.items) (operands_of old) s)
     (c.call.ensures.does env outer (entered given.call.number env s) agrees)
+
+pub returns-in-Set-clause-does : goal.returns-in-Set-clause-does
+returns-in-Set-clause-does c = λ env outer s agrees.
+    let old = c.args.self.now in
+    let given = c.in-Set in
+    continues_as env outer old c.constructor.new.self _ _ c.constructor.result
+    (does-Set given.number given.designators given.members c.args.expression.now given.is c.deref-in-Set.result.now c.deref-in-Set.ensures.value
+    c.deref-in-Set-2.result.now c.deref-in-Set-2.ensures.value env outer (reverse old.pending.items) (operands_of old) s)
+    (c.constructor.ensures.does env outer (entered given.number env s) agrees)

@@ -14,7 +14,7 @@ invariant_of-self-inside-2 c =
         omega arith,
         (
           c.self.inside.few_entries,
-          (c.self.inside.few_loops, tt),
+          (c.self.inside.few_loops, (c.self.inside.few_records, tt)),
         ),
       ),
     )

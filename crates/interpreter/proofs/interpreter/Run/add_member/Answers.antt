@@ -1,0 +1,26 @@
+use Rattle.std.proofs.Common.{List, ℕ, ℤ, ◌∙◌, ap, subst}
+use Rattle.interpreter.specs.declared.interpreter.Run.{Run}
+use Rattle.meaning.specs.declared.store.Value.TheVariants.{Number}
+use Rattle.meaning.specs.Effect.{members_of}
+use Rattle.meaning.specs.Meaning.{Argument, with_one}
+use Rattle.operations.specs.Answers.{Answers}
+use Rattle.interpreter.specs.Pending.{top_of, below_top, operands_of}
+use Rattle.interpreter.proofs.Resuming.{goes_on_by, set_in_hand}
+use Rattle.interpreter.proofs.interpreter.Run.add_member.Goals as goal
+
+pub returns-clause-does : goal.returns-clause-does
+returns-clause-does c = λ env outer s agrees.
+    let old = c.args.self.now in
+    let operands = operands_of old in
+    let taken = c.popped_set-set.new.self in
+    let answer = c.with_one.result in
+    let top = c.popped_number-member.ensures in
+    let under = c.popped_set-set.ensures in
+    let same = under.same ∙ ap (λ (r : Run). record r { operands = taken.operands }) top.same in
+    let set = members_of (top_of (below_top operands)) in
+    let answers : Answers (with_one c.args.site (top_of operands) set) answer =
+    subst (λ (n : ℤ). Answers (with_one c.args.site (Number n) set) answer) top.top
+    (subst (λ (m : ℕ). Answers (with_one c.args.site (Number c.popped_number-member.result) m) answer)
+    (under.top ∙ ap (λ (l : List Argument). members_of (top_of l)) top.below) c.with_one.ensures) in
+    goes_on_by set_in_hand old taken c.go_on_with_set.new.self env outer s (with_one c.args.site (top_of operands) set) answer
+    (below_top (below_top operands)) c.go_on_with_set.result same (under.below ∙ ap below_top top.below) (answers s) agrees c.go_on_with_set.ensures.does

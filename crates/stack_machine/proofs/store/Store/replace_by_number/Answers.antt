@@ -1,0 +1,21 @@
+use Rattle.std.proofs.Common.{arith, ap, ◌∙◌, ◌≤◌, ◌+◌, ◌-◌, ◌<◌, length, take}
+use Rattle.stack_machine.specs.declared.cell.Cell.TheVariants.{Number}
+use Rattle.std.proofs.lemmas.Int.{to_z-of_z}
+use Rattle.std.specs.Int.{w32}
+use Rattle.std.specs.Prelude.{slice_set}
+use mir.Val.{SFits}
+use Rattle.stack_machine.specs.Frames.{Frames}
+use Rattle.stack_machine.proofs.Used.{replaced}
+use Rattle.stack_machine.proofs.store.Store.replace_by_number.Goals as goal
+
+pub returns-clause-value : goal.returns-clause-value
+returns-clause-value c =
+    let s = c.args.self.now in
+    let fits : SFits w32 c.args.number = c.ranges.number in
+    let in_row : s.used ≤ length s.cells = omega arith in
+    let few : c.args.count ≤ s.used = omega arith in
+    let room : s.used < length s.cells + c.args.count = omega arith in
+    ap (λ cells. let f : Frames = record { cells = cells; frame = s.frame; limit = s.limit; size = s.size } in f)
+    (ap (take (s.used - c.args.count + 1)) (c.put_number.ensures
+    ∙ ap (λ n. slice_set s.cells (s.used - c.args.count) (Number n)) (to_z-of_z w32 c.args.number fits))
+    ∙ replaced s.cells s.used c.args.count (Number c.args.number) in_row few room)
