@@ -377,9 +377,11 @@ module _ (tree : Tree) (certificate : Certificate) (unbroken : (program_walk tre
       result-by None is =
           let same : used.after ≡ body.after =
           ap (λ (found : Option FunctionResult). (result_use found (within number) body.after).after) is in
-          good-give world (λ v store. LiesInResult world number None v × AllHold tree claims.exit visible store) (Number (pos 0)) t here.fine
-          (tt, exit-holds t.store numbers (subst (λ (state : State). Knows (parts_in world) (variables_in world) visible state t.store) (sym same)
-          here.stands.known))
+          good-give world (λ v store. LiesInResult world number None v × AllHold tree claims.exit visible store) (Number (pos 0)) t here.fine (
+            tt,
+            exit-holds t.store numbers (subst (λ (state : State). Knows (parts_in world) (variables_in world) visible state t.store) (sym same)
+                here.stands.known),
+          )
       result-by (Some result) is =
           let own = result-well result is in
           let at = here.proper.visible result.root own.1 in

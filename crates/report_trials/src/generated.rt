@@ -141,7 +141,15 @@ static CHOICES: [(u8, &[&str]); 37] = [
     (
         b'^',
         &[
-            "!", "!", "[]", "[_]", "[_]", "(! + [_])", "(! * [_])", "(! - [N])", "(! + !)",
+            "!",
+            "!",
+            "[]",
+            "[_]",
+            "[_]",
+            "(! + [_])",
+            "(! * [_])",
+            "(! - [N])",
+            "(! + !)",
         ],
     ),
     (
@@ -250,7 +258,8 @@ procedure q(n: integer; var t: integer); procedure r; begin ##end; begin @end;
 // The first of the program's own statements; none else begins so.
 const START: &[u8] = b"begin a := 3; b := 7; ";
 
-const BODY: &str = "begin a := 3; b := 7; d := true; e := odd(a); f := 'a'; g := 'm'; h := red; k := 1; u := [];
+const BODY: &str =
+    "begin a := 3; b := 7; d := true; e := odd(a); f := 'a'; g := 'm'; h := red; k := 1; u := [];
 v := [1..3]; w[1].x := 2; w[1].y := []; Pend.";
 
 // A program of a few statements over five integers and two Booleans, two characters, a colour, a digit, two sets and
