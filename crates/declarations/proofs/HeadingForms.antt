@@ -14,7 +14,8 @@ use Rattle.typing.specs.Blocks.{heading_ends}
 use Rattle.typing.specs.Names.{all_folded, formal_names}
 use Rattle.typing.specs.Outcomes.{IsFault}
 use Rattle.typing.specs.Steps.{enclosing_now, open_block, program_block, with_enclosing}
-use Rattle.typing.specs.Passing.{Enclosing, Passed, Checked, After, Passing, after, and_then, behind_marks, pure, ◌>>=◌}
+use Rattle.typing.specs.Passing.{Enclosing, Passed, After, Passing, after, behind_marks, pure, ◌>>=◌}
+use Rattle.typing_rules.specs.Checked.{Checked, and_then}
 use Rattle.typing.specs.Routines.{declared, group_types, heading, parameter_kind, parameters, parameters_named, result}
 use Rattle.typing.proofs.Collected.{AreFrom, before, before_none, before_more, gather_begins, gather_next, gather_stops, gather_ends}
 use Rattle.typing.proofs.DenoterRows.{past_one}

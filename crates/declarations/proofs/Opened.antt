@@ -13,7 +13,8 @@ use Rattle.typed_tree.specs.declared.fault.TypeFault.{TypeFault}
 use Rattle.typing.specs.Blocks.{BeginsBlock, block_begins}
 use Rattle.typing.specs.declared.blocks.BegunBlock.{BegunBlock}
 use Rattle.typing.specs.Names.{folded, all_folded, heading_names, type_names, group_names}
-use Rattle.typing.specs.Passing.{Headed, Enclosing, Passed, Checked, After, after}
+use Rattle.typing.specs.Passing.{Headed, Enclosing, Passed, After, after}
+use Rattle.typing_rules.specs.Checked.{Checked}
 use Rattle.typing.specs.Routines.{typed_block}
 use Rattle.typing.specs.Steps.{enclosing_now, heading_at, open_beside, open_block, with_enclosing}
 use Rattle.typing.proofs.Written.{block_names_are}

@@ -10,7 +10,8 @@ use Rattle.typed_tree.specs.declared.fault.TypeFault.{TypeFault}
 use Rattle.typing.specs.Denoters.{constants_from}
 use Rattle.typing.specs.Names.{folded}
 use Rattle.typing.specs.Outcomes.{IsFault}
-use Rattle.typing.specs.Passing.{Passed, Checked, After, after, and_then, behind_marks}
+use Rattle.typing.specs.Passing.{Passed, After, after, behind_marks}
+use Rattle.typing_rules.specs.Checked.{Checked, and_then}
 use Rattle.typing.specs.Steps.{value_of, declare}
 use Rattle.typing.proofs.Rows.{behind_nothing}
 use Rattle.declarations.specs.Known.{AreKnown}

@@ -13,7 +13,8 @@ use Rattle.place.specs.declared.Place.{Place}
 use Rattle.types.specs.declared.form.TypeId.{TypeId}
 use Rattle.typing.specs.Blocks.{heading_ends}
 use Rattle.typing.specs.Names.{all_folded, formal_names, heading_names}
-use Rattle.typing.specs.Passing.{Checked, After, Passing, each, ◌>>=◌, ◌>>◌}
+use Rattle.typing.specs.Passing.{After, Passing, each, ◌>>=◌, ◌>>◌}
+use Rattle.typing_rules.specs.Checked.{Checked}
 use Rattle.typing.specs.Routines.{Begun, definition, group, group_types, parameters, result, type_definition}
 use Rattle.typing.specs.Routines.{type_of_result, typed_block}
 use Rattle.typing.specs.Steps.{begins, enclosing_now, open_block, with_enclosing}

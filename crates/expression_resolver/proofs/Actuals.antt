@@ -12,7 +12,8 @@ use Rattle.typed_tree.specs.Kinds.{is_held_passed}
 use Rattle.typed_tree.specs.Tests.{all_hold}
 use Rattle.typed_tree.specs.Look.{Look, look_passed}
 use Rattle.typed_tree.specs.WellFormed.{placed}
-use Rattle.typing.specs.Passing.{Passed, Checked, After, after, and_then, behind_marks}
+use Rattle.typing.specs.Passing.{Passed, After, after, behind_marks}
+use Rattle.typing_rules.specs.Checked.{Checked, and_then}
 use Rattle.typing.specs.Expressions.{actual, actuals_for, written_actual}
 use Rattle.typing.specs.Outcomes.{IsFault}
 use Rattle.typing.proofs.Rows.{behind_nothing, behind_both}

@@ -4,10 +4,12 @@ use Rattle.std.specs.Prelude.{slice_get}
 use Rattle.place.specs.declared.Place.{Place}
 use Rattle.types.specs.declared.form.TypeId.{TypeId}
 use Rattle.typed_tree.specs.declared.tree.Variable.{Variable}
-use Rattle.typing.specs.declared.typed.Typed.{Typed}
-use Rattle.typing.specs.Passing.{Passed, Passing, Checked, After, after, and_then, behind_marks, given, pure, ◌>>=◌}
+use Rattle.typing_rules.specs.declared.typed.Typed.{Typed}
+use Rattle.typing.specs.Passing.{Passed, Passing, After, after, behind_marks, given, pure, ◌>>=◌}
+use Rattle.typing_rules.specs.Checked.{Checked, and_then}
 use Rattle.typing.specs.Steps.{host_type, variable_at}
-use Rattle.typing.specs.Expressions.{or_no_result, result_variable, typed}
+use Rattle.typing.specs.Expressions.{or_no_result, result_variable}
+use Rattle.typing_rules.specs.Typed.{typed}
 use Rattle.expression_resolver.specs.Made.{host_found}
 use Rattle.expression_resolver.proofs.Results.{result_host}
 

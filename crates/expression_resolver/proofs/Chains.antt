@@ -12,8 +12,9 @@ use Rattle.syntax_tree.specs.declared.Expr.TheVariants as syntax
 use Rattle.typed_tree.specs.declared.site.SiteKind.{SiteKind}
 use Rattle.typed_tree.specs.declared.tree.Link.{Link as TreeLink}
 use Rattle.typed_tree.specs.Look.{look_link}
-use Rattle.typing.specs.declared.typed.Typed.{Typed}
-use Rattle.typing.specs.Passing.{Passed, after, and_then, behind_marks}
+use Rattle.typing_rules.specs.declared.typed.Typed.{Typed}
+use Rattle.typing.specs.Passing.{Passed, after, behind_marks}
+use Rattle.typing_rules.specs.Checked.{and_then}
 use Rattle.typing.specs.Expressions.{expression, written_link, begun_by, chain, chain_behind, links, relation, relation_behind}
 use Rattle.typing.proofs.Rows.{behind_both}
 use Rattle.typing.proofs.Written.{typing_chain, typing_relation}

@@ -7,9 +7,12 @@ use Rattle.typed_tree.specs.declared.tree.Fitted.{Fitted}
 use Rattle.typed_tree.specs.declared.tree.RangeTest.{RangeTest}
 use Rattle.typed_tree.specs.declared.tree.Scalar.{Scalar}
 use Rattle.typed_tree.specs.Look.{Mark, look_expr}
-use Rattle.typing.specs.Passing.{Passed, Passing, and_then, behind_marks, mark, pure, ◌>>=◌, ◌>>?◌}
-use Rattle.typing.specs.Steps.{or_mismatch, site}
-use Rattle.typing.specs.Expressions.{Written, fitting, test_kind}
+use Rattle.typing.specs.Passing.{Passed, Passing, behind_marks, mark, pure, ◌>>=◌, ◌>>?◌}
+use Rattle.typing_rules.specs.Checked.{and_then}
+use Rattle.typing.specs.Steps.{site}
+use Rattle.typing_rules.specs.Checked.{or_mismatch}
+use Rattle.typing.specs.Expressions.{Written}
+use Rattle.typing_rules.specs.Targets.{fitting, test_kind}
 use Rattle.typing.specs.Outcomes.{Makes}
 use Rattle.typing.proofs.Rows.{then_assoc}
 use Rattle.expression_resolver.specs.Made.{MakesFitted, fitted}

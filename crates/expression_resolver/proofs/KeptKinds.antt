@@ -42,14 +42,18 @@ use Rattle.typed_tree.specs.Accesses.{Origin}
 use Rattle.typed_tree.specs.WellFormed.{is_variable_kind}
 use Rattle.typed_tree.specs.Look as Look
 use Rattle.typed_tree.specs.Look.{Mark}
-use Rattle.typing.specs.declared.typed.Typed.{Typed}
-use Rattle.typing.specs.Passing.{Passed, Checked, After, Passing, after, and_then, behind_marks, by_types, fail, given, mark, pure, ◌>>=◌}
+use Rattle.typing_rules.specs.declared.typed.Typed.{Typed}
+use Rattle.typing.specs.Passing.{Passed, After, Passing, after, behind_marks, by_types, fail, given, mark, pure, ◌>>=◌}
+use Rattle.typing_rules.specs.Checked.{Checked, and_then}
 use Rattle.typing.specs.Steps as Steps
 use Rattle.typing.specs.Strings.{string_type}
 use Rattle.typing.specs.Functions as Functions
 use Rattle.typing.specs.Expressions as Expressions
-use Rattle.typing.specs.Expressions.{Copy, Denoted, Written, WrittenActual, WrittenLink, entire, expression, written_actual, written_link}
+use Rattle.typing.specs.Expressions.{Denoted, Written, WrittenActual, WrittenLink, entire, expression, written_actual, written_link}
+use Rattle.typing_rules.specs.Targets.{Copy}
 use Rattle.typing.proofs.Ways.{Goes, Walks, test_walks}
+use Rattle.typing_rules.specs.Typed.{typed}
+use Rattle.typing_rules.specs.Denotations.{as_routine}
 use Rattle.expression_resolver.specs.Made.{fitted}
 use Rattle.expression_resolver.specs.Values.{AreTestedAlike, tested_as}
 
@@ -423,7 +427,7 @@ required_call_keeps d name actuals lead laws =
     let law = only_keeps name.place actuals laws w is in
     then_keeps (test_walks _ (law.typing None)) λ does.
     then_keeps (mark_keeps (Look.Applied does.0)) λ _.
-    pure_keeps (Expressions.typed does.1 id)
+    pure_keeps (typed does.1 id)
 
 call_by_keeps : (routine : Option (ℕ × Bool)) (d : Denotation) (name : Name) (actuals : List WrittenActual) (lead : Option SiteKind) → KeepActuals actuals
     → Keeps (Expressions.call_by routine d name actuals lead)
@@ -510,7 +514,7 @@ expression_layer (layer.Component name selectors indexes) =
 expression_layer (layer.String text place) = from_layer (layer.String text place) (written_keeps place _ (string_keeps text.now place))
 expression_layer (layer.Call name actuals) =
     from_layer (bare (layer.Call name actuals))
-    (written_keeps name.place _ (λ lead. then_keeps (find_keeps name) λ d. call_by_keeps (Expressions.as_routine d) d name _ lead
+    (written_keeps name.place _ (λ lead. then_keeps (find_keeps name) λ d. call_by_keeps (as_routine d) d name _ lead
     (all_actuals actuals.items)))
 expression_layer (layer.Parenthesized place inner) =
     from_layer (bare (layer.Parenthesized place inner)) (written_keeps place _ (λ lead. search (keep, behind_keeps, inner.value.1.typing)))

@@ -14,7 +14,8 @@ use Rattle.typed_tree.specs.declared.tree.Designator.{Designator}
 use Rattle.typed_tree.specs.declared.tree.Designator.TheVariants as designator
 use Rattle.typed_tree.specs.Look.{look_expr}
 use Rattle.typed_tree.specs.WellFormed.{members_wanted}
-use Rattle.typing.specs.Passing.{Passed, Checked, After, after, and_then, behind_marks, pure, ◌>>=◌}
+use Rattle.typing.specs.Passing.{Passed, After, after, behind_marks, pure, ◌>>=◌}
+use Rattle.typing_rules.specs.Checked.{Checked, and_then}
 use Rattle.typing.specs.Expressions.{Written, expression, first_member, last_member, member, members}
 use Rattle.typing.specs.Outcomes.{IsFault}
 use Rattle.typing.proofs.Rows.{behind_both, behind_nothing}

@@ -4,7 +4,8 @@ use Rattle.syntax_tree.specs.declared.Name.{Name}
 use Rattle.syntax_tree.specs.declared.Expr.{Expr as SyntaxExpr}
 use Rattle.syntax_tree.specs.declared.Expr.TheVariants as syntax
 use Rattle.typed_tree.specs.declared.site.SiteKind.{SiteKind}
-use Rattle.typing.specs.Passing.{Passed, and_then, behind_marks}
+use Rattle.typing.specs.Passing.{Passed, behind_marks}
+use Rattle.typing_rules.specs.Checked.{and_then}
 use Rattle.typing.specs.Steps.{find}
 use Rattle.typing.specs.Expressions.{expression, named, denoted}
 use Rattle.typing.proofs.Written.{typing_name}

@@ -39,16 +39,25 @@ use Rattle.typed_tree.specs.Look.{Begins, Compared, Ends, Look, Operator as Oper
 use Rattle.typed_tree.proofs.Looks.{look_chain, look_linked}
 use Rattle.typed_tree.specs.Tests.{of_one}
 use Rattle.typing.specs.declared.functions.BegunFunction.{BegunFunction}
-use Rattle.typing.specs.declared.typed.Typed.{Typed}
-use Rattle.typing.specs.declared.typed.TypedValue.{TypedValue}
-use Rattle.typing.specs.declared.typed.TypedValue.TheVariants as typed
+use Rattle.typing_rules.specs.declared.typed.Typed.{Typed}
+use Rattle.typing_rules.specs.declared.typed.TypedValue.{TypedValue}
+use Rattle.typing_rules.specs.declared.typed.TypedValue.TheVariants as typed
 use Rattle.typing.specs.Functions.{applied, applied_to}
-use Rattle.typing.specs.Passing.{Passed, Checked, After, after, and_then, behind_marks, pure}
-use Rattle.typing.specs.Steps.{or_mismatch}
-use Rattle.typing.specs.Expressions.{Copy, compares, fitting_members, fitting_value, is_ordinal_of, is_scalar_value, may_compare, may_contain, may_relate}
-use Rattle.typing.specs.Expressions.{member_of, member_type, member_with_site, members_test, operand_type, operation, operation_or, ordinal_type}
-use Rattle.typing.specs.Expressions.{relation_behind_value}
-use Rattle.typing.specs.Expressions.{relation_of, result_of, set_operation, set_operation_behind, set_relation_of, tested, whole_copy}
+use Rattle.typing.specs.Passing.{Passed, After, after, behind_marks, pure}
+use Rattle.typing_rules.specs.Checked.{Checked, and_then}
+use Rattle.typing_rules.specs.Checked.{or_mismatch}
+use Rattle.typing.specs.Expressions.{compares}
+use Rattle.typing_rules.specs.Targets.{Copy, fitting_members, fitting_value}
+use Rattle.typing_rules.specs.Typed.{is_ordinal_of, is_scalar_value}
+use Rattle.typing_rules.specs.Operators.{may_compare, may_contain, may_relate}
+use Rattle.typing.specs.Expressions.{operation, operation_or}
+use Rattle.typing_rules.specs.Operators.{member_of, member_type, member_with_site, operand_type}
+use Rattle.typing_rules.specs.Targets.{members_test}
+use Rattle.typing_rules.specs.Typed.{ordinal_type}
+use Rattle.typing_rules.specs.Operators.{relation_behind_value}
+use Rattle.typing.specs.Expressions.{tested}
+use Rattle.typing_rules.specs.Operators.{relation_of, result_of, set_operation, set_operation_behind, set_relation_of}
+use Rattle.typing_rules.specs.Targets.{whole_copy}
 use Rattle.expression_resolver.specs.Made.{AreHeldLinks, held_behind, is_such, look_compared, relates}
 use Rattle.expression_resolver.specs.Values.{scalar_of, tested_as}
 use Rattle.expression_resolver.proofs.HeldForms.{held_chain, held_linked, links_more, same_scalar}

@@ -6,7 +6,8 @@ use Rattle.types.specs.declared.form.TypeId.{TypeId}
 use Rattle.types.specs.Types.{host_of}
 use Rattle.typed_tree.specs.declared.fault.TypeFault.TheVariants as fault
 use Rattle.typed_tree.specs.declared.tree.Variable.{Variable}
-use Rattle.typing.specs.Passing.{Passed, Checked, After, after, and_then, behind_marks}
+use Rattle.typing.specs.Passing.{Passed, After, after, behind_marks}
+use Rattle.typing_rules.specs.Checked.{Checked, and_then}
 use Rattle.typing.specs.Steps.{host_type, variable_at}
 use Rattle.typing.specs.Expressions.{result_variable}
 use Rattle.expression_resolver.specs.Made.{host_found}

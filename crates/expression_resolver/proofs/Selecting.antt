@@ -26,8 +26,9 @@ use Rattle.typed_tree.specs.declared.tree.Selector.TheVariants as tree
 use Rattle.typed_tree.specs.Accesses.{Origin, index_count, origin_by, root_of}
 use Rattle.typed_tree.specs.Entries.{joined}
 use Rattle.typed_tree.specs.Look.{Look, Mark, Access, look_expr, look_access}
-use Rattle.typing.specs.declared.typed.Typed.{Typed}
-use Rattle.typing.specs.Passing.{OpenRecord, Passed, Passing, Checked, After, after, and_then, behind_marks, pure, ◌>>=◌, ◌>>◌}
+use Rattle.typing_rules.specs.declared.typed.Typed.{Typed}
+use Rattle.typing.specs.Passing.{OpenRecord, Passed, Passing, After, after, behind_marks, pure, ◌>>=◌, ◌>>◌}
+use Rattle.typing_rules.specs.Checked.{Checked, and_then}
 use Rattle.typing.specs.Steps.{enter_as, find, may_change, record_at, site}
 use Rattle.typing.specs.Expressions.{Denoted, component, entire, field_or_none, field_variable, variable_of}
 use Rattle.typing.specs.Expressions.{Written, behind, selected, accessed, expression}

@@ -16,8 +16,9 @@ use Rattle.typed_tree.specs.declared.tree.Expr.{Expr}
 use Rattle.typed_tree.specs.declared.tree.Selector.{Selector as TreeSelector}
 use Rattle.typed_tree.specs.Accesses.{Origin, index_count, origin_by, root_of}
 use Rattle.typed_tree.specs.Look.{Look, Access, look_expr}
-use Rattle.typing.specs.declared.typed.Typed.{Typed}
-use Rattle.typing.specs.Passing.{Passed, Passing, Checked, After, after, behind_marks, pure, ◌>>=◌, ◌>>◌}
+use Rattle.typing_rules.specs.declared.typed.Typed.{Typed}
+use Rattle.typing.specs.Passing.{Passed, Passing, After, after, behind_marks, pure, ◌>>=◌, ◌>>◌}
+use Rattle.typing_rules.specs.Checked.{Checked}
 use Rattle.typing.specs.Steps.{find, may_change, site, enter_as}
 use Rattle.typing.specs.Expressions.{Denoted, Written, behind, expression, kind_now, selected, value_of_kind}
 use Rattle.typing.specs.Expressions.{accessed, variable_of}

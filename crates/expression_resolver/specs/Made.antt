@@ -33,14 +33,19 @@ use Rattle.typed_tree.specs.Kinds.{Held, expression_held, is_held, is_same, link
 use Rattle.typed_tree.specs.Look.{Look, Text, Operation, Applied, Begins, Operator, Compared, Ends, look_call}
 use Rattle.typed_tree.specs.Look.{Constructed, Constructs, look_expr, look_link, look_passed, look_whole}
 use Rattle.typed_tree.specs.WellFormed.{members_wanted, placed}
-use Rattle.typing.specs.declared.typed.Typed.{Typed}
-use Rattle.typing.specs.declared.typed.TypedValue.{TypedValue}
-use Rattle.typing.specs.Passing.{Passed, Passing, Checked, After, after, and_then, behind_marks, given, pure, ◌>>=◌}
+use Rattle.typing_rules.specs.declared.typed.Typed.{Typed}
+use Rattle.typing_rules.specs.declared.typed.TypedValue.{TypedValue}
+use Rattle.typing.specs.Passing.{Passed, Passing, After, after, behind_marks, given, pure, ◌>>=◌}
+use Rattle.typing_rules.specs.Checked.{Checked, and_then}
 use Rattle.typing.specs.Passing.{◌>>◌, ◌>>?◌}
-use Rattle.typing.specs.Steps.{enter, enter_as, host_type, or_mismatch, site}
-use Rattle.typing.specs.Expressions.{Copy, Written, behind, copying, fitting, is_scalar_value, last_member}
+use Rattle.typing.specs.Steps.{enter, enter_as, host_type, site}
+use Rattle.typing_rules.specs.Checked.{or_mismatch}
+use Rattle.typing.specs.Expressions.{Written, behind, last_member}
+use Rattle.typing_rules.specs.Targets.{Copy, copying, fitting}
+use Rattle.typing_rules.specs.Typed.{is_scalar_value}
 use Rattle.typing.specs.Expressions.{or_no_result}
-use Rattle.typing.specs.Expressions.{test_kind, typed, typed_set, typed_text, whole_copy}
+use Rattle.typing_rules.specs.Targets.{test_kind, whole_copy}
+use Rattle.typing_rules.specs.Typed.{typed, typed_set, typed_text}
 use Rattle.typing.specs.Outcomes.{IsFault, Makes, Tells}
 use Rattle.expression_resolver.specs.declared.typed.Begun.{Begun}
 use Rattle.expression_resolver.specs.declared.typed.Members.{Members}

@@ -17,9 +17,9 @@ use Rattle.typed_tree.specs.Kinds.{are_ordinal_indexes, held_by, is_held, is_hel
 use Rattle.typed_tree.specs.Look.{Look, Text as TextMark, look_expr, look_whole}
 use Rattle.typed_tree.specs.Tests.{all_hold}
 use Rattle.typed_tree.specs.WellFormed.{length_of, source_of}
-use Rattle.typing.specs.declared.typed.TypedValue.{TypedValue}
-use Rattle.typing.specs.declared.typed.TypedValue.TheVariants as typed
-use Rattle.typing.specs.Expressions.{Copy}
+use Rattle.typing_rules.specs.declared.typed.TypedValue.{TypedValue}
+use Rattle.typing_rules.specs.declared.typed.TypedValue.TheVariants as typed
+use Rattle.typing_rules.specs.Targets.{Copy}
 use Rattle.expression_resolver.specs.declared.value.Value.{Value}
 use Rattle.expression_resolver.specs.declared.value.Value.TheVariants.{Ordinal, Set, Text, Variable}
 

@@ -3,7 +3,7 @@ ghost use Rattle.typed_tree.specs.Accesses.{index_count, origin_by, origin_of};
 ghost use Rattle.typed_tree.specs.Kinds.{are_ordinal_indexes, held_by, is_held};
 ghost use Rattle.typed_tree.specs.Look as look;
 ghost use Rattle.typed_tree.specs.Look.{Constant, look_access, look_expr};
-ghost use Rattle.typing.specs.Expressions.{typed};
+ghost use Rattle.typing_rules.specs.Typed.{typed};
 ghost use Rattle.typing.specs.Passing.{after};
 ghost use Rattle.typing.specs.View.{denoted_of};
 ghost use Rattle.expression_resolver.specs.Accesses.{IsCounted, MakesEntered, MakesVariable, SelectsField};

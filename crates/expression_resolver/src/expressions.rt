@@ -37,11 +37,11 @@ use typed_tree::tree::{
     Selector, VariableKind, Whole,
 };
 use types::{ArrayElement, TypeId, TypeKind, TypeTable};
-use typing::rules::{
-    as_function, as_routine, copying, fitting, may_index, may_relate, member_of, member_with_site,
-    members_test, relation_behind, result_of, sign_operation, test_kind,
+use typing::{DenotedVariable, Typer, characters};
+use typing_rules::{
+    Typed, as_function, as_routine, copying, fitting, may_index, may_relate, member_of,
+    member_with_site, members_test, relation_behind, result_of, sign_operation, test_kind,
 };
-use typing::{DenotedVariable, Typed, Typer, characters};
 
 /// An expression, by the kind of its leading site.
 #[cycle(expressions)]

@@ -3,7 +3,7 @@ ghost use Rattle.typed_tree.specs.declared.fault.TypeFault.TheVariants.{Memory};
 ghost use Rattle.typed_tree.specs.Kinds.{held_by, is_held, is_ordinal_expr, links_held};
 ghost use Rattle.typed_tree.specs.Look.{look_expr};
 ghost use Rattle.types.specs.Types.{boolean};
-ghost use Rattle.typing.specs.Expressions.{is_scalar_value, typed};
+ghost use Rattle.typing_rules.specs.Typed.{is_scalar_value, typed};
 ghost use Rattle.expression_resolver.specs.Made.{IsMonadicOf, IsChainOf, IsRelationOf, held_behind, relates};
 ghost use Rattle.expression_resolver.specs.Made.{typed_of};
 ghost use Rattle.expression_resolver.specs.Values.{is_held_as_told, look_value, scalar_of, value_of};
@@ -14,7 +14,7 @@ use std::alloc::Global;
 use typed_tree::fault::TypeFault;
 use typed_tree::tree::{Dyadic, Expr, Link, Monadic};
 use types::{TypeId, TypeTable};
-use typing::TypedValue;
+use typing_rules::TypedValue;
 
 /// An operation on an operand, an ordinal, with a result of a type.
 #[tactic(auto, using(typed_tree::proofs::Looks::look_monadic, crate::proofs::HeldForms::held_monadic))]

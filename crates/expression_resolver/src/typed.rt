@@ -8,7 +8,7 @@ use std::alloc::Global;
 use typed_tree::fault::TypeFault;
 use typed_tree::tree::{Access, Base, Call, Designator, Expr, Link, Passed, Selector, Whole};
 use types::TypeId;
-use typing::{Typed, TypedValue};
+use typing_rules::{Typed, TypedValue};
 
 /// An expression, and the id of its leading site.
 #[derive(Drop)]
@@ -23,7 +23,8 @@ impl TypedExpr {
     ghost use Rattle.typed_tree.specs.declared.fault.TypeFault.TheVariants.{Mismatch};
     ghost use Rattle.typed_tree.specs.Kinds.{held_by, is_held, is_held_value};
     ghost use Rattle.typed_tree.specs.Look.{look_expr, look_whole};
-    ghost use Rattle.typing.specs.Expressions.{is_of, is_scalar_value, whole_copy};
+    ghost use Rattle.typing_rules.specs.Typed.{is_of, is_scalar_value};
+    ghost use Rattle.typing_rules.specs.Targets.{whole_copy};
     ghost use Rattle.expression_resolver.specs.Made.{typed_of};
     ghost use Rattle.expression_resolver.specs.Values.{copy_of, look_value, scalar_of, value_of};
 

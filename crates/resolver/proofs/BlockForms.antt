@@ -22,7 +22,8 @@ use Rattle.typing.specs.View.{enclosing_of}
 use Rattle.typing.specs.declared.blocks.BegunBlock.{BegunBlock}
 use Rattle.typing.specs.Names.{all_folded}
 use Rattle.typing.specs.Outcomes.{IsFault}
-use Rattle.typing.specs.Passing.{Headed, Enclosing, Passed, Checked, After, Passing, after, and_then, behind_marks, each, mark, ◌>>◌}
+use Rattle.typing.specs.Passing.{Headed, Enclosing, Passed, After, Passing, after, behind_marks, each, mark, ◌>>◌}
+use Rattle.typing_rules.specs.Checked.{Checked, and_then}
 use Rattle.typing.specs.Routines.{Begun, TypedBlock, TypedRoutine, all_came, block_end, definition, group, headed, heading_name, result_at_end, routine_block}
 use Rattle.typing.specs.Routines.{routine_step}
 use Rattle.typing.specs.Routines.{routine_body, type_definition, typed_block, typed_routine}

@@ -12,7 +12,8 @@ use Rattle.types.specs.declared.form.TypeId.{TypeId}
 use Rattle.typed_tree.specs.declared.fault.TypeFault.{TypeFault}
 use Rattle.typed_tree.specs.declared.tree.Stmt.{Stmt}
 use Rattle.typed_tree.specs.Look.{Look, Arm, look_stmt, arms_look}
-use Rattle.typing.specs.Passing.{Passed, Passing, Checked, After, after, and_then, behind_marks, mark, ◌>>◌}
+use Rattle.typing.specs.Passing.{Passed, Passing, After, after, behind_marks, mark, ◌>>◌}
+use Rattle.typing_rules.specs.Checked.{Checked, and_then}
 use Rattle.typing.specs.Outcomes.{IsFault}
 use Rattle.typing.specs.Statements.{statement, case_constant, constant_row, case_arms}
 use Rattle.typing.proofs.Rows.{behind_nothing, behind_both}

@@ -9,7 +9,8 @@ use Rattle.typed_tree.specs.Accesses.{Origin, index_count, origin_of}
 use Rattle.typed_tree.specs.Look.{Access, Opens, look_record}
 use Rattle.typing.specs.Expressions.{Denoted, selected, variable_of}
 use Rattle.typing.specs.Outcomes.{IsFault}
-use Rattle.typing.specs.Passing.{Passed, Passing, after, and_then, behind_marks, each, mark, ◌>>=◌, ◌>>◌}
+use Rattle.typing.specs.Passing.{Passed, Passing, after, behind_marks, each, mark, ◌>>=◌, ◌>>◌}
+use Rattle.typing_rules.specs.Checked.{and_then}
 use Rattle.typing.specs.Statements.{WrittenVariable, opened, opened_record, written_record}
 use Rattle.typing.specs.Steps.{close_record, enter_as, open_record}
 use Rattle.typing.proofs.Rows.{behind_nothing}

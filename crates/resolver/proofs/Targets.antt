@@ -12,9 +12,11 @@ use Rattle.typed_tree.specs.declared.fault.TypeFault.{TypeFault}
 use Rattle.typed_tree.specs.declared.tree.Selector.{Selector as TreeSelector}
 use Rattle.typed_tree.specs.Accesses.{Origin, index_count, origin_of, root_of}
 use Rattle.typed_tree.specs.Look.{Look, Access, Target, WholeTarget}
-use Rattle.typing.specs.Expressions.{Denoted, Written, as_routine, kind_now, selected}
+use Rattle.typing.specs.Expressions.{Denoted, Written, kind_now, selected}
+use Rattle.typing_rules.specs.Denotations.{as_routine}
 use Rattle.typing.specs.Outcomes.{IsFault, Makes}
-use Rattle.typing.specs.Passing.{Passed, Passing, Checked, After, after, and_then, behind_marks, mark, pure, ◌>>=◌, ◌>>◌}
+use Rattle.typing.specs.Passing.{Passed, Passing, After, after, behind_marks, mark, pure, ◌>>=◌, ◌>>◌}
+use Rattle.typing_rules.specs.Checked.{Checked, and_then}
 use Rattle.typing.specs.Statements.{Accessed, assigned, assigned_by_kind, copied, target, target_mark, target_of}
 use Rattle.typing.specs.Steps.{enter_as, find, may_change}
 use Rattle.typing.proofs.Rows.{behind_nothing}

@@ -38,7 +38,8 @@ use Rattle.typed_tree.specs.Look.{Look, Mark, Fits, If, Then, Else, For, Case, T
 use Rattle.typed_tree.specs.Look.{look_block, look_expr, look_stmt, arms_look, tree_look, look_access, look_written}
 use Rattle.typed_tree.specs.Look.{look_parameter, look_record, look_width}
 use Rattle.typing.specs.Expressions.{Denoted, entire}
-use Rattle.typing.specs.Passing.{Passed, Passing, Checked, After, after, pure, ◌>>=◌, ◌>>◌}
+use Rattle.typing.specs.Passing.{Passed, Passing, After, after, pure, ◌>>=◌, ◌>>◌}
+use Rattle.typing_rules.specs.Checked.{Checked}
 use Rattle.typing.specs.Outcomes.{IsFault, Makes}
 use Rattle.typing.specs.Sound.{IsTyped}
 use Rattle.typing.specs.Typing.{typing}

@@ -1,7 +1,8 @@
 ghost use Rattle.std.specs.Prelude.{◌≡◌, [], true, IfOk, map};
 ghost use Rattle.typed_tree.specs.Accesses.{index_count};
 ghost use Rattle.typed_tree.specs.Kinds.{is_held_stmt};
-ghost use Rattle.typing.specs.Expressions.{as_routine, expression};
+ghost use Rattle.typing.specs.Expressions.{expression};
+ghost use Rattle.typing_rules.specs.Denotations.{as_routine};
 ghost use Rattle.typing.specs.Outcomes.{Makes};
 ghost use Rattle.typing.specs.Statements as spec;
 ghost use Rattle.typing.specs.View.{denoted_of};
@@ -13,8 +14,8 @@ use scopes::Denotation;
 use syntax_tree as syntax;
 use typed_tree::fault::TypeFault;
 use typed_tree::tree::{Assignment, Base, Copying, Fitted, Stmt};
-use typing::rules::as_routine;
 use typing::{DenotedVariable, Typer};
+use typing_rules::as_routine;
 
 /// An assignment: the target is accessed first, and then comes the value (6.8.2.2).
 #[tactic(auto, using(crate::proofs::HeldStatements::held_assigned), unfolding(typing::specs::Statements::assignment))]

@@ -8,7 +8,7 @@ ghost use Rattle.typing.specs.Passing.{each};
 ghost use Rattle.typing.specs.Expressions.{expression, written_actual};
 ghost use Rattle.typing.specs.Statements as spec;
 ghost use Rattle.typing.specs.Outcomes.{Takes};
-ghost use Rattle.typing.specs.declared.typed.TypedValue.TheVariants.{Ordinal};
+ghost use Rattle.typing_rules.specs.declared.typed.TypedValue.TheVariants.{Ordinal};
 ghost use Rattle.expression_resolver.specs.Made.{typed_of};
 ghost use Rattle.expression_resolver.specs.Values.{look_value, value_of};
 ghost use Rattle.resolver.specs.Made.{MakesStmt, MakesParameter, MakesParameters, MakesWidth, MakesOwnWidth};
@@ -22,8 +22,8 @@ use typed_tree::fault::TypeFault;
 use typed_tree::site::SiteKind;
 use typed_tree::tree::{ProcedureCall, Stmt, Width, WriteParameter, Writing, Written};
 use types::{TypeId, TypeTable};
-use typing::rules::{as_procedure, as_routine, ends_line, is_output, representation};
-use typing::{TypedValue, Typer};
+use typing::Typer;
+use typing_rules::{TypedValue, as_procedure, as_routine, ends_line, is_output, representation};
 
 /// The call of a procedure.
 #[tactic(auto, unfolding(typing::specs::Statements::procedure_call))]

@@ -17,7 +17,7 @@ use typed_tree::site::SiteKind;
 use typed_tree::tree::{CaseHead, Expr, Fitted, ForHead, Stmt};
 use types::{TypeId, TypeTable};
 use typing::Typer;
-use typing::rules::{as_control, ordinal_of, way};
+use typing_rules::{as_control, ordinal_of, way};
 
 /// An empty statement (6.8.2.1).
 #[tactic(auto, using(typed_tree::proofs::Looks::look_empty, crate::proofs::HeldStatements::held_empty))]

@@ -4,7 +4,8 @@ use Rattle.std.proofs.Common.{append_assoc}
 use Rattle.std.proofs.lemmas.List.{drop_more, at_drop_all}
 use Rattle.typed_tree.specs.declared.fault.TypeFault.{TypeFault}
 use Rattle.typed_tree.specs.Look.{Look}
-use Rattle.typing.specs.Passing.{Passed, Checked, After, Passing, after, and_then, behind_marks, pure, ◌>>=◌}
+use Rattle.typing.specs.Passing.{Passed, After, Passing, after, behind_marks, pure, ◌>>=◌}
+use Rattle.typing_rules.specs.Checked.{Checked, and_then}
 use Rattle.typing.specs.Outcomes.{IsFault}
 
 module _ {B : Type 0} where

@@ -16,7 +16,8 @@ use Rattle.typed_tree.specs.declared.fault.TypeFault.TheVariants.{Memory}
 use Rattle.typing.specs.Denoters.{WrittenDenoter, denoted_type, array, arrays, index_type, index_types, named_fields, grouped_fields}
 use Rattle.typing.specs.Denoters.{record_type}
 use Rattle.typing.specs.Outcomes.{IsFault}
-use Rattle.typing.specs.Passing.{Passed, Checked, After, after, and_then, behind_marks, given, ◌>>=◌}
+use Rattle.typing.specs.Passing.{Passed, After, after, behind_marks, given, ◌>>=◌}
+use Rattle.typing_rules.specs.Checked.{Checked, and_then}
 use Rattle.typing.specs.Steps.{add_type, pass}
 use Rattle.typing.proofs.Written.{typing_array, typing_record}
 use Rattle.typing.proofs.Rows.{behind_nothing}

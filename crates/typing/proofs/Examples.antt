@@ -19,20 +19,26 @@ use Rattle.types.specs.Forms.{FieldForm, Enumeration, Subrange, Array, Record, S
 use Rattle.types.specs.declared.form.TypeId.{TypeId}
 use Rattle.types.specs.Types.{required_forms, integer, boolean, char, range_of, field_of}
 use Rattle.typing.specs.Names.{folded, required_region}
-use Rattle.typing.specs.Expressions.{copying, fitting, typed, typed_text, typed_variable, may_compare, may_contain, as_function, field_named}
-use Rattle.typing.specs.Expressions.{relation_behind_value, result_of, typed_set}
+use Rattle.typing.specs.Expressions.{field_named}
+use Rattle.typing_rules.specs.Targets.{copying, fitting}
+use Rattle.typing_rules.specs.Typed.{typed, typed_text, typed_variable}
+use Rattle.typing_rules.specs.Operators.{may_compare, may_contain}
+use Rattle.typing_rules.specs.Denotations.{as_function}
+use Rattle.typing_rules.specs.Operators.{relation_behind_value, result_of}
+use Rattle.typing_rules.specs.Typed.{typed_set}
 use Rattle.typing.specs.Expressions.{or_not_declared}
 use Rattle.typing.specs.Functions.{begins_as, calculation_of, applied}
-use Rattle.typing.specs.Passing.{Checked, and_then}
-use Rattle.typing.specs.declared.typed.Typed.{Typed}
-use Rattle.typing.specs.declared.typed.TypedValue.TheVariants as value
+use Rattle.typing_rules.specs.Checked.{Checked, and_then}
+use Rattle.typing_rules.specs.declared.typed.Typed.{Typed}
+use Rattle.typing_rules.specs.declared.typed.TypedValue.TheVariants as value
 use Rattle.typed_tree.specs.declared.tree.Scalar.TheVariants as scalar
 use Rattle.types.specs.declared.sets.SetBase.{SetBase}
 use Rattle.syntax_tree.specs.declared.RelationalOperator.TheVariants as relational
 use Rattle.typing.specs.Constants.{as_constant, behind_sign, constant_place}
 use Rattle.typing.specs.Statements.{own_constant}
 use Rattle.typing.specs.Denoters.{named_type, between, named_fields}
-use Rattle.typing.specs.Steps.{begins, site, told, value_of}
+use Rattle.typing.specs.Steps.{begins, site, value_of}
+use Rattle.typing_rules.specs.Checked.{told}
 use Rattle.typing.specs.Strings.{string_characters}
 use Rattle.syntax_tree.specs.declared.Name.{Name}
 use Rattle.typed_tree.specs.declared.fault.TypeFault.TheVariants as fault

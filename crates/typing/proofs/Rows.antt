@@ -6,7 +6,8 @@ use Rattle.typed_tree.specs.declared.fault.TypeFault.{TypeFault}
 use Rattle.typed_tree.specs.declared.site.Site.{Site}
 use Rattle.typed_tree.specs.Look.{Look}
 use Rattle.typing.specs.Sound.{stands}
-use Rattle.typing.specs.Passing.{Passed, Checked, After, Passing, after, and_then, behind_marks, each, ◌>>=◌}
+use Rattle.typing.specs.Passing.{Passed, After, Passing, after, behind_marks, each, ◌>>=◌}
+use Rattle.typing_rules.specs.Checked.{Checked, and_then}
 use Rattle.typing.specs.Outcomes.{IsFault}
 
 -- one site more

@@ -15,9 +15,11 @@ use Rattle.typed_tree.specs.declared.tree.Selector.TheVariants as tree
 use Rattle.typed_tree.specs.Look.{Look}
 use Rattle.typing.specs.Expressions.{Written, field_named, index, selected}
 use Rattle.typing.specs.Outcomes.{IsFault}
-use Rattle.typing.specs.Passing.{Passed, Checked, After, after, and_then, behind_marks, by_types, ◌>>=◌}
+use Rattle.typing.specs.Passing.{Passed, After, after, behind_marks, by_types, ◌>>=◌}
+use Rattle.typing_rules.specs.Checked.{Checked, and_then}
 use Rattle.typed_tree.specs.declared.tree.Scalar.TheVariants as scalar
-use Rattle.typing.specs.Steps.{or_mismatch, pass}
+use Rattle.typing.specs.Steps.{pass}
+use Rattle.typing_rules.specs.Checked.{or_mismatch}
 use Rattle.typing.proofs.Rows.{behind_nothing, behind_both, behind_fault}
 
 -- the next selector, and then others

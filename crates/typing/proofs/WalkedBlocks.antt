@@ -35,7 +35,8 @@ use Rattle.typed_tree.specs.declared.tree.FunctionResult.{FunctionResult}
 use Rattle.typed_tree.specs.declared.site.SiteKind.TheVariants as kind
 use Rattle.typed_tree.specs.Look.{Mark, BlockEnds}
 use Rattle.typing.specs.Names.{folded}
-use Rattle.typing.specs.Passing.{Headed, Passed, Checked, Passing, after, and_then, behind_marks, each, fail, pure, mark, ◌>>=◌, ◌>>◌}
+use Rattle.typing.specs.Passing.{Headed, Passed, Passing, after, behind_marks, each, fail, pure, mark, ◌>>=◌, ◌>>◌}
+use Rattle.typing_rules.specs.Checked.{Checked, and_then}
 use Rattle.typing.specs.Steps.{is_assigned, most_sites, site, begins, declare, give_output}
 use Rattle.typing.specs.Denoters as Denoters
 use Rattle.typing.specs.Denoters.{WrittenDenoter, denoted_type, denoter_step}

@@ -53,22 +53,27 @@ use Rattle.typed_tree.specs.WellFormed.{is_variable_kind}
 use Rattle.typed_tree.specs.declared.tree.Representation.{Representation}
 use Rattle.typed_tree.specs.Look as Look
 use Rattle.typed_tree.specs.Look.{Mark}
-use Rattle.typing.specs.declared.typed.Typed.{Typed}
-use Rattle.typing.specs.declared.typed.TypedValue.{TypedValue}
-use Rattle.typing.specs.declared.typed.TypedValue.TheVariants as value
-use Rattle.typing.specs.Passing.{Passed, Checked, After, Passing, after, and_then, behind_marks, each, given, mark, pure, ◌>>=◌, ◌>>◌}
-use Rattle.typing.specs.Steps.{assign_result, close_record, enclosing_now, enter_as, heading_at, may_change, or_mismatch, program_heading, variable_at}
+use Rattle.typing_rules.specs.declared.typed.Typed.{Typed}
+use Rattle.typing_rules.specs.declared.typed.TypedValue.{TypedValue}
+use Rattle.typing_rules.specs.declared.typed.TypedValue.TheVariants as value
+use Rattle.typing.specs.Passing.{Passed, After, Passing, after, behind_marks, each, given, mark, pure, ◌>>=◌, ◌>>◌}
+use Rattle.typing_rules.specs.Checked.{Checked, and_then}
+use Rattle.typing.specs.Steps.{assign_result, close_record, enclosing_now, enter_as, heading_at, may_change, program_heading, variable_at}
+use Rattle.typing_rules.specs.Checked.{or_mismatch}
 use Rattle.typing.specs.Strings.{string_type, string_constant}
 use Rattle.typing.specs.Constants as Constants
 use Rattle.typing.specs.Functions as Functions
 use Rattle.typing.specs.Expressions as Expressions
-use Rattle.typing.specs.Expressions.{Copy, Denoted, Written, WrittenActual, WrittenLink, entire, expression, written_actual, written_link}
+use Rattle.typing.specs.Expressions.{Denoted, Written, WrittenActual, WrittenLink, entire, expression, written_actual, written_link}
+use Rattle.typing_rules.specs.Targets.{Copy, representation_of}
 use Rattle.typing.specs.Statements as Statements
 use Rattle.typing.specs.Statements.{WrittenVariable, statement, written_record}
 use Rattle.typing.proofs.Ways.{Assigned, Goes, find_walks, targets_at, with_result}
 use Rattle.typing.proofs.Ways.{Owner, Way, Walks, numbers_of, then_walks, test_walks, mark_walks, pure_walks, given_walks, enter_walks, tells_then, given_tells}
 use Rattle.typing.proofs.Ways.{test_tells, walk}
 use Rattle.typing.proofs.Ways.{pass_walks, enter_loop_walks, for_body_walks, next_slot_walks, open_record_walks, close_record_walks}
+use Rattle.typing_rules.specs.Typed.{typed}
+use Rattle.typing_rules.specs.Denotations.{as_routine}
 
 module _ (acts : Bool) (owner : Owner) (depth : ℕ) where
   -- ---- constants
@@ -410,7 +415,7 @@ module _ (owner : Owner) (depth : ℕ) where
       tells_then (given_tells WrittenWalks _ (only_walks name.place actuals laws)) λ w law.
       then_walks (test_walks _ (law.typing None)) λ does.
       then_walks (mark_walks (Look.Applied does.0) refl) λ _.
-      pure_walks (Expressions.typed does.1 id)
+      pure_walks (typed does.1 id)
 
   call_by_walks : (routine : Option (ℕ × Bool)) (d : Denotation) (name : Name) (actuals : List WrittenActual) (lead : Option SiteKind) → ActualsWalk actuals
       → Goes_by (Expressions.call_by routine d name actuals lead)
@@ -497,7 +502,7 @@ module _ (owner : Owner) (depth : ℕ) where
   expression_layer (layer.String text place) = from_layer (layer.String text place) (written_walks place _ (string_walks text.now place))
   expression_layer (layer.Call name actuals) =
       from_layer (bare (layer.Call name actuals))
-      (written_walks name.place _ (λ lead. then_walks (find_walks name) λ d. call_by_walks (Expressions.as_routine d) d name _ lead
+      (written_walks name.place _ (λ lead. then_walks (find_walks name) λ d. call_by_walks (as_routine d) d name _ lead
       (all_actuals actuals.items)))
   expression_layer (layer.Parenthesized place inner) =
       from_layer (bare (layer.Parenthesized place inner)) (written_walks place _ (λ lead. search (walk, behind_walks, inner.value.1.typing)))
@@ -573,7 +578,7 @@ module _ (owner : Owner) (depth : ℕ) where
 
   target_walks : (name : Name) (selectors : List Selector) (ws : List Written) → AllWalk ws → Goes_by (Statements.target name selectors ws)
   unfolding Statements.target
-  target_walks name selectors ws laws = then_walks (find_walks name) (λ d. by d (Expressions.as_routine d) selectors)
+  target_walks name selectors ws laws = then_walks (find_walks name) (λ d. by d (as_routine d) selectors)
     where
       result_goes : (old : Passed) (variable : ℕ × TypeId) (outcome : Checked (After Statements.Accessed))
           → Goes (Way true owner depth depth) (with_result variable.0 old) outcome → Goes (IsTold variable.0) (with_result variable.0 old) outcome
@@ -653,7 +658,7 @@ module _ (owner : Owner) (depth : ℕ) where
       string false source h = absurd cc
 
       by : (v : TypedValue) → or_mismatch place (Statements.written_value types v) ≡ Ok form → IsNoEntry form
-      by (value.Ordinal id) h = ordinal (Statements.representation_of types id) h
+      by (value.Ordinal id) h = ordinal (representation_of types id) h
       by (value.Set base) h = absurd cc
       by (value.Text id n) h = string (is_string types id) None h
       by (value.Whole id n) h = string (is_string types id) (Some id) h

@@ -24,7 +24,8 @@ use Rattle.typed_tree.specs.WellFormed.{most_entries}
 use Rattle.typed_tree.specs.Look.{Mark, Look, BlockEnds, Controls, ForEnds, Target, WholeTarget, mark_blocks, mark_entries, mark_loops}
 use Rattle.typing.specs.Names.{folded}
 use Rattle.typing.specs.Passing.{Headed, Enclosing, OpenRecord}
-use Rattle.typing.specs.Passing.{Passed, Checked, After, Passing, after, and_then, behind_marks, given, by_types, pure, fail, mark}
+use Rattle.typing.specs.Passing.{Passed, After, Passing, after, behind_marks, given, by_types, pure, fail, mark}
+use Rattle.typing_rules.specs.Checked.{Checked, and_then, told}
 use Rattle.typing.specs.Passing.{each, ◌>>=◌, ◌>>?◌}
 use Rattle.typing.specs.Statements.{for_body}
 use Rattle.typing.specs.Steps as Steps
@@ -417,7 +418,7 @@ module _ {acts : Bool} {owner : Owner} {depth : ℕ} where
     where
       by : (old : Passed) (outcome : Result (List Region) ScopeFault) → define (folded name.text.now) denotation old.regions ≡ outcome
           → Goes {A = Unit {0}} (Way acts owner depth depth) old
-          (and_then (Steps.told name.place outcome) (λ regions. Ok (after tt [] (record old { regions = regions }))))
+          (and_then (told name.place outcome) (λ regions. Ok (after tt [] (record old { regions = regions }))))
       by old (Ok regions) is = One (Define (folded name.text.now) denotation regions defines is)
       by old (Err why) is = tt
 

@@ -6,7 +6,8 @@ use Rattle.typed_tree.specs.declared.fault.TypeFault.{TypeFault}
 use Rattle.typed_tree.specs.declared.fault.TypeFault.TheVariants.{Memory}
 use Rattle.typing.specs.Expressions.{are_as_many}
 use Rattle.typing.specs.Outcomes.{IsFault}
-use Rattle.typing.specs.Passing.{Headed, Enclosing, Passed, Passing, Checked, After, after, pure, ◌>>=◌, ◌>>◌}
+use Rattle.typing.specs.Passing.{Headed, Enclosing, Passed, Passing, After, after, pure, ◌>>=◌, ◌>>◌}
+use Rattle.typing_rules.specs.Checked.{Checked}
 use Rattle.typing.specs.Steps.{add_heading, close_block, enclosing_now, heading_at, open_beside, with_enclosing}
 use Rattle.typing.specs.View.{enclosing_of}
 use Rattle.typing.specs.declared.blocks.BegunBlock.{BegunBlock}

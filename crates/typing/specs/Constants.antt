@@ -16,8 +16,10 @@ use Rattle.scopes.specs.declared.denotation.Denotation.{Denotation}
 use Rattle.scopes.specs.declared.denotation.Denotation.TheVariants as denotes
 use Rattle.typed_tree.specs.declared.fault.TypeFault.TheVariants as fault
 use Rattle.typed_tree.specs.WellFormed.{is_whole}
-use Rattle.typing.specs.Passing.{Checked, Passing, given, ◌>>=◌, ◌>>◌, ◌>>?◌}
-use Rattle.typing.specs.Steps.{fits, pass, find}
+use Rattle.typing.specs.Passing.{Passing, given, ◌>>=◌, ◌>>◌, ◌>>?◌}
+use Rattle.typing_rules.specs.Checked.{Checked}
+use Rattle.typing.specs.Steps.{pass, find}
+use Rattle.typing_rules.specs.Checked.{fits}
 use Rattle.typing.specs.Strings.{string_characters, string_constant}
 
 -- the constant that a name denotes; K1 where it denotes none

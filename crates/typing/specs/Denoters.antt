@@ -28,8 +28,10 @@ use Rattle.scopes.specs.declared.fault.ScopeFault.TheVariants as scope
 use Rattle.typed_tree.specs.declared.fault.TypeFault.TheVariants as fault
 use Rattle.typing.specs.Constants.{ordinal_constant}
 use Rattle.typing.specs.Names.{folded}
-use Rattle.typing.specs.Passing.{Checked, Passing, and_then, after, pure, given, by_types, ◌>>=◌, ◌>>◌, ◌>>?◌}
-use Rattle.typing.specs.Steps.{fits, or_mismatch, pass, value_of, add_type, declare, latest}
+use Rattle.typing.specs.Passing.{Passing, after, pure, given, by_types, ◌>>=◌, ◌>>◌, ◌>>?◌}
+use Rattle.typing_rules.specs.Checked.{Checked, and_then}
+use Rattle.typing.specs.Steps.{pass, value_of, add_type, declare, latest}
+use Rattle.typing_rules.specs.Checked.{fits, or_mismatch}
 
 -- the type that a name denotes; K1 at the name where it denotes anything else
 abbrev pub named_type : Name → Result Denotation ScopeFault → Checked TypeId

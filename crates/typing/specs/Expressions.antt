@@ -2,17 +2,15 @@
 -- typed form looks, and its sites. What asks for a site of its own at an expression's first token (a width) hands its
 -- kind in, as the leading kind: that site stands behind the token's own, and before all others. It says nothing of what
 -- a program does.
-use Rattle.std.specs.Prelude.{ℕ, ◌+◌, ◌&&◌, Bool, true, false, not, List, [], ◌∷◌, ◌++◌, Option, Some, None}
-use Rattle.std.specs.Prelude.{is_some, Ok, Err, pos, if◌then◌else◌, nat_eq, length, option_map}
+use Rattle.std.specs.Prelude.{ℕ, ◌+◌, Bool, true, false, not, List, [], ◌∷◌, ◌++◌, Option, Some, None}
+use Rattle.std.specs.Prelude.{Ok, Err, pos, if◌then◌else◌, nat_eq, length, option_map}
 use Rattle.std.specs.Prelude.{slice_get}
 use Rattle.place.specs.declared.Place.{Place}
 use Rattle.syntax_tree.specs.declared.Name.{Name}
 use Rattle.syntax_tree.specs.declared.Sign.{Sign}
-use Rattle.syntax_tree.specs.declared.Sign.TheVariants as sign
 use Rattle.syntax_tree.specs.declared.Operator.{Operator}
 use Rattle.syntax_tree.specs.declared.Operator.TheVariants as op
 use Rattle.syntax_tree.specs.declared.RelationalOperator.{RelationalOperator}
-use Rattle.syntax_tree.specs.declared.RelationalOperator.TheVariants as relational
 use Rattle.syntax_tree.specs.declared.Expr.{Expr}
 use Rattle.syntax_tree.specs.declared.Link.{Link}
 use Rattle.syntax_tree.specs.declared.Actual.{Actual}
@@ -32,14 +30,11 @@ use Rattle.types.specs.declared.form.ArrayElement.{ArrayElement}
 use Rattle.types.specs.declared.form.TypeId.{TypeId}
 use Rattle.types.specs.declared.form.TypeKind.{TypeKind}
 use Rattle.types.specs.declared.form.TypeKind.TheVariants as kind_of_type
-use Rattle.types.specs.declared.form.OrdinalRange.{OrdinalRange}
 use Rattle.types.specs.declared.sets.SetBase.{SetBase}
-use Rattle.types.specs.Types.{integer, boolean, char, is_same, is_assignable, is_compatible, is_string, kind_of}
-use Rattle.types.specs.Types.{agree, are_compatible_sets, joined_base}
-use Rattle.types.specs.Types.{cells_of, element_of, field_of, form_at, range_of}
+use Rattle.types.specs.Types.{integer, boolean, char, is_same, is_compatible, kind_of}
+use Rattle.types.specs.Types.{cells_of, element_of, field_of, form_at}
 use Rattle.scopes.specs.declared.denotation.Denotation.{Denotation}
 use Rattle.scopes.specs.declared.denotation.Denotation.TheVariants as denotes
-use Rattle.scopes.specs.declared.denotation.RequiredFunction.{RequiredFunction}
 use Rattle.typed_tree.specs.declared.fault.TypeFault.TheVariants as fault
 use Rattle.typed_tree.specs.declared.site.SiteKind.{SiteKind}
 use Rattle.typed_tree.specs.declared.site.SiteKind.TheVariants as kind
@@ -50,75 +45,32 @@ use Rattle.typed_tree.specs.declared.tree.Dyadic.{Dyadic}
 use Rattle.typed_tree.specs.declared.tree.Dyadic.TheVariants as dyadic
 use Rattle.typed_tree.specs.declared.tree.Designator.{Designator}
 use Rattle.typed_tree.specs.declared.tree.Designator.TheVariants as designator
-use Rattle.typed_tree.specs.declared.tree.RangeTest.{RangeTest}
-use Rattle.typed_tree.specs.declared.tree.Scalar.{Scalar}
 use Rattle.typed_tree.specs.declared.tree.Scalar.TheVariants as scalar
-use Rattle.typed_tree.specs.declared.tree.Relation.TheVariants as relate
-use Rattle.typed_tree.specs.declared.tree.SetRelation.TheVariants as relate_sets
 use Rattle.typed_tree.specs.declared.tree.Selector.{Selector as TreeSelector}
 use Rattle.typed_tree.specs.declared.tree.Selector.TheVariants as tree
 use Rattle.typed_tree.specs.declared.tree.Variable.{Variable}
 use Rattle.typed_tree.specs.Accesses.{Origin, AtVariable, AtRecord, index_count, root_of}
-use Rattle.typed_tree.specs.WellFormed.{is_variable_kind, members_wanted, of_one}
+use Rattle.typed_tree.specs.WellFormed.{is_variable_kind, members_wanted}
 use Rattle.typed_tree.specs.Look.{Constant, Text, Access, Value, WholeValue, Operation, Applied, Begins, Compared, Ends}
 use Rattle.typed_tree.specs.Look.{Calls, Called, Constructs, Constructed, ForValue, ForVariable, ForWhole}
 use Rattle.typed_tree.specs.Look.{Operator as OperatorMark}
-use Rattle.typing.specs.declared.typed.Typed.{Typed}
-use Rattle.typing.specs.declared.typed.TypedValue.{TypedValue}
-use Rattle.typing.specs.declared.typed.TypedValue.TheVariants as value
-use Rattle.typing.specs.Passing.{Checked, OpenRecord, Passing, and_then, pure, fail, given, by_types, mark}
+use Rattle.typing_rules.specs.declared.typed.Typed.{Typed}
+use Rattle.typing.specs.Passing.{OpenRecord, Passing, pure, fail, given, by_types, mark}
+use Rattle.typing_rules.specs.Checked.{Checked}
 use Rattle.typing.specs.Passing.{◌>>=◌, ◌>>◌, ◌>>?◌}
-use Rattle.typing.specs.Steps.{fits, or_mismatch, pass, enter_as, site, find, heading_at, host_type, may_change}
+use Rattle.typing.specs.Steps.{pass, enter_as, site, find, heading_at, host_type, may_change}
+use Rattle.typing_rules.specs.Checked.{fits, or_mismatch}
 use Rattle.typing.specs.Steps.{record_at}
 use Rattle.typing.specs.Steps.{text_at, value_of, variable_at}
 use Rattle.typing.specs.Names.{folded}
 use Rattle.typing.specs.Functions.{begins_as, applied}
 use Rattle.typing.specs.Strings.{string_characters, string_type}
-
--- an ordinal of a type, and the id of its leading site
-abbrev pub typed : TypeId → Option ℕ → Typed
-typed type_id site = record { value = value.Ordinal type_id; site = site }
-
--- the same of a set
-abbrev pub typed_set : SetBase → Option ℕ → Typed
-typed_set base site = record { value = value.Set base; site = site }
-
--- the same of a string of its own, of so many characters
-abbrev pub typed_text : TypeId → ℕ → Option ℕ → Typed
-typed_text type_id length site = record { value = value.Text type_id length; site = site }
-
--- the same of the value of a structured variable, of so many cells
-abbrev pub typed_variable : TypeId → ℕ → Option ℕ → Typed
-typed_variable type_id cells site = record { value = value.Whole type_id cells; site = site }
-
--- the type of an ordinal
-abbrev pub ordinal_type : TypedValue → Option TypeId
-ordinal_type (value.Ordinal type_id) = Some type_id
-ordinal_type (value.Set base) = None
-ordinal_type (value.Text type_id length) = None
-ordinal_type (value.Whole type_id cells) = None
-
--- the type of a string or of another structured value, and how many components it has
-abbrev pub whole_type : TypedValue → Option (TypeId × ℕ)
-whole_type (value.Ordinal type_id) = None
-whole_type (value.Set base) = None
-whole_type (value.Text type_id length) = Some (type_id, length)
-whole_type (value.Whole type_id cells) = Some (type_id, cells)
-
--- it is an ordinal or a set
-abbrev pub is_scalar_value : TypedValue → Bool
-is_scalar_value (value.Ordinal type_id) = true
-is_scalar_value (value.Set base) = true
-is_scalar_value (value.Text type_id length) = false
-is_scalar_value (value.Whole type_id cells) = false
-
--- it is an ordinal whose type passes a test
-abbrev pub is_ordinal_of : (TypeId → Bool) → Typed → Bool
-is_ordinal_of test t = of_one test (ordinal_type t.value)
-
--- it is an ordinal of this type
-abbrev pub is_of : TypeId → Typed → Bool
-is_of type_id t = is_ordinal_of (λ id. is_same id type_id) t
+use Rattle.typing_rules.specs.Typed.{typed, typed_set, typed_text, typed_variable, is_scalar_value, is_ordinal_of}
+use Rattle.typing_rules.specs.Typed.{is_of}
+use Rattle.typing_rules.specs.Operators.{sign_operation, result_of, set_operation_behind, relation_behind_value}
+use Rattle.typing_rules.specs.Operators.{may_relate, member_of, member_with_site}
+use Rattle.typing_rules.specs.Denotations.{as_function, as_routine}
+use Rattle.typing_rules.specs.Targets.{fitting, Copy, whole_copy, copying, members_test}
 
 -- an expression as it is typed: its first token, by the leading kind what it is, and how it is passed to a variable
 -- parameter of a type, of the callee's block and at a place among its parameters
@@ -351,72 +303,12 @@ abbrev pub unless_width : Place → Option Written → Checked (Unit {0})
 unless_width place None = Ok tt
 unless_width place (Some width) = Err (fault.WrongParameters place)
 
--- the kind of the site of a test, by what is tested
-abbrev pub test_kind : Scalar → SiteKind
-test_kind scalar.Ordinal = kind.Subrange
-test_kind scalar.Set = kind.SetMember
-
--- the values that members of a set may have, if sets of these may be assigned to a target of a kind
-abbrev pub fitting_members : SetBase → Option TypeKind → Option OrdinalRange
-fitting_members base (Some (kind_of_type.Set target members)) =
-    if are_compatible_sets target base then Some members else None
-fitting_members base (Some (kind_of_type.Ordinal range)) = None
-fitting_members base (Some kind_of_type.Structured) = None
-fitting_members base None = None
-
--- the values of a type, or those that its members may have, if a scalar value may be assigned to it (6.4.6)
-abbrev pub fitting_value : List Form → TypeId → TypedValue → Option OrdinalRange
-fitting_value types target (value.Ordinal type_id) =
-    if is_assignable types target type_id then range_of types target else None
-fitting_value types target (value.Set base) = fitting_members base (kind_of types target)
-fitting_value types target (value.Text type_id length) = None
-fitting_value types target (value.Whole type_id cells) = None
-
-abbrev pub fitting : List Form → TypeId → Typed → Option OrdinalRange
-fitting types target t = fitting_value types target t.value
-
--- a structured value that is copied or compared: the type of the variable whose value it is, which a string has none
--- of, and its cells
-pub record Copy : Type 0 where
-  pub source : Option TypeId
-  pub cells : ℕ
-
--- a structured value as it is copied or compared
-abbrev pub whole_copy : TypedValue → Option Copy
-whole_copy (value.Ordinal type_id) = None
-whole_copy (value.Set base) = None
-whole_copy (value.Text type_id length) = Some (record { source = None; cells = length })
-whole_copy (value.Whole type_id cells) = Some (record { source = Some type_id; cells = cells })
-
--- it may be assigned to a target of a type, which has as many cells (6.4.6)
-abbrev pub copy_of : List Form → TypeId → TypeId → Copy → Option Copy
-copy_of types target type_id copy =
-    if is_assignable types target type_id && nat_eq (cells_of types target) copy.cells then Some copy else None
-
-abbrev pub copying_value : List Form → TypeId → TypedValue → Option Copy
-copying_value types target (value.Ordinal type_id) = None
-copying_value types target (value.Set base) = None
-copying_value types target (value.Text type_id length) =
-    copy_of types target type_id (record { source = None; cells = length })
-copying_value types target (value.Whole type_id cells) =
-    copy_of types target type_id (record { source = Some type_id; cells = cells })
-
-abbrev pub copying : List Form → TypeId → Typed → Option Copy
-copying types target t = copying_value types target t.value
-
 -- a value for a value parameter of an ordinal type; its site stands at its first token, before those of its own
 unfoldable pub passed_ordinal : TypeId → Written → ℕ → ℕ → Passing (Unit {0})
 passed_ordinal type_id w callee position = do
   id ← site kind.Subrange w.first
   range ← w.typing None >>? (λ types t. or_mismatch w.first (fitting types type_id t))
   mark (ForValue (record { site = id; tests = scalar.Ordinal; range = range }) callee position)
-
--- the test of a set for a target of a type, at its leading site
-abbrev pub members_test : List Form → TypeId → Place → Typed → Checked RangeTest
-members_test types target place t =
-    and_then (or_mismatch place (fitting types target t)) λ range.
-    and_then (or_mismatch place t.site) λ id.
-    Ok (record { site = id; tests = scalar.Set; range = range })
 
 -- the same of a set type; its site stands at its first token, behind those of its own
 unfoldable pub passed_set : TypeId → Written → ℕ → ℕ → Passing (Unit {0})
@@ -543,47 +435,11 @@ prefixed type_id does place operand lead = do
 abbrev pub negation : Place → Written → Option SiteKind → Passing Typed
 negation = prefixed boolean (monadic.Plain calculation.Complement)
 
-abbrev pub sign_operation : Sign → Monadic
-sign_operation sign.Plus = monadic.Plain calculation.Same
-sign_operation sign.Minus = monadic.Plain calculation.Negative
-
 -- a sign and the term that it covers
 abbrev pub signed : Sign → Place → Written → Option SiteKind → Passing Typed
 signed sign = prefixed integer (sign_operation sign)
 
 -- ---- operators between operands (6.7.2)
-
--- the type of both operands of an operator, and of its result
-abbrev pub operand_type : Operator → TypeId
-operand_type op.Plus = integer
-operand_type op.Minus = integer
-operand_type op.Or = boolean
-operand_type op.Times = integer
-operand_type op.Div = integer
-operand_type op.Mod = integer
-operand_type op.And = boolean
-
--- the operation of sets that an operator tells (6.7.2.4)
-abbrev pub set_operation : Operator → Option Dyadic
-set_operation op.Plus = Some dyadic.Union
-set_operation op.Minus = Some dyadic.Difference
-set_operation op.Or = None
-set_operation op.Times = Some dyadic.Intersection
-set_operation op.Div = None
-set_operation op.Mod = None
-set_operation op.And = None
-
--- the result of an operator on two operands: of its type, where both are, or else a set of both (6.7.2.1)
-abbrev pub result_of : Operator → TypedValue → TypedValue → Option TypedValue
-result_of operator (value.Ordinal left) (value.Ordinal right) =
-    if is_same left (operand_type operator) && is_same right (operand_type operator)
-    then Some (value.Ordinal (operand_type operator))
-    else None
-result_of operator (value.Set left) (value.Set right) =
-    if is_some (set_operation operator) && are_compatible_sets left right
-    then Some (value.Set (joined_base left right))
-    else None
-result_of operator left right = None
 
 -- an operation with a site at its operator
 unfoldable pub tested : (ℕ → Dyadic) → SiteKind → Place → Passing Dyadic
@@ -598,13 +454,6 @@ operation op.Times place = tested dyadic.Times kind.Overflow place
 operation op.Div place = tested dyadic.Div kind.DivisionByZero place
 operation op.Mod place = tested dyadic.Mod kind.ModByZeroOrLess place
 operation op.And place = pure dyadic.And
-
--- the operation of an operator behind a left operand: that of sets, without a site, behind a set
-abbrev pub set_operation_behind : Operator → TypedValue → Option Dyadic
-set_operation_behind operator (value.Ordinal type_id) = None
-set_operation_behind operator (value.Set base) = set_operation operator
-set_operation_behind operator (value.Text type_id length) = None
-set_operation_behind operator (value.Whole type_id cells) = None
 
 unfoldable pub operation_or : Option Dyadic → Operator → Place → Passing Dyadic
 operation_or None operator place = operation operator place
@@ -645,55 +494,6 @@ chain_behind place rest f = do
 unfoldable pub chain : Written → List WrittenLink → Option SiteKind → Passing Typed
 chain first rest = begun_by first (chain_behind first.first rest)
 
--- the relation that an operator tells behind an ordinal or a string
-abbrev pub relation_of : RelationalOperator → Dyadic
-relation_of relational.Equal = dyadic.Relation relate.Equal
-relation_of relational.NotEqual = dyadic.Relation relate.NotEqual
-relation_of relational.Less = dyadic.Relation relate.Less
-relation_of relational.Greater = dyadic.Relation relate.Greater
-relation_of relational.LessOrEqual = dyadic.Relation relate.LessOrEqual
-relation_of relational.GreaterOrEqual = dyadic.Relation relate.GreaterOrEqual
-relation_of relational.In = dyadic.In
-
--- the relation that an operator tells behind a set: `<` and `>` tell none, nor does `in`
-abbrev pub set_relation_of : RelationalOperator → Option Dyadic
-set_relation_of relational.Equal = Some (dyadic.SetRelation relate_sets.Equal)
-set_relation_of relational.NotEqual = Some (dyadic.SetRelation relate_sets.NotEqual)
-set_relation_of relational.Less = None
-set_relation_of relational.Greater = None
-set_relation_of relational.LessOrEqual = Some (dyadic.SetRelation relate_sets.Included)
-set_relation_of relational.GreaterOrEqual = Some (dyadic.SetRelation relate_sets.Includes)
-set_relation_of relational.In = None
-
-abbrev pub relation_behind_value : RelationalOperator → TypedValue → Option Dyadic
-relation_behind_value operator (value.Ordinal type_id) = Some (relation_of operator)
-relation_behind_value operator (value.Set base) = set_relation_of operator
-relation_behind_value operator (value.Text type_id length) = Some (relation_of operator)
-relation_behind_value operator (value.Whole type_id cells) = Some (relation_of operator)
-
--- two whole values are strings of one length, of compatible types
-abbrev pub are_alike : List Form → Option (TypeId × ℕ) → Option (TypeId × ℕ) → Bool
-are_alike types None right = false
-are_alike types (Some left) None = false
-are_alike types (Some left) (Some right) =
-    nat_eq left.1 right.1 && (is_compatible types left.0 right.0 && is_string types left.0)
-
--- relations hold between ordinals of compatible types, between sets of such, and between strings of them (6.7.2.5)
-abbrev pub may_compare : List Form → TypedValue → TypedValue → Bool
-may_compare types (value.Ordinal left) (value.Ordinal right) = is_compatible types left right
-may_compare types (value.Set left) (value.Set right) = are_compatible_sets left right
-may_compare types left right = are_alike types (whole_type left) (whole_type right)
-
--- an ordinal may be a member of a set
-abbrev pub may_contain : TypedValue → TypedValue → Bool
-may_contain (value.Ordinal type_id) (value.Set base) = agree is_same base.host (Some type_id)
-may_contain left right = false
-
--- an operator relates two values
-abbrev pub may_relate : List Form → RelationalOperator → Typed → Typed → Bool
-may_relate types relational.In left right = may_contain left.value right.value
-may_relate types operator left right = may_compare types left.value right.value
-
 -- two strings are compared
 unfoldable pub compares : Option Copy → Option Copy → Passing (Unit {0})
 compares (Some left) (Some right) = mark (Compared left.source left.cells right.source right.cells)
@@ -714,21 +514,6 @@ unfoldable pub relation : Written → RelationalOperator → Place → Written �
 relation left operator place right = begun_by left (relation_behind operator place right)
 
 -- ---- set constructors (6.7.1)
-
--- a member of a set, by the host type of those before it: K1 at its first token where it is no ordinal of that type
-abbrev pub member_type : Option TypeId → Place → Option TypeId → Checked TypeId
-member_type host place None = Err (fault.Mismatch place)
-member_type host place (Some type_id) = fits (agree is_same host (Some type_id)) place type_id
-
-abbrev pub member_of : Option TypeId → Place → Typed → Checked TypeId
-member_of host place t = member_type host place (ordinal_type t.value)
-
--- the same with its leading site
-abbrev pub member_with_site : Option TypeId → Place → Typed → Checked (ℕ × TypeId)
-member_with_site host place t =
-    and_then (member_of host place t) λ type_id.
-    and_then (or_mismatch place t.site) λ id.
-    Ok (id, type_id)
 
 -- a member that stands alone, or first in a range; its site stands at its first token, behind those of its own
 unfoldable pub first_member : Option TypeId → Written → Passing (ℕ × TypeId)
@@ -765,18 +550,6 @@ constructed place ms lead = do
   mark (Constructed made.0 (members_wanted made.0))
   pure (typed_set (record { host = made.1; packed = None }) id)
 
--- the function that a name denotes
-abbrev pub as_function : Place → Denotation → Checked RequiredFunction
-as_function place (denotes.Function function) = Ok function
-as_function place (denotes.Procedure procedure) = Err (fault.WrongParameters place)
-as_function place (denotes.Routine block is_function) = Err (fault.WrongParameters place)
-as_function place (denotes.Constant value type_id) = Err (fault.Mismatch place)
-as_function place (denotes.Text number type_id) = Err (fault.Mismatch place)
-as_function place (denotes.Variable root type_id) = Err (fault.Mismatch place)
-as_function place (denotes.Field slot position offset type_id) = Err (fault.Mismatch place)
-as_function place (denotes.TypeName type_id) = Err (fault.Mismatch place)
-as_function place denotes.Output = Err (fault.Mismatch place)
-
 abbrev pub without_width : Place → Written → Option Written → Checked Written
 without_width place value None = Ok value
 without_width place value (Some width) = Err (fault.WrongParameters place)
@@ -798,11 +571,6 @@ required_call d name actuals lead = do
   does ← actual.typing None >>? (λ types t. applied types f operation actual.first t)
   mark (Applied does.0)
   pure (typed does.1 id)
-
--- the routine that a name denotes, if a program declares it: its block, and whether it is a function
-abbrev pub as_routine : Denotation → Option (ℕ × Bool)
-as_routine (denotes.Routine block is_function) = Some (block, is_function)
-as_routine d = None
 
 abbrev pub call_by : Option (ℕ × Bool) → Denotation → Name → List WrittenActual → Option SiteKind → Passing Typed
 call_by None d name actuals lead = required_call d name actuals lead

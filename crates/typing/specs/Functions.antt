@@ -30,11 +30,13 @@ use Rattle.typed_tree.specs.declared.tree.Scalar.TheVariants as scalar
 use Rattle.typed_tree.specs.declared.fault.TypeFault.TheVariants as fault
 use Rattle.typing.specs.declared.functions.BegunFunction.{BegunFunction}
 use Rattle.typing.specs.declared.functions.BegunFunction.TheVariants as begun
-use Rattle.typing.specs.declared.typed.Typed.{Typed}
-use Rattle.typing.specs.declared.typed.TypedValue.{TypedValue}
-use Rattle.typing.specs.declared.typed.TypedValue.TheVariants as typed_as
-use Rattle.typing.specs.Passing.{Checked, Passing, pure, ◌>>=◌}
-use Rattle.typing.specs.Steps.{fits, site}
+use Rattle.typing_rules.specs.declared.typed.Typed.{Typed}
+use Rattle.typing_rules.specs.declared.typed.TypedValue.{TypedValue}
+use Rattle.typing_rules.specs.declared.typed.TypedValue.TheVariants as typed_as
+use Rattle.typing.specs.Passing.{Passing, pure, ◌>>=◌}
+use Rattle.typing_rules.specs.Checked.{Checked}
+use Rattle.typing.specs.Steps.{site}
+use Rattle.typing_rules.specs.Checked.{fits}
 
 -- a value of the type is taken
 abbrev pub is_taken : List Form → FunctionArgument → TypeId → Bool

@@ -4,7 +4,8 @@ use Rattle.std.specs.Prelude.{◌≡◌, ◌⊎◌, [], Result, Ok, Err}
 use Rattle.typed_tree.specs.declared.fault.TypeFault.{TypeFault}
 use Rattle.typed_tree.specs.declared.fault.TypeFault.TheVariants.{Memory}
 use Rattle.typed_tree.specs.Look.{Look}
-use Rattle.typing.specs.Passing.{Passed, Checked, After, after}
+use Rattle.typing.specs.Passing.{Passed, After, after}
+use Rattle.typing_rules.specs.Checked.{Checked}
 
 -- a step that grows nothing: its outcome, and what is known then
 abbrev pub Tells : {A : Type 0} → Checked (After A) → Result A TypeFault → Passed → Type 0

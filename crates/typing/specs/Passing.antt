@@ -1,7 +1,7 @@
 -- Typing as a computation: it passes the forms of a program in the order of the text, and either meets the first broken
 -- rule, or answers what a form is, how its typed form looks, and what is then known of the program.
 -- It says nothing of what the rules are.
-use Rattle.std.specs.Prelude.{ℕ, ◌++◌, Bool, List, [], ◌∷◌, Option, Result, Ok, Err}
+use Rattle.std.specs.Prelude.{ℕ, ◌++◌, Bool, List, [], ◌∷◌, Option, Ok, Err}
 use Rattle.place.specs.declared.Place.{Place}
 use Rattle.types.specs.Forms.{Form}
 use Rattle.types.specs.declared.form.TypeId.{TypeId}
@@ -11,6 +11,7 @@ use Rattle.typed_tree.specs.declared.tree.PathStep.{PathStep}
 use Rattle.typed_tree.specs.declared.tree.Variable.{Variable}
 use Rattle.typed_tree.specs.Ids.{Stands}
 use Rattle.typed_tree.specs.Look.{Mark, Look}
+use Rattle.typing_rules.specs.Checked.{Checked, and_then}
 
 -- a heading that was passed: the blocks round its block, the program's first; the roots of its parameters, and of its
 -- result, if it is a function; the region of its parameters; and the cells that all of these take
@@ -68,14 +69,6 @@ pub record Passed : Type 0 where
   pub assigned : List ℕ
   -- the latest token that was passed
   pub latest : Place
-
--- an answer, or the first broken rule
-abbrev pub Checked : Type 0 → Type 0
-Checked A = Result A TypeFault
-
-abbrev pub and_then : {A B : Type 0} → Checked A → (A → Checked B) → Checked B
-and_then (Ok a) f = f a
-and_then (Err fault) f = Err fault
 
 -- what a form is, how it looks, and what is known behind it
 pub record After (A : Type 0) : Type 0 where

@@ -32,8 +32,10 @@ use Rattle.typed_tree.specs.declared.tree.VariableKind.{VariableKind}
 use Rattle.typed_tree.specs.declared.tree.VariableKind.TheVariants as variable
 use Rattle.typed_tree.specs.Look.{BlockEnds}
 use Rattle.typing.specs.Names.{folded, all_folded, formal_names, heading_names, names_defined}
-use Rattle.typing.specs.Passing.{Checked, Headed, Passing, fail, given, mark, each, pure, after, ◌>>=◌, ◌>>◌, ◌>>?◌}
-use Rattle.typing.specs.Steps.{add_heading, close_block, declare, fits, heading_at, innermost, is_assigned, may_nest}
+use Rattle.typing.specs.Passing.{Headed, Passing, fail, given, mark, each, pure, after, ◌>>=◌, ◌>>◌, ◌>>?◌}
+use Rattle.typing_rules.specs.Checked.{Checked}
+use Rattle.typing.specs.Steps.{add_heading, close_block, declare, heading_at, innermost, is_assigned, may_nest}
+use Rattle.typing_rules.specs.Checked.{fits}
 use Rattle.typing.specs.Steps.{next_block, next_root, open_beside, open_block, enclosing_now, reserve, site}
 use Rattle.typing.specs.Steps.{with_enclosing}
 use Rattle.typing.specs.Constants.{constant}

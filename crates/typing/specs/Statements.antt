@@ -21,7 +21,6 @@ use Rattle.syntax_tree.specs.declared.Constant.{Constant}
 use Rattle.syntax_tree.specs.declared.Selector.{Selector}
 use Rattle.syntax_tree.specs.Places.{arms_of}
 use Rattle.syntax_tree.specs.declared.Direction.{Direction as SyntaxDirection}
-use Rattle.syntax_tree.specs.declared.Direction.TheVariants as written
 use Rattle.syntax_tree.specs.declared.Stmt.{Stmt}
 use Rattle.syntax_tree.specs.declared.Stmt.TheOpen.{Stmt-F}
 use Rattle.syntax_tree.specs.declared.Stmt.TheOpen.Stmt-F.{Empty as EmptyOf, Assign as AssignOf, Call as CallOf}
@@ -31,21 +30,15 @@ use Rattle.syntax_tree.specs.declared.Stmt.TheOpen.Stmt-F.{With as WithOf}
 use Rattle.syntax_tree.specs.declared.RecordVariable.{RecordVariable}
 use Rattle.syntax_tree.specs.declared.Stmt.TheFolds.{fold-Stmt}
 use Rattle.types.specs.Forms.{Form}
-use Rattle.types.specs.Forms as form
 use Rattle.types.specs.declared.form.TypeId.{TypeId}
 use Rattle.types.specs.declared.form.TypeKind.{TypeKind}
 use Rattle.types.specs.declared.form.TypeKind.TheVariants as kind_of_type
-use Rattle.types.specs.Types.{integer, boolean, is_compatible, is_ordinal, is_string, form_at}
+use Rattle.types.specs.Types.{integer, boolean, is_compatible, is_ordinal, is_string}
 use Rattle.scopes.specs.declared.denotation.Denotation.{Denotation}
-use Rattle.scopes.specs.declared.denotation.Denotation.TheVariants as denotes
 use Rattle.scopes.specs.declared.denotation.RequiredProcedure.{RequiredProcedure}
 use Rattle.scopes.specs.declared.denotation.RequiredProcedure.TheVariants as procedure
 use Rattle.typed_tree.specs.declared.fault.TypeFault.TheVariants as fault
 use Rattle.typed_tree.specs.declared.site.SiteKind.TheVariants as kind
-use Rattle.typed_tree.specs.declared.tree.Direction.{Direction}
-use Rattle.typed_tree.specs.declared.tree.Direction.TheVariants as direction
-use Rattle.typed_tree.specs.declared.tree.Representation.{Representation}
-use Rattle.typed_tree.specs.declared.tree.Representation.TheVariants as representation
 use Rattle.typed_tree.specs.declared.tree.Selector.{Selector as TreeSelector}
 use Rattle.typed_tree.specs.declared.tree.Scalar.{Scalar}
 use Rattle.typed_tree.specs.declared.tree.Scalar.TheVariants as scalar
@@ -56,20 +49,29 @@ use Rattle.typed_tree.specs.Look.{Mark, Access, Assign, Target, WholeTarget, Cop
 use Rattle.typed_tree.specs.Look.{Written as WrittenMark, WrittenString, Width}
 use Rattle.typed_tree.specs.Look.{Empty, Compound, If, Then, Else, While, Do, Repeat, Until, For, Controls, ForEnds}
 use Rattle.typed_tree.specs.Look.{Case, Arm, Ends, Opens, With, WithEnds}
-use Rattle.typing.specs.Passing.{Checked, OpenRecord, Passing, and_then, pure, fail, given, by_types, mark, each}
+use Rattle.typing.specs.Passing.{OpenRecord, Passing, pure, fail, given, by_types, mark, each}
+use Rattle.typing_rules.specs.Checked.{Checked, and_then}
 use Rattle.typing.specs.Passing.{◌>>=◌, ◌>>◌}
 use Rattle.typing.specs.Passing.{◌>>?◌}
-use Rattle.typing.specs.Steps.{assign_result, fits, or_mismatch, pass, enter_as, enter_loop, site, find, heading_at}
+use Rattle.typing.specs.Steps.{assign_result, pass, enter_as, enter_loop, site, find, heading_at}
+use Rattle.typing_rules.specs.Checked.{fits, or_mismatch}
 use Rattle.typing.specs.Steps.{may_change, may_control, begin_control, end_control, enclosing_now, variable_at}
 use Rattle.typing.specs.Steps.{close_record, next_slot, open_record, wants_output}
 use Rattle.typing.specs.Constants.{ordinal_constant, constant_place}
-use Rattle.typing.specs.declared.typed.Typed.{Typed}
-use Rattle.typing.specs.declared.typed.TypedValue.{TypedValue}
-use Rattle.typing.specs.declared.typed.TypedValue.TheVariants as value
-use Rattle.typing.specs.Expressions.{Denoted, Written, WrittenActual, is_of, as_routine, copying, entire, expression}
+use Rattle.typing_rules.specs.declared.typed.Typed.{Typed}
+use Rattle.typing_rules.specs.declared.typed.TypedValue.{TypedValue}
+use Rattle.typing_rules.specs.declared.typed.TypedValue.TheVariants as value
+use Rattle.typing.specs.Expressions.{Denoted, Written, WrittenActual, entire, expression}
+use Rattle.typing_rules.specs.Typed.{is_of}
+use Rattle.typing_rules.specs.Denotations.{as_routine}
+use Rattle.typing_rules.specs.Targets.{copying}
 use Rattle.typing.specs.Expressions.{variable_of}
-use Rattle.typing.specs.Expressions.{fitting, kind_now, ordinal_type, routine_call, selected, test_kind}
+use Rattle.typing.specs.Expressions.{kind_now, routine_call, selected}
+use Rattle.typing_rules.specs.Targets.{fitting, test_kind}
+use Rattle.typing_rules.specs.Typed.{ordinal_type}
 use Rattle.typing.specs.Expressions.{written_actual}
+use Rattle.typing_rules.specs.Denotations.{as_procedure, ends_line, is_output, as_control}
+use Rattle.typing_rules.specs.Targets.{way, representation_of, ordinal_of}
 
 -- what is accessed left of `:=`, by the kind of its type
 abbrev pub target_mark : Option TypeKind → Origin → List TreeSelector → TypeId → Mark
@@ -152,33 +154,6 @@ assignment name selectors indexes becomes value = do
   found ← kind_now to.type_id
   assigned_by_kind found to becomes value
 
--- the procedure that a name denotes
-abbrev pub as_procedure : Place → Denotation → Checked RequiredProcedure
-as_procedure place (denotes.Procedure procedure) = Ok procedure
-as_procedure place (denotes.Function function) = Err (fault.WrongParameters place)
-as_procedure place (denotes.Routine block is_function) = Err (fault.WrongParameters place)
-as_procedure place (denotes.Constant value type_id) = Err (fault.Mismatch place)
-as_procedure place (denotes.Text number type_id) = Err (fault.Mismatch place)
-as_procedure place (denotes.Variable root type_id) = Err (fault.Mismatch place)
-as_procedure place (denotes.Field slot position offset type_id) = Err (fault.Mismatch place)
-as_procedure place (denotes.TypeName type_id) = Err (fault.Mismatch place)
-as_procedure place denotes.Output = Err (fault.Mismatch place)
-
-abbrev pub ends_line : RequiredProcedure → Bool
-ends_line procedure.Write = false
-ends_line procedure.Writeln = true
-
-abbrev pub is_output : Denotation → Bool
-is_output denotes.Output = true
-is_output (denotes.TypeName type_id) = false
-is_output (denotes.Constant value type_id) = false
-is_output (denotes.Text number type_id) = false
-is_output (denotes.Variable root type_id) = false
-is_output (denotes.Field slot position offset type_id) = false
-is_output (denotes.Procedure procedure) = false
-is_output (denotes.Function function) = false
-is_output (denotes.Routine block is_function) = false
-
 -- whether a value is the name of the file output
 abbrev pub names_file : Expr-F Expr Actual Link → Passing Bool
 names_file (NameOf name) = find name >>= (λ d. pure (is_output d))
@@ -211,16 +186,6 @@ abbrev pub has_values : Place → RequiredProcedure → List Actual → Checked 
 has_values place procedure.Write [] = Err (fault.WrongParameters place)
 has_values place procedure.Writeln [] = Ok tt
 has_values place procedure (value ∷ values) = Ok tt
-
-abbrev pub form_representation : Option Form → Option Representation
-form_representation (Some form.Integer) = Some representation.Integer
-form_representation (Some form.Boolean) = Some representation.Boolean
-form_representation (Some form.Char) = Some representation.Char
-form_representation other = None
-
--- how an ordinal of a type is written (6.9.3)
-abbrev pub representation_of : List Form → TypeId → Option Representation
-representation_of types id = form_representation (form_at types id)
 
 -- how a value is written: an ordinal by its type, or a string
 abbrev pub written_value : List Form → TypedValue → Option Mark
@@ -330,10 +295,6 @@ repeat_loop place statements w = do
   condition w
   mark Ends
 
-abbrev pub way : SyntaxDirection → Direction
-way written.To = direction.To
-way written.DownTo = direction.DownTo
-
 -- a bound of a for, by the root and the type of its control variable: the site of its test stands at its first token,
 -- before the sites of that token's own
 unfoldable pub bound : ℕ → TypeId → Written → Passing (Unit {0})
@@ -341,19 +302,6 @@ bound control type_id w = do
   id ← site kind.Subrange w.first
   range ← w.typing None >>? (λ types t. or_mismatch w.first (fitting types type_id t))
   mark (Fits (AtVariable control) [] (record { site = id; tests = scalar.Ordinal; range = range }))
-
--- the variable that a name denotes as a control variable, by its root and its type; K5 at a field, which is none that a
--- block declares, and K2 where it denotes no variable
-abbrev pub as_control : Place → Denotation → Checked (ℕ × TypeId)
-as_control place (denotes.Variable root type_id) = Ok (root, type_id)
-as_control place (denotes.Field slot position offset type_id) = Err (fault.Threatened place)
-as_control place (denotes.Constant value type_id) = Err (fault.NotVariable place)
-as_control place (denotes.Text number type_id) = Err (fault.NotVariable place)
-as_control place (denotes.TypeName type_id) = Err (fault.NotVariable place)
-as_control place (denotes.Procedure procedure) = Err (fault.NotVariable place)
-as_control place (denotes.Function function) = Err (fault.NotVariable place)
-as_control place (denotes.Routine block is_function) = Err (fault.NotVariable place)
-as_control place denotes.Output = Err (fault.NotVariable place)
 
 -- a for as far as its `do`, by the root of its control variable
 unfoldable pub for_head : Place → Name → Written → SyntaxDirection → Written → Passing ℕ
@@ -408,11 +356,6 @@ case_arms type_id before (arm ∷ arms) = do
   mark (Arm row)
   arm.1
   case_arms type_id (before ++ row) arms
-
--- the type of an ordinal; K1 at the place where it is none
-abbrev pub ordinal_of : List Form → Place → Option TypeId → Checked TypeId
-ordinal_of types place None = Err (fault.Mismatch place)
-ordinal_of types place (Some type_id) = fits (is_ordinal types type_id) place type_id
 
 -- a case as far as its `of`, by the type of its index, which is ordinal; the site stands at its word
 unfoldable pub case_head : Place → Written → Passing TypeId

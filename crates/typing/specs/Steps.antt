@@ -17,8 +17,6 @@ pub use Rattle.scopes.specs.Scopes.{innermost, outer}
 use Rattle.scopes.specs.Scopes.{Region, found, opened, opened_beside, opened_with, define}
 use Rattle.scopes.specs.declared.denotation.Denotation.{Denotation}
 use Rattle.scopes.specs.declared.denotation.Denotation.TheVariants as denotes
-use Rattle.scopes.specs.declared.fault.ScopeFault.{ScopeFault}
-use Rattle.scopes.specs.declared.fault.ScopeFault.TheVariants as scope
 use Rattle.typed_tree.specs.declared.fault.TypeFault.{TypeFault}
 use Rattle.typed_tree.specs.declared.fault.TypeFault.TheVariants as fault
 use Rattle.typed_tree.specs.declared.site.SiteKind.{SiteKind}
@@ -27,8 +25,10 @@ use Rattle.typed_tree.specs.declared.tree.VariableKind.{VariableKind}
 use Rattle.typed_tree.specs.declared.tree.Variable.{Variable}
 use Rattle.typed_tree.specs.WellFormed.{is_local_kind, most_blocks, most_entries, most_variables}
 use Rattle.typing.specs.Names.{folded, required_region}
-use Rattle.typing.specs.Passing.{Headed, Enclosing, OpenRecord, Passed, Checked, Passing, after, and_then, pure, mark}
+use Rattle.typing.specs.Passing.{Headed, Enclosing, OpenRecord, Passed, Passing, after, pure, mark}
+use Rattle.typing_rules.specs.Checked.{Checked, and_then}
 use Rattle.typing.specs.Passing.{◌>>=◌}
+use Rattle.typing_rules.specs.Checked.{fits, told}
 
 -- the most sites of a program
 abbrev pub most_sites : ℕ
@@ -61,15 +61,6 @@ begins start = record {
   assigned = [];
   latest = start;
 }
-
--- an answer where types fit, and else K1 at the place
-abbrev pub fits : {A : Type 0} → Bool → Place → A → Checked A
-fits true place answer = Ok answer
-fits false place answer = Err (fault.Mismatch place)
-
-abbrev pub or_mismatch : {A : Type 0} → Place → Option A → Checked A
-or_mismatch place (Some answer) = Ok answer
-or_mismatch place None = Err (fault.Mismatch place)
 
 -- a number as a value, which is at most maxint
 abbrev pub value_of : ℕ → Place → Checked ℤ
@@ -106,18 +97,6 @@ unfoldable pub site : SiteKind → Place → Passing ℕ
 site kind place = λ s.
     if nat_le most_sites (length s.sites) then Err (fault.TooMany place)
     else Ok (after (length s.sites) [] (record s { sites = s.sites ++ (kind, place) ∷ []; latest = place }))
-
--- a fault of the scopes, at its place
-abbrev pub placed : ScopeFault → Place → TypeFault
-placed scope.Memory place = fault.Memory
-placed scope.DeclaredTwice place = fault.DeclaredTwice place
-placed scope.UsedBeforeDeclared place = fault.UsedBeforeDeclared place
-placed scope.NotDeclared place = fault.NotDeclared place
-
--- what the scopes answer, at a place
-abbrev pub told : {A : Type 0} → Place → Result A ScopeFault → Checked A
-told place (Ok a) = Ok a
-told place (Err f) = Err (placed f place)
 
 -- what a name denotes
 unfoldable pub find : Name → Passing Denotation

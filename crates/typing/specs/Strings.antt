@@ -10,8 +10,10 @@ use Rattle.types.specs.Types.{integer, char}
 use Rattle.scopes.specs.declared.denotation.Denotation.{Denotation}
 use Rattle.scopes.specs.declared.denotation.Denotation.TheVariants as denotes
 use Rattle.typed_tree.specs.WellFormed.{is_character}
-use Rattle.typing.specs.Passing.{Checked, Passing, and_then, pure, given, ◌>>=◌}
-use Rattle.typing.specs.Steps.{fits, or_mismatch, add_type, keep_text, value_of}
+use Rattle.typing.specs.Passing.{Passing, pure, given, ◌>>=◌}
+use Rattle.typing_rules.specs.Checked.{Checked, and_then}
+use Rattle.typing.specs.Steps.{add_type, keep_text, value_of}
+use Rattle.typing_rules.specs.Checked.{fits, or_mismatch}
 
 -- the characters behind the apostrophe that opens a string, as far as the one that closes it: two apostrophes stand for
 -- one; none where that isn't the last byte

@@ -8,7 +8,8 @@ use Rattle.syntax_tree.specs.declared.Name.{Name}
 use Rattle.scopes.specs.declared.denotation.Denotation.TheVariants as denotes
 use Rattle.typed_tree.specs.declared.fault.TypeFault.TheVariants as fault
 use Rattle.typing.specs.Names.{folded, all_folded}
-use Rattle.typing.specs.Passing.{Checked, After, Passing, fail, each, ◌>>◌}
+use Rattle.typing.specs.Passing.{After, Passing, fail, each, ◌>>◌}
+use Rattle.typing_rules.specs.Checked.{Checked}
 use Rattle.typing.specs.Steps.{begins, open_required, open_block, declare, give_output, program_heading}
 use Rattle.typing.specs.Routines.{TypedBlock, block_end, typed_block}
 

@@ -11,7 +11,7 @@ impl Typer {
     ghost use Rattle.typing.specs.Expressions as spec;
     ghost use Rattle.typing.specs.Outcomes.{Takes};
     ghost use Rattle.typing.specs.Passing.{by_types};
-    ghost use Rattle.typing.specs.Steps.{or_mismatch};
+    ghost use Rattle.typing_rules.specs.Checked.{or_mismatch};
 
     /// The field of a name in a value of a type (6.5.3.3): K1 at the name where the type is no record, S3 where it has
     /// no such field.

@@ -3,7 +3,6 @@ ghost use Rattle.std.specs.Prelude.{◌≡◌};
 ghost use Rattle.typing.specs.Functions.{all_but_first, all_but_last, applied, given_type, is_taken};
 ghost use Rattle.typing.specs.Functions.{operation_on, passing_values, shift_of, test_kind};
 
-use crate::typed::{Typed, TypedValue};
 use crate::typer::Typer;
 use place::Place;
 use scopes::{
@@ -14,6 +13,7 @@ use typed_tree::fault::TypeFault;
 use typed_tree::site::SiteKind;
 use typed_tree::tree::{Calculation, Monadic, RangeTest, Scalar, Shift};
 use types::{OrdinalRange, TypeId, TypeTable};
+use typing_rules::{Typed, TypedValue};
 
 /// The operation of a function at its name, before its argument: the values that pass a test depend on that.
 #[derive(Clone, Copy)]

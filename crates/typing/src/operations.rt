@@ -1,11 +1,10 @@
-use crate::rules::set_operation_behind;
-use crate::typed::Typed;
 use crate::typer::Typer;
 use place::Place;
 use syntax_tree::Operator;
 use typed_tree::fault::TypeFault;
 use typed_tree::site::SiteKind;
 use typed_tree::tree::Dyadic;
+use typing_rules::{Typed, set_operation_behind};
 
 impl Typer {
     ghost use Rattle.typing.specs.Outcomes.{Takes};

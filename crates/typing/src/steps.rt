@@ -6,7 +6,6 @@ ghost use Rattle.typed_tree.specs.declared.fault.TypeFault.TheVariants.{Memory};
 ghost use Rattle.typing.specs.Passing.{after};
 
 use crate::names::{REQUIRED, fold_into, folded};
-use crate::rules::placed;
 use crate::typer::{MOST_ENTRIES, MOST_SITES, Typer};
 use place::Place;
 use scopes::{Denotation, Region};
@@ -14,6 +13,7 @@ use syntax_tree::Name;
 use typed_tree::fault::TypeFault;
 use typed_tree::site::{Site, SiteKind};
 use typed_tree::tree::VariableKind;
+use typing_rules::placed;
 
 impl Typer {
     ghost use Rattle.typing.specs.Outcomes.{Takes, Tells};

@@ -48,10 +48,14 @@ use Rattle.typed_tree.specs.WellFormed.{Outline, encloses, is_one_of, is_round, 
 use Rattle.typed_tree.specs.WellFormed.{leads_to_ordinal, leads_to_record, leads_to_scalar, fits_target, holds, is_held_by, is_record, is_test_of, of_one}
 use Rattle.typed_tree.specs.WellFormed.{is_record_form, tests_type}
 use Rattle.typing.specs.Names.{folded}
-use Rattle.typing.specs.Passing.{Checked, OpenRecord, after}
-use Rattle.typing.specs.Steps.{or_mismatch, record_at}
-use Rattle.typing.specs.Expressions.{Denoted, Written, typed, typed_set, typed_variable, or_not_declared, field_in, field_named, field_or_none, field_variable}
-use Rattle.typing.specs.Expressions.{entire, index, is_ordinal_of, kind_now, selected, set_value, ordinal_value, value_of_kind, variable_of, whole_value}
+use Rattle.typing.specs.Passing.{OpenRecord, after}
+use Rattle.typing_rules.specs.Checked.{Checked}
+use Rattle.typing.specs.Steps.{record_at}
+use Rattle.typing_rules.specs.Checked.{or_mismatch}
+use Rattle.typing.specs.Expressions.{Denoted, Written, or_not_declared, field_in, field_named, field_or_none, field_variable}
+use Rattle.typing_rules.specs.Typed.{typed, typed_set, typed_variable}
+use Rattle.typing.specs.Expressions.{entire, index, kind_now, selected, set_value, ordinal_value, value_of_kind, variable_of, whole_value}
+use Rattle.typing_rules.specs.Typed.{is_ordinal_of}
 use Rattle.typing.specs.Expressions.{accessed}
 use Rattle.typing.specs.Statements.{opened_record}
 use Rattle.typing.proofs.Ways.{Stay}

@@ -19,7 +19,8 @@ use Rattle.scopes.specs.Scopes.{Region}
 use Rattle.typed_tree.specs.Ids.{Stands}
 use Rattle.typed_tree.specs.WellFormed.{is_one_of}
 use Rattle.typed_tree.specs.Look.{Look}
-use Rattle.typing.specs.Passing.{Passed, After, Passing, after, and_then, behind_marks, each, ◌>>◌}
+use Rattle.typing.specs.Passing.{Passed, After, Passing, after, behind_marks, each, ◌>>◌}
+use Rattle.typing_rules.specs.Checked.{and_then}
 use Rattle.typing.specs.Steps.{enclosing_now}
 use Rattle.typing.specs.Statements.{compound, statement}
 use Rattle.typing.specs.Routines.{TypedBlock, TypedRoutine, all_came, block_step, definition, first_waiting, group, headed, heading_name, none_waits}

@@ -21,7 +21,8 @@ use Rattle.typed_tree.specs.Look.{is_formed_mark}
 use Rattle.typed_tree.proofs.Blocks.{formed_as_far, formed_before}
 use Rattle.typed_tree.specs.declared.tree.Variable.{Variable}
 use Rattle.typing.specs.Names.{all_folded}
-use Rattle.typing.specs.Passing.{Enclosing, Headed, Passed, Checked, After, Passing, after, behind_marks, mark, ◌>>◌}
+use Rattle.typing.specs.Passing.{Enclosing, Headed, Passed, After, Passing, after, behind_marks, mark, ◌>>◌}
+use Rattle.typing_rules.specs.Checked.{Checked}
 use Rattle.typing.specs.Steps.{close_block, enclosing_now, heading_at, is_assigned, open_beside, program_heading, with_enclosing}
 use Rattle.typing.specs.Routines.{Begun, TypedBlock, block_end, forward, result_at_end, routine_block, told_waiting}
 use Rattle.typing_laws.proofs.Built.{Built, EndsSo, HasSite, IsOpen, LeavesBuilt, Standing, ends_append, ends_later, is_between, no_ends, open_later, IsChanged}

@@ -24,14 +24,18 @@ use Rattle.typed_tree.specs.Look.{Calls, Called, ForValue, ForWhole}
 use Rattle.typed_tree.specs.WellFormed.{Outline, declarer, holds, is_callable, is_held_by, is_kind_of, is_parameter_kind, is_round, is_value_kind}
 use Rattle.typed_tree.specs.WellFormed.{is_variable_kind}
 use Rattle.typed_tree.specs.WellFormed.{may_call, of_one, passes_value, passes_whole, takes_value, takes_whole}
-use Rattle.typing.specs.Steps.{or_mismatch}
-use Rattle.typing.specs.Passing.{and_then}
-use Rattle.typing.specs.declared.typed.Typed.{Typed}
-use Rattle.typing.specs.declared.typed.TypedValue.{TypedValue}
-use Rattle.typing.specs.declared.typed.TypedValue.TheVariants as value
-use Rattle.typing.specs.Expressions.{Written, WrittenActual, actual, actuals_for, are_as_many, as_routine, Copy, fitting, fitting_members, fitting_value}
-use Rattle.typing.specs.Expressions.{function_value, members_test, or_no_result, passed_by_kind, passed_ordinal, passed_set, passed_to, passed_value}
-use Rattle.typing.specs.Expressions.{passed_whole, result_variable, routine_call, typed, unless_width}
+use Rattle.typing_rules.specs.Checked.{or_mismatch}
+use Rattle.typing_rules.specs.Checked.{and_then}
+use Rattle.typing_rules.specs.declared.typed.Typed.{Typed}
+use Rattle.typing_rules.specs.declared.typed.TypedValue.{TypedValue}
+use Rattle.typing_rules.specs.declared.typed.TypedValue.TheVariants as value
+use Rattle.typing.specs.Expressions.{Written, WrittenActual, actual, actuals_for, are_as_many}
+use Rattle.typing_rules.specs.Denotations.{as_routine}
+use Rattle.typing_rules.specs.Targets.{Copy, fitting, fitting_members, fitting_value}
+use Rattle.typing.specs.Expressions.{function_value, or_no_result, passed_by_kind, passed_ordinal, passed_set, passed_to, passed_value}
+use Rattle.typing_rules.specs.Targets.{members_test}
+use Rattle.typing.specs.Expressions.{passed_whole, result_variable, routine_call, unless_width}
+use Rattle.typing_rules.specs.Typed.{typed}
 use Rattle.typing_laws.proofs.WholeRanges.{HaveWholeRanges, IsWholeRange, ordinal_values}
 use Rattle.typing_laws.proofs.Copies.{IsCopyFor, copy_formed, copying_there}
 use Rattle.typing_laws.proofs.Covers.{Covers, covers_any, covers_both, covers_more, covers_none, leads_first}

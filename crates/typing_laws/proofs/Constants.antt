@@ -20,8 +20,8 @@ use Rattle.scopes.specs.declared.denotation.Denotation.TheVariants as denotes
 use Rattle.typed_tree.specs.declared.tree.Variable.{Variable}
 use Rattle.typed_tree.specs.declared.fault.TypeFault.TheVariants as fault
 use Rattle.typed_tree.specs.WellFormed.{is_whole}
-use Rattle.typing.specs.Passing.{Checked}
-use Rattle.typing.specs.Steps.{fits}
+use Rattle.typing_rules.specs.Checked.{Checked}
+use Rattle.typing_rules.specs.Checked.{fits}
 use Rattle.typing.specs.Strings.{string_characters}
 use Rattle.typing.specs.Constants.{as_constant, as_ordinal, unsigned_constant, signed_value, behind_sign, constant, ordinal_constant, constant_place}
 use Rattle.typing.specs.Statements.{own_constant, case_constant, constant_row}

@@ -10,11 +10,11 @@ use Rattle.types.specs.Types.{base_in, cells_of, form_at, form_kind, have_one_ba
 use Rattle.types.specs.Types.{is_compatible, is_same, is_string}
 use Rattle.types.specs.Types.{is_structured, is_structured_kind, set_base, string_in, string_length}
 use Rattle.typed_tree.specs.WellFormed.{Outline, is_alike, may_copy}
-use Rattle.typing.specs.declared.typed.Typed.{Typed}
-use Rattle.typing.specs.declared.typed.TypedValue.{TypedValue}
-use Rattle.typing.specs.declared.typed.TypedValue.TheVariants as value
-use Rattle.typing.specs.Expressions.{Copy, copy_of, copying, copying_value}
-use Rattle.typing.specs.Steps.{or_mismatch}
+use Rattle.typing_rules.specs.declared.typed.Typed.{Typed}
+use Rattle.typing_rules.specs.declared.typed.TypedValue.{TypedValue}
+use Rattle.typing_rules.specs.declared.typed.TypedValue.TheVariants as value
+use Rattle.typing_rules.specs.Targets.{Copy, copy_of, copying, copying_value}
+use Rattle.typing_rules.specs.Checked.{or_mismatch}
 use Rattle.typing_laws.proofs.Grown.{both_true}
 use Rattle.typing_laws.proofs.Reached.{IsLonger, IsFurther, Reached, whole_of}
 use Rattle.typing_laws.proofs.Strings.{both_and, there}

@@ -37,8 +37,10 @@ use Rattle.typed_tree.specs.declared.tree.VariableKind.{VariableKind}
 use Rattle.typed_tree.specs.declared.tree.VariableKind.TheVariants as variable
 use Rattle.typed_tree.specs.WellFormed.{is_character, are_characters, is_local_kind, is_parameter_kind, is_result_kind, most_variables, roots_where}
 use Rattle.typing.specs.Names.{folded}
-use Rattle.typing.specs.Passing.{Passed, Checked, After, Passing, after, behind_marks, by_types, pure, fail, given, ◌>>=◌, ◌>>◌, ◌>>?◌}
-use Rattle.typing.specs.Steps.{fits, or_mismatch, told, value_of, pass, find, declare, add_type, keep_text, latest, give_output, next_root, enclosing_now}
+use Rattle.typing.specs.Passing.{Passed, After, Passing, after, behind_marks, by_types, pure, fail, given, ◌>>=◌, ◌>>◌, ◌>>?◌}
+use Rattle.typing_rules.specs.Checked.{Checked}
+use Rattle.typing.specs.Steps.{value_of, pass, find, declare, add_type, keep_text, latest, give_output, next_root, enclosing_now}
+use Rattle.typing_rules.specs.Checked.{fits, or_mismatch, told}
 use Rattle.typing.specs.Steps.{reserve}
 use Rattle.typing.specs.Strings.{string_characters, string_type, string_constant}
 use Rattle.typing.specs.Constants.{as_ordinal, unsigned_constant, constant, ordinal_constant}

@@ -11,7 +11,7 @@ use Rattle.syntax_tree.specs.Places.{Places, joined_places, width_places, expr_p
 use Rattle.syntax_tree.specs.Places.{actual_step as actual_row, link_step as link_row, members_of}
 use Rattle.syntax_tree.specs.declared.Designator.{Designator}
 use Rattle.syntax_tree.specs.declared.Designator.TheVariants as designator
-use Rattle.typing.specs.declared.typed.Typed.{Typed}
+use Rattle.typing_rules.specs.declared.typed.Typed.{Typed}
 use Rattle.typing.specs.Expressions.{Written, WrittenActual, WrittenLink, expression, written_actual, written_link, expression_step, actual_step, link_step}
 use Rattle.typing.specs.Expressions.{links, only, without_width}
 use Rattle.typing_laws.proofs.Covers.{Covers, covers_more}

@@ -24,12 +24,15 @@ use Rattle.typed_tree.specs.declared.tree.Variable.{Variable}
 use Rattle.typed_tree.specs.Accesses.{index_count, root_of}
 use Rattle.typed_tree.specs.WellFormed.{Outline, monadic_is_well_formed, is_character, is_variable_kind, of_one, takes_variable}
 use Rattle.typed_tree.specs.Look.{Access, Constant, Text, Operation, Applied, ForVariable}
-use Rattle.typing.specs.Passing.{Checked, pure, ◌>>=◌, ◌>>◌}
+use Rattle.typing.specs.Passing.{pure, ◌>>=◌, ◌>>◌}
+use Rattle.typing_rules.specs.Checked.{Checked}
 use Rattle.typing.specs.Steps.{enter_as, value_of}
 use Rattle.typing.specs.Strings.{string_characters, string_type}
-use Rattle.typing.specs.declared.typed.Typed.{Typed}
-use Rattle.typing.specs.Expressions.{Written, written, written_variable, typed, typed_text, number, spelled, string, component, denoted, entire, named}
-use Rattle.typing.specs.Expressions.{parenthesized, prefixed, negation, signed, sign_operation, is_of_packed, passable, passed_variable}
+use Rattle.typing_rules.specs.declared.typed.Typed.{Typed}
+use Rattle.typing.specs.Expressions.{Written, written, written_variable, number, spelled, string, component, denoted, entire, named}
+use Rattle.typing_rules.specs.Typed.{typed, typed_text}
+use Rattle.typing.specs.Expressions.{parenthesized, prefixed, negation, signed, is_of_packed, passable, passed_variable}
+use Rattle.typing_rules.specs.Operators.{sign_operation}
 use Rattle.typing_laws.proofs.Reached.{Reached, IsFurther, further_still, Here}
 use Rattle.typing_laws.proofs.Kept.{change_later}
 use Rattle.typing_laws.proofs.Covers.{Covers, Leads, leads_first}

@@ -26,8 +26,10 @@ use Rattle.typed_tree.specs.Look.{Look}
 use Rattle.typed_tree.specs.WellFormed.{declarer, is_local_kind, is_parameter_kind, is_result_kind, most_blocks, most_variables, is_one_of, roots_where}
 use Rattle.typed_tree.specs.WellFormed.{variables_of}
 use Rattle.typing.specs.Names.{folded, all_folded, formal_names}
-use Rattle.typing.specs.Passing.{Enclosing, Headed, Passed, Checked, After, Passing, after, and_then, behind_marks, pure, ◌>>=◌, ◌>>◌, ◌>>?◌}
-use Rattle.typing.specs.Steps.{fits, next_root, reserve, enclosing_now, with_enclosing, open_block, close_block, add_heading}
+use Rattle.typing.specs.Passing.{Enclosing, Headed, Passed, After, Passing, after, behind_marks, pure, ◌>>=◌, ◌>>◌, ◌>>?◌}
+use Rattle.typing_rules.specs.Checked.{Checked, and_then}
+use Rattle.typing.specs.Steps.{next_root, reserve, enclosing_now, with_enclosing, open_block, close_block, add_heading}
+use Rattle.typing_rules.specs.Checked.{fits}
 use Rattle.typing.specs.Denoters.{named_type, type_of_name}
 use Rattle.typing.specs.Routines.{group_types, heading, parameter_kind, parameters, parameters_named, result, result_type, type_of_result}
 use Rattle.typing_laws.proofs.Owned.{Fails, block_cells_longer, cells_of_block, declares, other_block, roots_of}

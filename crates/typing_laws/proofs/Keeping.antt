@@ -4,7 +4,8 @@ use Rattle.place.specs.declared.Place.{Place}
 use Rattle.types.specs.Forms.{Form}
 use Rattle.scopes.specs.Scopes.{Region, outer}
 use Rattle.typed_tree.specs.declared.tree.Variable.{Variable}
-use Rattle.typing.specs.Passing.{Enclosing, Passed, Checked, After, Passing, after, and_then, behind_marks, pure, each, ◌>>=◌, ◌>>?◌}
+use Rattle.typing.specs.Passing.{Enclosing, Passed, After, Passing, after, behind_marks, pure, each, ◌>>=◌, ◌>>?◌}
+use Rattle.typing_rules.specs.Checked.{Checked, and_then}
 use Rattle.typing.proofs.Ways.{Of, Way, Stay, Then}
 use Rattle.typing_laws.proofs.Owned.{cells_of_block, block_cells_longer}
 use Rattle.typing_laws.proofs.Reached.{IsLonger, as_long, Head, Here}

@@ -13,8 +13,9 @@ use Rattle.typed_tree.specs.WellFormed.{Outline, formal_of, is_variable_kind}
 use Rattle.typed_tree.specs.Ids.{Stands}
 use Rattle.typed_tree.specs.Sites.{number_of}
 use Rattle.typing.specs.Passing.{Passing}
-use Rattle.typing.specs.declared.typed.Typed.{Typed}
-use Rattle.typing.specs.Expressions.{Written, WrittenLink, no_variable, typed, typed_set, written}
+use Rattle.typing_rules.specs.declared.typed.Typed.{Typed}
+use Rattle.typing.specs.Expressions.{Written, WrittenLink, no_variable, written}
+use Rattle.typing_rules.specs.Typed.{typed, typed_set}
 use Rattle.typing_laws.proofs.Copies.{HasSource, source_longer}
 use Rattle.typing_laws.proofs.Covers.{AreAbove, Covers, Leads, covers_ahead, covers_lower, leads_covers}
 use Rattle.typing_laws.proofs.Reached.{Signature, signature_of, Reached, whole_of, IsFurther, Here, get_longer, get_mapped}

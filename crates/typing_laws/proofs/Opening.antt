@@ -25,7 +25,8 @@ use Rattle.typed_tree.specs.Ids.{Stands}
 use Rattle.typed_tree.specs.Look.{Look, Mark, Access, Do, Opens, With, WithEnds, is_formed_mark}
 use Rattle.typed_tree.specs.Records.{OpenRecord as BareRecord, is_there}
 use Rattle.typed_tree.specs.WellFormed.{Outline, is_record_form, most_entries}
-use Rattle.typing.specs.Passing.{OpenRecord, Passed, Checked, After, Passing, after, and_then, behind_marks, each, mark, ◌>>=◌}
+use Rattle.typing.specs.Passing.{OpenRecord, Passed, After, Passing, after, behind_marks, each, mark, ◌>>=◌}
+use Rattle.typing_rules.specs.Checked.{Checked, and_then}
 use Rattle.typing.specs.Steps.{close_record, definition_of, field_definition, field_definitions, next_slot, open_record}
 use Rattle.typing.specs.Expressions.{expression}
 use Rattle.typing.specs.Statements.{WrittenVariable, opened, opened_record, with_statement, written_record}

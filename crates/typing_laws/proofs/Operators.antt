@@ -36,15 +36,24 @@ use Rattle.typed_tree.specs.declared.tree.Designator.TheVariants as designator
 use Rattle.typed_tree.specs.WellFormed.{Outline, is_whole, calculation_is_well_formed, shift_is_well_formed, monadic_is_well_formed, dyadic_is_well_formed}
 use Rattle.typed_tree.specs.WellFormed.{is_text, member_site, members_wanted}
 use Rattle.typed_tree.specs.Look.{Operation, Applied, Begins, Operator as OperatorMark, Compared, Constructed, Constructs, Ends}
-use Rattle.typing.specs.Passing.{Checked, and_then}
-use Rattle.typing.specs.Steps.{fits, or_mismatch}
-use Rattle.typing.specs.declared.typed.Typed.{Typed}
-use Rattle.typing.specs.declared.typed.TypedValue.{TypedValue}
-use Rattle.typing.specs.declared.typed.TypedValue.TheVariants as value
-use Rattle.typing.specs.Expressions.{Written, WrittenActual, WrittenLink, written, typed, typed_set, tested, operation, operation_or, operand_type, may_compare}
-use Rattle.typing.specs.Expressions.{are_alike, chain, compares, constructed, first_member, is_scalar_value, last_member, link, links, may_contain, may_relate}
-use Rattle.typing.specs.Expressions.{member, member_of, member_with_site, members, relation, relation_behind_value, relation_of, result_of, set_operation}
-use Rattle.typing.specs.Expressions.{set_operation_behind, set_relation_of, Copy, whole_copy, whole_type, as_function, as_routine, call}
+use Rattle.typing_rules.specs.Checked.{Checked, and_then}
+use Rattle.typing_rules.specs.Checked.{fits, or_mismatch}
+use Rattle.typing_rules.specs.declared.typed.Typed.{Typed}
+use Rattle.typing_rules.specs.declared.typed.TypedValue.{TypedValue}
+use Rattle.typing_rules.specs.declared.typed.TypedValue.TheVariants as value
+use Rattle.typing.specs.Expressions.{Written, WrittenActual, WrittenLink, written, tested, operation, operation_or}
+use Rattle.typing_rules.specs.Typed.{typed, typed_set}
+use Rattle.typing_rules.specs.Operators.{operand_type, may_compare}
+use Rattle.typing.specs.Expressions.{chain, compares, constructed, first_member, last_member, link, links}
+use Rattle.typing_rules.specs.Operators.{are_alike, may_contain, may_relate}
+use Rattle.typing_rules.specs.Typed.{is_scalar_value}
+use Rattle.typing.specs.Expressions.{member, members, relation}
+use Rattle.typing_rules.specs.Operators.{member_of, member_with_site, relation_behind_value, relation_of, result_of, set_operation}
+use Rattle.typing.specs.Expressions.{call}
+use Rattle.typing_rules.specs.Operators.{set_operation_behind, set_relation_of}
+use Rattle.typing_rules.specs.Targets.{Copy, whole_copy}
+use Rattle.typing_rules.specs.Typed.{whole_type}
+use Rattle.typing_rules.specs.Denotations.{as_function, as_routine}
 use Rattle.typing.specs.declared.functions.BegunFunction.{BegunFunction}
 use Rattle.typing.specs.declared.functions.BegunFunction.TheVariants as begun
 use Rattle.typing.specs.Functions.{is_taken, given_type, test_kind, shift_of, no_values, all_but_last, all_but_first, passing_values, calculation_of, begins_as}

@@ -21,7 +21,8 @@ use Rattle.typed_tree.specs.Ids.{Stands, AreByPlace}
 use Rattle.typed_tree.specs.Look.{Look, Mark, BlockEnds, mark_blocks, blocks_of_look, are_formed}
 use Rattle.typed_tree.specs.WellFormed.{Outline, are_few_cells, is_heading, most_entries}
 use Rattle.typing.specs.Names.{all_folded, required_region}
-use Rattle.typing.specs.Passing.{Headed, Passed, Checked, After, Passing, after, behind_marks, each, ◌>>◌}
+use Rattle.typing.specs.Passing.{Headed, Passed, After, Passing, after, behind_marks, each, ◌>>◌}
+use Rattle.typing_rules.specs.Checked.{Checked}
 use Rattle.typing.specs.Steps.{begins, open_block, open_required, program_heading}
 use Rattle.typing.specs.Routines.{TypedBlock, block_end, typed_block}
 use Rattle.typing.specs.Typing.{parameter_of_program, parameters_of_program, program_typing, typing}

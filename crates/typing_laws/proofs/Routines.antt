@@ -18,7 +18,8 @@ use Rattle.typed_tree.specs.declared.fault.TypeFault.TheVariants as fault
 use Rattle.typed_tree.specs.declared.tree.Variable.{Variable}
 use Rattle.typed_tree.specs.WellFormed.{is_one_of, most_blocks, most_entries, of_one, variables_of}
 use Rattle.typing.specs.Names.{folded}
-use Rattle.typing.specs.Passing.{Enclosing, Passed, Checked, After, Passing, after, pure, ◌>>=◌, ◌>>◌}
+use Rattle.typing.specs.Passing.{Enclosing, Passed, After, Passing, after, pure, ◌>>=◌, ◌>>◌}
+use Rattle.typing_rules.specs.Checked.{Checked}
 use Rattle.typing.specs.Steps.{declare, may_nest, next_block}
 use Rattle.typing.specs.Routines.{Begun, begun, headed, heading, is_same_kind, is_waiting, new_heading, or_mismatched, or_new, procedure_headed, resumed}
 use Rattle.typing.specs.Routines.{waiting_for, waits}

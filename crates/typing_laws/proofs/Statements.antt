@@ -41,17 +41,26 @@ use Rattle.typed_tree.specs.declared.tree.Scalar.{Scalar}
 use Rattle.typed_tree.specs.declared.tree.Scalar.TheVariants as scalar
 use Rattle.typed_tree.specs.Accesses.{AtVariable}
 use Rattle.typed_tree.specs.WellFormed.{Outline, holds, is_declared, is_held_by, is_local_kind, is_text, of_one}
-use Rattle.typing.specs.Passing.{Passing, and_then, each, ◌>>?◌}
+use Rattle.typing.specs.Passing.{Passing, each, ◌>>?◌}
+use Rattle.typing_rules.specs.Checked.{and_then}
 use Rattle.typing.proofs.Ways.{numbers_of}
-use Rattle.typing.specs.Steps.{fits, is_local, or_mismatch}
-use Rattle.typing.specs.declared.typed.Typed.{Typed}
-use Rattle.typing.specs.declared.typed.TypedValue.{TypedValue}
-use Rattle.typing.specs.declared.typed.TypedValue.TheVariants as value
-use Rattle.typing.specs.Expressions.{Written, WrittenActual, fitting, is_of, as_routine, expression, test_kind, written_actual}
-use Rattle.typing.specs.Statements.{Accessed, as_control, assigned_by_kind, written_value}
-use Rattle.typing.specs.Statements.{assigned, copied, assignment, as_procedure, ends_line, is_output, names_file, unless_wide, is_file}
-use Rattle.typing.specs.Statements.{written_values, has_values, representation_of, written_as, measured, width, parameter, write, required_call, declared_call}
-use Rattle.typing.specs.Statements.{call_by, procedure_call, compound, condition, alternative, tested, choice, while_loop, repeat_loop, way, bound, for_head}
+use Rattle.typing.specs.Steps.{is_local}
+use Rattle.typing_rules.specs.Checked.{fits, or_mismatch}
+use Rattle.typing_rules.specs.declared.typed.Typed.{Typed}
+use Rattle.typing_rules.specs.declared.typed.TypedValue.{TypedValue}
+use Rattle.typing_rules.specs.declared.typed.TypedValue.TheVariants as value
+use Rattle.typing.specs.Expressions.{Written, WrittenActual, expression, written_actual}
+use Rattle.typing_rules.specs.Targets.{fitting, test_kind}
+use Rattle.typing_rules.specs.Typed.{is_of}
+use Rattle.typing_rules.specs.Denotations.{as_routine}
+use Rattle.typing.specs.Statements.{Accessed, assigned_by_kind, written_value}
+use Rattle.typing_rules.specs.Denotations.{as_control}
+use Rattle.typing.specs.Statements.{assigned, copied, assignment, names_file, unless_wide, is_file}
+use Rattle.typing_rules.specs.Denotations.{as_procedure, ends_line, is_output}
+use Rattle.typing.specs.Statements.{written_values, has_values, written_as, measured, width, parameter, write, required_call, declared_call}
+use Rattle.typing_rules.specs.Targets.{representation_of}
+use Rattle.typing.specs.Statements.{call_by, procedure_call, compound, condition, alternative, tested, choice, while_loop, repeat_loop, bound, for_head}
+use Rattle.typing_rules.specs.Targets.{way}
 use Rattle.typing.specs.Statements.{for_loop, case_arms, case_head, case_body, case_statement, statement_step, statement}
 use Rattle.typing_laws.proofs.Opened.{open_in, stands_there}
 use Rattle.typing_laws.proofs.Tables.{has_kind, is_string_longer, is_structured_longer, kind_longer, ordinal_held}

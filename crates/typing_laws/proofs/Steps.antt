@@ -22,8 +22,10 @@ use Rattle.typed_tree.specs.Ids.{Stands}
 use Rattle.typed_tree.specs.WellFormed.{Outline, are_characters, is_local_kind, most_entries}
 use Rattle.typed_tree.specs.Threats.{is_none_of}
 use Rattle.typed_tree.specs.Look.{For, Controls, ForEnds, Mark, Look, is_formed_mark}
-use Rattle.typing.specs.Passing.{Enclosing, Passed, Checked, After, Passing, and_then, after, pure, fail, given, by_types, mark, behind_marks, ◌>>=◌, ◌>>?◌}
-use Rattle.typing.specs.Steps.{most_sites, pass, enter, enter_as, number_loop, begin_loop, enter_loop, site, find, told, may_change}
+use Rattle.typing.specs.Passing.{Enclosing, Passed, After, Passing, after, pure, fail, given, by_types, mark, behind_marks, ◌>>=◌, ◌>>?◌}
+use Rattle.typing_rules.specs.Checked.{Checked, and_then}
+use Rattle.typing.specs.Steps.{most_sites, pass, enter, enter_as, number_loop, begin_loop, enter_loop, site, find, may_change}
+use Rattle.typing_rules.specs.Checked.{told}
 use Rattle.typing.specs.Steps.{begin_control, end_control, wants_output, host_type, text_at, keep_text, is_own, is_local, may_control, with_one}
 use Rattle.typing.specs.Steps.{with_threatened, enclosing_now, heading_at, variable_at, program_heading}
 use Rattle.typing.specs.Expressions.{behind}

@@ -16,8 +16,10 @@ use Rattle.types.specs.Types.{form_at, is_string, string_in, string_last}
 use Rattle.types.proofs.Counts.{values_counted}
 use Rattle.scopes.specs.declared.denotation.Denotation.TheVariants as denotes
 use Rattle.typed_tree.specs.WellFormed.{is_character, is_whole}
-use Rattle.typing.specs.Passing.{Passed, Checked, After, Passing, and_then, after, given, behind_marks, pure, ◌>>=◌}
-use Rattle.typing.specs.Steps.{fits, or_mismatch, value_of, added, add_type, keep_text}
+use Rattle.typing.specs.Passing.{Passed, After, Passing, after, given, behind_marks, pure, ◌>>=◌}
+use Rattle.typing_rules.specs.Checked.{Checked, and_then}
+use Rattle.typing.specs.Steps.{value_of, added, add_type, keep_text}
+use Rattle.typing_rules.specs.Checked.{fits, or_mismatch}
 use Rattle.typing.specs.Strings.{characters, string_characters, string_type, string_constant}
 use Rattle.typing_laws.proofs.Tables.{AreLawful, admitted_few, char_cell, is_string_longer, lawful_more, required_stand}
 use Rattle.typing_laws.proofs.Reached.{Here, Reached, further_still, get_longer, one_longer}

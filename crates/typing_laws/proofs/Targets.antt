@@ -20,7 +20,8 @@ use Rattle.typed_tree.specs.declared.tree.Scalar.TheVariants as scalar
 use Rattle.typed_tree.specs.Look.{Access, Target, WholeTarget}
 use Rattle.typed_tree.specs.WellFormed.{is_held_by, is_one_of}
 use Rattle.typing.specs.Passing.{Enclosing, Headed, mark, After, Passed, Passing, after, behind_marks, pure, ◌>>=◌}
-use Rattle.typing.specs.Expressions.{Denoted, Written, as_routine, entire}
+use Rattle.typing.specs.Expressions.{Denoted, Written, entire}
+use Rattle.typing_rules.specs.Denotations.{as_routine}
 use Rattle.typing.specs.Statements.{Accessed, target_mark, or_no_variable, function_target, target_of, target}
 use Rattle.typing.specs.Steps.{program_heading}
 use Rattle.typing.proofs.WalkedForms.{AssignsResult, access_told, access_typing, function_target_is}

@@ -6,7 +6,7 @@ use Rattle.syntax_tree.specs.declared.Expr.TheViews.{out-Link}
 use Rattle.types.specs.Types.{kind_of}
 use Rattle.typed_tree.specs.declared.site.SiteKind.TheVariants.{SetMember}
 use Rattle.typed_tree.specs.Kinds.{held_by}
-use Rattle.typing.specs.Expressions.{fitting_value}
+use Rattle.typing_rules.specs.Targets.{fitting_value, members_test}
 use Rattle.expression_resolver.specs.Made.{AreHeldLinks, IsMemberBehind, typed_of}
 use Rattle.expression_resolver.specs.Values.{look_value, tested_as, value_of}
 use Rattle.expression_resolver.proofs.HeldForms.{held_passed_value}
@@ -28,6 +28,7 @@ use Rattle.typed_tree.specs.declared.tree.Scalar.TheVariants as scalar
 use Rattle.typed_tree.specs.Accesses.{index_count}
 use Rattle.typed_tree.specs.Look.{look_expr, look_passed}
 use Rattle.typing.proofs.Selectors.{index_passes}
+use Rattle.typing_rules.specs.Operators.{result_of, relation_behind_value, may_relate}
 use Rattle.expression_resolver.specs.Accesses.{SelectsOne}
 use Rattle.expression_resolver.proofs.Selecting.{component_begins, component_stops, elements_take_one, element_selects, field_selects}
 use Rattle.expression_resolver.proofs.Chains.{chain_begun, link_made, relation_begun}
@@ -302,7 +303,7 @@ pub passed_set-returns-clause-held : goal.passed_set-returns-clause-held
 passed_set-returns-clause-held t c =
     let value = value_of c.in_ok-made.made.value in
     let new = c.expression.new.typer in
-    let test : spec.members_test new.types c.args.type_id c.first_place.result (typed_of c.in_ok-made.made) ≡ Ok c.in_ok-fits.fits = search rules in
+    let test : members_test new.types c.args.type_id c.first_place.result (typed_of c.in_ok-made.made) ≡ Ok c.in_ok-fits.fits = search rules in
     let told = members_tested new.types c.args.type_id c.first_place.result (typed_of c.in_ok-made.made) c.in_ok-fits.fits test in
     let kind = (fitting_kind new.types c.args.type_id c.in_ok-fits.fits.range value told.1).1 in
     let alike = tested_alike c.args.written.now (Some SetMember) (typed_of c.in_ok-made.made) (look_value c.in_ok-made.made.value) c.args.typer.now new
@@ -334,7 +335,7 @@ passed_value-returns-in-None-clause-made t c = λ callee position.
 pub link-returns-clause-held : goal.link-returns-clause-held
 link-returns-clause-held t c =
     let right = value_of c.in_ok-right.right.value in
-    let gives : spec.result_of (out-Link c.args.written.now).operator c.args.left.value right ≡ Some c.in_ok-value.value = search rules in
+    let gives : result_of (out-Link c.args.written.now).operator c.args.left.value right ≡ Some c.in_ok-value.value = search rules in
     made_link (record { number = c.in_ok-number.number; operation = c.in_ok-operation.operation; operand = c.into_scalar.result }) c.args.left.value right
     c.in_ok-value.value
     (links_of (out-Link c.args.written.now).operator (out-Link c.args.written.now).place c.args.typer.now c.in_ok-operation.operation []
@@ -360,8 +361,8 @@ pub relation-relation-requires : goal.relation-relation-requires
 relation-relation-requires t c =
     let l = typed_of c.args.left in
     let r = typed_of c.in_ok-right.right in
-    let does : spec.relation_behind_value c.args.operator l.value ≡ Some c.in_ok-operation.operation = search rules in
-    let may : spec.may_relate c.expression.new.typer.types c.args.operator l r ≡ true = search rules in
+    let does : relation_behind_value c.args.operator l.value ≡ Some c.in_ok-operation.operation = search rules in
+    let may : may_relate c.expression.new.typer.types c.args.operator l r ≡ true = search rules in
     let so = relates_both c.expression.new.typer.types c.args.operator c.in_ok-operation.operation l r does may in
     record { related = so }
 

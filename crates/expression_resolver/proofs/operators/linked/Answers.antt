@@ -1,6 +1,6 @@
 use Rattle.std.proofs.Common.{rules, ◌≡◌, true, subst, sym}
 use Rattle.typed_tree.specs.Kinds.{held_by, is_held}
-use Rattle.typing.specs.Expressions.{whole_copy}
+use Rattle.typing_rules.specs.Targets.{whole_copy}
 use Rattle.expression_resolver.specs.Values.{scalar_of, value_of}
 use Rattle.expression_resolver.proofs.Operands.{relates_scalars, relation_held, relation_looks}
 use Rattle.expression_resolver.proofs.operators.linked.Goals as goal

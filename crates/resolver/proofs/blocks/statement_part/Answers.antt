@@ -1,6 +1,7 @@
 use Rattle.std.proofs.Common.{rules, map, inr, sym, ap, subst, ◌∙◌}
 use Rattle.typing.specs.Outcomes.{IsFault}
-use Rattle.typing.specs.Passing.{Checked, After, and_then, behind_marks}
+use Rattle.typing.specs.Passing.{After, behind_marks}
+use Rattle.typing_rules.specs.Checked.{Checked, and_then}
 use Rattle.typing.specs.Statements.{compound, statement}
 use Rattle.typing.proofs.Rows.{behind_nothing}
 use Rattle.resolver.specs.Made.{MakesStmt, statement_part}

@@ -1,6 +1,6 @@
 ghost use Rattle.std.specs.Prelude.{◌≡◌};
 ghost use Rattle.types.specs.Types.{is_ordinal};
-ghost use Rattle.typing.specs.Expressions.{is_of, is_ordinal_of, is_scalar_value, ordinal_type, whole_type};
+ghost use Rattle.typing_rules.specs.Typed.{is_of, is_ordinal_of, is_scalar_value, ordinal_type, whole_type};
 
 use types::{SetBase, TypeId, TypeTable};
 

@@ -1,0 +1,5 @@
+pub mod Checked
+pub mod Typed
+pub mod Denotations
+pub mod Operators
+pub mod Targets
