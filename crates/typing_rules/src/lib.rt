@@ -1,5 +1,5 @@
-//! The rules of operators, of what takes a value, and of what a name denotes (ISO 7185:1990, 6.4 to 6.9), as far as they
-//! need types alone and nothing else of a program.
+//! The rules of operators, of what takes a value, and of what a name denotes (ISO 7185:1990, 6.4 to 6.9), as far as
+//! they need types alone and nothing else of a program.
 #![tactic(auto)]
 
 mod denotations;
