@@ -8,8 +8,7 @@ use Rattle.scopes.specs.declared.fault.ScopeFault.{ScopeFault}
 use Rattle.scopes.proofs.Known.{define_keeps}
 use Rattle.typed_tree.specs.Look.{Look}
 use Rattle.typing.specs.Passing.{Enclosing, Passed, Passing, after}
-use Rattle.typing.proofs.Ways.{Owner, Of, Step, Token, Define, Way, Stay, One, Then, Controlled, Assigned, Walks, Given}
-use Rattle.scopes.specs.declared.denotation.File.TheVariants as file
+use Rattle.typing.proofs.Ways.{Owner, Of, Step, Token, Define, Way, Stay, One, Then, Controlled, Assigned, Walks}
 
 -- the regions that were open before so many were opened
 abbrev round_all : ℕ → List Region → List Region
@@ -43,8 +42,6 @@ defined_keeps (suc depth) old name denotation regions is = all_kept (ap (round_a
 
 step_keeps : {acts : Bool} {owner : Owner} {from to : ℕ} {look : Look} {old new : Passed} → Step acts owner from to look old new → Keeps from to old new
 step_keeps {from = from} {old = old} (Define name denotation regions defines is) = defined_keeps from old name denotation regions is
-step_keeps (Given file.Input) = record { known = λ name known. known; round = refl }
-step_keeps (Given file.Output) = record { known = λ name known. known; round = refl }
 step_keeps step = record { known = λ name known. known; round = refl }
 
 way_keeps : {acts : Bool} {owner : Owner} {from to : ℕ} {look : Look} {old new : Passed} → Way acts owner from to look old new → Keeps from to old new
@@ -75,8 +72,6 @@ SameBlock old new = record new { cells = 0 } ≡ record old { cells = 0 }
 step_in : {acts : Bool} {number from to : ℕ} {look : Look} {old new : Passed} → Step acts (Of number) from to look old new
     → SameBlock old.enclosing new.enclosing
 step_in (Token place) = refl
-step_in (Given file.Input) = refl
-step_in (Given file.Output) = refl
 step_in other = refl
 
 way_in : {acts : Bool} {number from to : ℕ} {look : Look} {old new : Passed} → Way acts (Of number) from to look old new

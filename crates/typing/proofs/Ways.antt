@@ -13,7 +13,6 @@ use Rattle.types.specs.declared.form.TypeId.{TypeId}
 use Rattle.types.specs.Types.{form_at}
 use Rattle.scopes.specs.Scopes.{Region, define, opened_with, outer}
 use Rattle.scopes.specs.declared.denotation.Denotation.{Denotation}
-use Rattle.scopes.specs.declared.denotation.File.{File}
 use Rattle.scopes.specs.declared.fault.ScopeFault.{ScopeFault}
 use Rattle.typed_tree.specs.declared.fault.TypeFault.{TypeFault}
 use Rattle.typed_tree.specs.declared.fault.TypeFault.TheVariants.{TooMany}
@@ -80,9 +79,6 @@ pub data Step : Bool → Owner → ℕ → ℕ → Look → Passed → Passed �
   Site :
       {owner : Owner} {depth : ℕ} {s : Passed} (kind : SiteKind) (place : Place) → length s.sites < Steps.most_sites
       → Step true owner depth depth [] s (record s { sites = s.sites ++ (kind, place) ∷ []; latest = place })
-  Point :
-      {owner : Owner} {depth : ℕ} {s : Passed} (place : Place) → length s.points < Steps.most_sites
-      → Step true owner depth depth [] s (record s { points = s.points ++ place ∷ []; latest = place })
   -- a variable may be changed from here on
   Threat : {owner : Owner} {depth : ℕ} {s : Passed} (root : ℕ) → Step true owner depth depth [] s (record s { threatened = Steps.with_one s.threatened root })
   -- a type and the characters of a string, by their numbers
@@ -91,8 +87,7 @@ pub data Step : Bool → Owner → ℕ → ℕ → Look → Passed → Passed �
   Text :
       {acts : Bool} {owner : Owner} {depth : ℕ} {s : Passed} (characters : List ℕ)
       → Step acts owner depth depth [] s (record s { texts = s.texts ++ characters ∷ [] })
-  -- a file is a program parameter
-  Given : {acts : Bool} {owner : Owner} {depth : ℕ} {s : Passed} (file : File) → Step acts owner depth depth [] s (Steps.with_file file s)
+  Output : {acts : Bool} {owner : Owner} {depth : ℕ} {s : Passed} → Step acts owner depth depth [] s (record s { has_output = true })
   -- a name is defined
   Define :
       {acts : Bool} {owner : Owner} {depth : ℕ} {s : Passed} (name : List ℕ) (denotation : Denotation) (regions : List Region) → Defines owner
@@ -296,13 +291,13 @@ module _ {acts : Bool} {owner : Owner} {depth : ℕ} where
   unfolding Steps.latest
   latest_walks = record { walks = λ old. Stay }
 
-  pub give_file_walks : (file : File) → Walks (Way acts owner depth depth) (Steps.give_file file)
-  unfolding Steps.give_file
-  give_file_walks file = record { walks = λ old. One (Given file) }
+  pub give_output_walks : Walks (Way acts owner depth depth) Steps.give_output
+  unfolding Steps.give_output
+  give_output_walks = record { walks = λ old. One Output }
 
-  pub wants_file_walks : (file : File) (place : Place) → Walks (Way acts owner depth depth) (Steps.wants_file file place)
-  unfolding Steps.wants_file
-  wants_file_walks file place = record { walks = λ old. if_goes (Way acts owner depth depth) old _ _ _ Stay }
+  pub wants_output_walks : (place : Place) → Walks (Way acts owner depth depth) (Steps.wants_output place)
+  unfolding Steps.wants_output
+  wants_output_walks place = record { walks = λ old. if_goes (Way acts owner depth depth) old _ _ _ Stay }
 
   pub next_root_walks : (place : Place) → Walks (Way acts owner depth depth) (Steps.next_root place)
   unfolding Steps.next_root
@@ -374,12 +369,6 @@ module _ {owner : Owner} {depth : ℕ} where
   unfolding Steps.site
   site_walks kind place = record {
     walks = λ old. unless_goes (Way true owner depth depth) old (nat_le Steps.most_sites (length old.sites)) _ _ (λ few. One (Site kind place (below _ _ few)));
-  }
-
-  pub point_walks : (place : Place) → Walks (Way true owner depth depth) (Steps.point place)
-  unfolding Steps.point
-  point_walks place = record {
-    walks = λ old. unless_goes (Way true owner depth depth) old (nat_le Steps.most_sites (length old.points)) _ _ (λ few. One (Point place (below _ _ few)));
   }
 
   pub may_change_walks : (place : Place) (root : ℕ) → Walks (Way true owner depth depth) (Steps.may_change place root)
@@ -479,7 +468,6 @@ pub ruleset walk = (
   each_walks,
   pass_walks,
   site_walks,
-  point_walks,
   find_walks,
   may_change_walks,
   may_control_walks,
@@ -488,8 +476,8 @@ pub ruleset walk = (
   keep_text_walks,
   text_at_walks,
   latest_walks,
-  give_file_walks,
-  wants_file_walks,
+  give_output_walks,
+  wants_output_walks,
   next_root_walks,
   enclosing_now_walks,
   may_nest_walks,
