@@ -19,6 +19,7 @@ r"""Reads the cases of tests/cases, for `tests/run` and `tests/refuse_memory`. A
     source         the text of source.pas, whose path is the last word; a case without it has a line of words
     certificate    the text of source.cert, whose path stands behind the word --cert in front of the others
     input          what standard input holds
+    input folder   standard input is a folder, so that each call that reads it fails
     writes         what is written to standard output
     tells          what is written to standard error
     writes nowhere, tells nowhere    the stream takes no byte: each call that writes to it fails
@@ -40,8 +41,9 @@ CERTIFICATE = "source.cert"
 ENDING = ".cases"
 TEXTS = ("source", "certificate", "input", "writes", "tells")
 STREAMS = ("writes", "tells")
-# What a stream holds that takes no byte.
+# What a stream holds that takes no byte, and one that gives none.
 NOWHERE = None
+A_FOLDER = None
 NAME = re.compile(r"[A-Za-z0-9_]+")
 TEXT_LINE = re.compile(r"(|[1-9][0-9]*)\|(.*)")
 ESCAPE = re.compile(r"\\(x[0-9A-Fa-f]{2}|.|$)")
@@ -159,6 +161,8 @@ def read_part(place, line, parts):
         parts[part] = tuple(encoded(unescaped(place, word)) for word in rest)
     elif part in STREAMS and rest == ["nowhere"]:
         parts[part] = NOWHERE
+    elif part == "input" and rest == ["folder"]:
+        parts[part] = A_FOLDER
     elif part == "status" and len(rest) == 1 and re.fullmatch("[0-9]{1,3}", rest[0]):
         parts[part] = int(rest[0])
     else:

@@ -1,8 +1,8 @@
 """docs/explanations.ini explains each code and name that the programs can print, and docs/LANGUAGE.md says the same.
 
-What can be printed is searched in the sources of all crates, wherever it stands there: a new refusal, kind of error,
-input fault, machine fault or line fails here until it is explained. The page lists each of them once, with exactly the
-sentence that the file has for it, and shows an example of each refusal of a source."""
+What can be printed is searched in the sources of all crates but those of tests, wherever it stands there: a new
+refusal, kind of error, input fault, machine fault or line fails here until it is explained. The page lists each of
+them once, with exactly the sentence that the file has for it, and shows an example of each refusal of a source."""
 
 import configparser
 import glob
@@ -36,6 +36,8 @@ PATH_LINE = re.compile(r'\bput\("([a-z][a-z ]*) "\.as_bytes\(\), errors\) && put
 # So many are there at the least. Where fewer are found they moved to where this test doesn't look.
 LEAST = {"L": 8, "P": 3, "S": 4, "K": 10, "Y": 2, "G": 1, "F": 5, "C": 7, "M": 4, "names": 19, "lines": 6}
 
+# The crates of tests.
+OF_TESTS = re.compile(r"/crates/(test_words|\w+_trials)/")
 # Kinds of errors that no program has.
 WITHOUT_SITE = {}
 
@@ -72,11 +74,12 @@ ROW = re.compile(r"\| `(?:machine fault )?(.+?)(?: PATH)?` \|")
 
 
 def sources():
-    """The text of the sources of all crates."""
+    """The text of the sources of all crates that the programs stand on."""
     texts = []
     for path in sorted(glob.glob(os.path.join(TOP, "crates", "*", "src", "**", "*.rt"), recursive=True)):
-        with open(path, encoding="utf-8") as file:
-            texts.append(file.read())
+        if not OF_TESTS.search(path):
+            with open(path, encoding="utf-8") as file:
+                texts.append(file.read())
     return "\n".join(texts)
 
 

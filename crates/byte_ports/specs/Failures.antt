@@ -7,6 +7,11 @@ abbrev pub read_failures : {E : Type 0} → Result ℕ E → ℕ
 read_failures (Ok count) = 0
 read_failures (Err error) = 1
 
+-- how many bytes a read gave: none where it failed
+abbrev pub read_count : {E : Type 0} → Result ℕ E → ℕ
+read_count (Ok count) = count
+read_count (Err error) = 0
+
 -- how many failures a write of the piece is: one, or none
 abbrev pub write_failures : {E : Type 0} → List ℕ → Result ℕ E → ℕ
 write_failures piece (Ok count) = if (count == 0) && nat_lt 0 (length piece) then 1 else 0

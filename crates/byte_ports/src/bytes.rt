@@ -1,15 +1,19 @@
 ghost use Rattle.std.specs.Prelude.{◌≡◌, ℕ, ◌+◌, ◌^◌, ◌-◌, ◌<◌, List, [], ◌∷◌, length, Option, None, if◌then◌else◌};
 ghost use Rattle.std.specs.Io.{ReadsAtMost, WritesAtMost};
 ghost use Rattle.std.specs.Io.KnownBytes.{Appends, ReadConsumes, WriteAppends};
-ghost use Rattle.byte_ports.specs.Failures.{read_failures, write_failures};
+ghost use Rattle.byte_ports.specs.Failures.{read_count, read_failures, write_failures};
 
 use std::io;
-use std::io::{Read, Write};
+use std::io::{ErrorKind, Read, Write};
 
 /// Where a run gets its input.
 pub trait Feed {
     /// The bytes that are left, where they are known.
     ghost remaining: { Self → Option (List ℕ) };
+    /// How many bytes it gave at each call so far, where that is known: 0 at one that failed.
+    ghost asked: { Self → Option (List ℕ) } = { λ _. None };
+    /// How many bytes it gave so far: fewer than 2^64.
+    ghost given: { Self → ℕ };
     /// How many calls have failed.
     ghost failures: { Self → ℕ };
 
@@ -19,6 +23,9 @@ pub trait Feed {
         requires { failures self.old < 2 ^ 64 - 1 }
         ensures bound { ReadsAtMost result piece.new }
         ensures bytes { ReadConsumes (remaining self.old) (remaining self.new) result piece.new }
+        ensures asked { Appends (asked self.old) (asked self.new) (read_count result ∷ []) }
+        ensures given { given self.new ≡ given self.old + read_count result }
+        ensures few { given self.new < 2 ^ 64 }
         ensures counted { failures self.new ≡ failures self.old + read_failures result };
 }
 
@@ -45,6 +52,8 @@ pub trait Sink {
 pub struct Counted<T> {
     inner: T,
     failures: u64,
+    /// How many bytes a reader gave.
+    given: u64,
 }
 
 impl<T> Counted<T> {
@@ -55,7 +64,11 @@ impl<T> Counted<T> {
         ensures inner { inner_of result ≡ inner }
         ensures failures { failure_count result ≡ 0 }
     {
-        Counted { inner, failures: 0 }
+        Counted {
+            inner,
+            failures: 0,
+            given: 0,
+        }
     }
 
     /// How many calls have failed.
@@ -76,7 +89,11 @@ impl<T> Counted<T> {
     pub fn into_inner(self) -> T
         ensures { result ≡ inner_of self }
     {
-        let Counted { inner, failures: _ } = self;
+        let Counted {
+            inner,
+            failures: _,
+            given: _,
+        } = self;
         inner
     }
 }
@@ -84,11 +101,21 @@ impl<T> Counted<T> {
 impl<T: Read> Feed for Counted<T> {
     ghost remaining = { λ c. T.remaining c.inner };
 
+    ghost given = { λ c. c.given };
+
     ghost failures = { λ c. c.failures };
 
+    /// Fails where the bytes that it gave and the piece together might be 2^64.
     fn read(&mut self, piece: &mut [u8]) -> io::Result<usize> {
+        if piece.len() as u64 > u64::MAX - self.given {
+            self.failures += 1;
+            return Err(ErrorKind::FileTooLarge.into());
+        }
         let taken = self.inner.read(piece);
-        self.failures += u64::from(taken.is_err());
+        match &taken {
+            Ok(count) => self.given += *count as u64,
+            Err(_) => self.failures += 1,
+        }
         taken
     }
 }

@@ -1,16 +1,18 @@
 -- What the checker did where values are stored, from what it did over the parts of it.
-use Rattle.std.proofs.Common.{◌≡◌, ◌∙◌, refl, sym, ap, ap₂, subst, cond, ℕ, Bool, true, false, List, [], ◌∷◌, ◌++◌, Option, map}
+use Rattle.std.proofs.Common.{◌≡◌, ◌∙◌, refl, sym, ap, ap₂, subst, cond, ℕ, Bool, true, false, List, [], ◌∷◌, ◌++◌, Option, None, map}
 use Rattle.std.proofs.lemmas.Bool.{false≢true}
 use Rattle.place.specs.declared.Place.{Place as SourcePlace}
 use Rattle.typed_tree.specs.declared.tree.Access.{Access}
 use Rattle.typed_tree.specs.declared.tree.Assignment.{Assignment}
 use Rattle.typed_tree.specs.declared.tree.Copying.{Copying}
 use Rattle.typed_tree.specs.declared.tree.Expr.{Expr}
+use Rattle.typed_tree.specs.declared.tree.ReadVariable.{ReadVariable}
 use Rattle.typed_tree.specs.declared.tree.Selector.{Selector}
 use Rattle.typed_tree.specs.declared.tree.Tree.{Tree}
 use Rattle.typed_tree.specs.Accesses.{Origin, origin_of, root_of}
 use Rattle.typed_tree.specs.Calls.{holds_call, whole_holds_call}
 use Rattle.domain.specs.Interval.{Interval}
+use Rattle.checker_rows.specs.Limits.{limits_of}
 use Rattle.checker_rows.specs.Rows.{is_ordinal_variable, rows_accessed}
 use Rattle.checker_state.specs.Bounds.{Bound}
 use Rattle.checker_state.specs.Changes.{assigned}
@@ -30,7 +32,7 @@ use Rattle.checker_expressions.proofs.Counted.{counted-both}
 use Rattle.cert_checker.specs.declared.walk.Walk.{Walk}
 use Rattle.cert_checker.specs.View.{Goes, at_state, context_of, row_stored}
 use Rattle.cert_checker.specs.Walk.{Stores, aliases_here, alike, assign, assign_component, assign_entire, assign_to, assign_value, assignment_walk, change}
-use Rattle.cert_checker.specs.Walk.{copy_to, copying_walk, from_entry, is_whole_variable, paired, reach_stored, store_to, stores_made}
+use Rattle.cert_checker.specs.Walk.{copy_to, copying_walk, from_entry, is_whole_variable, paired, point_place, reach_stored, read_value, store_to, stores_made}
 use Rattle.cert_checker.proofs.Steps.{goes-from_entry, goes-here, goes-then, moved}
 
 -- ---- what the state did
@@ -132,6 +134,23 @@ value-goes assignment reach passed tree form range {old = old} tree_is form_is r
     goes-here (stores form range) (assign_value assignment reach passed)
     (ap₂ (λ (f : Option Bound) (r : Interval). stores f r (context_of old) (state_of old.flow))
     (form_is ∙ ap (λ (t : Tree). bound_form (is_ordinal_variable t) assignment.value) tree_is) range_is) one
+
+-- what is accessed gets any value of its type, at the point where it is read
+pub read-goes : (name place : SourcePlace) (one : ReadVariable) (tree : Tree) (selectors : List Selector) (reach held : Reach) (range : Interval)
+    {old new : Walk}
+    → tree ≡ old.flow.state.table.now → place ≡ point_place tree one.point name → selectors ≡ one.access.selectors.items
+    → held ≡ reach_stored selectors false reach → range ≡ limits_of one.range
+    → Goes (assign_to place (origin_of one.access) one.access.selectors.items held None range) old new tt → Goes (read_value name one reach) old new tt
+read-goes name place one tree selectors reach held range {old = old} tree_is place_is selectors_are held_is range_is stores =
+    let own = one.access.selectors.items in
+    let before = old.flow.state.table.now in
+    let form = λ (p : SourcePlace) (r : Reach) (i : Interval).
+    assign_to p (origin_of one.access) own r None i (context_of old) (state_of old.flow) in
+    let place_here : place ≡ point_place before one.point name = place_is ∙ ap (λ (t : Tree). point_place t one.point name) tree_is in
+    let held_here : held ≡ reach_stored own false reach = held_is ∙ ap (λ (s : List Selector). reach_stored s false reach) selectors_are in
+    goes-here (assign_to place (origin_of one.access) own held None range) (read_value name one reach)
+    (ap (λ (p : SourcePlace). form p held range) place_here
+    ∙ ap₂ (λ (r : Reach) (i : Interval). form (point_place before one.point name) r i) held_here range_is) stores
 
 -- ---- whole statements
 

@@ -18,7 +18,7 @@ use Rattle.typed_tree.specs.declared.tree.Loop.{Loop}
 use Rattle.typed_tree.specs.declared.tree.RangeTest.{RangeTest}
 use Rattle.typed_tree.specs.declared.tree.Stmt.{Stmt}
 use Rattle.typed_tree.specs.declared.tree.Stmt.TheOpen.{Stmt-F}
-use Rattle.typed_tree.specs.declared.tree.Stmt.TheOpen.Stmt-F.{Empty, Assign, Copy, Write, Call, Compound, If, While, Repeat, For, Case, With}
+use Rattle.typed_tree.specs.declared.tree.Stmt.TheOpen.Stmt-F.{Empty, Assign, Copy, Write, Call, Compound, If, While, Repeat, For, Case, With, Read}
 use Rattle.typed_tree.specs.declared.tree.Stmt.TheViews.{roll-Stmt}
 use Rattle.typed_tree.specs.declared.tree.Stmt.TheFolds.{map-Stmt, fold-roll-Stmt, ind-Stmt}
 use Rattle.typed_tree.specs.declared.tree.Tree.{Tree}
@@ -124,6 +124,7 @@ module _ (tree : Tree) (block : ℕ) where
   layer (Assign assignment) well = none-ordinal tree
   layer (Copy copying) well = none-ordinal tree
   layer (Write writing) well = none-ordinal tree
+  layer (Read reading) well = none-ordinal tree
   layer (Call calling) well = none-ordinal tree
   layer (Compound number statements) well = all-proved statements.items well
   layer (If number condition consequence None) well =

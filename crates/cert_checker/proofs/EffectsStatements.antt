@@ -15,6 +15,7 @@ use Rattle.typed_tree.specs.declared.tree.CaseHead.{CaseHead}
 use Rattle.typed_tree.specs.declared.tree.Copying.{Copying}
 use Rattle.typed_tree.specs.declared.tree.ForHead.{ForHead}
 use Rattle.typed_tree.specs.declared.tree.RangeTest.{RangeTest}
+use Rattle.typed_tree.specs.declared.tree.ReadVariable.{ReadVariable}
 use Rattle.typed_tree.specs.declared.tree.Selector.{Selector}
 use Rattle.typed_tree.specs.declared.tree.Variable.{Variable as DeclaredVariable}
 use Rattle.typed_tree.specs.declared.tree.WithRecord.{WithRecord}
@@ -22,13 +23,13 @@ use Rattle.typed_tree.specs.declared.tree.WriteParameter.{WriteParameter}
 use Rattle.typed_tree.specs.declared.tree.Expr.{Expr}
 use Rattle.typed_tree.specs.declared.tree.Stmt.{Stmt}
 use Rattle.typed_tree.specs.declared.tree.Stmt.TheOpen.{Stmt-F}
-use Rattle.typed_tree.specs.declared.tree.Stmt.TheOpen.Stmt-F.{Empty, Assign, Copy, Write, Compound, If, While, Repeat, For, Case, Call as Calling, With}
+use Rattle.typed_tree.specs.declared.tree.Stmt.TheOpen.Stmt-F.{Empty, Assign, Copy, Write, Compound, If, While, Repeat, For, Case, Call as Calling, With, Read}
 use Rattle.typed_tree.specs.declared.tree.Stmt.TheFolds.{map-Stmt, fold-roll-Stmt, ind-Stmt}
 use Rattle.typed_tree.specs.declared.tree.Stmt.TheViews.{roll-Stmt}
 use Rattle.typed_tree.specs.Accesses.{Origin, AtVariable, origin_of, root_of}
 use Rattle.typed_tree.specs.Calls.{holds_call, whole_holds_call}
 use Rattle.typed_tree.specs.Records.{Begin, OpenRecord, accesses_begin, all_begin, begins, begins_in, is_there, opened_by, parameter_begins, statement_begins}
-use Rattle.typed_tree.specs.Records.{value_begins, with_begins}
+use Rattle.typed_tree.specs.Records.{read_begins, value_begins, with_begins}
 use Rattle.typed_tree.specs.WellFormed.{all_hold, are_whole, is_control, is_local_kind, is_result_kind, is_well_formed_expr, is_well_formed_stmt}
 use Rattle.typed_tree.specs.WellFormed.{fits_target, is_well_formed_record, leads_to_ordinal, of_one, outline_of, stmt_is_well_formed}
 use Rattle.meaning.specs.declared.outcome.Ending.TheVariants as ending
@@ -40,6 +41,7 @@ use Rattle.meaning.specs.Effect.{Action, give, is_in, number_of}
 use Rattle.meaning.specs.Effect as effect
 use Rattle.meaning.specs.Meaning.{Calls, Execution, Surroundings, accessed, effect_of, effect_step, parameter_of, value_of, values_of, whole_of}
 use Rattle.meaning.specs.Meaning as meaning
+use Rattle.checker_rows.specs.Limits.{limits_of}
 use Rattle.checker_rows.specs.Rows.{is_ordinal_variable}
 use Rattle.checker_state.specs.Conditions.{bound_form}
 use Rattle.checker_state.specs.Values.{known_range}
@@ -60,8 +62,8 @@ use Rattle.checker_expressions.specs.Walk as flow
 use Rattle.cert_checker.specs.Walk.{Stores, assign, assign_to, is_whole_variable, statement_step, statement_walk, store_to, stores_made}
 use Rattle.cert_checker.specs.Walk as walk
 use Rattle.checker_expressions.proofs.EffectsKept.{CanGive, IsOwn, Keeps, MayWriteTo, Standing, own-write, under-write, keeps-enter, keeps-give}
-use Rattle.checker_expressions.proofs.EffectsKept.{keeps-line_ended, keeps-looped, keeps-require, keeps-stop, keeps-store, keeps-store_all, keeps-then}
-use Rattle.checker_expressions.proofs.EffectsKept.{keeps-turn, keeps-undefine, keeps-when}
+use Rattle.checker_expressions.proofs.EffectsKept.{keeps-line_ended, keeps-line_passed, keeps-looped, keeps-read_as, keeps-require, keeps-stop}
+use Rattle.checker_expressions.proofs.EffectsKept.{keeps-store, keeps-store_all, keeps-then, keeps-turn, keeps-undefine, keeps-unless_outside, keeps-when}
 use Rattle.checker_expressions.proofs.EffectsCalls.{CallsLeave, DeclareTheirs, Grounds, StandsIn, Yields, may-here, yields-asked, yields-then}
 use Rattle.checker_expressions.proofs.Effects.{access-kept, call-kept, parameter-kept, under-accessed, value-kept, whole-kept}
 use Rattle.cert_checker.proofs.OpenedBehind.{all-opened, behind, one-opened, with-begun, with-parts}
@@ -260,6 +262,30 @@ module _ (tree : Tree) (blocks : List BlockClaims) (declares : DeclareTheirs tre
         let one = yields-then context (flow.parameter_walk parameter) (λ _. walk.all_of (map flow.parameter_walk parameters)) tt yields in
         keeps-then at _ _ (parameter-kept tree blocks declares block at grounds calls leave opened places lie parameter context stands there.0 one.1)
         (λ _. keeps-parameters parameters context stands there.1 one.2)
+
+    keeps-read : (name : SourcePlace) (one : ReadVariable) (context : Context) → In context → read_begins one opened ≡ true
+        → Yields context (walk.read_walk name one) tt → Keeps at (meaning.read_of one here)
+    keeps-read name one context stands begin yields =
+        let access = one.access in
+        let indexes = one.indexes.items in
+        let selectors = access.selectors.items in
+        let own = and_parts (all_begin (map begins indexes) opened) (is_there opened (origin_of access)) begin in
+        let both = yields-then context (flow.access_walk access (flow.index_pieces indexes)) (walk.read_value name one) tt yields in
+        let may = may-assign context (walk.point_place context.tree one.point name) (origin_of access) selectors
+        (walk.reach_stored selectors false both.0) None (limits_of one.range)
+        (record { state = both.2.state; unbroken = both.2.unbroken; value_is = both.2.value_is }) in
+        keeps-when at _ _ (access-kept tree blocks declares block at grounds calls leave opened places lie access indexes context both.0 stands own.0 both.1)
+        (λ place given. keeps-then at _ _ (keeps-read_as at one.reads one.point)
+        (λ n. keeps-then at _ _ (keeps-unless_outside at one.range one.point n)
+        (λ _. keeps-store at place (Number n) (write-accessed access indexes context stands may own.1 place given))))
+
+    keeps-reads : (name : SourcePlace) (variables : List ReadVariable) (context : Context) → In context → all_begin (map read_begins variables) opened ≡ true
+        → Yields context (walk.all_of (map (walk.read_walk name) variables)) tt → Keeps at (meaning.all_of (map meaning.read_of variables) here)
+    keeps-reads name [] context stands begin yields = keeps-give at tt
+    keeps-reads name (one ∷ others) context stands begin yields =
+        let there = and_parts (read_begins one opened) (all_begin (map read_begins others) opened) begin in
+        let both = yields-then context (walk.read_walk name one) (λ _. walk.all_of (map (walk.read_walk name) others)) tt yields in
+        keeps-then at _ _ (keeps-read name one context stands there.0 both.1) (λ _. keeps-reads name others context stands there.1 both.2)
 
     keeps-assignment : (assignment : Assignment) (context : Context) → In context
         → (accesses_begin assignment.target assignment.indexes.items opened && begins assignment.value opened) ≡ true
@@ -466,6 +492,11 @@ module _ (tree : Tree) (blocks : List BlockClaims) (declares : DeclareTheirs tre
         let one = yields-then context (flow.enter writing.number) (λ _. walk.all_of (map flow.parameter_walk writing.parameters.items)) tt yields in
         keeps-then at _ _ (keeps-enter at writing.number at.visible)
         (λ _. keeps-then at _ _ (keeps-parameters writing.parameters.items context stands begin one.2) (λ _. keeps-line_ended at writing.ends_line))
+    layer (Read reading) well begin context stands yields =
+        let variables = reading.variables.items in
+        let one = yields-then context (flow.enter reading.number) (λ _. walk.all_of (map (walk.read_walk reading.name) variables)) tt yields in
+        keeps-then at _ _ (keeps-enter at reading.number at.visible)
+        (λ _. keeps-then at _ _ (keeps-reads reading.name variables context stands begin one.2) (λ _. keeps-line_passed at reading.line))
     layer (Calling calling) well begin context stands yields =
         keeps-then at _ _ (call-kept tree blocks declares block at grounds calls leave opened places lie calling.call calling.actuals.items context stands
         begin yields)

@@ -4,6 +4,7 @@ use Rattle.std.specs.Prelude.{flat_map, drop, slice_get}
 use Rattle.typed_tree.specs.declared.tree.Assignment.{Assignment}
 use Rattle.typed_tree.specs.declared.tree.CaseHead.{CaseHead}
 use Rattle.typed_tree.specs.declared.tree.ForHead.{ForHead}
+use Rattle.typed_tree.specs.declared.tree.ReadVariable.{ReadVariable}
 use Rattle.typed_tree.specs.declared.tree.WithRecord.{WithRecord}
 use Rattle.typed_tree.specs.Accesses as accesses
 use Rattle.typed_tree.specs.Accesses.{Origin, origin_of}
@@ -12,7 +13,7 @@ use Rattle.checker_state.specs.Bounds.{Bound}
 use Rattle.typed_tree.specs.declared.tree.Expr.{Expr}
 use Rattle.typed_tree.specs.declared.tree.Stmt.{Stmt}
 use Rattle.typed_tree.specs.declared.tree.Stmt.TheOpen.{Stmt-F}
-use Rattle.typed_tree.specs.declared.tree.Stmt.TheOpen.Stmt-F.{Empty, Assign, Copy, Write, Compound, If, While, Repeat, For, Case, With}
+use Rattle.typed_tree.specs.declared.tree.Stmt.TheOpen.Stmt-F.{Empty, Assign, Copy, Write, Compound, If, While, Repeat, For, Case, With, Read}
 use Rattle.typed_tree.specs.declared.tree.Stmt.TheOpen.Stmt-F.{Call as Calling}
 use Rattle.typed_tree.specs.declared.tree.FunctionResult.{FunctionResult}
 use Rattle.typed_tree.specs.Calls.{holds_call}
@@ -20,11 +21,12 @@ use Rattle.typed_tree.specs.declared.tree.Stmt.TheFolds.{map-Stmt, fold-roll-Stm
 use Rattle.typed_tree.specs.declared.tree.Tree.{Tree}
 use Rattle.typed_tree.specs.declared.tree.Block.{Block}
 use Rattle.typed_tree.specs.Entries.{joined, entries_of_expression, entries_of_parameter, statement_entries, entries_of_block, entries_of_statement}
-use Rattle.typed_tree.specs.Entries.{entries_of_record, entries_of}
+use Rattle.typed_tree.specs.Entries.{entries_of_read, entries_of_record, entries_of}
 use Rattle.certificate.specs.declared.Certificate.{Certificate}
 use Rattle.checker_state.specs.declared.value.Known.{Known}
 use Rattle.checker_state.specs.Values.{known_range}
 use Rattle.domain.specs.Interval.{Interval}
+use Rattle.checker_rows.specs.Limits.{limits_of}
 use Rattle.checker_rows.specs.Rows.{is_ordinal_variable}
 use Rattle.cert_checker.specs.Promise.{LinksEntries}
 use Rattle.checker_state.specs.Stores.{Reach}
@@ -44,7 +46,7 @@ use Rattle.checker_expressions.specs.Walk.{Context, Walking, ◌>>=◌, access_w
 use Rattle.cert_checker.specs.Walk.{first_context, assign_component, assign_entire, assign_to, assign_value, arms_walk, case_walk, for_round, for_turns}
 use Rattle.cert_checker.specs.Walk.{for_walk, index_test, loop_walk, steady_in}
 use Rattle.cert_checker.specs.Walk.{tested_way, while_round, repeat_round, statement_step, statement_walk, where_so, all_of, block_walk, blocks_walk}
-use Rattle.cert_checker.specs.Walk.{index_root, is_whole_variable, record_walk}
+use Rattle.cert_checker.specs.Walk.{index_root, is_whole_variable, point_place, read_value, read_walk, record_walk}
 use Rattle.cert_checker.specs.Walk.{begin_way, program_walk, reach_stored, result_use}
 use Rattle.checker_expressions.proofs.Entered.{Enters, access-entered, and_no_more, and_then, call-entered, parameter-entered, value-entered, whole-entered}
 
@@ -96,6 +98,17 @@ record-entered : (one : WithRecord) → Enters (record_walk one) (entries_of_rec
 record-entered one context state =
     and_no_more (access_walk one.access (index_pieces one.indexes.items) context state).linked [] _ (access-entered one.access one.indexes.items context state)
     refl
+
+-- a variable that is read is accessed, and what it gets enters nothing
+read-entered : (name : Place) (one : ReadVariable) → Enters (read_walk name one) (entries_of_read one)
+read-entered name one context state =
+    let access = one.access in
+    let selectors = access.selectors.items in
+    let reached = access_walk access (index_pieces one.indexes.items) context state in
+    let rest = read_value name one reached.value context reached.after in
+    and_no_more reached.linked rest.linked _ (access-entered access one.indexes.items context state)
+    (assigned-silent (point_place context.tree one.point name) (origin_of access) selectors (reach_stored selectors false reached.value) None
+    (limits_of one.range) context reached.after)
 
 -- a loop enters what a round of it does
 loop-entered : (number : ℕ) (place : Place) (control : Option ℕ) (round : Walking State) (numbers : List ℕ) → Enters round numbers
@@ -184,6 +197,9 @@ statement-parts (Copy copying) context state =
     (and_no_more first.linked [] _ (whole-entered copying.value copying.value_indexes.items context reached.after) refl))
 statement-parts (Write writing) context state =
     ap (λ numbers. writing.number ∷ numbers) (all-entered parameter_walk entries_of_parameter parameter-entered writing.parameters.items context state)
+statement-parts (Read reading) context state =
+    ap (λ numbers. reading.number ∷ numbers)
+    (all-entered (read_walk reading.name) entries_of_read (read-entered reading.name) reading.variables.items context state)
 statement-parts (Calling calling) context state = call-entered calling.call calling.actuals.items context state
 statement-parts (Compound number statements) context state = ap (λ numbers. number ∷ numbers) (statements-entered statements.items context state)
 statement-parts (If number condition consequence None) context state =

@@ -18,6 +18,7 @@ pub mod Targets
 pub mod Written
 pub mod SoundAssignments
 pub mod SoundCopies
+pub mod SoundReads
 pub mod SoundLoops
 pub mod SoundFor
 pub mod SoundWith

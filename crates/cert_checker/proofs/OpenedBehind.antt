@@ -24,6 +24,7 @@ use Rattle.meaning.specs.Meaning.{Calls, Evaluation, Surroundings, accessed, beg
 use Rattle.meaning.specs.Store.{Environment, Place, part}
 use Rattle.checker_calls.proofs.Origins.{root_is}
 use Rattle.checker_expressions.proofs.EffectsKept.{CanGive, can-then, given-same}
+use Rattle.checker_expressions.proofs.Opened.{steps-same}
 use Rattle.checker_expressions.proofs.SoundAccesses.{leads-count, part-none, part-then}
 
 -- the records that are open for the statement of a with
@@ -54,20 +55,6 @@ with-parts one others body records begin =
     record { indexes = own.0; there = own.1; later = both.1 }
 
 -- ---- ways
-
-step-same : (a b : PathStep) → is_same_step a b ≡ true → a ≡ b
-step-same path.Element path.Element is = refl
-step-same path.Element (path.Field other) is = absurd (false≢true is)
-step-same (path.Field position) path.Element is = absurd (false≢true is)
-step-same (path.Field position) (path.Field other) is = ap path.Field (eqb-true position other is)
-
-steps-same : (a b : List PathStep) → pointwise is_same_step a b ≡ true → a ≡ b
-steps-same [] [] is = refl
-steps-same [] (y ∷ b) is = absurd (false≢true is)
-steps-same (x ∷ a) [] is = absurd (false≢true is)
-steps-same (x ∷ a) (y ∷ b) is =
-    let both = and_parts (is_same_step x y) (pointwise is_same_step a b) is in
-    ap₂ (λ (one : PathStep) (more : List PathStep). one ∷ more) (step-same x y both.0) (steps-same a b both.1)
 
 way-then : (first second : List Step) → way_of (first ++ second) ≡ way_of first ++ way_of second
 way-then [] second = refl

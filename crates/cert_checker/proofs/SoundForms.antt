@@ -19,7 +19,7 @@ use Rattle.typed_tree.specs.declared.tree.WriteParameter.{WriteParameter}
 use Rattle.typed_tree.specs.declared.tree.Expr.{Expr}
 use Rattle.typed_tree.specs.declared.tree.Stmt.{Stmt}
 use Rattle.typed_tree.specs.declared.tree.Stmt.TheOpen.{Stmt-F}
-use Rattle.typed_tree.specs.declared.tree.Stmt.TheOpen.Stmt-F.{Empty, Assign, Copy, Write, Compound, If, While, Repeat, For, Case, Call as Calling, With}
+use Rattle.typed_tree.specs.declared.tree.Stmt.TheOpen.Stmt-F.{Empty, Assign, Copy, Write, Compound, If, While, Repeat, For, Case, Call as Calling, With, Read}
 use Rattle.typed_tree.specs.declared.tree.Stmt.TheViews.{roll-Stmt}
 use Rattle.typed_tree.specs.declared.tree.Stmt.TheFolds.{map-Stmt, fold-roll-Stmt, ind-Stmt}
 use Rattle.typed_tree.specs.Accesses.{AtVariable}
@@ -32,7 +32,7 @@ use Rattle.typed_tree.specs.Loops.{controls_of as block_controls}
 use Rattle.typed_tree.specs.Threats.{Spares, all_so, all_spare, is_none_of, spares, spares_in_expr, spares_in_record, statement_spares}
 use Rattle.typed_tree.specs.WellFormed.{Outline, all_hold, are_whole, is_control, is_declared, is_local_kind, is_well_formed_expr, is_well_formed_parameter}
 use Rattle.typed_tree.specs.WellFormed.{fits_target, is_well_formed_record, is_well_formed_stmt, is_well_formed_test, leads_to_ordinal, outline_of}
-use Rattle.typed_tree.specs.WellFormed.{stmt_is_well_formed}
+use Rattle.typed_tree.specs.WellFormed.{is_well_formed_line, is_well_formed_read, stmt_is_well_formed}
 use Rattle.domain.specs.Interval.{common}
 use Rattle.domain.specs.Numbers.{hull, is_covered}
 use Rattle.domain.proofs.Numbers.{among-hull, covered-among}
@@ -83,6 +83,7 @@ use Rattle.cert_checker.proofs.SoundAssignments.{assigned, assignment-sound, ent
 use Rattle.cert_checker.proofs.SoundCase.{arm-missing, arms-behind, at-constants_known, entire-number, first-constants}
 use Rattle.cert_checker.proofs.SoundCopies.{copied, copying-sound}
 use Rattle.cert_checker.proofs.SoundFor.{IsControl, IsTestFor, for-good}
+use Rattle.cert_checker.proofs.SoundReads.{reading-sound}
 use Rattle.cert_checker.proofs.SparedCalls.{Controls, IsAlone, SpareControls}
 use Rattle.cert_checker.proofs.SparedText.{MayChangeOthers, text-kept}
 use Rattle.checker_expressions.proofs.EffectsKept.{watching}
@@ -662,6 +663,14 @@ module _ (world : World) (block : ℕ) (own_block : Block)
         entered-among [] writing.number does walked
         (plainly [] world block visible does walked (ended-sound writing.ends_line written walked
         (parameters-sound writing.parameters.items is.well is.held is.begin)))
+    layer-here (Read reading) is text =
+        let variables = reading.variables.items in
+        let well = and_parts (is_well_formed_line outline block reading.line) (all_hold (map (is_well_formed_read outline block) variables)) is.well in
+        let walked = walk.all_of (map (walk.read_walk reading.name) variables) in
+        let does = effect.◌>>=◌ (meaning.all_of (map meaning.read_of variables) env) (λ done. meaning.line_passed reading.line) in
+        entered-among [] reading.number does walked
+        (plainly [] world block visible does walked
+        (reading-sound world block env records opened laws calls reading.name variables reading.line well.1 is.held is.begin))
     layer-here (Calling calling) is text =
         plainly [] world block visible (meaning.effect_step (map-Stmt Stmt Execution effect_of (Calling calling)) env)
         (walk.statement_step (map-Stmt Stmt (Walking (Unit {0})) statement_walk (Calling calling)))

@@ -13,6 +13,7 @@ use Rattle.typed_tree.specs.declared.tree.Designator.{Designator}
 use Rattle.typed_tree.specs.declared.tree.Designator.TheVariants.{Single, Range}
 use Rattle.typed_tree.specs.declared.tree.ForHead.{ForHead}
 use Rattle.typed_tree.specs.declared.tree.RangeTest.{RangeTest}
+use Rattle.typed_tree.specs.declared.tree.ReadVariable.{ReadVariable}
 use Rattle.typed_tree.specs.declared.tree.Selector.{Selector}
 use Rattle.typed_tree.specs.declared.tree.Selector.TheVariants.{Element, Field}
 use Rattle.typed_tree.specs.declared.tree.Whole.{Whole}
@@ -27,27 +28,29 @@ use Rattle.typed_tree.specs.declared.tree.Link.{Link}
 use Rattle.typed_tree.specs.declared.tree.Passed.{Passed}
 use Rattle.typed_tree.specs.declared.tree.Expr.TheOpen.{Expr-F, Passed-F, Link-F}
 use Rattle.typed_tree.specs.declared.tree.Expr.TheOpen.Expr-F.{Constant, Variable, Monadic as MonadicOf, Chain, Compare, Call as CallOf, Set as SetOf}
+use Rattle.typed_tree.specs.declared.tree.Expr.TheOpen.Expr-F.{Input as InputOf}
 use Rattle.typed_tree.specs.declared.tree.Expr.TheOpen.Passed-F.{Value as PassedValue, Whole as PassedWhole, Reference}
 use Rattle.typed_tree.specs.declared.tree.Expr.TheFolds.{map-Expr, map-Passed, map-Link, fold-roll-Expr, fold-roll-Passed, fold-roll-Link}
 use Rattle.typed_tree.specs.declared.tree.Expr.TheFolds.{fold-Link, ind-Expr, ind-Passed}
 use Rattle.typed_tree.specs.declared.tree.Expr.TheViews.{roll-Expr, roll-Passed, roll-Link}
 use Rattle.typed_tree.specs.declared.tree.Stmt.{Stmt}
 use Rattle.typed_tree.specs.declared.tree.Stmt.TheOpen.{Stmt-F}
-use Rattle.typed_tree.specs.declared.tree.Stmt.TheOpen.Stmt-F.{Empty, Assign, Copy, Write, Compound, If, While, Repeat, For, Case, Call as Calling, With}
+use Rattle.typed_tree.specs.declared.tree.Stmt.TheOpen.Stmt-F.{Empty, Assign, Copy, Write, Compound, If, While, Repeat, For, Case, Call as Calling, With, Read}
 use Rattle.typed_tree.specs.declared.tree.Stmt.TheFolds.{map-Stmt, fold-roll-Stmt, ind-Stmt}
 use Rattle.typed_tree.specs.declared.tree.Stmt.TheViews.{roll-Stmt}
 use Rattle.typed_tree.specs.Threats.{Spares, all_so, all_spare, expr_spares, indexes_so, is_none_of, link_spares, passed_spares, spares, spares_in_expr}
 use Rattle.typed_tree.specs.Threats.{spares_in_indexes, spares_in_link, spares_in_parameter, spares_in_passed, spares_in_whole, spares_in_width}
-use Rattle.typed_tree.specs.Threats.{spares_in_record, spares_in_written, statement_spares}
+use Rattle.typed_tree.specs.Threats.{spares_in_read, spares_in_record, spares_in_written, statement_spares}
 use Rattle.typed_tree.specs.Accesses.{AtVariable, origin_of, root_of}
 use Rattle.typed_tree.specs.Records.{Begin, OpenRecord, accesses_begin, all_begin, begins, begins_in, expression_begins, is_there, link_begins, opened_by}
 use Rattle.typed_tree.specs.Records.{parameter_begins, passed_begin, passed_begins, statement_begins, value_begins, whole_begins, width_begins, with_begins}
-use Rattle.typed_tree.specs.Records.{written_begins}
+use Rattle.typed_tree.specs.Records.{read_begins, written_begins}
 use Rattle.typed_tree.specs.WellFormed.{Outline, all_hold, are_whole, fits_target, is_control, is_well_formed_expr, is_well_formed_record, is_well_formed_stmt}
 use Rattle.typed_tree.specs.WellFormed.{length_of, stmt_is_well_formed}
 use Rattle.meaning.specs.declared.outcome.Ending.TheVariants as ending
 use Rattle.meaning.specs.declared.store.Value.{Value}
 use Rattle.meaning.specs.declared.store.Value.TheVariants.{Members, Number}
+use Rattle.meaning.specs.Integers.{truth}
 use Rattle.meaning.specs.Kinds.{LieOpen}
 use Rattle.meaning.specs.Counting.{has_values, value_behind}
 use Rattle.meaning.specs.Store.{Place, part}
@@ -58,10 +61,10 @@ use Rattle.meaning.specs.Meaning.{begun, default_width, effect_of, effect_step, 
 use Rattle.meaning.specs.Meaning.{gathered, passing_of, selected, value_of, value_step, values_of, whole_of, width_of, written_of, OfPlace, OfRow}
 use Rattle.meaning.specs.Meaning as meaning
 use Rattle.checker_expressions.proofs.EffectsKept.{CanGive, IsOwn, Keeps, MayChange, MayWriteTo, Standing, can-then, given-same, own-write, under-write}
-use Rattle.checker_expressions.proofs.EffectsKept.{keeps-enter, keeps-fetch, keeps-fetch_all, keeps-give, keeps-line_ended, keeps-looped}
-use Rattle.checker_expressions.proofs.EffectsKept.{keeps-operated, keeps-operated_both, keeps-require, keeps-stop, keeps-store, keeps-store_all}
-use Rattle.checker_expressions.proofs.EffectsKept.{keeps-then, keeps-turn}
-use Rattle.checker_expressions.proofs.EffectsKept.{keeps-valued, keeps-undefine, keeps-when, keeps-with_one, keeps-with_range, keeps-write}
+use Rattle.checker_expressions.proofs.EffectsKept.{keeps-asked, keeps-enter, keeps-fetch, keeps-fetch_all, keeps-give, keeps-line_ended, keeps-line_passed}
+use Rattle.checker_expressions.proofs.EffectsKept.{keeps-looped, keeps-operated, keeps-operated_both, keeps-read_as, keeps-require, keeps-stop, keeps-store}
+use Rattle.checker_expressions.proofs.EffectsKept.{keeps-store_all, keeps-then, keeps-turn, keeps-undefine, keeps-unless_outside, keeps-valued, keeps-when}
+use Rattle.checker_expressions.proofs.EffectsKept.{keeps-with_one, keeps-with_range, keeps-write}
 use Rattle.checker_calls.proofs.Origins.{root_is}
 use Rattle.checker_expressions.proofs.Effects.{under-accessed}
 use Rattle.cert_checker.proofs.OpenedBehind.{all-opened, behind, one-opened, with-begun, with-parts}
@@ -301,6 +304,8 @@ module _ (at : Standing) (calls : Calls) (called : CallsKeep at calls) where
         (λ a. keeps-then at _ _ (keeps-enter at number at.visible)
         (λ _. keeps-then at _ _ (keeps-components right right_indexes.items there.1 parts.1) (λ b. keeps-give at (Number (compared relation a b)))))
     layer (CallOf call actuals) begin so = keeps-calling call actuals.items begin so
+    layer (InputOf number asks) begin so =
+        keeps-then at _ _ (keeps-enter at number at.visible) (λ _. keeps-then at _ _ (keeps-asked at asks) (λ b. keeps-give at (Number (truth b))))
 
     passed-layer : (y : Passed-F KeptExpr KeptPassed KeptLink) → begin_passed (bare_passed y) opened ≡ true → spared_passed (bare_passed y) ≡ true
         → KeepsPassed (valued_passed (bare_passed y))
@@ -436,6 +441,27 @@ module _ (at : Standing) (calls : Calls) (called : CallsKeep at calls) where
         let there = and_parts (parameter_begins parameter opened) (all_begin (map parameter_begins parameters) opened) begin in
         let own = and_parts (written_begins parameter.value opened) (width_begins parameter.width opened) there.0 in
         keeps-then at _ _ (written-kept parameter.value parameter.width own.0 own.1 one.0 one.1) (λ _. parameters-kept parameters there.1 parts.1)
+
+    -- ---- what is read
+
+    read-kept : (one : ReadVariable) → read_begins one opened ≡ true → spares_in_read roots one ≡ true → Keeps at (meaning.read_of one here)
+    read-kept one begin so =
+        let access = one.access in
+        let indexes = one.indexes.items in
+        let there = and_parts (all_begin (map begins indexes) opened) (is_there opened (origin_of access)) begin in
+        let own = and_parts (spares_in_indexes roots indexes) (is_none_of roots access.root) so in
+        keeps-when at _ _ (access-kept access indexes there.0 own.0)
+        (λ place given. keeps-then at _ _ (keeps-read_as at one.reads one.point)
+        (λ n. keeps-then at _ _ (keeps-unless_outside at one.range one.point n)
+        (λ _. keeps-store at place (Number n) (write-accessed access (values_of indexes) there.1 own.1 place given))))
+
+    reads-kept : (variables : List ReadVariable) → all_begin (map read_begins variables) opened ≡ true
+        → all_so (map (spares_in_read roots) variables) ≡ true → Keeps at (meaning.all_of (map meaning.read_of variables) here)
+    reads-kept [] begin so = keeps-give at tt
+    reads-kept (one ∷ others) begin so =
+        let own = and_parts (spares_in_read roots one) (all_so (map (spares_in_read roots) others)) so in
+        let there = and_parts (read_begins one opened) (all_begin (map read_begins others) opened) begin in
+        keeps-then at _ _ (read-kept one there.0 own.0) (λ _. reads-kept others there.1 own.1)
 
   -- ---- statements
 
@@ -580,6 +606,9 @@ module _ (at : Standing) (calls : Calls) (called : CallsKeep at calls) where
           keeps-then at _ _ (keeps-enter at writing.number at.visible)
           (λ _. keeps-then at _ _ (parameters-kept opened places lie roots others writing.parameters.items begin so)
           (λ _. keeps-line_ended at writing.ends_line))
+      stmt-layer settled (Read reading) well begin roots others so =
+          keeps-then at _ _ (keeps-enter at reading.number at.visible)
+          (λ _. keeps-then at _ _ (reads-kept opened places lie roots others reading.variables.items begin so) (λ _. keeps-line_passed at reading.line))
       stmt-layer settled (Calling calling) well begin roots others so =
           keeps-then at _ _ (call-kept opened places lie roots others calling.call calling.actuals.items begin so) (λ _. keeps-give at tt)
       stmt-layer settled (Compound number statements) well begin roots others so =

@@ -1,5 +1,5 @@
 -- The walk of the checker over a program, one equation a form: the state after it, the sites that it leaves open, the
--- rules that are broken, and the state at each entry into a statement or expression (ISO 7185:1990, 6.7, 6.8).
+-- rules that are broken, and the state at each entry into a statement or expression (ISO 7185:1990, 6.7 to 6.9).
 -- It does not say that a program does what the walk says of it.
 use Rattle.std.specs.Prelude.{ℕ, suc, ℤ, drop, slice_get, Bool, true, false, List, [], ◌∷◌, ◌++◌, Option, Some}
 use Rattle.std.specs.Prelude.{None, if◌then◌else◌, map, length, ◌-◌, ◌&&◌, not}
@@ -9,6 +9,7 @@ use Rattle.std.specs.declared.vec.Vec.{Vec}
 use Rattle.place.specs.declared.Place.{Place}
 use Rattle.certificate.specs.Contents.{is_empty}
 use Rattle.certificate.specs.declared.Certificate.{Certificate}
+use Rattle.typed_tree.specs.declared.site.Point.{Point}
 use Rattle.typed_tree.specs.declared.tree.Tree.{Tree}
 use Rattle.typed_tree.specs.declared.tree.Block.{Block}
 use Rattle.typed_tree.specs.declared.tree.Assignment.{Assignment}
@@ -16,6 +17,7 @@ use Rattle.typed_tree.specs.declared.tree.CaseHead.{CaseHead}
 use Rattle.typed_tree.specs.declared.tree.Copying.{Copying}
 use Rattle.typed_tree.specs.declared.tree.ForHead.{ForHead}
 use Rattle.typed_tree.specs.declared.tree.LoopHead.{LoopHead}
+use Rattle.typed_tree.specs.declared.tree.ReadVariable.{ReadVariable}
 use Rattle.typed_tree.specs.declared.tree.Selector.{Selector}
 use Rattle.typed_tree.specs.declared.tree.Selector.TheVariants.{Element}
 use Rattle.typed_tree.specs.declared.tree.FunctionResult.{FunctionResult}
@@ -25,7 +27,7 @@ use Rattle.typed_tree.specs.declared.tree.Expr.{Expr}
 use Rattle.typed_tree.specs.declared.tree.Stmt.{Stmt}
 use Rattle.typed_tree.specs.declared.tree.Stmt.TheOpen.{Stmt-F}
 use Rattle.typed_tree.specs.declared.tree.Stmt.TheOpen.Stmt-F.{Empty, Assign, Write, Compound, If, While, Repeat, For}
-use Rattle.typed_tree.specs.declared.tree.Stmt.TheOpen.Stmt-F.{Case, Copy, Call, With}
+use Rattle.typed_tree.specs.declared.tree.Stmt.TheOpen.Stmt-F.{Case, Copy, Call, With, Read}
 use Rattle.typed_tree.specs.declared.tree.Stmt.TheFolds.{fold-Stmt}
 use Rattle.typed_tree.specs.Accesses.{Origin, origin_of, root_of, steps_of}
 use Rattle.typed_tree.specs.Calls.{holds_call, whole_holds_call}
@@ -152,7 +154,7 @@ copy_to place origin selectors reach ranges context =
 abbrev pub begin : ℕ → List Fact → Walking (Unit {0})
 begin number facts context = with_state (block_start context.tree number facts) context
 
--- statements, values that are written, or records of a with, one after another
+-- statements, values that are written, variables that are read, or records of a with, one after another
 abbrev pub all_of : List (Walking (Unit {0})) → Walking (Unit {0})
 all_of [] = give tt
 all_of (statement ∷ statements) = do
@@ -215,6 +217,26 @@ copying_walk copying =
       ranges ← whole_walk copying.value (index_pieces copying.value_indexes.items)
       copy_to copying.becomes (origin_of target) target.selectors.items
           (reach_stored target.selectors.items hold reach) ranges
+
+-- the place of a point of a program, or else another
+abbrev pub place_or : Place → Option Point → Place
+place_or other None = other
+place_or other (Some point) = point.place
+
+abbrev pub point_place : Tree → ℕ → Place → Place
+point_place tree number other = place_or other (slice_get tree.points.items number)
+
+-- what is accessed gets any value of its type, at the point where it is read
+abbrev pub read_value : Place → ReadVariable → Reach → Walking (Unit {0})
+read_value name one reach context =
+    assign_to (point_place context.tree one.point name) (origin_of one.access) one.access.selectors.items
+    (reach_stored one.access.selectors.items false reach) None (limits_of one.range) context
+
+-- a variable that is read by a procedure whose name stands at a place: it is accessed, and then it gets its value
+abbrev pub read_walk : Place → ReadVariable → Walking (Unit {0})
+read_walk name one = do
+  reach ← access_walk one.access (index_pieces one.indexes.items)
+  read_value name one reach
 
 -- two pieces of which a run takes one, each walked from its own state; behind them the states are joined
 abbrev pub either_of : Context → Walked (Unit {0}) → Walked (Unit {0}) → Walked (Unit {0})
@@ -432,6 +454,8 @@ statement_step (Empty number) = enter number
 statement_step (Assign assignment) = from_entry assignment.number (assignment_walk assignment)
 statement_step (Copy copying) = from_entry copying.number (copying_walk copying)
 statement_step (Write writing) = from_entry writing.number (all_of (map parameter_walk writing.parameters.items))
+statement_step (Read reading) =
+    from_entry reading.number (all_of (map (read_walk reading.name) reading.variables.items))
 statement_step (Call calling) = call_walk calling.call (map passed_piece_of calling.actuals.items)
 statement_step (Compound number statements) = from_entry number (all_of statements.items)
 statement_step (If number condition consequence alternative) =

@@ -2,11 +2,11 @@ ghost use Rattle.std.specs.Prelude.{◌≡◌, ◌++◌, ◌∷◌, IfOk};
 ghost use Rattle.typed_tree.specs.Accesses.{origin_of};
 ghost use Rattle.typed_tree.specs.Entries.{access_entries, entries_of_expression, index_entries, whole_entries};
 ghost use Rattle.checker_state.specs.View.{said_form, said_reach};
-ghost use Rattle.checker_state.specs.Values.{known_range};
 ghost use Rattle.checker_expressions.specs.Visits.{all_counted};
 ghost use Rattle.cert_checker.specs.StoresView.{said_stores};
 ghost use Rattle.cert_checker.specs.View.{Goes, context_of};
-ghost use Rattle.cert_checker.specs.Walk.{aliases_here, assign, assign_component, assign_value, assignment_walk};
+ghost use Rattle.cert_checker.specs.Walk.{aliases_here, assign, assign_component, assign_to, assign_value};
+ghost use Rattle.cert_checker.specs.Walk.{assignment_walk};
 ghost use Rattle.cert_checker.specs.Walk.{change, copy_to, copying_walk, from_entry, is_whole_variable, store_to};
 ghost use Rattle.cert_checker.specs.Walk.{stores_made};
 
@@ -37,7 +37,7 @@ impl<'a> Walk<'a> {
         let known = self.expression(&assignment.value, visits);
         let passed = self.flow.fitting(assignment.fits, known);
         let reach = reach_stored(&target.selectors, holds_call(&assignment.value), reach);
-        self.assign_to(assignment, reach, passed);
+        self.assign_value(assignment, reach, passed);
     }
 
     /// An assignment of a whole value.
@@ -56,29 +56,47 @@ impl<'a> Walk<'a> {
     }
 
     /// What is accessed gets the value of an expression.
-    fn assign_to(&mut self, assignment: &Assignment, reach: Reach, passed: Known)
+    fn assign_value(&mut self, assignment: &Assignment, reach: Reach, passed: Known)
         ensures { Goes (assign_value assignment.now (said_reach reach) passed) self.old self.new tt }
     {
-        let target = &assignment.target;
+        let form = bound_form(self.flow.state.table(), &assignment.value);
+        self.assign_to(
+            assignment.becomes,
+            &assignment.target,
+            reach,
+            passed.range(),
+            form,
+        );
+    }
+
+    /// What is accessed gets a value of a range, perhaps of a bound form.
+    pub(crate) fn assign_to(
+        &mut self,
+        place: Place,
+        target: &Access,
+        reach: Reach,
+        range: Interval,
+        form: Option<Bound>,
+    )
+        ensures { Goes (assign_to place (origin_of target.now) target.now.selectors.items (said_reach reach)
+            (said_form form) range) self.old self.new tt }
+    {
         if is_whole_variable(target) {
-            let form = bound_form(self.flow.state.table(), &assignment.value);
-            self.change(assignment.becomes, target.root);
-            self.assigned(target.root, passed.range(), form);
+            self.change(place, target.root);
+            self.assigned(target.root, range, form);
         } else {
-            self.assign_component(assignment, reach, passed);
+            self.assign_component(place, target, reach, range);
         }
     }
 
     /// A component gets a value.
-    fn assign_component(&mut self, assignment: &Assignment, reach: Reach, passed: Known)
-        ensures { Goes (assign_component assignment.now.becomes (origin_of assignment.now.target)
-            assignment.now.target.selectors.items (said_reach reach) (known_range passed)) self.old self.new tt }
+    fn assign_component(&mut self, place: Place, target: &Access, reach: Reach, range: Interval)
+        ensures { Goes (assign_component place (origin_of target.now) target.now.selectors.items
+            (said_reach reach) range) self.old self.new tt }
     {
-        let target = &assignment.target;
         let rows = self.flow.state.table().accessed(target);
-        let range = passed.range();
         let stores = Stores::Alike { rows, range };
-        self.store_to(assignment.becomes, target.root, reach, &stores);
+        self.store_to(place, target.root, reach, &stores);
     }
 
     /// Components of these ranges are copied to what is accessed.

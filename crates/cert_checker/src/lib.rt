@@ -16,6 +16,7 @@ mod names;
 mod open_sites;
 mod program;
 mod reached;
+mod reads;
 mod stores;
 mod visible;
 mod walk;

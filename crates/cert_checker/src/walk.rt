@@ -52,6 +52,7 @@ impl<'a> Walk<'a> {
             Stmt::Assign(assignment) => self.assignment(assignment, visits),
             Stmt::Copy(copying) => self.copying(copying, visits),
             Stmt::Write(writing) => self.write(writing, visits),
+            Stmt::Read(reading) => self.read(reading, visits),
             Stmt::Call(calling) => self.call(calling, visits),
             Stmt::Compound { number, statements } => {
                 visits.tick(*number);

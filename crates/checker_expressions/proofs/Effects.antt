@@ -24,7 +24,7 @@ use Rattle.typed_tree.specs.declared.tree.Expr.{Expr}
 use Rattle.typed_tree.specs.declared.tree.Link.{Link}
 use Rattle.typed_tree.specs.declared.tree.Passed.{Passed}
 use Rattle.typed_tree.specs.declared.tree.Expr.TheOpen.{Expr-F, Passed-F, Link-F}
-use Rattle.typed_tree.specs.declared.tree.Expr.TheOpen.Expr-F.{Constant, Variable, Monadic as MonadicOf, Chain, Compare, Call as CallOf, Set as SetOf}
+use Rattle.typed_tree.specs.declared.tree.Expr.TheOpen.Expr-F.{Constant, Variable, Monadic as MonadicOf, Chain, Compare, Call as CallOf, Set as SetOf, Input}
 use Rattle.typed_tree.specs.declared.tree.Expr.TheOpen.Passed-F.{Value as PassedValue, Whole as PassedWhole, Reference}
 use Rattle.typed_tree.specs.declared.tree.Expr.TheFolds.{map-Expr, map-Passed, map-Link, fold-roll-Expr, fold-roll-Passed, fold-roll-Link}
 use Rattle.typed_tree.specs.declared.tree.Expr.TheFolds.{fold-Link, ind-Expr, ind-Passed}
@@ -36,6 +36,7 @@ use Rattle.typed_tree.specs.WellFormed.{length_of, of_one}
 use Rattle.members.specs.Members as sets
 use Rattle.meaning.specs.declared.store.Value.{Value}
 use Rattle.meaning.specs.declared.store.Value.TheVariants.{Members, Number}
+use Rattle.meaning.specs.Integers.{truth}
 use Rattle.meaning.specs.Kinds.{LieOpen}
 use Rattle.meaning.specs.Store.{Environment, Place, part}
 use Rattle.meaning.specs.Effect.{Action, give, is_in, is_positive, number_of, require, row_text, text_of, write}
@@ -53,8 +54,8 @@ use Rattle.checker_calls.specs.Actuals.{Actual, OfRows, OfValue, OfVariable}
 use Rattle.checker_expressions.specs.Walk.{Context, Gathering, Joint, PassedPiece, Piece, Walking, reach_at}
 use Rattle.checker_expressions.specs.Walk as walk
 use Rattle.checker_expressions.proofs.EffectsKept.{CanGive, IsUnder, Keeps, Standing, can-then, given-same, part-under, variable-under}
-use Rattle.checker_expressions.proofs.EffectsKept.{keeps-enter, keeps-fetch, keeps-fetch_all, keeps-give, keeps-operated, keeps-operated_both, keeps-require}
-use Rattle.checker_expressions.proofs.EffectsKept.{keeps-then, keeps-valued, keeps-when, keeps-with_one, keeps-with_range, keeps-write}
+use Rattle.checker_expressions.proofs.EffectsKept.{keeps-asked, keeps-enter, keeps-fetch, keeps-fetch_all, keeps-give, keeps-operated, keeps-operated_both}
+use Rattle.checker_expressions.proofs.EffectsKept.{keeps-require, keeps-then, keeps-valued, keeps-when, keeps-with_one, keeps-with_range, keeps-write}
 use Rattle.checker_expressions.proofs.EffectsCalls.{AllTied, CallsLeave, DeclareTheirs, Grounds, StandsIn, Ties, Yields, keeps-call, yields-in, yields-then}
 
 -- ---- where an access leads
@@ -410,6 +411,9 @@ module _ (tree : Tree) (blocks : List BlockClaims) (declares : DeclareTheirs tre
       let one = yields-then context (walk.call_walk call all)
       (λ _ around. walk.result_walk call (walk.result_of (walk.called_block around call)) around) known yields in
       keeps-calling call actuals.items context stands begin one.1
+  layer (Input number asks) context known stands begin yields =
+      keeps-then at _ _ (keeps-enter at number at.visible)
+      (λ _. keeps-then at _ _ (keeps-asked at asks) (λ b. keeps-give at (Number (truth b))))
 
   tie-given : (known actual : Actual) (passed argument : Argument) → known ≡ actual → passed ≡ argument → Ties at.visible known passed
       → Ties at.visible actual argument

@@ -5,12 +5,19 @@ use Rattle.std.proofs.Common.{arith, ◌≡◌, ◌⊎◌, inl, inr, ⊎_elim, �
 use Rattle.std.proofs.Common.{true, false, Option, Some, None, refl, sym, ap, ◌∙◌, subst}
 use Rattle.std.proofs.lemmas.Bool.{and_parts, and_from, eqb-true}
 use Rattle.std.proofs.lemmas.Int.{ints}
+use Rattle.types.specs.declared.form.OrdinalRange.{OrdinalRange}
 use Rattle.types.specs.declared.form.Step.{Step}
 use Rattle.types.specs.declared.form.Step.TheVariants.{Element, Field}
 use Rattle.typed_tree.specs.declared.tree.Monadic.{Monadic}
 use Rattle.typed_tree.specs.declared.tree.Monadic.TheVariants as monadic
 use Rattle.typed_tree.specs.declared.tree.Dyadic.{Dyadic}
 use Rattle.typed_tree.specs.declared.tree.Dyadic.TheVariants as dyadic
+use Rattle.typed_tree.specs.declared.tree.InputTest.{InputTest}
+use Rattle.typed_tree.specs.declared.tree.InputTest.TheVariants as input_test
+use Rattle.typed_tree.specs.declared.tree.Readable.{Readable}
+use Rattle.typed_tree.specs.declared.tree.Readable.TheVariants as readable
+use Rattle.text_input.specs.declared.InputFault.TheVariants.{OutsideType}
+use Rattle.text_input.specs.Input.{Reading, Reads, Fails, Ends, read_character, read_eoln, read_integer, read_line}
 use Rattle.members.specs.Members.{can_be_member, range_fits}
 use Rattle.meaning.specs.declared.outcome.Ending.{Ending}
 use Rattle.meaning.specs.declared.outcome.Ending.TheVariants as ending
@@ -19,9 +26,9 @@ use Rattle.meaning.specs.declared.store.Value.TheVariants.{Number}
 use Rattle.meaning.specs.Integers.{is_integer_number}
 use Rattle.meaning.specs.Store.{Environment, Place, Store, forgotten, held, is_beginning, kept, part, place_eq, step_eq, stored}
 use Rattle.meaning.specs.Effect.{State, Reply, Gives, Stops, Action, Round, ◌>>=◌, and_then, give, stop, require, enter, number_of, use_turn, take_turn}
-use Rattle.meaning.specs.Effect.{another, looped, looping, fetch, fetch_all, fetched, is_in, store, store_all, undefine, write}
+use Rattle.meaning.specs.Effect.{another, looped, looping, fetch, fetch_all, fetched, is_in, store, store_all, take_in, taken, undefine, write}
 use Rattle.meaning.specs.Meaning.{calculated, combined, divides, line_ended, of_both, operated, operated_both, overflow_of, overflow_of_both, shifted}
-use Rattle.meaning.specs.Meaning.{unless_overflow, with_one, with_range}
+use Rattle.meaning.specs.Meaning.{asked, line_passed, read_as, unless_outside, unless_overflow, with_one, with_range}
 use Rattle.meaning.specs.Laws.{state_after}
 use Rattle.checker_state.proofs.Apart.{place-same}
 use Rattle.checker_calls.specs.Environments.{IsListed, LiesUnder}
@@ -271,6 +278,36 @@ module _ (at : Standing) where
   pub keeps-line_ended : (ends_line : Bool) → Keeps at (line_ended ends_line)
   keeps-line_ended true = keeps-write (10 ∷ [])
   keeps-line_ended false = keeps-give tt
+
+  -- ---- the input
+
+  leaves-taken : {A : Type 0} (point : ℕ) (reading : Reading A) (s : State) → Leaving at s (state_after (taken point reading s))
+  leaves-taken point (Reads a rest) s = leaves-same at s _ refl refl
+  leaves-taken point (Fails fault) s = leaves-itself at s
+  leaves-taken point Ends s = leaves-itself at s
+
+  -- what is taken of the input, whatever is read
+  pub keeps-take_in : {A : Type 0} (point : ℕ) (reading : List ℕ → Reading A) → Keeps at (take_in point reading)
+  keeps-take_in point reading = record { left = λ s begun. leaves-taken point (reading s.input) s }
+
+  pub keeps-asked : (asks : InputTest) → Keeps at (asked asks)
+  keeps-asked input_test.End = record { left = λ s begun. leaves-itself at s }
+  keeps-asked (input_test.LineEnd point) = keeps-take_in point read_eoln
+
+  pub keeps-read_as : (reads : Readable) (point : ℕ) → Keeps at (read_as reads point)
+  keeps-read_as readable.Integer point = keeps-take_in point read_integer
+  keeps-read_as readable.Char point = keeps-then _ _ (keeps-take_in point read_character) (λ c. keeps-give (pos c))
+
+  keeps-unless : (test : Bool) (e : Ending) → Keeps {A = Unit {0}} at (if test then give tt else stop e)
+  keeps-unless true e = keeps-give tt
+  keeps-unless false e = keeps-stop (Unit {0}) e
+
+  pub keeps-unless_outside : (range : OrdinalRange) (point : ℕ) (n : ℤ) → Keeps at (unless_outside range point n)
+  keeps-unless_outside range point n = keeps-unless (is_in range (Number n)) (ending.Input point OutsideType)
+
+  pub keeps-line_passed : (line : Option ℕ) → Keeps at (line_passed line)
+  keeps-line_passed None = keeps-give tt
+  keeps-line_passed (Some point) = keeps-take_in point read_line
 
   -- ---- operations
 

@@ -19,7 +19,7 @@ use Rattle.typed_tree.specs.declared.tree.Selector.{Selector}
 use Rattle.typed_tree.specs.declared.tree.Expr.{Expr}
 use Rattle.typed_tree.specs.declared.tree.Link.{Link}
 use Rattle.typed_tree.specs.declared.tree.Expr.TheOpen.{Expr-F, Link-F, Passed-F}
-use Rattle.typed_tree.specs.declared.tree.Expr.TheOpen.Expr-F.{Constant, Variable, Monadic as MonadicOf, Chain, Compare, Call as CallOf, Set}
+use Rattle.typed_tree.specs.declared.tree.Expr.TheOpen.Expr-F.{Constant, Variable, Monadic as MonadicOf, Chain, Compare, Call as CallOf, Set, Input}
 use Rattle.typed_tree.specs.declared.tree.Expr.TheOpen.Passed-F.{Value as PassedValue, Whole as PassedWhole, Reference}
 use Rattle.typed_tree.specs.declared.tree.Expr.TheViews.{roll-Expr, roll-Link, roll-Passed}
 use Rattle.typed_tree.specs.declared.tree.Call.{Call}
@@ -236,6 +236,7 @@ value-parts : (y : Expr-F EnteredExpr EnteredPassed EnteredLink)
     (map-Expr Expr Passed Link (List ℕ) (List ℕ) (List ℕ) entries_of_expression entries_of_passed entries_of_link
     (map-Expr EnteredExpr EnteredPassed EnteredLink Expr Passed Link (λ e. e.0) (λ p. p.0) (λ l. l.0) y)))
 value-parts (Constant number value) context state = refl
+value-parts (Input number asks) context state = refl
 value-parts (Variable access indexes holds defined) context state =
     let pieces = index_pieces (map (λ (e : EnteredExpr). e.0) indexes.items) in
     let rows = map entries_of_expression (map (λ (e : EnteredExpr). e.0) indexes.items) in

@@ -7,7 +7,7 @@ use Rattle.typed_tree.specs.declared.tree.Expr.{Expr}
 use Rattle.typed_tree.specs.declared.tree.Link.{Link}
 use Rattle.typed_tree.specs.declared.tree.Passed.{Passed}
 use Rattle.typed_tree.specs.declared.tree.Expr.TheOpen.{Expr-F, Link-F, Passed-F}
-use Rattle.typed_tree.specs.declared.tree.Expr.TheOpen.Expr-F.{Constant, Variable, Monadic as MonadicOf, Chain, Compare, Call as CallOf, Set}
+use Rattle.typed_tree.specs.declared.tree.Expr.TheOpen.Expr-F.{Constant, Variable, Monadic as MonadicOf, Chain, Compare, Call as CallOf, Set, Input}
 use Rattle.typed_tree.specs.declared.tree.Expr.TheOpen.Passed-F.{Value as PassedValue, Whole as PassedWhole, Reference}
 use Rattle.typed_tree.specs.declared.tree.Expr.TheViews.{roll-Expr, roll-Link, roll-Passed}
 use Rattle.typed_tree.specs.declared.tree.Expr.TheFolds.{map-Expr, map-Link, map-Passed, fold-roll-Expr, fold-roll-Link, fold-roll-Passed, ind-Expr}
@@ -87,6 +87,7 @@ form-layer ordinal (MonadicOf number operation operand) = ap (λ (form : Form). 
 form-layer ordinal (Chain first rest) = ap₂ chain_form (first.value.1.form ordinal) (same-operands ordinal rest.items)
 form-layer ordinal (Compare number relation left left_indexes right right_indexes) = refl
 form-layer ordinal (CallOf call actuals) = refl
+form-layer ordinal (Input number asks) = refl
 
 holds-layer : (y : Expr-F FormedExpr FormedPassed FormedLink)
     → (piece_step (map-Expr Expr Passed Link Piece PassedPiece Joint piece_of passed_piece_of joint_of (bare_expr y))).holds_call
@@ -99,6 +100,7 @@ holds-layer (Chain first rest) = either first.value.1.holds (same-joined rest.it
 holds-layer (Compare number relation left left_indexes right right_indexes) =
     either (same-whole left left_indexes.items) (same-whole right right_indexes.items)
 holds-layer (CallOf call actuals) = refl
+holds-layer (Input number asks) = refl
 
 passed-layer : (y : Passed-F FormedExpr FormedPassed FormedLink)
     → (passed_step (map-Passed Expr Passed Link Piece PassedPiece Joint piece_of passed_piece_of joint_of (bare_passed y))).holds_call

@@ -2,6 +2,7 @@ pub mod Keeping
 pub mod Scalars
 pub mod Sound
 pub mod Opened
+pub mod Inputs
 pub mod SoundOperations
 pub mod Forms
 pub mod EffectsKept

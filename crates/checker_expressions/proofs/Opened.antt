@@ -112,7 +112,7 @@ step-same path.Element (path.Field other) is = absurd (false≢true is)
 step-same (path.Field position) path.Element is = absurd (false≢true is)
 step-same (path.Field position) (path.Field other) is = ap path.Field (eqb-true position other is)
 
-steps-same : (a b : List PathStep) → pointwise is_same_step a b ≡ true → a ≡ b
+pub steps-same : (a b : List PathStep) → pointwise is_same_step a b ≡ true → a ≡ b
 steps-same [] [] is = refl
 steps-same [] (y ∷ b) is = absurd (false≢true is)
 steps-same (x ∷ a) [] is = absurd (false≢true is)

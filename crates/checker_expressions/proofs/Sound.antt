@@ -1,5 +1,5 @@
 -- The walk is sound: what a piece of a program does from a state that holds, the walk over that piece foretells.
-use Rattle.std.proofs.Common.{arith, ◌≡◌, ⊎_elim, ◌⊎◌, inl, inr, sym, refl, subst, ℕ, ℤ, ◌<◌, Bool, true, false, cond, ◌||◌, List, [], ◌∷◌, ◌++◌, length}
+use Rattle.std.proofs.Common.{arith, ◌≡◌, ⊎_elim, ◌⊎◌, inl, inr, sym, ap, refl, subst, ℕ, ℤ, ◌<◌, Bool, true, false, cond, ◌||◌, List, [], ◌∷◌, ◌++◌, length}
 use Rattle.std.proofs.Common.{Option, Some, None}
 use Rattle.std.specs.Prelude.{◌≤◌, slice_get}
 use Rattle.std.specs.List.{Contains}
@@ -14,7 +14,10 @@ use Rattle.typed_tree.specs.declared.tree.FunctionResult.{FunctionResult}
 use Rattle.typed_tree.specs.declared.tree.Scalar.{Scalar}
 use Rattle.typed_tree.specs.declared.tree.Variable.{Variable}
 use Rattle.typed_tree.specs.WellFormed.{declarer, is_round, is_visible, of_one, outline_of}
-use Rattle.meaning.specs.declared.outcome.Ending.TheVariants.{Error}
+use Rattle.text_input.specs.declared.InputFault.{InputFault}
+use Rattle.text_input.specs.declared.InputFault.TheVariants.{EndOfInput}
+use Rattle.text_input.specs.Input.{Reading, Reads, Fails, Ends}
+use Rattle.meaning.specs.declared.outcome.Ending.TheVariants.{Error, Input as InputEnding}
 use Rattle.meaning.specs.declared.store.Value.{Value}
 use Rattle.meaning.specs.declared.store.Value.TheVariants.{Members, Number}
 use Rattle.meaning.specs.Store.{Environment, Store}
@@ -464,6 +467,37 @@ sound-enter world block env number context state s unbroken part here =
         grown = omega arith;
       };
     }
+
+-- the run stops for its input, which is no error
+pub good-stopped : {A : Type 0} (world : World) (P : A → Store → Type 0) (point : ℕ) (fault : InputFault) (s : effect.State)
+    → Good {A = A} world P s (effect.Stops (InputEnding point fault) s)
+good-stopped world P point fault s = record { errs = λ id is. absurd (cc); new = nothing-new world s.visited; gives = tt }
+
+-- bytes are taken from the input, and nothing else changes
+good-taken : {A : Type 0} (world : World) (P : A → Store → Type 0) (point : ℕ) (reading : Reading A) (s : effect.State) → Fine world.tree s
+    → ((a : A) → P a s.store) → Good world P s (effect.taken point reading s)
+good-taken world P point (Reads a rest) s fine so = record {
+  errs = tt;
+  new = nothing-new world s.visited;
+  gives = record { so = so a; fine = record { typed = fine.typed; begun = fine.begun }; grown = omega arith };
+}
+good-taken world P point (Fails fault) s fine so = good-stopped world P point fault s
+good-taken world P point Ends s fine so = good-stopped world P point EndOfInput s
+
+-- what is taken of the input, whatever is read, leaves what is known as it is
+pub sound-take_in : {A B : Type 0} (world : World) (block : ℕ) (env : Environment) (R : B → A → Store → Type 0) (b : B) (point : ℕ)
+    (reading : List ℕ → Reading A) → ((a : A) (store : Store) → R b a store) → Sound world block env R (effect.take_in point reading) (walk.give b)
+sound-take_in world block env R b point reading tie context state s unbroken part here =
+    good-taken world (IsForetold world env R context (walk.give b context state) s.store) point (reading s.input) s here.fine
+    (λ a. record { tie = tie a s.store; stands = here.stands; kept = keeps-itself env context.rounds s.store })
+
+taken-leaves : {A : Type 0} (point : ℕ) (reading : Reading A) → Leaves (effect.taken point reading)
+taken-leaves point (Reads a rest) s t b is = ap (λ (x : effect.State). x.store) (gives-state a b (record s { input = rest }) t is)
+taken-leaves point (Fails fault) s t b is = absurd (cc)
+taken-leaves point Ends s t b is = absurd (cc)
+
+pub take_in-leaves : {A : Type 0} (point : ℕ) (reading : List ℕ → Reading A) → Leaves (effect.take_in point reading)
+take_in-leaves point reading s t b is = taken-leaves point (reading s.input) s t b is
 
 -- an error at a site that is left open
 pub errs-here : (world : World) (site : ℕ) → Contains world.ids site → site < sites_in world → (id : ℕ) → Error site ≡ Error id

@@ -31,7 +31,7 @@ use Rattle.typed_tree.specs.declared.tree.Expr.{Expr}
 use Rattle.typed_tree.specs.declared.tree.Link.{Link}
 use Rattle.typed_tree.specs.declared.tree.Passed.{Passed}
 use Rattle.typed_tree.specs.declared.tree.Expr.TheOpen.{Expr-F, Link-F, Passed-F}
-use Rattle.typed_tree.specs.declared.tree.Expr.TheOpen.Expr-F.{Constant, Variable, Monadic as MonadicOf, Chain, Compare, Call as CallOf, Set as SetOf}
+use Rattle.typed_tree.specs.declared.tree.Expr.TheOpen.Expr-F.{Constant, Variable, Monadic as MonadicOf, Chain, Compare, Call as CallOf, Set as SetOf, Input}
 use Rattle.typed_tree.specs.declared.tree.Expr.TheOpen.Passed-F.{Value as PassedValue, Whole as PassedWhole, Reference}
 use Rattle.typed_tree.specs.declared.tree.Expr.TheViews.{roll-Expr, roll-Link, roll-Passed}
 use Rattle.typed_tree.specs.declared.tree.Expr.TheFolds.{map-Expr, map-Link, map-Passed, fold-roll-Expr, fold-roll-Link, fold-roll-Passed, ind-Expr, ind-Passed}
@@ -55,6 +55,7 @@ use Rattle.members.specs.Members as sets
 use Rattle.members.specs.declared.sets.Operator.TheVariants as operator
 use Rattle.meaning.specs.declared.store.Value.{Value}
 use Rattle.meaning.specs.declared.store.Value.TheVariants.{Members, Number}
+use Rattle.meaning.specs.Integers.{truth}
 use Rattle.meaning.specs.Store.{Environment, Place, Store, part}
 use Rattle.meaning.specs.Effect as effect
 use Rattle.meaning.specs.Effect.{fetch, is_in, is_positive, number_of, row_text, text_of}
@@ -80,6 +81,7 @@ use Rattle.checker_expressions.specs.Walk.{Gathering, Joint, PassedPiece, Piece,
 use Rattle.checker_expressions.specs.Walk.{none_gathered, parameter_walk, passed_piece_of, passed_step, piece_of, piece_step, scalar_of, value_walk, width_walk}
 use Rattle.checker_expressions.proofs.Fitting.{IsCopyFor, copy-for, passed-lies, same-type}
 use Rattle.checker_expressions.proofs.Forms.{bound-same, form-same, pieces-hold, whole-holds}
+use Rattle.checker_expressions.proofs.Inputs.{asked-sound}
 use Rattle.checker_expressions.proofs.Keeping.{keeps-itself}
 use Rattle.checker_expressions.proofs.Opened.{AreOpen}
 use Rattle.checker_expressions.proofs.Scalars.{held-is, held-where, known-of, number-known}
@@ -801,6 +803,10 @@ module _ (world : World) (block : ℕ) (env : Surroundings) (records : List Open
       let result = function-result found.0.heading.result found.4 in
       as-held scalar.Ordinal one taken.1
       (function-sound world block env laws calls call found.0 found.1 found.3 (map passing_of passed) (map passed_piece_of passed) all result.0 result.1)
+  value-layer (Input number asks) well one held begin =
+      as-held scalar.Ordinal one (same_Some scalar.Ordinal one held)
+      (entered-sound world block visible (IsHeld scalar.Ordinal) number
+      (effect.◌>>=◌ (meaning.asked asks) (λ b. effect.give (Number (truth b)))) (walk.ordinal truth_values) (asked-sound world block visible asks))
 
   link-layer : (y : Link-F ProvedExpr ProvedPassed ProvedLink) → LinkLayer
       (map-Link ProvedExpr ProvedPassed ProvedLink Expr Passed Link (λ e. e.0) (λ p. p.0) (λ l. l.0) y)

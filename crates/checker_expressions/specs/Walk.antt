@@ -40,7 +40,7 @@ use Rattle.typed_tree.specs.declared.tree.Link.{Link}
 use Rattle.typed_tree.specs.declared.tree.Passed.{Passed}
 use Rattle.typed_tree.specs.declared.tree.Expr.TheOpen.{Expr-F, Passed-F, Link-F}
 use Rattle.typed_tree.specs.declared.tree.Expr.TheOpen.Expr-F.{Constant, Variable, Monadic as MonadicOf, Chain}
-use Rattle.typed_tree.specs.declared.tree.Expr.TheOpen.Expr-F.{Compare, Call as CallOf, Set as SetOf}
+use Rattle.typed_tree.specs.declared.tree.Expr.TheOpen.Expr-F.{Compare, Call as CallOf, Set as SetOf, Input}
 use Rattle.typed_tree.specs.declared.tree.Expr.TheOpen.Passed-F.{Value as PassedValue, Whole as PassedWhole, Reference}
 use Rattle.typed_tree.specs.declared.tree.Expr.TheFolds.{fold-Expr, fold-Passed, fold-Link}
 use Rattle.typed_tree.specs.Accesses.{Origin, origin_of, steps_of}
@@ -703,6 +703,9 @@ walk_step (Compare number relation left left_indexes right right_indexes) = do
   _ ← whole_walk left left_indexes.items
   related_walk number right right_indexes.items
 walk_step (CallOf call actuals) = function_walk call actuals.items
+walk_step (Input number asks) = do
+  _ ← enter number
+  ordinal truth_values
 
 -- and its form
 abbrev pub form_step : Expr-F Piece PassedPiece Joint → (ordinal : ℕ → Bool) → Form
@@ -715,6 +718,7 @@ form_step (Chain first rest) ordinal =
     chain_form (first.value.form ordinal) (map (λ joint. joint.operand ordinal) rest.items)
 form_step (Compare number relation left left_indexes right right_indexes) ordinal = Other
 form_step (CallOf call actuals) ordinal = Other
+form_step (Input number asks) ordinal = Other
 
 -- and whether it holds a call
 abbrev pub holds_step : Expr-F Piece PassedPiece Joint → Bool
@@ -726,6 +730,7 @@ holds_step (Chain first rest) = first.value.holds_call || list_any (λ joint. jo
 holds_step (Compare number relation left left_indexes right right_indexes) =
     hold_call (whole_indexes left left_indexes.items) || hold_call (whole_indexes right right_indexes.items)
 holds_step (CallOf call actuals) = true
+holds_step (Input number asks) = false
 
 abbrev pub piece_step : Expr-F Piece PassedPiece Joint → Piece
 piece_step expression =

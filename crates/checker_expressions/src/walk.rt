@@ -84,6 +84,10 @@ impl<'a> Flow<'a> {
                 self.related(*number, right, right_indexes, visits)
             }
             Expr::Call { call, actuals } => self.function(*call, actuals, visits),
+            Expr::Input { number, .. } => {
+                visits.tick(*number);
+                Known::Ordinal(Interval::TRUTH_VALUES)
+            }
         }
     }
 

@@ -1,5 +1,5 @@
--- Replies that give a value, and what changes no variable: operations, and accesses and whole values whose indexes change
--- none.
+-- Replies that give a value, and what changes no variable: operations, accesses and whole values whose indexes change none,
+-- and what is asked of the input.
 use Rattle.std.proofs.Common.{◌≡◌, ◌∙◌, sym, ap, refl, ℕ, ℤ, pos, int_le, Bool, true, false, not, List, [], ◌∷◌, ◌++◌, map, Option, Some, None}
 use Rattle.std.specs.List.{All}
 use Rattle.std.specs.Ordering.{int_eq}
@@ -9,6 +9,8 @@ use Rattle.typed_tree.specs.declared.tree.Monadic.TheVariants as monadic
 use Rattle.typed_tree.specs.declared.tree.Dyadic.{Dyadic}
 use Rattle.typed_tree.specs.declared.tree.Dyadic.TheVariants as dyadic
 use Rattle.typed_tree.specs.declared.tree.Relation.{Relation}
+use Rattle.typed_tree.specs.declared.tree.InputTest.{InputTest}
+use Rattle.typed_tree.specs.declared.tree.InputTest.TheVariants as input_test
 use Rattle.typed_tree.specs.declared.tree.Whole.{Whole}
 use Rattle.typed_tree.specs.declared.tree.Whole.TheVariants.{Text, Variable as VariableOf}
 use Rattle.typed_tree.specs.declared.tree.Access.{Access}
@@ -18,6 +20,7 @@ use Rattle.typed_tree.specs.WellFormed.{whole_indexes}
 use Rattle.types.specs.declared.form.Step.{Step}
 use Rattle.types.specs.declared.form.Step.TheVariants as step
 use Rattle.types.specs.Components.{components_of}
+use Rattle.text_input.specs.Input.{Reading, Reads, Fails, Ends, is_at_end, read_eoln}
 use Rattle.meaning.specs.declared.store.Value.{Value}
 use Rattle.meaning.specs.declared.store.Value.TheVariants.{Members, Number}
 use Rattle.members.specs.Members as sets
@@ -252,3 +255,20 @@ compare-keeps number relation left right left_indexes right_indexes of_left of_r
     (λ a s t v is.
     then-keeps (whole_of right right_indexes env) (last a) (whole-keeps right right_indexes of_right env)
     (λ b. give-keeps (Number (meaning.compared relation a b))) (entered number env.visible s) t v is)
+
+-- ---- what is asked of the input
+
+-- what is taken of the input changes no variable, whatever is read
+taken-keeps : {A : Type 0} (point : ℕ) (reading : Reading A) → Keeps (effect.taken point reading)
+taken-keeps point (Reads a rest) s t b is =
+    ap (λ (x : effect.State). x.store) (sym (given-same a b (record s { input = rest }) t is).1)
+taken-keeps point (Fails fault) s t b is = absurd (cc)
+taken-keeps point Ends s t b is = absurd (cc)
+
+test-keeps : (asks : InputTest) → Keeps (meaning.asked asks)
+test-keeps input_test.End s t b is = ap (λ (x : effect.State). x.store) (sym (given-same (is_at_end s.input) b s t is).1)
+test-keeps (input_test.LineEnd point) s t b is = taken-keeps point (read_eoln s.input) s t b is
+
+pub asked-keeps : (asks : InputTest) → Keeps (effect.◌>>=◌ (meaning.asked asks) (λ b. effect.give (Number (truth b))))
+asked-keeps asks =
+    then-keeps (meaning.asked asks) (λ b. effect.give (Number (truth b))) (test-keeps asks) (λ b. give-keeps (Number (truth b)))

@@ -27,7 +27,7 @@ use Rattle.typed_tree.specs.declared.tree.Expr.TheViews.{roll-Expr, roll-Link}
 use Rattle.typed_tree.specs.WellFormed.{whole_indexes}
 use Rattle.typed_tree.specs.Calls.{any_holds, expression_holds_call, hold_call, holds_call, link_holds_call, link_holds_call_of, passed_holds_call}
 use Rattle.typed_tree.specs.Calls.{passed_step_holds_call, whole_holds_call}
-use Rattle.typed_tree.specs.declared.tree.Expr.TheOpen.Expr-F.{Constant, Variable, Monadic as MonadicOf, Chain, Compare, Call, Set}
+use Rattle.typed_tree.specs.declared.tree.Expr.TheOpen.Expr-F.{Constant, Variable, Monadic as MonadicOf, Chain, Compare, Call, Set, Input}
 use Rattle.typed_tree.specs.Accesses.{Origin, AtVariable, AtRecord, origin_of}
 use Rattle.typed_tree.specs.declared.tree.Expr.TheFolds.{map-Expr, map-Link, fold-roll-Expr, fold-roll-Link, ind-Expr}
 use Rattle.domain.specs.Interval.{Interval, HasMember, always_true, never_true, has_number}
@@ -53,7 +53,7 @@ use Rattle.checker_state.specs.Knows.{IsOfForm, Knows}
 use Rattle.checker_state.specs.Laws.{ConditionsTell, FormsTell}
 use Rattle.checker_state.proofs.Apart.{entire-stored}
 use Rattle.checker_state.proofs.Bounded.{Preserves, opposite-relates, related-preserves}
-use Rattle.checker_state.proofs.Evaluated.{Keeps, KeepsStore, accessed-keeps, compare-keeps, entered, fetch-gives, fetch-keeps, given-same}
+use Rattle.checker_state.proofs.Evaluated.{Keeps, KeepsStore, accessed-keeps, asked-keeps, compare-keeps, entered, fetch-gives, fetch-keeps, given-same}
 use Rattle.checker_state.proofs.Evaluated.{number-gives}
 use Rattle.checker_state.proofs.Evaluated.{both-gives, is_of_numbers, operated-gives, set-keeps, result_of, then-gives, then-keeps, truth-is, whole-keeps}
 
@@ -543,6 +543,12 @@ module _ (ordinal : ℕ → Bool) where
     form_is = λ numbers. tt;
     still = λ bound none. absurd (none-some bound none);
     store_is = λ quiet. absurd (holds-none quiet);
+    refines = λ quiet numbers rows table are state known. known;
+  }
+  value-layer (Input number asks) env s t v is = record {
+    form_is = λ numbers. tt;
+    still = λ bound none. absurd (none-some bound none);
+    store_is = λ quiet. asked-keeps asks (entered number env.visible s) t v is;
     refines = λ quiet numbers rows table are state known. known;
   }
 

@@ -15,7 +15,7 @@ use Rattle.typed_tree.specs.declared.tree.Expr.{Expr}
 use Rattle.typed_tree.specs.declared.tree.Link.{Link}
 use Rattle.typed_tree.specs.declared.tree.Expr.TheOpen.{Expr-F, Passed-F, Link-F}
 use Rattle.typed_tree.specs.declared.tree.Expr.TheOpen.Expr-F.{Constant, Variable, Monadic as MonadicOf, Chain}
-use Rattle.typed_tree.specs.declared.tree.Expr.TheOpen.Expr-F.{Compare, Call, Set}
+use Rattle.typed_tree.specs.declared.tree.Expr.TheOpen.Expr-F.{Compare, Call, Set, Input}
 use Rattle.typed_tree.specs.declared.tree.Expr.TheFolds.{fold-Expr, fold-Link}
 use Rattle.typed_tree.specs.Accesses.{origin_of}
 use Rattle.typed_tree.specs.Calls.{holds_call}
@@ -193,6 +193,7 @@ module _ (ordinal : ℕ → Bool) where
       record { form = Other; refined = λ truth state. state }
   condition_step (Set number designators members) = record { form = Other; refined = λ truth state. state }
   condition_step (Call call actuals) = record { form = Other; refined = λ truth state. state }
+  condition_step (Input number asks) = record { form = Other; refined = λ truth state. state }
 
   -- an expression as a condition
   abbrev pub condition_of : Expr → Condition

@@ -27,6 +27,7 @@ pub fn bound_form(rows: &Rows, expression: &Expr) -> Option<Bound>
         Expr::Set { .. } => None,
         Expr::Compare { .. } => None,
         Expr::Call { .. } => None,
+        Expr::Input { .. } => None,
     }
 }
 
@@ -109,6 +110,7 @@ fn constant(rows: &Rows, expression: &Expr) -> Option<i32>
         Expr::Set { .. } => None,
         Expr::Compare { .. } => None,
         Expr::Call { .. } => None,
+        Expr::Input { .. } => None,
     }
 }
 
@@ -149,6 +151,7 @@ fn literal(rows: &Rows, expression: &Expr) -> Option<i32>
         Expr::Set { .. } => None,
         Expr::Compare { .. } => None,
         Expr::Call { .. } => None,
+        Expr::Input { .. } => None,
     }
 }
 
@@ -164,6 +167,7 @@ pub fn entire(rows: &Rows, expression: &Expr) -> Option<u32>
         Expr::Set { .. } => None,
         Expr::Compare { .. } => None,
         Expr::Call { .. } => None,
+        Expr::Input { .. } => None,
     }
 }
 

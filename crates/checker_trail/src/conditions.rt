@@ -38,7 +38,7 @@ impl<'a> State<'a> {
     {
         match condition {
             Expr::Constant { .. } | Expr::Variable { .. } | Expr::Set { .. } => {}
-            Expr::Compare { .. } | Expr::Call { .. } => {}
+            Expr::Compare { .. } | Expr::Call { .. } | Expr::Input { .. } => {}
             Expr::Monadic {
                 operation: Monadic::Plain(Calculation::Complement),
                 operand,

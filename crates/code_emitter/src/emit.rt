@@ -11,6 +11,7 @@ use crate::case::emit_case;
 use crate::emitter::Emitter;
 use crate::expression::{emit_call, emit_expr};
 use crate::instrs::{check_of, load, store};
+use crate::read::emit_read;
 use crate::with::emit_with;
 use crate::write::emit_write;
 use code_scheme::scope::Scope;
@@ -31,6 +32,7 @@ pub fn emit_stmt(code: &mut Emitter, scope: &Scope, stmt: &Stmt) -> u32
         Stmt::Assign(assignment) => emit_assign(code, scope, assignment),
         Stmt::Copy(copying) => emit_copy(code, scope, copying),
         Stmt::Write(writing) => emit_write(code, scope, writing),
+        Stmt::Read(reading) => emit_read(code, scope, reading),
         Stmt::Call(calling) => emit_call(code, scope, calling.call, calling.actuals.as_slice()),
         Stmt::Compound { statements, .. } => emit_statements(code, scope, statements),
         Stmt::If {

@@ -16,7 +16,8 @@ ghost use Rattle.code_emitter.specs.Emitted.{Gets};
 use crate::access::{Cell, address_in, cell_in_frame};
 use crate::emitter::Emitter;
 use crate::instrs::{
-    check_of, check_range, comparison_of, positive_at, set_comparison_of, value_check_of,
+    check_of, check_range, comparison_of, positive_at, question_of, set_comparison_of,
+    value_check_of,
 };
 use code_scheme::routine::Routine;
 use code_scheme::scope::{GREATEST_OFFSET, LINKS, Scope, selectors_from};
@@ -78,6 +79,10 @@ pub fn emit_expr(code: &mut Emitter, scope: &Scope, expr: &Expr) -> u32
             first.max(second.saturating_add(cells_of_whole(left)).max(2))
         }
         Expr::Call { call, actuals } => emit_call(code, scope, *call, actuals.as_slice()),
+        Expr::Input { asks, .. } => {
+            code.put(question_of(*asks));
+            1
+        }
         Expr::Set {
             designators,
             members,

@@ -1,10 +1,10 @@
 ghost use Rattle.std.specs.Prelude.{◌≡◌, pos};
 ghost use Rattle.pcode_assembler.specs.declared.instr.Instr.TheVariants.{CheckRange, Load, Store};
-ghost use Rattle.code_scheme.specs.Code.{check_positive, range_check, relation_instr, set_relation_instr};
+ghost use Rattle.code_scheme.specs.Code.{asked_instr, check_positive, range_check, relation_instr, set_relation_instr};
 ghost use Rattle.code_scheme.specs.Code.{value_check};
 
 use pcode_assembler::instr::Instr;
-use typed_tree::tree::{RangeTest, Relation, Scalar, SetRelation};
+use typed_tree::tree::{InputTest, RangeTest, Relation, Scalar, SetRelation};
 
 /// The greatest value of the type integer (ISO 7185:1990, 6.4.2.2).
 const MAXINT: i32 = 2147483647;
@@ -69,6 +69,16 @@ pub fn comparison_of(relation: Relation) -> Instr
         Relation::Greater => Instr::Greater,
         Relation::LessOrEqual => Instr::LessOrEqual,
         Relation::GreaterOrEqual => Instr::GreaterOrEqual,
+    }
+}
+
+/// What asks the input.
+pub fn question_of(asks: InputTest) -> Instr
+    ensures { result ≡ asked_instr asks }
+{
+    match asks {
+        InputTest::End => Instr::EndOfFile,
+        InputTest::LineEnd { point } => Instr::EndOfLine { point },
     }
 }
 

@@ -10,5 +10,6 @@ pub mod emitter;
 mod expression;
 mod instrs;
 pub mod program;
+mod read;
 mod with;
 mod write;

@@ -7,11 +7,12 @@ use Rattle.std.specs.Int.{int_wrapping_div, int_rem_euclid}
 use Rattle.std.proofs.lemmas.Bool.{le-leb}
 use Rattle.std.proofs.Math.Seq.{take-append_seam}
 use Rattle.stack_machine.specs.declared.stop.MachineFault.TheVariants.{Underflow, OutOfBounds, WrongDivisor}
-use Rattle.stack_machine.specs.Deeds.{jumped_if_false}
+use Rattle.text_input.specs.Input.{Reading}
+use Rattle.stack_machine.specs.Deeds.{end_asked, jumped_if_false, pushes as pushes_read, read_with}
 use Rattle.stack_machine.specs.Frames.{◌>>=◌, unless_fault, has, has_room_after, number, number_at, base, popped, pushed, in_use, variable, cell_at}
 use Rattle.stack_machine.specs.Frames.{load_constant, load, store, two_numbers, on_one, operands, on_two, divide, modulo, top_two, is_integer, is_defined}
 use Rattle.stack_machine.specs.Frames.{top_is_in_range, top_is_not_zero, top_is_defined, sum_is_integer, difference_is_integer, product_is_integer}
-use Rattle.stack_machine.specs.Frames.{square_is_integer}
+use Rattle.stack_machine.specs.Frames.{square_is_integer, truth}
 use Rattle.code_generator.proofs.Lists.{slice_get_seam, length_two, length_one}
 
 module _ (frame limit size : ℕ) where
@@ -31,6 +32,15 @@ module _ (frame limit size : ℕ) where
   -- a push
   pub pushes : (cells : List Cell) (value : ℤ) → length cells < limit → load_constant value (framed cells) ≡ Ok (framed (cells ++ Number value ∷ []))
   pushes cells value h = ap (λ r. r >>= λ _. Ok (pushed (Number value) (framed cells))) (has_room 0 cells (omega arith))
+
+  -- the push of what is read, or of whether nothing is left
+  pub pushes_reading : {A : Type 0} (value : A → ℤ) (reading : List ℕ → Reading A) (cells : List Cell) → length cells < limit
+      → pushes_read value reading (framed cells) ≡ Ok (λ input. read_with (λ a. framed (cells ++ Number (value a) ∷ [])) (reading input))
+  pushes_reading value reading cells h =
+      ap (λ r. r >>= λ _. Ok (λ input. read_with (λ a. pushed (Number (value a)) (framed cells)) (reading input))) (has_room 0 cells (omega arith))
+
+  pub pushes_end : (cells : List Cell) → length cells < limit → end_asked (framed cells) ≡ Ok (λ b. framed (cells ++ Number (truth b) ∷ []))
+  pushes_end cells h = ap (λ r. r >>= λ _. Ok (λ b. pushed (Number (truth b)) (framed cells))) (has_room 0 cells (omega arith))
 
   -- the value of a variable, whose frame so many static links lead to
   pub loads : (cells : List Cell) (level offset owner : ℕ) (cell : Cell) → length cells < limit → base level frame cells ≡ Ok owner

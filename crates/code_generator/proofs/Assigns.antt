@@ -5,6 +5,7 @@ use Rattle.code_generator.proofs.Words.{length-append, append_assoc, slice_set, 
 use Rattle.code_generator.proofs.Words.{components_of, cells_of, Expr, all_hold, is_well_formed_expr, Value, Place, Action, ◌>>=◌}
 use Rattle.code_generator.proofs.Words.{require, value_of, Cell, Number, expr_code, expr_depth, row_length}
 use Rattle.pcode_assembler.specs.declared.instr.Instr.TheVariants as instr
+use Rattle.typed_tree.specs.declared.tree.Access.{Access}
 use Rattle.typed_tree.specs.declared.tree.Assignment.{Assignment}
 use Rattle.typed_tree.specs.declared.tree.Copying.{Copying}
 use Rattle.types.specs.Types.{is_scalar}
@@ -40,7 +41,7 @@ use Rattle.code_generator.proofs.Setting.{Setting, outline, around, exact_around
 use Rattle.code_generator.proofs.Wholes.{IsInOrder, copied_fit, part_kinds, row_kinds, row_long, set_row, set_row_front, stores_many, stored_all, store_all_is}
 use Rattle.code_generator.proofs.Wholes.{row_kept, whole_runs, copied_cells}
 use Rattle.code_generator.proofs.Wholes.{few_components, is_whole_type, wanted_type}
-use Rattle.code_generator.proofs.Running.{beside, scalar_then, Aim, Arrives, Executes, Runs, done, kept_on}
+use Rattle.code_generator.proofs.Running.{beside, scalar_then, Arrives, Executes, Runs, done, kept_on}
 use Rattle.code_generator.proofs.Lists.{set_front, length_one}
 
 module _ (g : Setting) (known : CallsAt g) where
@@ -52,6 +53,106 @@ module _ (g : Setting) (known : CallsAt g) where
   told_back [] = refl
   told_back (e ∷ es) = ap (λ rest. e ∷ rest) (told_back es)
 
+  -- code that pushes a value of a kind, behind which something is done with it
+  abbrev pub Pushes : List Instr → ℕ → Scalar → ((Value → Action (Unit {0})) → Action (Unit {0})) → Type 0
+  Pushes value_code depth kind valued =
+      (left : List Cell) (c : List Instr) (place : ℕ) (base held : List Cell) (s : effect.State) (next : Value → Action (Unit {0}))
+      → Stands g.target place (value_code ++ c) → Based g s base → g.below + length held + depth ≤ g.limit
+      → ((base2 : List Cell) (w : Value) (t : effect.State) → Stands g.target (place + length value_code) c → Based g t base2 → HasKind kind w
+      → Executes g (on g ((base2 ++ held) ++ value_cell w ∷ []) (place + length value_code) t) left (place + length value_code + length c) (next w) t)
+      → Executes g (on g (base ++ held) place s) left (place + length (value_code ++ c)) (valued next) s
+
+  -- a cell on top is stored into a scalar in a frame
+  stores_there : (level start owner : ℕ) (p : Place) (place : ℕ) (base held : List Cell) (cell : Cell) (s : effect.State)
+      → Leads g.fixed level g.frame owner → LiesIn g.world p (owner + start) → Here g place (instr.Store level start) → Based g s base
+      → Comes g.target 1 (on g ((base ++ held) ++ cell ∷ []) place s)
+      (on g (slice_set base (owner + start) cell ++ held) (place + 1) s)
+  stores_there level start owner p place base held cell s l lies here based =
+      let below = base ++ held in
+      let low = cell_within (outline g) g.world s.store base p (owner + start) based.alike lies in
+      let at = length-append base held in
+      let does = stores g.frame g.limit g.size below (linked g s base held based) cell level start owner
+      (frame_found g level owner base held s based l) (omega arith)
+      ∙ ap (λ cs. Ok (frames_of g cs)) (set_front base held (owner + start) cell low) in
+      acts g (instr.Store level start) (below ++ cell ∷ []) (slice_set base (owner + start) cell ++ held) place s
+      _ here refl does
+
+  -- the code that stores such a value into an ordinal or a set that is accessed
+  module _ (value_code : List Instr) (depth : ℕ) (kind : Scalar) (valued : (Value → Action (Unit {0})) → Action (Unit {0}))
+      (pushed : Pushes value_code depth kind valued) (target : Access) (indexes : Indexes g) (last : TypeId)
+      (start : Begins g target last (codes g indexes)) (wells_good : AreOrdinals g (expressions g indexes))
+      (counts : length (expressions g indexes) ≡ index_count target.selectors.items) (scalar : scalar_of g.tree.types last ≡ Some kind) where
+    -- it fits what is accessed
+    stored_fit : (p : Place) (d : ℕ) (w : Value) → PartAt g p last d → HasKind kind w → HasFit (scalar_at (outline g) p) (Some w)
+    stored_fit p d w part has =
+        subst (λ k. HasFit k (Some w)) (sym (kind_there g target indexes last start wells_good counts kind scalar p d part)) has
+
+    abbrev pub target_found : Action (Option Place)
+    target_found = place_found g target indexes last start wells_good counts
+
+    abbrev pub next : Option Place → Action (Unit {0})
+    next q = valued (effect.store q)
+
+    store_by : (way : Reached) → IsReached g way start.cell start.first start.rest (codes g indexes)
+        → (address_of way ≡ start.first ∷ selectors_code start.rest (codes g indexes)) → (place : ℕ) (base held : List Cell)
+        (s : effect.State) → Stands g.target place (store_code value_code way) → Based g s base
+        → g.below + length held + store_depth target.selectors.items (depths g indexes) depth ≤ g.limit
+        → Executes g (on g (base ++ held) place s) held (place + length (store_code value_code way)) (target_found >>= next) s
+    store_by (At level first) r address place base held s stands based deep =
+        let lies = subst (LiesIn g.world start.there) r.2 (scalar_there g target indexes last start wells_good counts kind scalar r.3) in
+        let part = part_there g target indexes last start wells_good counts kind scalar r.3 in
+        let store = instr.Store level first ∷ [] in
+        subst (λ rest. Executes g (on g (base ++ held) place s) held (place + length (value_code ++ store))
+        (selected rest (map value_of (expressions g indexes)) (around g) (Some start.there) >>= next) s) (sym r.3)
+        (pushed held store place base held s (effect.store (Some start.there)) stands based (omega arith)
+        (λ base2 w t here based2 has.
+        inr (done g 1 _ (slice_set base2 (r.0 + first) (value_cell w)) held (place + length value_code + 1)
+        (record t { store = kept t.store (Some start.there) w })
+        (scalar_kept g start.there (r.0 + first) t base2 w lies based2 (stored_fit start.there start.cell w part has))
+        (stores_there level first r.0 start.there (place + length value_code) base2 held (value_cell w) t r.1 lies here.0 based2))))
+    store_by (By c) r address place base held s stands based deep =
+        let store = instr.StoreIndirect ∷ [] in
+        let from = place + length c in
+        address_then g (kept_on g held) c (value_code ++ store) place _ held last target_found next s
+        (exact_found g target indexes last start wells_good counts) stands
+        (λ front. subst (λ code. Addresses g (on g (base ++ held) place s) held (place + length code) last target_found s) (sym address)
+        (pushed_runs g target indexes last start wells_good counts place base held s (subst (Stands g.target place) address front) based
+        (omega arith)))
+        (λ base1 d p s1 rest based1 part1 room1.
+        let lies = scalar_lies_there g target indexes last start wells_good counts kind scalar p d part1 in
+        let above = held ++ Number (pos d) ∷ [] in
+        let high = length_one held (Number (pos d)) in
+        let end = from + length value_code + 1 in
+        subst (λ cells. Executes g (on g cells from s1) held (from + length (value_code ++ store)) (next (Some p)) s1)
+        (one_held g base1 held (Number (pos d)))
+        (pushed held store from base1 above s1 (effect.store (Some p)) rest based1 (omega arith)
+        (λ base2 w t here based2 has.
+        let cells = base2 ++ held in
+        let cell = value_cell w in
+        let inside = cell_within (outline g) g.world t.store base2 p d based2.alike lies in
+        let long = length-append base2 held in
+        let stored = acts g instr.StoreIndirect ((cells ++ Number (pos d) ∷ []) ++ cell ∷ []) (slice_set base2 d cell ++ held)
+        (from + length value_code)
+        t _ here.0 refl
+        (stores_indirect g.frame g.limit g.size cells (linked g t base2 held based2) d cell (omega arith)
+        ∙ ap (λ cs. Ok (frames_of g cs)) (set_front base2 held d cell inside)) in
+        subst (λ cs. Executes g (on g (cs ++ cell ∷ []) (from + length value_code) t) held end (effect.store (Some p) w) t)
+        (sym (one_held g base2 held (Number (pos d))))
+        (inr (done g 1 _ (slice_set base2 d cell) held end (record t { store = kept t.store (Some p) w })
+        (scalar_kept g p d t base2 w lies based2 (stored_fit p d w part1 has)) stored)))))
+
+    pub store_runs : (place : ℕ) (base held : List Cell) (s : effect.State)
+        → Stands g.target place (store_code value_code (reached g.scope target (codes g indexes))) → Based g s base
+        → g.below + length held + store_depth target.selectors.items (depths g indexes) depth ≤ g.limit
+        → Executes g (on g (base ++ held) place s) held (place + length (store_code value_code (reached g.scope target (codes g indexes))))
+        (target_found >>= next) s
+    store_runs place base held s stands based deep =
+        subst (λ way. Executes g (on g (base ++ held) place s) held (place + length (store_code value_code way)) (target_found >>= next) s)
+        (sym start.way_is)
+        (store_by start.way start.reaches
+        (ap address_of (sym start.way_is) ∙ address_is g target indexes last start wells_good counts) place base held s
+        (subst (λ way. Stands g.target place (store_code value_code way)) start.way_is stands) based deep)
+
   module _ (assignment : Assignment) (good : Gives assignment.fits.tests (shape_of g assignment.value)) (site_within : assignment.fits.site < sites g) where
     abbrev value_code : List Instr
     value_code = expr_code g.scope assignment.value ++ (value_check assignment.fits ∷ [])
@@ -61,127 +162,27 @@ module _ (g : Setting) (known : CallsAt g) where
     tested next w = require (effect.is_in assignment.fits.range w) assignment.fits.site >>= λ _. next w
 
     -- a value, its test, and the code behind them
-    value_stored : (aim : ℕ → Aim (Unit {0})) (c : List Instr) (place : ℕ) (base held : List Cell) (s : effect.State) (next : Value → Action (Unit {0}))
-        → Stands g.target place (value_code ++ c) → Based g s base → g.below + length held + expr_depth assignment.value ≤ g.limit
-        → ((base2 : List Cell) (w : Value) (t : effect.State) → Stands g.target (place + length value_code) c → Based g t base2
-        → HasKind assignment.fits.tests w
-        → Runs g (aim (place + length value_code + length c)) (on g ((base2 ++ held) ++ value_cell w ∷ []) (place + length value_code) t)
-        (next w) t)
-        → Runs g (aim (place + length (value_code ++ c))) (on g (base ++ held) place s) (value_of assignment.value (around g) >>= (tested next)) s
-    value_stored aim c place base held s next stands based deep stored =
+    value_pushed : Pushes value_code (expr_depth assignment.value) assignment.fits.tests (λ next. value_of assignment.value (around g) >>= tested next)
+    value_pushed left c place base held s next stands based deep stored =
         let value = expr_code g.scope assignment.value in
         let check = value_check assignment.fits ∷ [] in
         let split = append_assoc value check c in
         let e : place + length value_code ≡ place + length value + 1 = omega (arith, length-append value check) in
         let kind = assignment.fits.tests in
-        subst (λ code. Runs g (aim (place + length code)) (on g (base ++ held) place s) (value_of assignment.value (around g) >>= (tested next)) s)
+        subst (λ code. Runs g (kept_on g left (place + length code)) (on g (base ++ held) place s) (value_of assignment.value (around g) >>= (tested next)) s)
         (sym split)
-        (scalar_then g kind aim value (check ++ c) place _ held (value_of assignment.value (around g)) (tested next) s
+        (scalar_then g kind (kept_on g left) value (check ++ c) place _ held (value_of assignment.value (around g)) (tested next) s
         ((exact_around g).values assignment.value) (subst (Stands g.target place) split stands)
         (λ front. expr_runs g known assignment.value kind place base held s front good based deep)
         (λ base2 w t rest based2 has room le.
         let from = place + length value in
         let e' : from + 1 + length c ≡ from + length (check ++ c) = omega arith in
-        subst (λ end. Runs g (aim end) (on g ((base2 ++ held) ++ value_cell w ∷ []) from t) (tested next w) t) e'
-        (value_tested g (aim (from + 1 + length c)) kind assignment.fits w (base2 ++ held) from t (next w) rest.0 site_within
+        subst (λ end. Runs g (kept_on g left end) (on g ((base2 ++ held) ++ value_cell w ∷ []) from t) (tested next w) t) e'
+        (value_tested g (kept_on g left (from + 1 + length c)) kind assignment.fits w (base2 ++ held) from t (next w) rest.0 site_within
         (linked g t base2 held based2) has
         (λ _.
-        subst (λ p. Runs g (aim (p + length c)) (on g ((base2 ++ held) ++ value_cell w ∷ []) p t) (next w) t) e
+        subst (λ p. Runs g (kept_on g left (p + length c)) (on g ((base2 ++ held) ++ value_cell w ∷ []) p t) (next w) t) e
         (stored base2 w t (subst (λ p. Stands g.target p c) (sym e) rest.1) based2 has)))))
-
-    -- a cell on top is stored into a scalar in a frame
-    stores_there : (level start owner : ℕ) (p : Place) (place : ℕ) (base held : List Cell) (cell : Cell) (s : effect.State)
-        → Leads g.fixed level g.frame owner → LiesIn g.world p (owner + start) → Here g place (instr.Store level start) → Based g s base
-        → Comes g.target 1 (on g ((base ++ held) ++ cell ∷ []) place s)
-        (on g (slice_set base (owner + start) cell ++ held) (place + 1) s)
-    stores_there level start owner p place base held cell s l lies here based =
-        let below = base ++ held in
-        let low = cell_within (outline g) g.world s.store base p (owner + start) based.alike lies in
-        let at = length-append base held in
-        let does = stores g.frame g.limit g.size below (linked g s base held based) cell level start owner
-        (frame_found g level owner base held s based l) (omega arith)
-        ∙ ap (λ cs. Ok (frames_of g cs)) (set_front base held (owner + start) cell low) in
-        acts g (instr.Store level start) (below ++ cell ∷ []) (slice_set base (owner + start) cell ++ held) place s
-        _ here refl does
-
-    module _ (indexes : Indexes g) (last : TypeId) (start : Begins g assignment.target last (codes g indexes))
-        (wells_good : AreOrdinals g (expressions g indexes))
-        (counts : length (expressions g indexes) ≡ index_count assignment.target.selectors.items)
-        (scalar : scalar_of g.tree.types last ≡ Some assignment.fits.tests) where
-      abbrev kind : Scalar
-      kind = assignment.fits.tests
-
-      -- what was tested fits what is accessed
-      stored_fit : (p : Place) (d : ℕ) (w : Value) → PartAt g p last d → HasKind kind w → HasFit (scalar_at (outline g) p) (Some w)
-      stored_fit p d w part has =
-          subst (λ k. HasFit k (Some w)) (sym (kind_there g assignment.target indexes last start wells_good counts kind scalar p d part)) has
-
-      abbrev target_found : Action (Option Place)
-      target_found = place_found g assignment.target indexes last start wells_good counts
-
-      abbrev next : Option Place → Action (Unit {0})
-      next q = value_of assignment.value (around g) >>= tested (effect.store q)
-
-      -- the code that stores into an ordinal or a set that is accessed
-      store_by : (way : Reached) → IsReached g way start.cell start.first start.rest (codes g indexes)
-          → (address_of way ≡ start.first ∷ selectors_code start.rest (codes g indexes)) → (place : ℕ) (base held : List Cell)
-          (s : effect.State) → Stands g.target place (store_code value_code way) → Based g s base
-          → g.below + length held + store_depth assignment.target.selectors.items (depths g indexes) (expr_depth assignment.value) ≤ g.limit
-          → Executes g (on g (base ++ held) place s) held (place + length (store_code value_code way)) (target_found >>= next) s
-      store_by (At level first) r address place base held s stands based deep =
-          let lies = subst (LiesIn g.world start.there) r.2 (scalar_there g assignment.target indexes last start wells_good counts kind scalar r.3) in
-          let part = part_there g assignment.target indexes last start wells_good counts kind scalar r.3 in
-          let store = instr.Store level first ∷ [] in
-          subst (λ rest. Executes g (on g (base ++ held) place s) held (place + length (value_code ++ store))
-          (selected rest (map value_of (expressions g indexes)) (around g) (Some start.there) >>= next) s) (sym r.3)
-          (value_stored (kept_on g held) store place base held s (effect.store (Some start.there)) stands based (omega arith)
-          (λ base2 w t here based2 has.
-          inr (done g 1 _ (slice_set base2 (r.0 + first) (value_cell w)) held (place + length value_code + 1)
-          (record t { store = kept t.store (Some start.there) w })
-          (scalar_kept g start.there (r.0 + first) t base2 w lies based2 (stored_fit start.there start.cell w part has))
-          (stores_there level first r.0 start.there (place + length value_code) base2 held (value_cell w) t r.1 lies here.0 based2))))
-      store_by (By c) r address place base held s stands based deep =
-          let store = instr.StoreIndirect ∷ [] in
-          let from = place + length c in
-          address_then g (kept_on g held) c (value_code ++ store) place _ held last target_found next s
-          (exact_found g assignment.target indexes last start wells_good counts) stands
-          (λ front. subst (λ code. Addresses g (on g (base ++ held) place s) held (place + length code) last target_found s) (sym address)
-          (pushed_runs g assignment.target indexes last start wells_good counts place base held s (subst (Stands g.target place) address front) based
-          (omega arith)))
-          (λ base1 d p s1 rest based1 part1 room1.
-          let lies = scalar_lies_there g assignment.target indexes last start wells_good counts kind scalar p d part1 in
-          let above = held ++ Number (pos d) ∷ [] in
-          let high = length_one held (Number (pos d)) in
-          let end = from + length value_code + 1 in
-          subst (λ cells. Executes g (on g cells from s1) held (from + length (value_code ++ store)) (next (Some p)) s1)
-          (one_held g base1 held (Number (pos d)))
-          (value_stored (kept_on g held) store from base1 above s1 (effect.store (Some p)) rest based1 (omega arith)
-          (λ base2 w t here based2 has.
-          let cells = base2 ++ held in
-          let cell = value_cell w in
-          let inside = cell_within (outline g) g.world t.store base2 p d based2.alike lies in
-          let long = length-append base2 held in
-          let stored = acts g instr.StoreIndirect ((cells ++ Number (pos d) ∷ []) ++ cell ∷ []) (slice_set base2 d cell ++ held)
-          (from + length value_code)
-          t _ here.0 refl
-          (stores_indirect g.frame g.limit g.size cells (linked g t base2 held based2) d cell (omega arith)
-          ∙ ap (λ cs. Ok (frames_of g cs)) (set_front base2 held d cell inside)) in
-          subst (λ cs. Executes g (on g (cs ++ cell ∷ []) (from + length value_code) t) held end (effect.store (Some p) w) t)
-          (sym (one_held g base2 held (Number (pos d))))
-          (inr (done g 1 _ (slice_set base2 d cell) held end (record t { store = kept t.store (Some p) w })
-          (scalar_kept g p d t base2 w lies based2 (stored_fit p d w part1 has)) stored)))))
-
-      store_runs : (place : ℕ) (base held : List Cell) (s : effect.State)
-          → Stands g.target place (store_code value_code (reached g.scope assignment.target (codes g indexes))) → Based g s base
-          → g.below + length held + store_depth assignment.target.selectors.items (depths g indexes) (expr_depth assignment.value) ≤ g.limit
-          → Executes g (on g (base ++ held) place s) held (place + length (store_code value_code (reached g.scope assignment.target (codes g indexes))))
-          (target_found >>= next) s
-      store_runs place base held s stands based deep =
-          subst (λ way. Executes g (on g (base ++ held) place s) held (place + length (store_code value_code way)) (target_found >>= next) s)
-          (sym start.way_is)
-          (store_by start.way start.reaches
-          (ap address_of (sym start.way_is) ∙ address_is g assignment.target indexes last start wells_good counts) place base held s
-          (subst (λ way. Stands g.target place (store_code value_code way)) start.way_is stands) based deep)
 
   -- an assignment to an ordinal or a set
   module _ (assignment : Assignment) where
@@ -234,13 +235,16 @@ module _ (g : Setting) (known : CallsAt g) where
         let kind_is = scalar_tested g.tree.types led_to.last fits.tests fits.range tested_type in
         let start = begins g target wanted count (codes g indexes) led_to begun_there.1 in
         let s2 = entered g target.number (entered g assignment.number s) in
-        let c = store_code (expr_code g.scope assignment.value ++ (value_check fits ∷ [])) (reached g.scope target (codes g indexes)) in
-        let next : Option Place → Action (Unit {0}) = λ q. value_of assignment.value (around g) >>= λ w. require
-        (effect.is_in fits.range w) fits.site >>= λ _. effect.store q w
+        let code = expr_code g.scope assignment.value ++ (value_check fits ∷ []) in
+        let c = store_code code (reached g.scope target (codes g indexes)) in
+        let valued : (Value → Action (Unit {0})) → Action (Unit {0}) = λ then. value_of assignment.value (around g) >>= λ w. require
+        (effect.is_in fits.range w) fits.site >>= λ _. then w
         in
+        let next : Option Place → Action (Unit {0}) = λ q. valued (effect.store q) in
         subst (λ action. Executes g (on g (base ++ held) place s) held (place + length c) (action >>= next) (entered g assignment.number s))
         (sym (start.meant (map value_of es)))
-        (store_runs assignment value_good site_within indexes led_to.last start ordinals led_to.counts kind_is place base held s2 stands based deep)
+        (store_runs code (expr_depth assignment.value) fits.tests valued (value_pushed assignment value_good site_within) target indexes led_to.last start
+        ordinals led_to.counts kind_is place base held s2 stands based deep)
 
     pub assign_runs : AssignRuns assignment.indexes.items
     assign_runs = subst AssignRuns (told_back assignment.indexes.items) (assigned (told assignment.indexes.items))

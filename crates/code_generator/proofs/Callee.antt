@@ -597,6 +597,7 @@ module _ (g : Setting) (number : ℕ) (block : Block) (block_is : slice_get g.tr
         short = g.short;
         target = g.target;
         sites_are = g.sites_are;
+        points_are = g.points_are;
         stands = g.stands;
         comes_back = g.comes_back;
         repeats_are_few = g.repeats_are_few;

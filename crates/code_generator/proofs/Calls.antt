@@ -1,7 +1,7 @@
 -- Calls: from the jump to a routine's code on the machine does what the call does, in as many activations in one another as one
 -- likes, or its store is full.
 use Rattle.code_generator.proofs.Words.{◌≡◌, ℕ, zero, suc, ◌+◌, ◌-◌, ◌<◌, ◌≤◌, ◌⊎◌, inl, inr, List, [], ◌∷◌, ◌++◌, length, Some, Ok, refl, sym, ap, ◌∙◌, subst}
-use Rattle.code_generator.proofs.Words.{arith, Bool, true, length-append, append-nil, append_assoc, replicate, slice_get, pos, nat_eq, option_and_then}
+use Rattle.code_generator.proofs.Words.{arith, Bool, true, false, length-append, append-nil, append_assoc, replicate, slice_get, pos, nat_eq, option_and_then}
 use Rattle.code_generator.proofs.Words.{and_parts, cases_lt, eqb-true, sum_by-cons, Block, heading_of, Ending, Value, Reply, Gives, Action, ◌>>=◌, give}
 use Rattle.code_generator.proofs.Words.{number_of, Argument, Cell, Undefined, Number, State, routines_of, block_depth, living_need, block_scope, called_routine}
 use Rattle.code_generator.proofs.Words.{count, links_to, other_cells, parameter_cells, row_length}
@@ -121,6 +121,7 @@ module _ (g : Setting) (depth : ℕ) (known : CallsRun depth) (depth_is : g.dept
     frames = framed (g.below + length held) g.limit g.size stack;
     place = g.target.to code_place;
     input = s.input;
+    fails = false;
     output = s.output;
   }
 

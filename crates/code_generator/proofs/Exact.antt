@@ -1,23 +1,36 @@
 -- Pieces of a program use their turns exactly: where one gave a value, the turns that it used are enough for that. Of most
 -- pieces a law of the meaning says so; the others are made of those.
 use Rattle.code_generator.proofs.Words.{◌≡◌, ℕ, ◌+◌, List, [], ◌∷◌, Option, Some, None, map, Bool, true, false, refl, ap, ◌∙◌, arith, Expr, Value, Place, Reply}
-use Rattle.code_generator.proofs.Words.{Gives, Action, ◌>>=◌, give, number_of, require, UsesTurnsExactly, value_of}
+use Rattle.code_generator.proofs.Words.{Gives, Action, ◌>>=◌, give, number_of, require, UsesTurnsExactly, value_of, Ending, pos}
 use Rattle.std.proofs.Common.{ℤ, if◌then◌else◌}
 use Rattle.types.specs.declared.form.Step.TheVariants as step
+use Rattle.text_input.specs.declared.InputFault.TheVariants.{OutsideType}
+use Rattle.text_input.specs.Input.{Reading, Reads, Fails, Ends, read_character, read_integer}
+use Rattle.typed_tree.specs.Accesses.{origin_of}
+use Rattle.typed_tree.specs.declared.tree.Access.{Access}
 use Rattle.typed_tree.specs.declared.tree.Dyadic.{Dyadic}
 use Rattle.typed_tree.specs.declared.tree.ForHead.{ForHead}
 use Rattle.typed_tree.specs.declared.tree.Passed.{Passed}
+use Rattle.typed_tree.specs.declared.tree.Readable.{Readable}
+use Rattle.typed_tree.specs.declared.tree.Readable.TheVariants as readable
+use Rattle.typed_tree.specs.declared.tree.ReadVariable.{ReadVariable}
 use Rattle.typed_tree.specs.declared.tree.Selector.{Selector}
 use Rattle.typed_tree.specs.declared.tree.Selector.TheVariants.{Element, Field}
 use Rattle.typed_tree.specs.declared.tree.Stmt.{Stmt}
 use Rattle.typed_tree.specs.declared.tree.WriteParameter.{WriteParameter}
+use Rattle.meaning.specs.declared.outcome.Ending.TheVariants.{Input}
 use Rattle.meaning.specs.declared.store.Value.TheVariants.{Number}
 use Rattle.meaning.specs.Counting.{value_behind}
 use Rattle.meaning.specs.Store.{part}
-use Rattle.meaning.specs.Effect.{Stops, and_then, enter, is_in, store, use_turn}
+use Rattle.meaning.specs.Effect.{Stops, and_then, enter, is_in, stop, store, take_in, taken, use_turn}
 use Rattle.meaning.specs.Laws.{AllUseTurnsExactly, UsedTurns, state_after}
 use Rattle.meaning.specs.Meaning.{Evaluation, Surroundings, all_of, all_passed, effect_of, link_step, parameter_of, passing_of, selected, for_round}
-use Rattle.meaning.specs.Meaning.{is_so, repeat_round, turn_if, while_round}
+use Rattle.meaning.specs.Meaning.{accessed, begun, is_so, read_as, read_of, repeat_round, turn_if, unless_outside, values_of, while_round}
+
+-- the same reply with so many turns left
+abbrev left_at : {A : Type 0} → ℕ → Reply A → Reply A
+left_at left (Gives x u) = Gives x (record u { turns = left })
+left_at left (Stops e u) = Stops e (record u { turns = left })
 
 pub exact_give : {A : Type 0} (a : A) → UsesTurnsExactly (give a)
 exact_give a s t b is =
@@ -28,11 +41,27 @@ exact_give a s t b is =
           let none : 0 + left ≡ left = omega arith in
           ap (λ n. Gives a (record s { turns = n })) none ∙ ap (left_at left) is,
     )
+
+pub exact_stop : {A : Type 0} (e : Ending) → UsesTurnsExactly (stop {A = A} e)
+exact_stop e s t b is = absurd cc
+
+-- what is taken of the input
+pub exact_take : {A : Type 0} (point : ℕ) (reading : List ℕ → Reading A) → UsesTurnsExactly (take_in point reading)
+exact_take {A} point reading s t b is = by (reading s.input) refl is
   where
-    -- the same reply with so many turns left
-    left_at : {A : Type 0} → ℕ → Reply A → Reply A
-    left_at left (Gives x u) = Gives x (record u { turns = left })
-    left_at left (Stops e u) = Stops e (record u { turns = left })
+    by : (r : Reading A) → reading s.input ≡ r → taken point r s ≡ Gives b t → UsedTurns (take_in point reading) s t b
+    by (Reads a rest) read gives =
+        let same : s.turns ≡ t.turns = ap (λ r. (state_after r).turns) gives in (
+          0,
+          omega (arith, same),
+          λ left.
+              let none : 0 + left ≡ left = omega arith in
+              ap (λ n. taken point (reading s.input) (record s { turns = n })) none
+              ∙ ap (λ r. taken point r (record s { turns = left })) read
+              ∙ ap (left_at left) gives,
+        )
+    by (Fails why) read gives = absurd cc
+    by Ends read gives = absurd cc
 
 -- one piece after another
 pub exact_then : {A B : Type 0} (action : Action A) (rest : A → Action B) → UsesTurnsExactly action → ((a : A) → UsesTurnsExactly (rest a))
@@ -51,6 +80,15 @@ exact_then {A} {B} action rest first each s t b is = by (action s) refl is
         )
     by (Stops e u) gives then_is = absurd cc
 
+-- what is read, and its test
+exact_read_as : (reads : Readable) (point : ℕ) → UsesTurnsExactly (read_as reads point)
+exact_read_as readable.Integer point = exact_take point read_integer
+exact_read_as readable.Char point = exact_then (take_in point read_character) _ (exact_take point read_character) (λ c. exact_give (pos c))
+
+exact_unless : (good : Bool) (e : Ending) → UsesTurnsExactly (if good then give {A = Unit {0}} tt else stop e)
+exact_unless true e = exact_give tt
+exact_unless false e = exact_stop e
+
 module _ (env : Surroundings) (exact : AllUseTurnsExactly env) where
   pub exact_selected : (selectors : List Selector) (indexes : List Expr) (p : Option Place)
       → UsesTurnsExactly (selected selectors (map value_of indexes) env p)
@@ -61,6 +99,11 @@ module _ (env : Surroundings) (exact : AllUseTurnsExactly env) where
       exact_then (value_of index env) _ (exact.values index)
       (λ v. exact_then (require (is_in fits.range v) fits.site) _ (exact.tests (is_in fits.range v) fits.site)
       (λ _. exact_selected selectors indexes (part p (step.Element (number_of v) ∷ []))))
+
+  exact_accessed : (access : Access) (indexes : List Expr) → UsesTurnsExactly (accessed access (map value_of indexes) env)
+  exact_accessed access indexes =
+      exact_then (enter access.number env.visible) _ (exact.entries access.number)
+      (λ _. exact_selected access.selectors.items indexes (begun (origin_of access) env))
 
   pub exact_link : (number : ℕ) (operation : Dyadic) (operand : Evaluation) (v : Value) → UsesTurnsExactly (operand env)
       → UsesTurnsExactly (link_step (record { number = number; operation = operation; operand = operand }) env v)
@@ -78,6 +121,17 @@ module _ (env : Surroundings) (exact : AllUseTurnsExactly env) where
   pub exact_parameters : (ps : List WriteParameter) → UsesTurnsExactly (all_of (map parameter_of ps) env)
   exact_parameters [] = exact_give tt
   exact_parameters (p ∷ ps) = exact_then (parameter_of p env) _ (exact.written p) (λ _. exact_parameters ps)
+
+  pub exact_read : (one : ReadVariable) → UsesTurnsExactly (read_of one env)
+  exact_read one =
+      exact_then (accessed one.access (values_of one.indexes.items) env) _ (exact_accessed one.access one.indexes.items)
+      (λ place. exact_then (read_as one.reads one.point) _ (exact_read_as one.reads one.point)
+      (λ n. exact_then (unless_outside one.range one.point n) _ (exact_unless (is_in one.range (Number n)) (Input one.point OutsideType))
+      (λ _. exact.stores place (Number n))))
+
+  pub exact_reads : (ones : List ReadVariable) → UsesTurnsExactly (all_of (map read_of ones) env)
+  exact_reads [] = exact_give tt
+  exact_reads (one ∷ ones) = exact_then (read_of one env) _ (exact_read one) (λ _. exact_reads ones)
 
   pub exact_statements : (ss : List Stmt) → UsesTurnsExactly (all_of (map effect_of ss) env)
   exact_statements [] = exact_give tt

@@ -1,11 +1,11 @@
 -- What is known of a run of the machine, where one knows how a longer one ends.
 use Rattle.code_generator.proofs.Words.{◌≡◌, ℕ, ◌<◌, ◌≤◌, ◌⊎◌, ⊎_elim, List, ◌++◌, append_assoc, sym, ap, ◌∙◌, subst, arith, cases_lt, Instr, Tree, Ending}
 use Rattle.code_generator.proofs.Words.{State}
-use Rattle.pcode_assembler.specs.declared.code.Site.{Site as Plain}
 use Rattle.meaning.specs.declared.outcome.Ending.TheVariants as ending
 use Rattle.meaning.specs.Meaning.{meaning}
 use Rattle.stack_machine.specs.declared.stop.Stop.{Stop}
 use Rattle.stack_machine.specs.declared.stop.Stop.TheVariants as stop
+use Rattle.stack_machine.specs.Machine.{Tables}
 use Rattle.stack_machine.specs.Run.{Outcome, steps}
 use Rattle.code_generator.specs.Follows.{BeginsWith, StopsAs, DoesAll, DoesAsMuch, IsExplained, IsFullAtStart, IsFullAtCall}
 use Rattle.code_generator.proofs.Reach.{IsOver, WritesOn, begins_itself, longer, one_end, grows_to}
@@ -125,18 +125,18 @@ module _ (tree : Tree) (input : List ℕ) (cells : ℕ) where
     explained_more stop.ReadFailed e = goes_on stop.ReadFailed e tt
     explained_more stop.WriteFailed e = goes_on stop.WriteFailed e tt
 
-pub leads_to : (sites : List Plain) (code : List Instr) (b j : ℕ) (m : State) → WritesOn sites code m → IsOver (steps sites code j m).stop
-    → Leads (steps sites code b m) (steps sites code j m)
-leads_to sites code b j m on over = record {
-  over = λ over'. one_end sites code b j m over' over;
+pub leads_to : (tables : Tables) (code : List Instr) (b j : ℕ) (m : State) → WritesOn tables code m → IsOver (steps tables code j m).stop
+    → Leads (steps tables code b m) (steps tables code j m)
+leads_to tables code b j m on over = record {
+  over = λ over'. one_end tables code b j m over' over;
   begins = ⊎_elim
-      (λ (lt : b < j). grows_to sites code b j (omega (arith, lt)) m on)
+      (λ (lt : b < j). grows_to tables code b j (omega (arith, lt)) m on)
       (λ (le : j ≤ b).
-      subst (λ r. BeginsWith (steps sites code j m).output r.output) (longer sites code j b le m over) (begins_itself (steps sites code j m).output))
+      subst (λ r. BeginsWith (steps tables code j m).output r.output) (longer tables code j b le m over) (begins_itself (steps tables code j m).output))
       (cases_lt b j);
 }
 
-pub leads_before : (sites : List Plain) (code : List Instr) (b j : ℕ) (m : State) → WritesOn sites code m → b ≤ j
-    → Leads (steps sites code b m) (steps sites code j m)
-leads_before sites code b j m on le =
-    record { over = longer sites code b j le m; begins = grows_to sites code b j le m on }
+pub leads_before : (tables : Tables) (code : List Instr) (b j : ℕ) (m : State) → WritesOn tables code m → b ≤ j
+    → Leads (steps tables code b m) (steps tables code j m)
+leads_before tables code b j m on le =
+    record { over = longer tables code b j le m; begins = grows_to tables code b j le m on }

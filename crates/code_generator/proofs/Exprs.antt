@@ -40,16 +40,17 @@ use Rattle.typed_tree.specs.declared.tree.Link.{Link}
 use Rattle.typed_tree.specs.declared.tree.Call.{Call}
 use Rattle.typed_tree.specs.declared.tree.Heading.{Heading}
 use Rattle.typed_tree.specs.declared.tree.Passed.{Passed}
+use Rattle.typed_tree.specs.declared.tree.InputTest.{InputTest}
 use Rattle.typed_tree.specs.declared.tree.Expr.TheOpen.{Expr-F, Passed-F, Link-F}
 use Rattle.typed_tree.specs.declared.tree.Expr.TheOpen.Passed-F.{Value as PassedValue, Whole as PassedWhole, Reference}
-use Rattle.typed_tree.specs.declared.tree.Expr.TheOpen.Expr-F.{Constant, Variable, Monadic as MonadicOf, Chain, Compare, Call as CallOf, Set as SetOf}
+use Rattle.typed_tree.specs.declared.tree.Expr.TheOpen.Expr-F.{Constant, Variable, Monadic as MonadicOf, Chain, Compare, Call as CallOf, Input, Set as SetOf}
 use Rattle.typed_tree.specs.declared.tree.Expr.TheViews.{roll-Expr, roll-Passed, roll-Link}
 use Rattle.typed_tree.specs.declared.tree.Expr.TheFolds.{map-Expr, map-Passed, map-Link, fold-roll-Expr, fold-roll-Passed, fold-roll-Link, ind-Expr, ind-Passed}
 use Rattle.meaning.specs.declared.store.Value.TheVariants as value
 use Rattle.meaning.specs.Effect as effect
 use Rattle.meaning.specs.Effect.{fetch}
 use Rattle.meaning.specs.Meaning.{Evaluation, Combination, gathered, link_of, operated_both, value_step, with_one, with_range, operated, combined, relates}
-use Rattle.meaning.specs.Meaning.{in_turn, width_of, order_of, calculated}
+use Rattle.meaning.specs.Meaning.{asked, in_turn, width_of, order_of, calculated}
 use Rattle.meaning.specs.Meaning.{overflow_of, shifted, unless_overflow, Passing, all_passed, calls_of, passing_of}
 use Rattle.meaning.proofs.Replies.{and_then-and_then}
 use Rattle.meaning.specs.Meaning as meaning
@@ -67,7 +68,7 @@ use Rattle.code_scheme.specs.Depth.{access_depth, link_depth, expr_depth_step, l
 use Rattle.code_scheme.specs.Depth.{actuals_depth, call_depth, designators_depth, passed_depth, passed_depth_step, shift_depth}
 use Rattle.typed_tree.specs.WellFormed.{calculation_is_well_formed, shift_is_well_formed, monadic_is_well_formed, dyadic_is_well_formed, expr_is_well_formed}
 use Rattle.typed_tree.specs.WellFormed.{link_is_well_formed, is_well_formed_link, is_well_formed_width, is_well_formed_whole, is_whole, leads_to_held}
-use Rattle.typed_tree.specs.WellFormed.{are_designators, compare, holds, member_site, members_wanted}
+use Rattle.typed_tree.specs.WellFormed.{are_designators, compare, holds, is_well_formed_input, member_site, members_wanted}
 use Rattle.typed_tree.specs.Accesses.{origin_of}
 use Rattle.typed_tree.specs.Kinds.{Held, are_ordinals, expression_held, given, held_by, held_where, is_held, is_held_passed, is_held_value, is_held_width}
 use Rattle.typed_tree.specs.Kinds.{link_held, links_held, passed_held, taken_left, taken_right}
@@ -106,6 +107,7 @@ use Rattle.code_generator.proofs.Running.{beside, check_then, ordinal_beside, sc
 use Rattle.code_generator.proofs.Running.{runs_from, runs_same, then_code, then_runs}
 use Rattle.code_generator.proofs.Running.{value_on, value_then}
 use Rattle.code_generator.proofs.Held.{pushes_number}
+use Rattle.code_generator.proofs.Inputs.{as_truth, asked_runs}
 use Rattle.code_generator.proofs.Lists.{length_one}
 
 -- a heading of a table is that of a block
@@ -147,6 +149,14 @@ module _ (g : Setting) where
   constant_runs number n kind place base held s stands good based room =
       as_ordinal kind _ held (place + 1) (give (value.Number n)) (entered g number s) good.1
       (number_runs n place base held (entered g number s) stands.0 (record { is = good.0 }) based room)
+
+  -- what is asked of the input
+  input_runs : (number : ℕ) (asks : InputTest) → RunsAs g (expr_step g.scope (Input number asks)) (expr_depth_step (Input number asks))
+      (record { well = is_well_formed_input (outline g) g.number asks; held = Some scalar.Ordinal; there = true; strings = true })
+      (value_step (Input number asks))
+  input_runs number asks kind place base held s stands good based room =
+      as_ordinal kind _ held (place + 1) (as_truth (asked asks)) (entered g number s) good.1
+      (asked_runs g asks place base held (entered g number s) stands.0 good.0 based (omega (arith, room)))
 
   -- what a variable or a component holds
   variable_runs : (access : Access) (indexes : Indexes g) (holding : Scalar) (defined : ℕ)
@@ -1272,6 +1282,7 @@ module _ (g : Setting) where
   module _ (known : CallsAt g) where
     expr_layer : (y : Expr-F Told ToldPassed ToldLink) → ExprRuns g (roll-Expr (plain y))
     expr_layer (Constant number n) = rolled_expr (Constant number n) (constant_runs number n)
+    expr_layer (Input number asks) = rolled_expr (Input number asks) (input_runs number asks)
     expr_layer (Variable access indexes holding defined) =
         rolled_expr (plain (Variable access indexes holding defined)) (variable_runs access indexes.items holding defined)
     expr_layer (SetOf number designators members) =

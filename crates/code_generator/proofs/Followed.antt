@@ -10,8 +10,8 @@ use Rattle.meaning.specs.Meaning.{meaning}
 use Rattle.stack_machine.specs.declared.stop.Stop.{Stop}
 use Rattle.stack_machine.specs.declared.stop.Stop.TheVariants as stop
 use Rattle.stack_machine.specs.Frames.{first_frames}
-use Rattle.stack_machine.specs.Machine.{with_frame, taken}
-use Rattle.stack_machine.specs.Run.{Outcome, machine, steps, first_state, outcome_of}
+use Rattle.stack_machine.specs.Machine.{tables_of, taken, with_frame}
+use Rattle.stack_machine.specs.Run.{Outcome, machine, steps, first_state, outcome_of, whole}
 use Rattle.code_generator.specs.Follows.{DoesAll, DoesAsMuch, IsExplained, Follows, IsFullAtStart, IsFullAtCall, most_cells}
 use Rattle.code_generator.specs.Laws.{FramesFit, ErrorsCome, starved_in}
 use Rattle.code_scheme.specs.Need.{block_need}
@@ -30,18 +30,18 @@ full_has_fewer tree code input cells budget follows small full =
 pub frames_fit : FramesFit
 frames_fit tree code variables evaluation rest follows small none is =
     let cells = block_need tree 0 in
-    let m = first_state [] cells in
-    let sites = code.sites.items in
+    let m = first_state (whole []) cells in
+    let tables = tables_of code in
     let enter = Enter variables evaluation in
-    let begins : machine code [] cells 1 ≡ steps sites code.instructions.items 1 m =
-    ap (λ b. if b then record { output = []; stop = stop.StoreFull } else steps sites code.instructions.items 1 m) (le-ltb cells 4 (omega arith)) in
-    let entered = ap (λ is. outcome_of (taken sites (length is) (slice_get is 0) m) [] (steps sites is 0)) is in
+    let begins : machine code [] cells 1 ≡ steps tables code.instructions.items 1 m =
+    ap (λ b. if b then record { output = []; stop = stop.StoreFull } else steps tables code.instructions.items 1 m) (le-ltb cells 4 (omega arith)) in
+    let entered = ap (λ is. outcome_of (taken tables (length is) (slice_get is 0) m) [] (steps tables is 0)) is in
     ⊎_elim
     (λ (large : cells < 4 + variables + evaluation).
     let refused = ap (λ b. outcome_of (with_frame (record m { place = 1 }) (if b then Some (record (first_frames cells) {
       cells = (first_frames cells).cells ++ replicate variables Undefined;
       limit = 4 + variables + evaluation;
-    }) else None)) [] (steps sites (enter ∷ rest) 0)) (lt-leb (4 + variables + evaluation) cells large) in
+    }) else None)) [] (steps tables (enter ∷ rest) 0)) (lt-leb (4 + variables + evaluation) cells large) in
     let full = ap (λ (o : Outcome). o.stop) (begins ∙ entered ∙ refused) in
     ⊎_elim
     (λ (first : cells < block_need tree 0). absurd (omega (arith, first)))

@@ -12,6 +12,7 @@ use Rattle.std.proofs.lemmas.List.Sums.{count_by_more_yes, count_by_more_no, cou
 use Rattle.std.proofs.lemmas.Option.{slice_get-get_or, get_or_from_slice_get}
 use Rattle.std.proofs.lemmas.Bool.{or_parts, ltb-false, le-ltb}
 use Rattle.pcode_assembler.specs.declared.code.Code.{Code}
+use Rattle.pcode_assembler.specs.declared.code.Point.{Point as PlainPoint}
 use Rattle.pcode_assembler.specs.declared.code.Site.{Site as Plain}
 use Rattle.pcode_assembler.specs.declared.instr.Instr.TheVariants as instr
 use Rattle.meaning.specs.declared.outcome.Ending.TheVariants as ending
@@ -21,7 +22,7 @@ use Rattle.meaning.specs.Meaning as meant
 use Rattle.meaning.specs.Meaning.{Meaning, effect_of, ended, meaning}
 use Rattle.stack_machine.specs.declared.stop.Stop.TheVariants as stop
 use Rattle.stack_machine.specs.Frames.{entered}
-use Rattle.stack_machine.specs.Machine.{with_frame}
+use Rattle.stack_machine.specs.Machine.{Tables, tables_of, with_frame}
 use Rattle.stack_machine.specs.Run as runs
 use Rattle.stack_machine.specs.Run.{Outcome, machine, steps}
 use Rattle.check_remover.specs.Strip.{check_site, is_among, stays, moved_place, KeepsInstructions}
@@ -32,7 +33,7 @@ use Rattle.code_generator.specs.Follows.{BeginsWith, StopsAs, DoesAll, DoesAsMuc
 use Rattle.code_generator.specs.Known.{Known}
 use Rattle.code_scheme.specs.Large.{is_too_large}
 use Rattle.code_generator.specs.Laws.{StrippedFollows}
-use Rattle.code_generator.specs.Tables.{site_table}
+use Rattle.code_generator.specs.Tables.{point_table, site_table}
 use Rattle.code_generator.proofs.Acts.{framed}
 use Rattle.code_generator.proofs.Calling.{enters, full}
 use Rattle.code_generator.proofs.Calls.{calls_run}
@@ -47,14 +48,22 @@ use Rattle.code_generator.proofs.Repeats.{repeats}
 use Rattle.code_generator.proofs.Running as running
 use Rattle.code_generator.proofs.Setting.{Setting, on, around, Halts, Ends, Starves}
 use Rattle.code_generator.proofs.Stmts.{stmt_runs}
-use Rattle.code_generator.proofs.Unread.{reads_nothing}
 use Rattle.code_generator.proofs.Running.{Executes, kept_on}
+
+-- the tables of some code
+same_tables : (code : Code) (tables : Tables) → code.sites.items ≡ tables.sites → code.points.items ≡ tables.points → tables_of code ≡ tables
+same_tables code tables sites points = ap (λ s. tables_with s code.points.items) sites ∙ ap (tables_with tables.sites) points
+  where
+    tables_with : List Plain → List PlainPoint → Tables
+    tables_with s p = record { sites = s; points = p }
 
 -- a program whose code stands in the machine's code, with the checks of some sites left out at which it never errs
 module _ (known : Known) (tree : Tree) (well : IsWellFormed tree) (short : is_too_large tree ≡ false) (target : Target)
     (grown : (input : List ℕ) (cells budget more : ℕ)
-    → BeginsWith (runs.run_of target.sites target.code input cells (budget + more)).output (runs.run_of target.sites target.code input cells budget).output)
-    (sites_are : target.sites ≡ site_table tree.sites.items) (stands : Stands target 0 (program_code tree)) (starts : target.to 0 ≡ 0)
+    → BeginsWith (runs.run_of target.tables target.code (runs.whole input) cells (budget + more)).output
+    (runs.run_of target.tables target.code (runs.whole input) cells budget).output)
+    (sites_are : target.tables.sites ≡ site_table tree.sites.items)
+    (points_are : target.tables.points ≡ point_table tree.points.items) (stands : Stands target 0 (program_code tree)) (starts : target.to 0 ≡ 0)
     (comes_back : (place n routine : ℕ) → slice_get target.whole place ≡ Some (instr.CallProcedure n routine)
     → (target.to place + 1 < length target.code) × (target.to place + 1 ≤ 1000000))
     (repeats_are_few : (number : ℕ) (block : Block) → slice_get tree.blocks.items number ≡ Some block → suc (repeats block.body) ≤ target.rate)
@@ -98,11 +107,11 @@ module _ (known : Known) (tree : Tree) (well : IsWellFormed tree) (short : is_to
 
     module _ (input : List ℕ) (cells : ℕ) (small : cells ≤ most_cells) where
       abbrev start : State
-      start = runs.first_state input cells
+      start = runs.first_state (runs.whole input) cells
 
       -- a run of so many instructions
       abbrev made : ℕ → Outcome
-      made budget = steps target.sites target.code budget start
+      made budget = steps target.tables target.code budget start
 
       abbrev links : List Cell
       links = Number (pos 0) ∷ Number (pos 0) ∷ Undefined ∷ Undefined ∷ []
@@ -127,10 +136,12 @@ module _ (known : Known) (tree : Tree) (well : IsWellFormed tree) (short : is_to
 
       module _ (fits : needed_cells ≤ cells) (turns : ℕ) where
         abbrev setting : Setting
-        setting = started.setting known tree well short target sites_are stands comes_back repeats_are_few input cells small block block_is fits turns
+        setting =
+            started.setting known tree well short target sites_are points_are stands comes_back repeats_are_few input cells small block block_is fits turns
 
         abbrev first_cells : List Cell
-        first_cells = started.cells known tree well short target sites_are stands comes_back repeats_are_few input cells small block block_is fits turns
+        first_cells =
+            started.cells known tree well short target sites_are points_are stands comes_back repeats_are_few input cells small block block_is fits turns
 
         abbrev first : effect.State
         first = meant.first_state input turns
@@ -140,19 +151,17 @@ module _ (known : Known) (tree : Tree) (well : IsWellFormed tree) (short : is_to
 
         comes_in : Comes target 1 start inside
         comes_in =
-            let begun : State = record start { input = first.input } in
-            let there : State = record begun { frames = framed 0 needed_cells cells first_cells; place = 1 } in
+            let there : State = record start { frames = framed 0 needed_cells cells first_cells; place = 1 } in
             let limit : 4 + count variables + count depth ≡ needed_cells = omega (arith, none, counts.0, counts.1) in
             let does : entered (count variables) (count depth) (framed 0 4 cells links) ≡ Some (framed 0 needed_cells cells first_cells) =
             enters 0 4 cells links (count variables) (count depth) (omega (arith, limit, fits))
             ∙ ap (λ n. Some (framed 0 n cells (links ++ replicate (count variables) Undefined))) limit
             ∙ ap (λ n. Some (framed 0 needed_cells cells (links ++ replicate n Undefined))) counts.0 in
-            let came = comes_by target (instr.Enter (count variables) (count depth)) begun there
-            (ap (slice_get target.code) (sym starts) ∙ own_stands.0.0) (ap (with_frame (record begun { place = 1 })) does) in
+            let came = comes_by target (instr.Enter (count variables) (count depth)) start there
+            (ap (slice_get target.code) (sym starts) ∙ own_stands.0.0) (ap (with_frame (record start { place = 1 })) does) in
             let second : target.to 1 ≡ 1 = own_stands.0.1 ∙ ap (λ n. n + 1) starts in
             subst (λ cs. Comes target 1 start (on setting cs 1 first)) (sym (append-nil first_cells))
-            (subst (λ index. Comes target 1 start (record there { place = index })) (sym second)
-            (comes_on target 0 1 start begun there (reads_nothing first.input target start) came))
+            (subst (λ index. Comes target 1 start (record there { place = index })) (sym second) came)
 
         abbrev does : Action (Unit {0})
         does = effect_of block.body (around setting)
@@ -162,8 +171,8 @@ module _ (known : Known) (tree : Tree) (well : IsWellFormed tree) (short : is_to
             let whole = (small_block tree short 0 block block_is).whole in
             stmt_runs block.body setting (calls_run (suc turns)) (omega arith) 1 first_cells [] first
             (stands_front target 1 body (instr.Stop ∷ []) own_stands.1) (block_good tree well 0 block block_is)
-            (started.first_based known tree well short target sites_are stands comes_back repeats_are_few input cells small block block_is fits turns)
-            (omega (arith, whole)) (omega arith)
+            (started.first_based known tree well short target sites_are points_are stands comes_back repeats_are_few input cells small block block_is fits
+            turns) (omega (arith, whole)) (omega arith)
 
         means : meaning tree input turns ≡ ended (does first)
         means = ap (λ o. ended (meant.run_of tree (suc turns) o first)) block_is
@@ -235,7 +244,7 @@ module _ (known : Known) (tree : Tree) (well : IsWellFormed tree) (short : is_to
 
       -- the run of so many instructions, by the number of cells
       abbrev run : ℕ → Outcome
-      run budget = runs.run_of target.sites target.code input cells budget
+      run budget = runs.run_of target.tables target.code (runs.whole input) cells budget
 
       run_small : (budget : ℕ) → cells < 4 → run budget ≡ record { output = []; stop = stop.StoreFull }
       run_small budget h = ap (λ b. if b then record { output = []; stop = stop.StoreFull } else made budget) (lt-ltb cells 4 h)
@@ -243,7 +252,7 @@ module _ (known : Known) (tree : Tree) (well : IsWellFormed tree) (short : is_to
       run_large : (budget : ℕ) → 4 ≤ cells → run budget ≡ made budget
       run_large budget h = ap (λ b. if b then record { output = []; stop = stop.StoreFull } else made budget) (le-ltb cells 4 h)
 
-      writes_on : 4 ≤ cells → WritesOn target.sites target.code start
+      writes_on : 4 ≤ cells → WritesOn target.tables target.code start
       writes_on h first more =
           subst (λ (o : Outcome). BeginsWith o.output (made first).output) (run_large (first + more) h)
           (subst (λ (o : Outcome). BeginsWith (run (first + more)).output o.output) (run_large first h) (grown input cells first more))
@@ -261,11 +270,11 @@ module _ (known : Known) (tree : Tree) (well : IsWellFormed tree) (short : is_to
           absurd (omega (arith, le, whole, mul-add target.rate n (budget - n))))
           (cases_lt budget n)
 
-      explained_large : (budget : ℕ) → WritesOn target.sites target.code start → Arrives (enough budget) (meaning tree input (enough budget))
+      explained_large : (budget : ℕ) → WritesOn target.tables target.code start → Arrives (enough budget) (meaning tree input (enough budget))
           → IsExplained tree input cells (made budget) (made budget).stop
       explained_large budget on (inl d) =
           explained_done tree input cells (enough budget) (made budget) (made d.0)
-          (leads_to target.sites target.code budget d.0 start on
+          (leads_to target.tables target.code budget d.0 start on
           (end_over _ (stops_end tree (meaning tree input (enough budget)).ending (made d.0).stop d.1.1)))
           d.1 (made budget).stop refl
       explained_large budget on (inr (inl more)) =
@@ -273,7 +282,7 @@ module _ (known : Known) (tree : Tree) (well : IsWellFormed tree) (short : is_to
           let less = more_steps budget x.0 x.1 in
           let at_end : x.0 + 0 ≡ x.0 = omega arith in
           let there = ap made (sym at_end) ∙ x.2 in
-          explained_more tree input cells (made budget) (made x.0) (leads_before target.sites target.code budget x.0 start on (omega (arith, less)))
+          explained_more tree input cells (made budget) (made x.0) (leads_before target.tables target.code budget x.0 start on (omega (arith, less)))
           (ap (λ (o : Outcome). o.stop) there) (
             enough budget,
             subst (BeginsWith (meaning tree input (enough budget)).output) (sym (ap (λ (o : Outcome). o.output) there ∙ more.3))
@@ -281,10 +290,10 @@ module _ (known : Known) (tree : Tree) (well : IsWellFormed tree) (short : is_to
           ) (made budget).stop refl
       explained_large budget on (inr (inr f)) =
           explained_full tree input cells (made budget) (made f.0)
-          (leads_to target.sites target.code budget f.0 start on (subst IsOver (sym f.1) tt)) f.1 (inr (f.2, f.3))
+          (leads_to target.tables target.code budget f.0 start on (subst IsOver (sym f.1) tt)) f.1 (inr (f.2, f.3))
           (f.2, subst (BeginsWith (meaning tree input f.2).output) (sym f.3.writes) (begins_itself (meaning tree input f.2).output)) (made budget).stop refl
 
-      explained : (budget : ℕ) → WritesOn target.sites target.code start → IsExplained tree input cells (made budget) (made budget).stop
+      explained : (budget : ℕ) → WritesOn target.tables target.code start → IsExplained tree input cells (made budget) (made budget).stop
       explained budget on =
           ⊎_elim
           (λ (less : cells < needed_cells).
@@ -292,7 +301,7 @@ module _ (known : Known) (tree : Tree) (well : IsWellFormed tree) (short : is_to
           let none_out = ap (λ (o : Outcome). o.output) f.so in
           let is_full = ap (λ (o : Outcome). o.stop) f.so in
           explained_full tree input cells (made budget) (made f.budget)
-          (leads_to target.sites target.code budget f.budget start on (subst IsOver (sym is_full) tt)) is_full (inl (none_out, needed less))
+          (leads_to target.tables target.code budget f.budget start on (subst IsOver (sym is_full) tt)) is_full (inl (none_out, needed less))
           (0, ((meaning tree input 0).output, ap (λ o. o ++ (meaning tree input 0).output) (sym none_out))) (made budget).stop refl)
           (λ large. explained_large budget on (arrives large (enough budget)))
           (cases_lt cells needed_cells)
@@ -341,12 +350,15 @@ module _ (known : Known) (tree : Tree) (well : IsWellFormed tree) (short : is_to
           ⊎_elim (λ (less : cells < 4). inr (0, ap (λ (o : Outcome). o.stop) (run_small 0 less))) (complete_large turns) (cases_lt cells 4)
 
   -- code with these instructions and sites follows the program
-  pub follows_there : (code : Code) → code.instructions.items ≡ target.code → code.sites.items ≡ site_table tree.sites.items → Follows code tree
-  follows_there code is sites =
+  pub follows_there : (code : Code) → code.instructions.items ≡ target.code → code.sites.items ≡ site_table tree.sites.items
+      → code.points.items ≡ point_table tree.points.items → Follows code tree
+  follows_there code is sites points =
       let f = first_block tree.blocks.items well.a_block in
-      let same : (input : List ℕ) (cells budget : ℕ) → machine code input cells budget ≡ runs.run_of target.sites target.code input cells budget =
-      λ input cells budget. ap (λ s. runs.run_of s code.instructions.items input cells budget) (sites ∙ sym sites_are)
-      ∙ ap (λ i. runs.run_of target.sites i input cells budget) is in
+      let tables = same_tables code target.tables (sites ∙ sym sites_are) (points ∙ sym points_are) in
+      let same : (input : List ℕ) (cells budget : ℕ)
+      → machine code input cells budget ≡ runs.run_of target.tables target.code (runs.whole input) cells budget =
+      λ input cells budget. ap (λ t. runs.run_of t code.instructions.items (runs.whole input) cells budget) tables
+      ∙ ap (λ i. runs.run_of target.tables i (runs.whole input) cells budget) is in
       record {
         sound = λ input cells budget small. subst (λ r. IsExplained tree input cells r r.stop) (sym (same input cells budget))
             (sound f.0 f.1 f.2 input cells small budget);
@@ -372,19 +384,19 @@ abbrev rate_of : Tree → ℕ
 rate_of tree = suc (most_repeats tree.blocks.items)
 
 -- the full code as it stands
-abbrev as_it_is : ℕ → List Plain → List Instr → Target
-as_it_is most sites code =
-    record { sites = sites; code = code; whole = code; to = λ place. place; is_open = λ _. true; rate = suc most; one_at_least = omega arith }
+abbrev as_it_is : ℕ → Tables → List Instr → Target
+as_it_is most tables code =
+    record { tables = tables; code = code; whole = code; to = λ place. place; is_open = λ _. true; rate = suc most; one_at_least = omega arith }
 
-stands_itself : (most : ℕ) (sites : List Plain) (is before : List Instr) → Stands (as_it_is most sites (before ++ is)) (length before) is
-stands_itself most sites [] before = tt
-stands_itself most sites (i ∷ is) before =
-    let t = as_it_is most sites (before ++ i ∷ is) in
+stands_itself : (most : ℕ) (tables : Tables) (is before : List Instr) → Stands (as_it_is most tables (before ++ is)) (length before) is
+stands_itself most tables [] before = tt
+stands_itself most tables (i ∷ is) before =
+    let t = as_it_is most tables (before ++ i ∷ is) in
     let within : length before < length (before ++ i ∷ is) = omega (arith, length-append before (i ∷ is)) in
     let here = slice_get-get_or (before ++ i ∷ is) (length before) i within ∙ ap Some (get_or-append_seam before i is i) in
     let n : length (before ++ i ∷ []) ≡ length before + 1 = omega (arith, length-append before (i ∷ [])) in
-    let rest = stands_itself most sites is (before ++ i ∷ []) in
-    let rest' = subst (λ l. Stands (as_it_is most sites l) (length (before ++ i ∷ [])) is) (append_assoc before (i ∷ []) is) rest in (
+    let rest = stands_itself most tables is (before ++ i ∷ []) in
+    let rest' = subst (λ l. Stands (as_it_is most tables l) (length (before ++ i ∷ [])) is) (append_assoc before (i ∷ []) is) rest in (
       subst (StandsAt t (length before) i) (sym (all_open (check_site i))) (here ∙ ap Some (sym (unmoved i)), refl),
       subst (λ m. Stands t m is) n rest',
       here,
@@ -406,29 +418,35 @@ module _ (tree : Tree) (well : IsWellFormed tree) (short : is_too_large tree ≡
       (omega (arith, m.4, long), omega (arith, m.4, long, whole_short))
 
 -- with more instructions code writes on
-grown_by : Known → (code : Code) (sites : List Plain) (is : List Instr) → code.sites.items ≡ sites → code.instructions.items ≡ is
+grown_by : Known → (code : Code) (tables : Tables) (is : List Instr) → tables_of code ≡ tables → code.instructions.items ≡ is
     → (input : List ℕ) (cells budget more : ℕ)
-    → BeginsWith (runs.run_of sites is input cells (budget + more)).output (runs.run_of sites is input cells budget).output
-grown_by known code sites is same_sites same input cells budget more =
-    subst (λ i. BeginsWith (runs.run_of sites i input cells (budget + more)).output (runs.run_of sites i input cells budget).output) same
-    (subst (λ s. BeginsWith (runs.run_of s code.instructions.items input cells (budget + more)).output
-    (runs.run_of s code.instructions.items input cells budget).output) same_sites (known.output code input cells budget more))
+    → BeginsWith (runs.run_of tables is (runs.whole input) cells (budget + more)).output (runs.run_of tables is (runs.whole input) cells budget).output
+grown_by known code tables is same_tables same input cells budget more =
+    let source = runs.whole input in
+    subst (λ i. BeginsWith (runs.run_of tables i source cells (budget + more)).output (runs.run_of tables i source cells budget).output) same
+    (subst (λ t. BeginsWith (runs.run_of t code.instructions.items source cells (budget + more)).output
+    (runs.run_of t code.instructions.items source cells budget).output) same_tables (known.output code source cells budget more))
+
+-- the tables of a tree
+abbrev tables_for : Tree → Tables
+tables_for tree = record { sites = site_table tree.sites.items; points = point_table tree.points.items }
 
 -- the code of a well formed tree follows its program
 pub follows : Known → (code : Code) (tree : Tree) → code.instructions.items ≡ program_code tree → code.sites.items ≡ site_table tree.sites.items
-    → is_too_large tree ≡ false → IsWellFormed tree → Follows code tree
-follows known code tree is sites_are short well =
+    → code.points.items ≡ point_table tree.points.items → is_too_large tree ≡ false → IsWellFormed tree → Follows code tree
+follows known code tree is sites_are points_are short well =
     let most = most_repeats tree.blocks.items in
-    let sites = site_table tree.sites.items in
-    follows_there known tree well short (as_it_is most sites (program_code tree)) (grown_by known code sites (program_code tree) sites_are is) refl
-    (stands_itself most sites (program_code tree) []) refl
-    (call_within tree well short) (few_repeats tree well short) (λ input turns site errs closed. cc) code is sites_are
+    let tables = tables_for tree in
+    let same = same_tables code tables sites_are points_are in
+    follows_there known tree well short (as_it_is most tables (program_code tree)) (grown_by known code tables (program_code tree) same is) refl refl
+    (stands_itself most tables (program_code tree) []) refl
+    (call_within tree well short) (few_repeats tree well short) (λ input turns site errs closed. cc) code is sites_are points_are
 
 -- the code as a remover of checks leaves it
-abbrev without : ℕ → List Plain → List Plain → List Instr → List Instr → Target
-without most sites open_sites whole code =
+abbrev without : ℕ → Tables → List Plain → List Instr → List Instr → Target
+without most tables open_sites whole code =
     record {
-      sites = sites;
+      tables = tables;
       code = code;
       whole = whole;
       to = moved_place (is_among open_sites) whole;
@@ -437,7 +455,7 @@ without most sites open_sites whole code =
       one_at_least = omega arith;
     }
 
-module _ (most : ℕ) (sites open_sites : List Plain) (whole code : List Instr) (keeps : KeepsInstructions open_sites whole code) where
+module _ (most : ℕ) (tables : Tables) (open_sites : List Plain) (whole code : List Instr) (keeps : KeepsInstructions open_sites whole code) where
   abbrev stays_there : Instr → Bool
   stays_there = stays (is_among open_sites)
 
@@ -450,13 +468,13 @@ module _ (most : ℕ) (sites open_sites : List Plain) (whole code : List Instr) 
       count_by_more_yes stays_there whole place i (slice_get_within whole place i here) (ap stays_there same ∙ stayed)
 
   stood_by : (place : ℕ) (i : Instr) (stayed : Bool) → stays_there i ≡ stayed → slice_get whole place ≡ Some i
-      → StandsAt (without most sites open_sites whole code) place i stayed
+      → StandsAt (without most tables open_sites whole code) place i stayed
   stood_by place i true stayed here = (keeps place i here stayed, one_further place i stayed here)
   stood_by place i false stayed here =
       let same = get_or_from_slice_get whole place i i here in
       count_by_more_no stays_there whole place i (slice_get_within whole place i here) (ap stays_there same ∙ stayed)
 
-  stands_without : (is before : List Instr) → before ++ is ≡ whole → Stands (without most sites open_sites whole code) (length before) is
+  stands_without : (is before : List Instr) → before ++ is ≡ whole → Stands (without most tables open_sites whole code) (length before) is
   stands_without [] before split = tt
   stands_without (i ∷ is) before split =
       let within : length before < length (before ++ i ∷ is) = omega (arith, length-append before (i ∷ is)) in
@@ -465,7 +483,7 @@ module _ (most : ℕ) (sites open_sites : List Plain) (whole code : List Instr) 
       let n : length (before ++ i ∷ []) ≡ length before + 1 = omega (arith, length-append before (i ∷ [])) in
       let rest = stands_without is (before ++ i ∷ []) (append_assoc before (i ∷ []) is ∙ split) in (
         stood_by (length before) i (stays_there i) refl there,
-        subst (λ m. Stands (without most sites open_sites whole code) m is) n rest,
+        subst (λ m. Stands (without most tables open_sites whole code) m is) n rest,
         there,
       )
 
@@ -495,15 +513,16 @@ is_false b is isnt = cc
 
 -- the code without the checks of sites at which the program never errs follows it too
 pub stripped_follows : Known → StrippedFollows
-stripped_follows known tree open_sites code well short sites_are keeps never =
+stripped_follows known tree open_sites code well short sites_are points_are keeps never =
     let whole = program_code tree in
-    let sites = site_table tree.sites.items in
+    let tables = tables_for tree in
+    let same = same_tables code tables sites_are points_are in
     let most = most_repeats tree.blocks.items in
-    follows_there known tree well short (without most sites open_sites whole code.instructions.items)
-    (grown_by known code sites code.instructions.items sites_are refl) refl
-    (stands_without most sites open_sites whole code.instructions.items keeps whole [] refl) refl
+    follows_there known tree well short (without most tables open_sites whole code.instructions.items)
+    (grown_by known code tables code.instructions.items same refl) refl refl
+    (stands_without most tables open_sites whole code.instructions.items keeps whole [] refl) refl
     (λ place n routine at.
     let m = more_behind whole place n routine (closing tree well.a_block) at in
-    kept_within most sites open_sites whole code.instructions.items keeps place n routine at m.0 m.1 m.2 m.3 m.4 (whole_short tree well short))
+    kept_within most tables open_sites whole code.instructions.items keeps place n routine at m.0 m.1 m.2 m.3 m.4 (whole_short tree well short))
     (few_repeats tree well short)
-    (λ input turns site errs closed. is_false (is_among open_sites site) (never input turns site errs) closed) code refl sites_are
+    (λ input turns site errs closed. is_false (is_among open_sites site) (never input turns site errs) closed) code refl sites_are points_are

@@ -17,7 +17,7 @@ use Rattle.code_scheme.specs.Code.{program_code}
 use Rattle.code_scheme.specs.Scopes.{block_level, home_of, level_of, offset, start_of}
 use Rattle.code_generator.specs.Known.{Known}
 use Rattle.code_scheme.specs.Large.{is_too_large}
-use Rattle.code_generator.specs.Tables.{site_table}
+use Rattle.code_generator.specs.Tables.{point_table, site_table}
 use Rattle.code_generator.proofs.Alike.{Activation, World, Fixed, Lies, LiesIn, IsApart, Leads}
 use Rattle.code_generator.proofs.Cells.{home_is, lies_inside, others_few, own_scalars, owned_back, owned_in, slot_of, start_near, other_ends}
 use Rattle.code_generator.proofs.Cells.{starts_as_other, where_cons}
@@ -72,7 +72,8 @@ module _ (tree : Tree) (well : IsWellFormed tree) (block : Block) (block_is : sl
   none_here = no_cells tree.types (is_parameter_of 0) 0 tree.variables.items no_roots
 
 module _ (known : Known) (tree : Tree) (well : IsWellFormed tree) (short : is_too_large tree ≡ false) (target : Target)
-    (sites_are : target.sites ≡ site_table tree.sites.items) (stands : Stands target 0 (program_code tree))
+    (sites_are : target.tables.sites ≡ site_table tree.sites.items)
+    (points_are : target.tables.points ≡ point_table tree.points.items) (stands : Stands target 0 (program_code tree))
     (comes_back : (place n routine : ℕ) → slice_get target.whole place ≡ Some (instr.CallProcedure n routine)
     → (target.to place + 1 < length target.code) × (target.to place + 1 ≤ 1000000))
     (repeats_are_few : (number : ℕ) (block : Block) → slice_get tree.blocks.items number ≡ Some block → suc (repeats block.body) ≤ target.rate)
@@ -257,6 +258,7 @@ module _ (known : Known) (tree : Tree) (well : IsWellFormed tree) (short : is_to
         short = short;
         target = target;
         sites_are = sites_are;
+        points_are = points_are;
         stands = stands;
         comes_back = comes_back;
         repeats_are_few = repeats_are_few;

@@ -4,7 +4,7 @@ use Rattle.std.specs.declared.alloc.Global.{Global}
 use Rattle.std.specs.declared.boxed.Box.{Box}
 use Rattle.typed_tree.specs.declared.tree.Stmt.{Stmt}
 use Rattle.typed_tree.specs.declared.tree.Stmt.TheOpen.{Stmt-F}
-use Rattle.typed_tree.specs.declared.tree.Stmt.TheOpen.Stmt-F.{Empty, Assign, Copy, Write, Compound, If, While, Repeat, For, Case, Call as Calling, With}
+use Rattle.typed_tree.specs.declared.tree.Stmt.TheOpen.Stmt-F.{Empty, Assign, Copy, Write, Compound, If, While, Repeat, For, Case, Call as Calling, With, Read}
 use Rattle.typed_tree.specs.declared.tree.Stmt.TheFolds.{fold-Stmt}
 use Rattle.code_scheme.specs.Depth.{greatest}
 
@@ -17,6 +17,7 @@ repeats_step (Empty number) = 0
 repeats_step (Assign assignment) = 0
 repeats_step (Copy copying) = 0
 repeats_step (Write writing) = 0
+repeats_step (Read reading) = 0
 repeats_step (Calling calling) = 0
 repeats_step (Compound number statements) = greatest statements.items
 repeats_step (If number condition consequence alternative) = max consequence.value (alternative_repeats alternative)

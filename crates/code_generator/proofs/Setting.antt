@@ -25,7 +25,7 @@ use Rattle.code_scheme.specs.Scopes.{block_level, home_of, record_home}
 use Rattle.code_generator.specs.Follows.{StopsAs}
 use Rattle.code_generator.specs.Known.{Known}
 use Rattle.code_scheme.specs.Large.{is_too_large}
-use Rattle.code_generator.specs.Tables.{site_table, in_plain_numbers}
+use Rattle.code_generator.specs.Tables.{in_plain_numbers, point_table, site_table}
 use Rattle.code_generator.proofs.Reach.{Target, Stands, StandsAt, Comes, obeys, Stops, comes_on, comes_less, stays_here, comes_by, stops_on, stops_by}
 use Rattle.code_generator.proofs.Acts.{framed, branches}
 use Rattle.code_generator.proofs.Alike.{World, Lives, Fixed, IsApart, Alike, Keeps, Leads, Activation}
@@ -94,7 +94,8 @@ pub record Setting : Type 0 where
   pub short : is_too_large tree ≡ false
   -- the machine's code, in which the program's code stands
   pub target : Target
-  pub sites_are : target.sites ≡ site_table tree.sites.items
+  pub sites_are : target.tables.sites ≡ site_table tree.sites.items
+  pub points_are : target.tables.points ≡ point_table tree.points.items
   pub stands : Stands target 0 (program_code tree)
   -- behind each call an instruction follows, whose index is a number
   pub comes_back : (place count routine : ℕ) → slice_get target.whole place ≡ Some (instr.CallProcedure count routine)
@@ -179,7 +180,7 @@ module _ (g : Setting) where
   -- the machine in the running frame, at an instruction of its code
   abbrev pub running_at : List Cell → ℕ → effect.State → State
   running_at cells index s =
-      record { frames = framed g.frame g.limit g.size cells; place = index; input = s.input; output = s.output }
+      record { frames = framed g.frame g.limit g.size cells; place = index; input = s.input; fails = false; output = s.output }
 
   -- the machine in the running frame, where a place of the program's code goes
   abbrev pub on : List Cell → ℕ → effect.State → State
@@ -267,7 +268,7 @@ module _ (g : Setting) where
   acts i cells after place s act here rule e =
       let m = running_at cells (g.target.to place + 1) s in
       goes_on i cells after place s s here
-      (ap (λ deed. carried_out g.target.sites (length g.target.code) deed m) rule ∙ ap (λ a. and_then a (with_frames m)) e)
+      (ap (λ deed. carried_out g.target.tables (length g.target.code) deed m) rule ∙ ap (λ a. and_then a (with_frames m)) e)
 
   -- a jump goes where its target goes
   pub jumps : (target : ℕ) (cells : List Cell) (place : ℕ) (s : effect.State) → StandsAt g.target place (instr.Jump target) true
@@ -309,12 +310,12 @@ module _ (g : Setting) where
   module _ (check : Instr) (cells : List Cell) (place site : ℕ) (s : effect.State) (test : Frames → Attempt Bool) (same : moved g.target.to check ≡ check)
       (rule : deed_of check ≡ Tests site test) where
     abbrev tested_at : Attempt Bool → Next
-    tested_at = checked g.target.sites site (running_at cells (g.target.to place + 1) s)
+    tested_at = checked (error_of (slice_get g.target.tables.sites site)) (running_at cells (g.target.to place + 1) s)
 
     tests_it : (holds : Attempt Bool) → test (framed g.frame g.limit g.size cells) ≡ holds
         → obeys g.target check (running_at cells (g.target.to place + 1) s) ≡ tested_at holds
     tests_it holds e =
-        ap (λ deed. carried_out g.target.sites (length g.target.code) deed (running_at cells (g.target.to place + 1) s)) rule ∙ ap tested_at e
+        ap (λ deed. carried_out g.target.tables (length g.target.code) deed (running_at cells (g.target.to place + 1) s)) rule ∙ ap tested_at e
 
     passes_by : (stayed : Bool) → StandsAt g.target place check stayed → test (framed g.frame g.limit g.size cells) ≡ Ok true
         → Comes g.target 0 (on cells place s) (on cells (place + 1) s)

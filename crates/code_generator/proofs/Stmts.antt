@@ -20,6 +20,8 @@ use Rattle.typed_tree.specs.declared.tree.Direction.{Direction}
 use Rattle.typed_tree.specs.declared.tree.Direction.TheVariants as direction
 use Rattle.typed_tree.specs.declared.tree.Representation.{Representation}
 use Rattle.typed_tree.specs.declared.tree.Representation.TheVariants as representation
+use Rattle.typed_tree.specs.declared.tree.Reading.{Reading}
+use Rattle.typed_tree.specs.declared.tree.ReadVariable.{ReadVariable}
 use Rattle.typed_tree.specs.declared.tree.Width.{Width}
 use Rattle.typed_tree.specs.declared.tree.WriteParameter.{WriteParameter}
 use Rattle.typed_tree.specs.declared.tree.Written.{Written}
@@ -27,7 +29,7 @@ use Rattle.typed_tree.specs.declared.tree.Written.TheVariants.{Ordinal, String}
 use Rattle.typed_tree.specs.declared.tree.Whole.{Whole}
 use Rattle.typed_tree.specs.declared.tree.Stmt.{Stmt}
 use Rattle.typed_tree.specs.declared.tree.Stmt.TheOpen.{Stmt-F}
-use Rattle.typed_tree.specs.declared.tree.Stmt.TheOpen.Stmt-F.{Empty, Assign, Copy, Write, Compound, If, While, Repeat, For, Case, Call as Calling, With}
+use Rattle.typed_tree.specs.declared.tree.Stmt.TheOpen.Stmt-F.{Empty, Assign, Copy, Write, Compound, If, While, Repeat, For, Case, Call as Calling, With, Read}
 use Rattle.typed_tree.specs.declared.tree.Stmt.TheViews.{roll-Stmt}
 use Rattle.typed_tree.specs.declared.tree.Stmt.TheFolds.{fold-Stmt, map-Stmt, fold-roll-Stmt, ind-Stmt}
 use Rattle.meaning.specs.declared.outcome.Ending.TheVariants as ending
@@ -37,6 +39,7 @@ use Rattle.meaning.specs.Counting.{has_values, next_value, value_behind}
 use Rattle.meaning.specs.Effect as effect
 use Rattle.meaning.specs.Effect.{Round}
 use Rattle.meaning.specs.Meaning.{Execution, is_so, turn_if, while_round, repeat_round, for_round, for_rounds, for_between, is_among, arm_of, whole_of}
+use Rattle.meaning.specs.Meaning.{line_passed, read_of}
 use Rattle.meaning.specs.Meaning.{alternative_of, width_of, effect_of, effect_step, parameter_of, all_of, line_ended, call_of, passing_of}
 use Rattle.meaning.specs.Meaning.{default_width as default_width_of}
 use Rattle.stack_machine.specs.Deeds.{Writes}
@@ -48,13 +51,17 @@ use Rattle.stack_machine.specs.Texts as texts
 use Rattle.code_scheme.specs.Scopes.{held_offset, holding}
 use Rattle.code_scheme.specs.Code.{Placed, placed, if_code, if_else_code, while_code, repeat_code, for_code, for_entry, for_begin, for_next, for_end}
 use Rattle.code_scheme.specs.Code.{order_instr, next_instr, row_code, arms_code, case_code, width_code, write_instr, parameter_code, line_end_code, call_code}
+use Rattle.code_scheme.specs.Code.{line_passed_code, read_code, variable_read_code}
 use Rattle.code_scheme.specs.Code.{passed_code, write_code, stmt_code, stmt_step, default_width, ordinal_instr, ordinal_width, whole_code}
 use Rattle.code_scheme.specs.Depth.{call_depth, greatest, passed_depth, stmt_depth, stmt_depth_step, arms_depth, parameter_depth, width_depth, whole_depth}
+use Rattle.code_scheme.specs.Depth.{read_depth}
 use Rattle.typed_tree.specs.Accesses.{AtVariable}
-use Rattle.typed_tree.specs.Kinds.{is_held_parameter, is_held_passed, is_held_stmt, is_held_value, is_ordinal_expr, statement_held}
+use Rattle.typed_tree.specs.Kinds.{is_held_parameter, is_held_passed, is_held_read, is_held_stmt, is_held_value, is_ordinal_expr, statement_held}
 use Rattle.typed_tree.specs.Records.{Begin, all_begin, begins as all_begins, begins_in, parameter_begins, passed_begin, statement_begins, value_begins}
-use Rattle.code_generator.proofs.Texts.{compares_in, compares_strings, is_text, parameter_compares, passes_strings, statement_compares, value_compares}
-use Rattle.typed_tree.specs.WellFormed.{is_text as is_text_of, source_of}
+use Rattle.typed_tree.specs.Records.{read_begins}
+use Rattle.code_generator.proofs.Texts.{compares_in, compares_strings, is_text, parameter_compares, passes_strings, read_compares, statement_compares}
+use Rattle.code_generator.proofs.Texts.{value_compares}
+use Rattle.typed_tree.specs.WellFormed.{is_text as is_text_of, is_well_formed_line, is_well_formed_read, source_of}
 use Rattle.typed_tree.specs.WellFormed.{is_well_formed_parameter, is_well_formed_test, is_well_formed_stmt, fits_target, whole_indexes}
 use Rattle.typed_tree.specs.WellFormed.{are_whole, stmt_is_well_formed, is_control, is_well_formed_call, is_well_formed_passed, is_well_formed_whole, length_of}
 use Rattle.code_generator.proofs.Reach.{Stands, StandsAt, stands_front, stands_back, Comes, comes_less, comes_on, stays_here}
@@ -69,8 +76,10 @@ use Rattle.code_generator.proofs.Evaluating.{Good, Shape, both, good_parts, in_o
 use Rattle.code_generator.proofs.Evaluating.{fetched_at, frames_of, one_held, range_then}
 use Rattle.code_generator.proofs.Scalars.{fit_length}
 use Rattle.code_generator.proofs.Strings.{AreNumbers}
-use Rattle.code_generator.proofs.Exact.{exact_for_round, exact_parameters, exact_repeat_round, exact_statements, exact_while_round}
+use Rattle.code_generator.proofs.Exact.{exact_for_round, exact_parameters, exact_read, exact_reads, exact_repeat_round, exact_statements, exact_while_round}
+use Rattle.code_generator.proofs.Inputs.{line_runs}
 use Rattle.code_generator.proofs.Passing.{CallsAt, CallsRun, returns_executes}
+use Rattle.code_generator.proofs.Readings.{read_runs}
 use Rattle.code_generator.proofs.Repeats.{repeats, repeats_step}
 use Rattle.code_generator.proofs.Wholes.{few_components, fitting_bytes, row_kinds, row_long, text_numbers, whole_runs, row_then}
 use Rattle.code_generator.proofs.Withs.{StmtRuns, popped_there, stmt_shape, with_runs}
@@ -137,7 +146,7 @@ module _ (g : Setting) (known : CallsAt g) where
   text_runs write text place cells after s act here rule does =
       let m = fetched_at g cells place s in
       goes_on g write cells after place s (written s text) here
-      (ap (λ deed. machine.carried_out g.target.sites (length g.target.code) deed m) rule ∙ ap (λ r. machine.and_then r (with_text m)) does)
+      (ap (λ deed. machine.carried_out g.target.tables (length g.target.code) deed m) rule ∙ ap (λ r. machine.and_then r (with_text m)) does)
 
   ordinal_writes : (r : Representation) (place : ℕ) (cells : List Cell) (n w : ℤ) (s : effect.State) → Fits n → Stands g.target place (ordinal_instr r ∷ [])
       → g.frame + 4 ≤ length cells
@@ -346,6 +355,46 @@ module _ (g : Setting) (known : CallsAt g) where
       (parameter_compares g.tree.types) parameter_of ((exact_around g).written) ps (each_parameter ps) 0 place
       base held s1 (subst (Stands g.target place) (sym same) front) good based high deep))
       (λ base2 t rest based2 le. line_end_runs writing.ends_line (place + length c) base2 held t rest based2)
+
+  -- a variable that is read
+  abbrev read_shape : ReadVariable → Shape Bool Bool
+  read_shape one = record {
+    well = is_well_formed_read (outline g) g.number one;
+    held = is_held_read one;
+    there = read_begins one g.opened;
+    strings = read_compares g.tree.types one;
+  }
+
+  each_read : (ones : List ReadVariable)
+      → Each (λ one. ExecutesAs g (λ scope _. variable_read_code scope one) (read_depth one) (read_shape one) (read_of one)) ones
+  each_read [] = tt
+  each_read (one ∷ ones) = (read_runs g known one, each_read ones)
+
+  reading_runs : (reading : Reading)
+      → ExecutesAs g (λ scope _. read_code scope reading) (greatest (map read_depth reading.variables.items))
+      (record {
+        well = is_well_formed_line (outline g) g.number reading.line
+            && all_hold (map (is_well_formed_read (outline g) g.number) reading.variables.items);
+        held = all_hold (map is_held_read reading.variables.items);
+        there = all_begin (map read_begins reading.variables.items) g.opened;
+        strings = all_hold (map (read_compares g.tree.types) reading.variables.items);
+      })
+      (λ e. effect.enter reading.number e.visible >>= λ _. all_of (map read_of reading.variables.items) e >>= λ _. line_passed reading.line)
+  reading_runs reading place base held s stands good based high deep =
+      let s1 = entered g reading.number s in
+      let ones = reading.variables.items in
+      let well = and_parts (is_well_formed_line (outline g) g.number reading.line) (all_hold (map (is_well_formed_read (outline g) g.number) ones)) good.0 in
+      let code_of : ReadVariable → Placed = λ one scope _. variable_read_code scope one in
+      let c = flat_map (variable_read_code g.scope) ones in
+      let same : placed (map (λ code. code g.scope) (map code_of ones)) place ≡ c = placed_flat variable_read_code g.scope ones place in
+      done_then g (kept_on g held) c (line_passed_code reading.line) place _ held (all_of (map read_of ones) (around g))
+      (λ _. line_passed reading.line) s1 (exact_reads (around g) (exact_around g) ones) stands
+      (λ front.
+      subst (λ p. Executes g (on g (base ++ held) place s) held (place + length p) (all_of (map read_of ones) (around g)) s1) same
+      (all_run code_of read_depth (is_well_formed_read (outline g) g.number) is_held_read read_begins (read_compares g.tree.types) read_of
+      (exact_read (around g) (exact_around g)) ones (each_read ones) 0 place base held s1 (subst (Stands g.target place) (sym same) front)
+      (well.1, good.1, good.2, good.3) based high deep))
+      (λ base2 t rest based2 le. line_runs g reading.line (place + length c) base2 held t rest well.0 based2)
 
   -- a condition, a jump where it is false, and what comes at either place
   condition_then : {A : Type 0} (aim : ℕ → Aim A) (condition : Expr) (target : ℕ) (c : List Instr) (place : ℕ) (base held : List Cell)
@@ -951,6 +1000,7 @@ stmt_layer (Empty number) = rolled_stmt (Empty number) (λ g known few. empty_ru
 stmt_layer (Assign assignment) = rolled_stmt (Assign assignment) (λ g known few. assign_runs g (known g refl) assignment)
 stmt_layer (Copy copying) = rolled_stmt (Copy copying) (λ g known few. copy_runs g (known g refl) copying)
 stmt_layer (Write writing) = rolled_stmt (Write writing) (λ g known few. write_runs g (known g refl) writing)
+stmt_layer (Read reading) = rolled_stmt (Read reading) (λ g known few. reading_runs g (known g refl) reading)
 stmt_layer (Calling calling) = rolled_stmt (Calling calling) (λ g known few. calling_runs g (known g refl) calling)
 stmt_layer (Compound number statements) =
     rolled_stmt (map-Stmt ((s : Stmt) × StmtRuns s) Stmt (λ s. s.0) (Compound number statements))

@@ -5,6 +5,7 @@ use Rattle.std.specs.declared.alloc.Global.{Global}
 use Rattle.std.specs.declared.boxed.Box.{Box}
 use Rattle.types.specs.Forms.{Form}
 use Rattle.types.specs.Types.{is_string}
+use Rattle.typed_tree.specs.declared.tree.ReadVariable.{ReadVariable}
 use Rattle.typed_tree.specs.declared.tree.Width.{Width}
 use Rattle.typed_tree.specs.declared.tree.WithRecord.{WithRecord}
 use Rattle.typed_tree.specs.declared.tree.WriteParameter.{WriteParameter}
@@ -16,13 +17,13 @@ use Rattle.typed_tree.specs.declared.tree.Expr.{Expr}
 use Rattle.typed_tree.specs.declared.tree.Passed.{Passed}
 use Rattle.typed_tree.specs.declared.tree.Expr.TheOpen.{Expr-F, Passed-F, Link-F}
 use Rattle.typed_tree.specs.declared.tree.Expr.TheOpen.Expr-F.{Constant, Variable, Monadic as MonadicOf, Chain}
-use Rattle.typed_tree.specs.declared.tree.Expr.TheOpen.Expr-F.{Compare, Call as CallOf, Set}
+use Rattle.typed_tree.specs.declared.tree.Expr.TheOpen.Expr-F.{Compare, Call as CallOf, Set, Input}
 use Rattle.typed_tree.specs.declared.tree.Expr.TheOpen.Passed-F.{Value, Whole as WholeOf, Reference}
 use Rattle.typed_tree.specs.declared.tree.Expr.TheFolds.{fold-Expr, fold-Passed}
 use Rattle.typed_tree.specs.declared.tree.Stmt.{Stmt}
 use Rattle.typed_tree.specs.declared.tree.Stmt.TheOpen.{Stmt-F}
 use Rattle.typed_tree.specs.declared.tree.Stmt.TheOpen.Stmt-F.{Empty, Assign, Write, Compound, If, While, Repeat, For}
-use Rattle.typed_tree.specs.declared.tree.Stmt.TheOpen.Stmt-F.{Case, Copy, Call as Calling, With}
+use Rattle.typed_tree.specs.declared.tree.Stmt.TheOpen.Stmt-F.{Case, Copy, Call as Calling, With, Read}
 use Rattle.typed_tree.specs.declared.tree.Stmt.TheFolds.{fold-Stmt}
 use Rattle.typed_tree.specs.Tests.{all_hold, whole_indexes}
 
@@ -50,6 +51,7 @@ module _ (types : List Form) where
       (is_text left && all_hold (whole_indexes left left_indexes.items))
       && (is_text right && all_hold (whole_indexes right right_indexes.items))
   expression_compares (CallOf call actuals) = all_hold actuals.items
+  expression_compares (Input number asks) = true
   expression_compares (Set number designators members) = all_hold members.items
 
   -- an expression
@@ -81,6 +83,9 @@ module _ (types : List Form) where
   abbrev pub record_compares : WithRecord → Bool
   record_compares one = all_compare one.indexes.items
 
+  abbrev pub read_compares : ReadVariable → Bool
+  read_compares one = all_compare one.indexes.items
+
   abbrev pub alternative_compares : Option (Box Bool Global) → Bool
   alternative_compares None = true
   alternative_compares (Some well) = well.value
@@ -92,6 +97,7 @@ module _ (types : List Form) where
   statement_compares (Copy copying) =
       all_compare copying.indexes.items && value_compares copying.value copying.value_indexes.items
   statement_compares (Write writing) = all_hold (map parameter_compares writing.parameters.items)
+  statement_compares (Read reading) = all_hold (map read_compares reading.variables.items)
   statement_compares (Calling calling) = all_hold (map passes_strings calling.actuals.items)
   statement_compares (Compound number statements) = all_hold statements.items
   statement_compares (If number condition consequence alternative) =

@@ -1,9 +1,7 @@
 -- Well formed expressions and statements compare and write strings alone.
-use Rattle.std.specs.declared.alloc.Global.{Global}
-use Rattle.std.specs.declared.boxed.Box.{Box}
-use Rattle.std.proofs.Common.{◌≡◌, ℕ, suc, Bool, true, ◌&&◌, List, [], ◌∷◌, map, Option, Some, None, refl, sym, ap, ◌∙◌}
+use Rattle.std.proofs.Common.{◌≡◌, ℕ, suc, Bool, true, List, [], ◌∷◌, map, Option, Some, None, refl, sym, ap, ◌∙◌}
 use Rattle.std.proofs.lemmas.Bool.{and_from, and_parts}
-use Rattle.types.specs.declared.form.TypeId.{TypeId}
+use Rattle.typed_tree.specs.declared.tree.ReadVariable.{ReadVariable}
 use Rattle.typed_tree.specs.declared.tree.Width.{Width}
 use Rattle.typed_tree.specs.declared.tree.WithRecord.{WithRecord}
 use Rattle.typed_tree.specs.declared.tree.WriteParameter.{WriteParameter}
@@ -15,22 +13,23 @@ use Rattle.typed_tree.specs.declared.tree.Expr.{Expr}
 use Rattle.typed_tree.specs.declared.tree.Passed.{Passed}
 use Rattle.typed_tree.specs.declared.tree.Link.{Link}
 use Rattle.typed_tree.specs.declared.tree.Expr.TheOpen.{Expr-F, Passed-F, Link-F}
-use Rattle.typed_tree.specs.declared.tree.Expr.TheOpen.Expr-F.{Constant, Variable, Monadic as MonadicOf, Chain, Compare, Call as CallOf, Set}
+use Rattle.typed_tree.specs.declared.tree.Expr.TheOpen.Expr-F.{Constant, Variable, Monadic as MonadicOf, Chain, Compare, Call as CallOf, Set, Input}
 use Rattle.typed_tree.specs.declared.tree.Expr.TheOpen.Passed-F.{Value, Whole as WholeOf, Reference}
 use Rattle.typed_tree.specs.declared.tree.Expr.TheFolds.{fold-Link, map-Expr, map-Passed, map-Link, fold-roll-Expr, fold-roll-Passed, fold-roll-Link}
 use Rattle.typed_tree.specs.declared.tree.Expr.TheFolds.{ind-Expr, ind-Passed}
 use Rattle.typed_tree.specs.declared.tree.Expr.TheViews.{roll-Expr, roll-Passed, roll-Link}
 use Rattle.typed_tree.specs.declared.tree.Stmt.{Stmt}
 use Rattle.typed_tree.specs.declared.tree.Stmt.TheOpen.{Stmt-F}
-use Rattle.typed_tree.specs.declared.tree.Stmt.TheOpen.Stmt-F.{Empty, Assign, Write, Compound, If, While, Repeat, For, Case, Copy, Call as Calling, With}
+use Rattle.typed_tree.specs.declared.tree.Stmt.TheOpen.Stmt-F.{Empty, Assign, Write, Compound, If, While, Repeat, For, Case, Copy, Call as Calling, With, Read}
 use Rattle.typed_tree.specs.declared.tree.Stmt.TheFolds.{map-Stmt, fold-roll-Stmt, ind-Stmt}
 use Rattle.typed_tree.specs.Tests.{all_hold, whole_indexes}
 use Rattle.typed_tree.specs.WellFormed as well
 use Rattle.typed_tree.specs.WellFormed.{Outline, placed, source_of, expr_is_well_formed, passed_is_well_formed, link_is_well_formed, is_well_formed_expr}
 use Rattle.typed_tree.specs.WellFormed.{is_well_formed_link, is_well_formed_passed, is_well_formed_parameter, is_well_formed_record, is_well_formed_stmt}
+use Rattle.typed_tree.specs.WellFormed.{is_well_formed_read}
 use Rattle.typed_tree.specs.WellFormed.{is_well_formed_value, is_well_formed_width, is_well_formed_written, stmt_is_well_formed}
 use Rattle.code_generator.proofs.Texts.{compares_in, compares_strings, expression_compares, is_text, link_compares, parameter_compares, passed_compares}
-use Rattle.code_generator.proofs.Texts.{passes_strings, record_compares, statement_compares, value_compares, width_compares, written_compares}
+use Rattle.code_generator.proofs.Texts.{passes_strings, read_compares, record_compares, statement_compares, value_compares, width_compares, written_compares}
 
 module _ (o : Outline) (b : ℕ) where
   abbrev link_strings : Link → Bool
@@ -145,6 +144,7 @@ module _ (o : Outline) (b : ℕ) where
       and_from _ _ (and_from _ _ (text_told left texts.0) (whole_told left left_indexes.items one.0))
       (and_from _ _ (text_told right (and_parts _ _ texts.1).0) (whole_told right right_indexes.items three.0))
   told_layer (CallOf call actuals) given = placed_told actuals.items call.block 0 (and_parts _ _ given).1
+  told_layer (Input number asks) given = refl
   told_layer (Set number designators members) given =
       all_told (is_well_formed_expr o b) (compares_strings o.types) members.items (and_parts _ _ given).0
 
@@ -210,6 +210,9 @@ module _ (o : Outline) (b : ℕ) where
   told_record : (one : WithRecord) → is_well_formed_record o b one ≡ true → record_compares o.types one ≡ true
   told_record one given = told_indexes one.indexes.items (and_parts _ _ given).0
 
+  told_read : (one : ReadVariable) → is_well_formed_read o b one ≡ true → read_compares o.types one ≡ true
+  told_read one given = told_indexes one.indexes.items (and_parts _ _ given).0
+
   told_actuals : (actuals : List Passed) (callee position : ℕ) → all_hold (placed callee position (map (is_well_formed_passed o b) actuals)) ≡ true
       → all_hold (map (passes_strings o.types) actuals) ≡ true
   told_actuals [] callee position given = refl
@@ -244,6 +247,8 @@ module _ (o : Outline) (b : ℕ) where
       and_from _ _ (told_indexes copying.indexes.items one.0) (told_value copying.value copying.value_indexes.items (and_parts _ _ two.1).0)
   told_stmt_layer (Write writing) given =
       each_told (is_well_formed_parameter o b) (parameter_compares o.types) told_parameter writing.parameters.items given
+  told_stmt_layer (Read reading) given =
+      each_told (is_well_formed_read o b) (read_compares o.types) told_read reading.variables.items (and_parts _ _ given).1
   told_stmt_layer (Calling calling) given = told_actuals calling.actuals.items calling.call.block 0 (and_parts _ _ given).1
   told_stmt_layer (Compound number statements) given = all_told (is_well_formed_stmt o b) (compares_in o.types) statements.items given
   told_stmt_layer (If number condition consequence None) given =

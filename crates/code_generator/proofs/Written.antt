@@ -13,7 +13,7 @@ use Rattle.typed_tree.specs.declared.site.SiteKind.TheVariants as kind
 use Rattle.typed_tree.specs.Sites.{number_of}
 use Rattle.code_scheme.specs.Code.{program_code}
 use Rattle.code_scheme.proofs.Bounds.{program_in_bounds, program_names}
-use Rattle.code_generator.specs.Tables.{IsNumbered, in_plain_numbers, point_table, site_table}
+use Rattle.code_generator.specs.Tables.{IsNumbered, in_plain_numbers, point_in_plain_numbers, point_table, site_table}
 
 kind_is : (k : SiteKind) → is_kind (number_of k) ≡ true
 kind_is kind.Index = refl
@@ -49,13 +49,14 @@ writable tree code is sites_are points_are well numbered =
     let sites = tree.sites.items in
     let points = tree.points.items in
     let as_many = ap length sites_are ∙ length-map sites in_plain_numbers in
+    let as_many_points = ap length points_are ∙ length-map points point_in_plain_numbers in
     let ids = λ (ss : List Site). map (λ (site : Site). site.id) ss in
     record {
       operands = ap (list_all in_bounds) is ∙ program_in_bounds tree;
       names = subst (λ n. list_all (names_what_is_there n (length code.points.items) (length code.instructions.items)) code.instructions.items ≡ true)
           (sym as_many)
-          (subst (λ c. list_all (names_what_is_there (length sites) (length code.points.items) (length c)) c ≡ true) (sym is)
-          (program_names tree (length code.points.items) well.blocks));
+          (subst (λ n. list_all (names_what_is_there (length sites) n (length code.instructions.items)) code.instructions.items ≡ true) (sym as_many_points)
+          (subst (λ c. list_all (names_what_is_there (length sites) (length points) (length c)) c ≡ true) (sym is) (program_names tree well.blocks)));
       sites = subst (λ (ss : List Plain). AreNumbered (map (λ (site : Plain). site.id) ss)) (sym sites_are)
           (subst AreNumbered (sym (same_ids sites))
           (numbered.sites ∙ ap (range_with_len 0) (sym (length-map sites (λ (site : Site). site.id)))));

@@ -8,14 +8,10 @@ use Rattle.typed_tree.specs.declared.site.Site.{Site}
 use Rattle.typed_tree.specs.declared.site.Point.{Point}
 use Rattle.meaning.specs.declared.outcome.Ending.{Ending}
 use Rattle.meaning.specs.declared.outcome.Ending.TheVariants as ending
-use Rattle.meaning.specs.declared.outcome.InputFault.{InputFault as FaultOfInput}
-use Rattle.meaning.specs.declared.outcome.InputFault.TheVariants as fault_of_input
 use Rattle.meaning.specs.Laws.{state_after}
 use Rattle.meaning.specs.Meaning.{Meaning, meaning, run as run_of}
 use Rattle.stack_machine.specs.declared.stop.Stop.{Stop}
 use Rattle.stack_machine.specs.declared.stop.Stop.TheVariants as stop
-use Rattle.stack_machine.specs.declared.stop.InputFault.{InputFault}
-use Rattle.stack_machine.specs.declared.stop.InputFault.TheVariants as input_fault
 use Rattle.stack_machine.specs.Run.{Outcome, machine}
 use Rattle.code_scheme.specs.Need.{block_need, living_need}
 use Rattle.code_generator.specs.Tables.{in_plain_numbers, point_in_plain_numbers}
@@ -24,14 +20,6 @@ use Rattle.code_generator.specs.Tables.{in_plain_numbers, point_in_plain_numbers
 abbrev pub BeginsWith : List ℕ → List ℕ → Type 0
 BeginsWith whole part = (rest : List ℕ) × (whole ≡ part ++ rest)
 
--- the same fault of the input, in the machine's words
-abbrev pub same_fault : FaultOfInput → InputFault
-same_fault fault_of_input.EndOfInput = input_fault.EndOfInput
-same_fault fault_of_input.NotANumber = input_fault.NotANumber
-same_fault fault_of_input.NumberTooLarge = input_fault.NumberTooLarge
-same_fault fault_of_input.ValueOutsideType = input_fault.OutsideType
-same_fault fault_of_input.NotACharacter = input_fault.NotACharacter
-
 -- the run stops as the program ends: finished, at the same site, or at the same point for the same fault
 abbrev pub StopsAs : Tree → Ending → Stop → Type 0
 StopsAs tree ending.Finished s = s ≡ stop.Finished
@@ -39,7 +27,7 @@ StopsAs tree (ending.Error id) s =
     (site : Site) × (slice_get tree.sites.items id ≡ Some site) × (s ≡ stop.Error (in_plain_numbers site))
 StopsAs tree (ending.Input id fault) s =
     (point : Point) × (slice_get tree.points.items id ≡ Some point)
-    × (s ≡ stop.Input (point_in_plain_numbers point) (same_fault fault))
+    × (s ≡ stop.Input (point_in_plain_numbers point) fault)
 StopsAs tree ending.More s = ⊥
 
 -- the run did all that the program does

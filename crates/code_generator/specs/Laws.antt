@@ -17,7 +17,7 @@ use Rattle.code_scheme.specs.Code.{program_code}
 use Rattle.code_generator.specs.Follows.{Follows, most_cells}
 use Rattle.code_scheme.specs.Large.{is_too_large}
 use Rattle.code_scheme.specs.Need.{block_need, living_need}
-use Rattle.code_generator.specs.Tables.{site_table, in_plain_numbers}
+use Rattle.code_generator.specs.Tables.{in_plain_numbers, point_table, site_table}
 use Rattle.stack_machine.specs.declared.stop.Stop.TheVariants as stop
 use Rattle.stack_machine.specs.Run.{machine}
 
@@ -26,7 +26,7 @@ use Rattle.stack_machine.specs.Run.{machine}
 abbrev pub StrippedFollows : Type 0
 StrippedFollows =
     (tree : Tree) (open_sites : List Site) (code : Code) → IsWellFormed tree → is_too_large tree ≡ false
-    → code.sites.items ≡ site_table tree.sites.items
+    → code.sites.items ≡ site_table tree.sites.items → code.points.items ≡ point_table tree.points.items
     → KeepsInstructions open_sites (program_code tree) code.instructions.items
     → ((input : List ℕ) (turns site : ℕ) → (meaning tree input turns).ending ≡ Error site
     → is_among open_sites site ≡ true)

@@ -45,6 +45,11 @@ use Rattle.typed_tree.specs.declared.tree.Selector.TheVariants.{Element, Field}
 use Rattle.typed_tree.specs.declared.tree.Direction.{Direction}
 use Rattle.typed_tree.specs.declared.tree.Direction.TheVariants as direction
 use Rattle.typed_tree.specs.declared.tree.Representation.TheVariants as representation
+use Rattle.typed_tree.specs.declared.tree.InputTest.{InputTest}
+use Rattle.typed_tree.specs.declared.tree.InputTest.TheVariants as input_test
+use Rattle.typed_tree.specs.declared.tree.Readable.{Readable}
+use Rattle.typed_tree.specs.declared.tree.Readable.TheVariants as readable
+use Rattle.typed_tree.specs.declared.tree.ReadVariable.{ReadVariable}
 use Rattle.typed_tree.specs.declared.tree.Width.{Width}
 use Rattle.typed_tree.specs.declared.tree.WriteParameter.{WriteParameter}
 use Rattle.typed_tree.specs.declared.tree.Written.{Written}
@@ -58,14 +63,14 @@ use Rattle.typed_tree.specs.declared.tree.Call.{Call}
 use Rattle.typed_tree.specs.declared.tree.FunctionResult.{FunctionResult}
 use Rattle.typed_tree.specs.declared.tree.Variable.{Variable as DeclaredVariable}
 use Rattle.typed_tree.specs.declared.tree.Expr.TheOpen.{Expr-F, Passed-F, Link-F}
-use Rattle.typed_tree.specs.declared.tree.Expr.TheOpen.Expr-F.{Constant, Variable, Monadic as MonadicOf, Chain, Compare, Call as CallOf, Set}
+use Rattle.typed_tree.specs.declared.tree.Expr.TheOpen.Expr-F.{Constant, Variable, Monadic as MonadicOf, Chain, Compare, Call as CallOf, Set, Input}
 use Rattle.typed_tree.specs.declared.tree.Expr.TheOpen.Passed-F.{Value as PassedValue, Whole as PassedWhole, Reference}
 use Rattle.typed_tree.specs.declared.tree.Expr.TheViews.{roll-Expr, roll-Passed, roll-Link}
 use Rattle.typed_tree.specs.declared.tree.Expr.TheFolds.{map-Expr, map-Passed, map-Link, fold-roll-Expr, fold-roll-Passed, fold-roll-Link, ind-Expr}
 use Rattle.typed_tree.specs.declared.tree.Expr.TheFolds.{ind-Passed}
 use Rattle.typed_tree.specs.declared.tree.Stmt.{Stmt}
 use Rattle.typed_tree.specs.declared.tree.Stmt.TheOpen.{Stmt-F}
-use Rattle.typed_tree.specs.declared.tree.Stmt.TheOpen.Stmt-F.{Empty, Assign, Write, Compound, If, While, Repeat, For, Case, Copy, Call as Calling, With}
+use Rattle.typed_tree.specs.declared.tree.Stmt.TheOpen.Stmt-F.{Empty, Assign, Write, Compound, If, While, Repeat, For, Case, Copy, Call as Calling, With, Read}
 use Rattle.typed_tree.specs.declared.tree.Stmt.TheViews.{roll-Stmt}
 use Rattle.typed_tree.specs.declared.tree.Stmt.TheFolds.{map-Stmt, fold-roll-Stmt, ind-Stmt}
 use Rattle.typed_tree.specs.WellFormed.{Outline, all_hold, are_well_formed_blocks, calculation_is_well_formed, dyadic_is_well_formed, expr_is_well_formed}
@@ -74,6 +79,7 @@ use Rattle.typed_tree.specs.WellFormed.{is_well_formed_link, is_well_formed_para
 use Rattle.typed_tree.specs.WellFormed.{is_well_formed_test, is_well_formed_value, is_well_formed_whole, is_well_formed_width, is_well_formed_written}
 use Rattle.typed_tree.specs.Accesses.{AtVariable, Origin, index_count, origin_of, root_of}
 use Rattle.typed_tree.specs.WellFormed.{are_well_formed, is_well_formed_record, member_site, members_wanted}
+use Rattle.typed_tree.specs.WellFormed.{is_well_formed_input, is_well_formed_line, is_well_formed_read}
 use Rattle.typed_tree.specs.WellFormed.{are_all, is_parameter_kind, is_placed, is_result_kind, result_roots, is_visible, leads_to, length_of}
 use Rattle.typed_tree.specs.WellFormed.{link_is_well_formed, monadic_is_well_formed, outline_of, passed_is_well_formed}
 use Rattle.typed_tree.specs.WellFormed.{placed as placed_for, stmt_is_well_formed, whole_indexes}
@@ -91,7 +97,7 @@ use Rattle.code_scheme.specs.Code.{width_code, parameter_code, write_instr, line
 use Rattle.code_scheme.specs.Code.{row_code, arms_code, for_entry, for_begin, for_next, for_end, program_code, compare_code, whole_code}
 use Rattle.code_scheme.specs.Code.{written_code, block_code, blocks_code, end_code, routines_from, routines_of}
 use Rattle.code_scheme.specs.Code.{designators_code, records_code, release_code, set_code, set_relation_instr, single_code, span_code, tested_check}
-use Rattle.code_scheme.specs.Code.{union_code, with_code}
+use Rattle.code_scheme.specs.Code.{asked_instr, input_code, line_passed_code, read_instr, union_code, variable_read_code, with_code}
 use Rattle.code_scheme.specs.Depth.{block_depth}
 use Rattle.code_scheme.proofs.Arms.{length-arms, length-row}
 use Rattle.code_scheme.proofs.Pieces.{length-For}
@@ -137,9 +143,8 @@ end_is_some zero scope result = omega arith
 end_is_some (suc block) scope None = omega arith
 end_is_some (suc block) scope (Some result) = omega arith
 
--- for a program of this outline, in code of so many instructions with so many points; nothing has to be there where the
--- test is lax
-module _ (outline : Outline) (points count : ℕ) (lax : Bool) where
+-- for a program of this outline, in code of so many instructions; nothing has to be there where the test is lax
+module _ (outline : Outline) (count : ℕ) (lax : Bool) where
   -- a test of the program, which need not hold where the test of its code is lax
   record Given (b : Bool) : Type 0 where
     is : (b || lax) ≡ true
@@ -150,7 +155,7 @@ module _ (outline : Outline) (points count : ℕ) (lax : Bool) where
   given_parts false false h = (h, h)
 
   abbrev names : Instr → Bool
-  names = names_what_is_there outline.sites points count
+  names = names_what_is_there outline.sites outline.points count
 
   abbrev test : Instr → Bool
   test i = in_bounds i && (names i || lax)
@@ -184,6 +189,15 @@ module _ (outline : Outline) (points count : ℕ) (lax : Bool) where
 
   jumps_if : (target : ℕ) → target < count → test (instr.JumpIfFalse target) ≡ true
   jumps_if target = goes (instr.JumpIfFalse target) target refl refl
+
+  -- one that reads
+  given_further : (b : Bool) → Given b → Given (b && true)
+  given_further true given = given
+  given_further false given = given
+
+  reads : (i : Instr) (point : ℕ) → in_bounds i ≡ true → names i ≡ (nat_lt point outline.points && true)
+      → Given (nat_lt point outline.points) → test i ≡ true
+  reads i point inside same given = meets i _ inside same (given_further (nat_lt point outline.points) given)
 
   -- what code reaches
   abbrev ReachedPasses : Reached → Type 0
@@ -296,6 +310,16 @@ module _ (outline : Outline) (points count : ℕ) (lax : Bool) where
   line_end_passes true = (refl, tt)
   line_end_passes false = tt
 
+  read_instr_passes : (how : Readable) (point : ℕ) → Given (nat_lt point outline.points) → test (read_instr how point) ≡ true
+  read_instr_passes readable.Integer point given = reads (instr.ReadInteger point) point refl refl given
+  read_instr_passes readable.Char point given = reads (instr.ReadChar point) point refl refl given
+
+  input_passes : (one : ReadVariable) → Given (nat_lt one.point outline.points) → Passes (input_code one)
+  input_passes one given = (
+    read_instr_passes one.reads one.point given,
+    (reads (instr.CheckInput one.point one.range.first one.range.last) one.point refl refl given, tt),
+  )
+
   -- in a block of this number
   module _ (block : ℕ) where
     abbrev well : Expr → Bool
@@ -324,6 +348,14 @@ module _ (outline : Outline) (points count : ℕ) (lax : Bool) where
     target_passes : (fits : RangeTest) (origin : Origin) (selectors : List Selector) → Given (fits_target outline block fits origin selectors)
         → test (range_check fits) ≡ true
     target_passes fits origin selectors given = range_passes fits (given_parts (is_well_formed_test outline block fits) _ given).0
+
+    line_passes : (line : Option ℕ) → Given (is_well_formed_line outline block line) → Passes (line_passed_code line)
+    line_passes None given = tt
+    line_passes (Some point) given = (reads (instr.ReadLine point) point refl refl given, tt)
+
+    asked_passes : (asks : InputTest) → Given (is_well_formed_input outline block asks) → test (asked_instr asks) ≡ true
+    asked_passes input_test.End given = refl
+    asked_passes (input_test.LineEnd point) given = reads (instr.EndOfLine point) point refl refl given
 
     calculation_passes : (does : Calculation) → Given (calculation_is_well_formed outline block does) → Passes (calculation_code does)
     calculation_passes calculation.Same given = tt
@@ -543,6 +575,7 @@ module _ (outline : Outline) (points count : ℕ) (lax : Bool) where
           rolled_expr (bare_expr (CallOf call actuals)) (λ given.
           call_passes call (map (passed_code scope) (map (λ (p : ProvedPassed). p.0) actuals.items))
           (actuals_pass actuals.items call.block 0 (given_parts _ _ given).1))
+      expr_layer (Input number asks) = rolled_expr (Input number asks) (λ given. (asked_passes asks given, tt))
       expr_layer (Set number designators members) =
           rolled_expr (bare_expr (Set number designators members)) (λ given.
           let parts = given_parts _ _ given in
@@ -655,6 +688,20 @@ module _ (outline : Outline) (points count : ℕ) (lax : Bool) where
           (passes_on (written_code scope p.value) _ (written_passes p.value both_parts.0)
           (passes_on (width_code scope p.width p.value) _ (width_passes p.width p.value both_parts.1) (write_passes p.value, tt)))
           (parameters_pass ps parts.1)
+
+      read_passes : (one : ReadVariable) → Given (is_well_formed_read outline block one) → Passes (variable_read_code scope one)
+      read_passes one given =
+          let parts = given_parts (are_well_formed outline block one.indexes.items) _ given in
+          let leads = given_parts _ _ parts.1 in
+          store_passes (input_code one) _ (input_passes one (given_parts (nat_lt one.point outline.points) _ leads.1).0)
+          (reached_passes one.access _ (exprs_pass one.indexes.items parts.0) (selectors_given _ (origin_of one.access) one.access.selectors.items _ leads.0))
+
+      reads_pass : (ones : List ReadVariable) → Given (all_hold (map (is_well_formed_read outline block) ones))
+          → Passes (flat_map (variable_read_code scope) ones)
+      reads_pass [] given = tt
+      reads_pass (one ∷ ones) given =
+          let parts = given_parts (is_well_formed_read outline block one) _ given in
+          passes_on (variable_read_code scope one) _ (read_passes one parts.0) (reads_pass ones parts.1)
 
       -- ---- the instructions of loops and cases
 
@@ -889,6 +936,11 @@ module _ (outline : Outline) (points count : ℕ) (lax : Bool) where
         rolled_stmt (Write writing) (λ scope there place given few.
         passes_on (flat_map (parameter_code scope) writing.parameters.items) (line_end_code writing.ends_line)
         (parameters_pass scope there writing.parameters.items given) (line_end_passes writing.ends_line))
+    stmt_layer (Read reading) =
+        rolled_stmt (Read reading) (λ scope there place given few.
+        let parts = given_parts (is_well_formed_line outline block reading.line) _ given in
+        passes_on (flat_map (variable_read_code scope) reading.variables.items) (line_passed_code reading.line)
+        (reads_pass scope there reading.variables.items parts.1) (line_passes reading.line parts.0))
     stmt_layer (Calling calling) =
         rolled_stmt (Calling calling) (λ scope there place given few.
         call_passes scope there calling.call (map (passed_code scope) calling.actuals.items)
@@ -1007,14 +1059,14 @@ some_there tree block blocks is =
     omega (arith, long, length-append code (blocks_code tree routines 1 blocks (0 + length code)))
 
 -- the walk over it
-program_passes : (tree : Tree) (points : ℕ) (lax : Bool) (blocks : List Block) → tree.blocks.items ≡ blocks
-    → Given (outline_of tree) points (length (program_code tree)) lax (are_well_formed_blocks (outline_of tree) 0 tree.blocks.items)
-    → Passes (outline_of tree) points (length (program_code tree)) lax (program_code tree)
-program_passes tree points lax [] is given =
-    subst (λ bs. Passes (outline_of tree) points (length (program_code tree)) lax (blocks_code tree (routines_of tree) 0 bs 0)) (sym is) tt
-program_passes tree points lax (block ∷ blocks) is given =
+program_passes : (tree : Tree) (lax : Bool) (blocks : List Block) → tree.blocks.items ≡ blocks
+    → Given (outline_of tree) (length (program_code tree)) lax (are_well_formed_blocks (outline_of tree) 0 tree.blocks.items)
+    → Passes (outline_of tree) (length (program_code tree)) lax (program_code tree)
+program_passes tree lax [] is given =
+    subst (λ bs. Passes (outline_of tree) (length (program_code tree)) lax (blocks_code tree (routines_of tree) 0 bs 0)) (sym is) tt
+program_passes tree lax (block ∷ blocks) is given =
     let some = some_there tree block blocks is in
-    blocks_pass (outline_of tree) points (length (program_code tree)) lax tree (routines_of tree)
+    blocks_pass (outline_of tree) (length (program_code tree)) lax tree (routines_of tree)
     (λ number. (
       homes_in tree 0 tree.variables.items,
       (λ callee. routines_in tree callee (slice_get tree.blocks.items callee) refl some, λ slot. refl),
@@ -1033,19 +1085,19 @@ pub program_in_bounds : (tree : Tree) → list_all in_bounds (program_code tree)
 program_in_bounds tree =
     let outline = outline_of tree in
     let count = length (program_code tree) in
-    weaker (test outline 0 count true) in_bounds (λ i h. (and_parts (in_bounds i) _ h).0) (program_code tree)
-    (all_pass outline 0 count true (program_code tree) (program_passes tree 0 true tree.blocks.items refl (record { is = given_lax _ })))
+    weaker (test outline count true) in_bounds (λ i h. (and_parts (in_bounds i) _ h).0) (program_code tree)
+    (all_pass outline count true (program_code tree) (program_passes tree true tree.blocks.items refl (record { is = given_lax _ })))
 
 -- what it names is there, if the program is well formed
-pub program_names : (tree : Tree) (points : ℕ) → are_well_formed_blocks (outline_of tree) 0 tree.blocks.items ≡ true
-    → list_all (names_what_is_there (length tree.sites.items) points (length (program_code tree))) (program_code tree) ≡ true
-program_names tree points well =
+pub program_names : (tree : Tree) → are_well_formed_blocks (outline_of tree) 0 tree.blocks.items ≡ true
+    → list_all (names_what_is_there (length tree.sites.items) (length tree.points.items) (length (program_code tree))) (program_code tree) ≡ true
+program_names tree well =
     let outline = outline_of tree in
     let count = length (program_code tree) in
-    weaker (test outline points count false) (names outline points count false)
-    (λ i h. strict_is (names outline points count false i) (and_parts (in_bounds i) _ h).1) (program_code tree)
-    (all_pass outline points count false (program_code tree)
-    (program_passes tree points false tree.blocks.items refl (record { is = ap (λ b. b || false) well })))
+    weaker (test outline count false) (names outline count false)
+    (λ i h. strict_is (names outline count false i) (and_parts (in_bounds i) _ h).1) (program_code tree)
+    (all_pass outline count false (program_code tree)
+    (program_passes tree false tree.blocks.items refl (record { is = ap (λ b. b || false) well })))
 
 -- ---- the last instruction
 

@@ -19,6 +19,7 @@ use Rattle.types.specs.Forms.{Form}
 use Rattle.types.specs.Types.{cells_of}
 use Rattle.typed_tree.specs.declared.tree.Designator.{Designator}
 use Rattle.typed_tree.specs.declared.tree.Designator.TheVariants as designator
+use Rattle.typed_tree.specs.declared.tree.ReadVariable.{ReadVariable}
 use Rattle.typed_tree.specs.declared.tree.Width.{Width}
 use Rattle.typed_tree.specs.declared.tree.WithRecord.{WithRecord}
 use Rattle.typed_tree.specs.declared.tree.WriteParameter.{WriteParameter}
@@ -30,7 +31,7 @@ use Rattle.typed_tree.specs.declared.tree.Expr.{Expr}
 use Rattle.typed_tree.specs.declared.tree.Link.{Link}
 use Rattle.typed_tree.specs.declared.tree.Passed.{Passed}
 use Rattle.typed_tree.specs.declared.tree.Expr.TheOpen.{Expr-F, Passed-F, Link-F}
-use Rattle.typed_tree.specs.declared.tree.Expr.TheOpen.Expr-F.{Constant, Variable, Monadic as MonadicOf, Chain, Compare, Call as CallOf, Set}
+use Rattle.typed_tree.specs.declared.tree.Expr.TheOpen.Expr-F.{Constant, Variable, Monadic as MonadicOf, Chain, Compare, Call as CallOf, Set, Input}
 use Rattle.typed_tree.specs.declared.tree.Expr.TheOpen.Passed-F.{Value as PassedValue, Whole as PassedWhole, Reference}
 use Rattle.typed_tree.specs.declared.tree.Expr.TheViews.{roll-Expr, roll-Passed, roll-Link}
 use Rattle.typed_tree.specs.declared.tree.Expr.TheFolds.{fold-Link, map-Expr, map-Passed, map-Link, fold-roll-Expr, fold-roll-Passed, fold-roll-Link, ind-Expr}
@@ -38,7 +39,7 @@ use Rattle.typed_tree.specs.declared.tree.Expr.TheFolds.{ind-Passed}
 use Rattle.typed_tree.specs.Accesses.{index_count}
 use Rattle.typed_tree.specs.declared.tree.Stmt.{Stmt}
 use Rattle.typed_tree.specs.declared.tree.Stmt.TheOpen.{Stmt-F}
-use Rattle.typed_tree.specs.declared.tree.Stmt.TheOpen.Stmt-F.{Empty, Assign, Write, Compound, If, While, Repeat, For, Case, Copy, Call as Calling, With}
+use Rattle.typed_tree.specs.declared.tree.Stmt.TheOpen.Stmt-F.{Empty, Assign, Write, Compound, If, While, Repeat, For, Case, Copy, Call as Calling, With, Read}
 use Rattle.typed_tree.specs.declared.tree.Stmt.TheViews.{roll-Stmt}
 use Rattle.typed_tree.specs.declared.tree.Stmt.TheFolds.{map-Stmt, fold-roll-Stmt, ind-Stmt}
 use Rattle.typed_tree.specs.WellFormed.{is_parameter_kind, is_variable_kind, length_of, variables_of}
@@ -46,9 +47,9 @@ use Rattle.code_scheme.specs.Scopes.{cells_where, is_other_of, is_parameter_of, 
 use Rattle.code_scheme.specs.Depth.{PassedDepth, actuals_depth, block_depth, designators_depth, passed_depth, passed_depth_step, records_depth, result_depth}
 use Rattle.code_scheme.specs.Need.{block_need, body_need, passed_need, passed_need_step, reached_need, record_need, variable_need}
 use Rattle.code_scheme.specs.Depth.{expr_depth, link_depth, expr_depth_step, link_depth_step, width_depth, parameter_depth, monadic_depth, access_depth}
-use Rattle.code_scheme.specs.Depth.{whole_depth, store_depth, index_depths, written_depth, written_cells, stmt_depth, stmt_depth_step, arms_depth}
+use Rattle.code_scheme.specs.Depth.{whole_depth, store_depth, index_depths, written_depth, written_cells, stmt_depth, stmt_depth_step, arms_depth, read_depth}
 use Rattle.code_scheme.specs.Need.{expr_need, expr_need_step, link_need_step, whole_need, index_needs, width_need, written_need, parameter_need}
-use Rattle.code_scheme.specs.Need.{stmt_need, stmt_need_step}
+use Rattle.code_scheme.specs.Need.{read_need, stmt_need, stmt_need_step}
 use Rattle.code_scheme.proofs.Pieces.{start_within}
 
 sum-cons : (n : ℕ) (ns : List ℕ) → sum (n ∷ ns) ≡ n + sum ns
@@ -141,6 +142,7 @@ one_layer (Compare number r left left_indexes right right_indexes) = one_of (bar
 one_layer (CallOf call actuals) =
     one_of (bare_one (CallOf call actuals))
     (omega (arith, held_within 4 (map passed_depth (map (λ (p : PassedHere). p.0) actuals.items))))
+one_layer (Input number asks) = one_of (Input number asks) (omega arith)
 one_layer (Set number designators members) =
     one_of (bare_one (Set number designators members))
     (set_takes_one 0 designators.items (map expr_depth (map (λ (e : HereNeedsOne). e.0) members.items)))
@@ -295,6 +297,7 @@ module _ (types : List Form) where
       rolled_expr (bare_expr (Compare number r left left_indexes right right_indexes))
       (omega (arith, whole_within left left_indexes.items, whole_within right right_indexes.items))
   expr_layer (CallOf call actuals) = rolled_expr (bare_expr (CallOf call actuals)) (omega (arith, actuals_within 4 actuals.items))
+  expr_layer (Input number asks) = rolled_expr (Input number asks) (omega arith)
   expr_layer (Set number designators members) =
       rolled_expr (bare_expr (Set number designators members)) (omega (arith, designators_within 0 (omega arith) designators.items members.items))
 
@@ -382,6 +385,15 @@ module _ (types : List Form) where
       (omega (arith, h, least, parameter_within p)) in
       omega (arith, r, sum_by-cons (parameter_need types) p ps)
 
+  -- the variables of a read
+  reads_within : (ones : List ReadVariable) (depth need : ℕ) → depth ≤ need
+      → fold max depth (map read_depth ones) ≤ need + sum_by (read_need types) ones
+  reads_within [] depth need h = omega (arith, h)
+  reads_within (one ∷ ones) depth need h =
+      let r = reads_within ones (max depth (read_depth one)) (need + read_need types one)
+      (omega (arith, h, address_within one.access.selectors.items one.indexes.items)) in
+      omega (arith, r, sum_by-cons (read_need types) one ones)
+
   abbrev StmtWithin : Stmt → Type 0
   StmtWithin s = stmt_depth s ≤ stmt_need types s
 
@@ -416,6 +428,7 @@ module _ (types : List Form) where
       ))
   stmt_layer (Write writing) =
       rolled_stmt (Write writing) (parameters_within writing.parameters.items 0 8 (omega arith) (omega arith))
+  stmt_layer (Read reading) = rolled_stmt (Read reading) (reads_within reading.variables.items 0 8 (omega arith))
   stmt_layer (Calling calling) = rolled_stmt (Calling calling) (omega (arith, calling_within 4 calling.actuals.items))
   stmt_layer (Compound number statements) =
       rolled_stmt (bare_stmt (Compound number statements)) (row_within stmt_depth (stmt_need types) statements.items 0 8 (omega arith))

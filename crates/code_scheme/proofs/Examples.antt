@@ -12,6 +12,7 @@ use Rattle.typed_tree.specs.declared.tree.Block.{Block}
 use Rattle.typed_tree.specs.declared.tree.Heading.{Heading}
 use Rattle.typed_tree.specs.declared.tree.FunctionResult.{FunctionResult}
 use Rattle.typed_tree.specs.declared.tree.Call.{Call}
+use Rattle.typed_tree.specs.declared.tree.Reading.{Reading}
 use Rattle.typed_tree.specs.declared.tree.Access.{Access}
 use Rattle.typed_tree.specs.declared.tree.Selector.TheVariants.{Element, Field}
 use Rattle.typed_tree.specs.declared.tree.RangeTest.{RangeTest}
@@ -21,6 +22,7 @@ use Rattle.typed_tree.specs.declared.tree.Variable.{Variable as DeclaredVariable
 use Rattle.typed_tree.specs.declared.tree.VariableKind.{VariableKind}
 use Rattle.typed_tree.specs.declared.tree.VariableKind.TheVariants as kind
 use Rattle.typed_tree.specs.declared.tree.Relation.TheVariants as relation
+use Rattle.typed_tree.specs.declared.tree.Readable.TheVariants as readable
 use Rattle.typed_tree.specs.declared.tree.Representation.TheVariants as representation
 use Rattle.typed_tree.specs.declared.tree.WriteParameter.{WriteParameter}
 use Rattle.typed_tree.specs.declared.tree.Written.TheVariants.{Ordinal, String}
@@ -36,12 +38,12 @@ use Rattle.typed_tree.specs.declared.tree.Expr.TheOpen.Passed-F.{Value as Passed
 use Rattle.typed_tree.specs.declared.tree.Expr.TheViews.{roll-Expr, roll-Passed}
 use Rattle.typed_tree.specs.declared.tree.Expr.TheFolds.{fold-Link, map-Expr, map-Passed, fold-roll-Expr, fold-roll-Passed}
 use Rattle.typed_tree.specs.declared.tree.Stmt.TheOpen.{Stmt-F}
-use Rattle.typed_tree.specs.declared.tree.Stmt.TheOpen.Stmt-F.{Assign, Copy, Write, Compound, Call as Calling}
+use Rattle.typed_tree.specs.declared.tree.Stmt.TheOpen.Stmt-F.{Assign, Copy, Write, Compound, Call as Calling, Read}
 use Rattle.typed_tree.specs.declared.tree.Stmt.TheViews.{roll-Stmt}
 use Rattle.typed_tree.specs.declared.tree.Stmt.TheFolds.{map-Stmt, fold-roll-Stmt}
 use Rattle.code_scheme.specs.Scopes.{Scope, homes_of, with_records}
 use Rattle.code_scheme.specs.Code.{Placed, expr_code, expr_step, link_code, link_step, parameter_code, passed_code, passed_step, placed, program_code}
-use Rattle.code_scheme.specs.Code.{address_code, release_code, set_code, stmt_code, stmt_step}
+use Rattle.code_scheme.specs.Code.{address_code, read_code, release_code, set_code, stmt_code, stmt_step}
 use Rattle.code_scheme.specs.Depth.{PassedDepth, designators_depth, expr_depth, expr_depth_step, link_depth, link_depth_step, parameter_depth, passed_depth}
 use Rattle.code_scheme.specs.Depth.{passed_depth_step}
 use Rattle.code_scheme.specs.Depth.{stmt_depth, stmt_depth_step}
@@ -113,6 +115,7 @@ outline heading = record {
   variables = record { block = 0; type_id = integer; kind = kind.Local } ∷ record { block = 0; type_id = integer; kind = kind.Local } ∷ [];
   types = required_forms;
   sites = 1;
+  points = 2;
   headings = heading ∷ [];
 }
 
@@ -430,6 +433,43 @@ module _ (heap : Vec ℕ Global) (some_call : Call) where
 
   some_depth : designators_depth 0 (designator.Single 4 ∷ designator.Range 5 ∷ []) (1 ∷ 1 ∷ 1 ∷ []) ≡ 3
   some_depth = refl
+
+  -- readln(b, b[7])
+  abbrev lines : Reading
+  lines = record {
+    number = 1;
+    name = some_call.name;
+    variables = vec (record {
+      access = access 2 1;
+      indexes = vec [] (omega arith);
+      reads = readable.Char;
+      point = 0;
+      range = record { first = pos 0; last = pos 127 };
+    } ∷ record {
+      access = record {
+        number = 3;
+        root = 1;
+        base = base.Variable;
+        selectors = vec (Element (record { site = 3; tests = scalar.Ordinal; range = record { first = pos 5; last = pos 9 } }) 4 ∷ []) (omega arith);
+      };
+      indexes = vec (constant 4 (pos 7) ∷ []) (omega arith);
+      reads = readable.Integer;
+      point = 1;
+      range = record { first = negsuc 0; last = pos 8 };
+    } ∷ []) (omega arith);
+    line = Some 2;
+  }
+
+  lines_code : read_code own lines ≡ instr.ReadChar 0 ∷ instr.CheckInput 0 (pos 0) (pos 127) ∷ instr.Store 0 5
+      ∷ instr.LoadAddress 0 5 ∷ instr.LoadConstant (pos 7) ∷ instr.CheckRange 3 (pos 5) (pos 9) ∷ instr.IndexAddress (pos 5) 4
+      ∷ instr.ReadInteger 1 ∷ instr.CheckInput 1 (negsuc 0) (pos 8) ∷ instr.StoreIndirect ∷ instr.ReadLine 2 ∷ []
+  lines_code = simp makes
+
+  lines_need : stmt_need required_forms (roll-Stmt (Read lines)) ≡ 8 + 9 + 18
+  lines_need = simp needs
+
+  lines_depth : stmt_depth (roll-Stmt (Read lines)) ≡ 2
+  lines_depth = simp makes
 
   -- two records lie one behind the other, and are given up one after the other
   two_lie : (with_records 2 inner).records ≡ record { level = 2; start = 14; refers = true } ∷ record { level = 2; start = 15; refers = true } ∷ []

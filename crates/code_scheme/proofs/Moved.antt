@@ -35,6 +35,12 @@ use Rattle.typed_tree.specs.declared.tree.Selector.{Selector}
 use Rattle.typed_tree.specs.declared.tree.Selector.TheVariants.{Element, Field}
 use Rattle.typed_tree.specs.declared.tree.Shift.TheVariants as shift
 use Rattle.typed_tree.specs.declared.tree.Tree.{Tree}
+use Rattle.typed_tree.specs.declared.tree.InputTest.{InputTest}
+use Rattle.typed_tree.specs.declared.tree.InputTest.TheVariants as input_test
+use Rattle.typed_tree.specs.declared.tree.Readable.{Readable}
+use Rattle.typed_tree.specs.declared.tree.Readable.TheVariants as readable
+use Rattle.typed_tree.specs.declared.tree.Reading.{Reading}
+use Rattle.typed_tree.specs.declared.tree.ReadVariable.{ReadVariable}
 use Rattle.typed_tree.specs.declared.tree.Width.{Width}
 use Rattle.typed_tree.specs.declared.tree.Whole.{Whole}
 use Rattle.typed_tree.specs.declared.tree.Whole.TheVariants.{Text, Variable as VariableOf}
@@ -46,13 +52,13 @@ use Rattle.typed_tree.specs.declared.tree.Expr.{Expr}
 use Rattle.typed_tree.specs.declared.tree.Link.{Link}
 use Rattle.typed_tree.specs.declared.tree.Passed.{Passed}
 use Rattle.typed_tree.specs.declared.tree.Expr.TheOpen.{Expr-F, Passed-F, Link-F}
-use Rattle.typed_tree.specs.declared.tree.Expr.TheOpen.Expr-F.{Constant, Variable, Monadic as MonadicOf, Chain, Compare, Call as CallOf, Set}
+use Rattle.typed_tree.specs.declared.tree.Expr.TheOpen.Expr-F.{Constant, Variable, Monadic as MonadicOf, Chain, Compare, Call as CallOf, Set, Input}
 use Rattle.typed_tree.specs.declared.tree.Expr.TheOpen.Passed-F.{Value as PassedValue, Whole as PassedWhole, Reference}
 use Rattle.typed_tree.specs.declared.tree.Expr.TheViews.{roll-Expr, roll-Passed, roll-Link}
 use Rattle.typed_tree.specs.declared.tree.Expr.TheFolds.{map-Expr, map-Passed, map-Link, fold-roll-Expr, fold-roll-Passed, fold-roll-Link, ind-Expr, ind-Passed}
 use Rattle.typed_tree.specs.declared.tree.Stmt.{Stmt}
 use Rattle.typed_tree.specs.declared.tree.Stmt.TheOpen.{Stmt-F}
-use Rattle.typed_tree.specs.declared.tree.Stmt.TheOpen.Stmt-F.{Empty, Assign, Write, Compound, If, While, Repeat, For, Case, Copy, Call as Calling, With}
+use Rattle.typed_tree.specs.declared.tree.Stmt.TheOpen.Stmt-F.{Empty, Assign, Write, Compound, If, While, Repeat, For, Case, Copy, Call as Calling, With, Read}
 use Rattle.typed_tree.specs.declared.tree.Stmt.TheViews.{roll-Stmt}
 use Rattle.typed_tree.specs.declared.tree.Stmt.TheFolds.{map-Stmt, fold-roll-Stmt, ind-Stmt}
 use Rattle.code_scheme.specs.declared.routine.Routine.{Routine}
@@ -62,6 +68,7 @@ use Rattle.typed_tree.specs.WellFormed.{length_of}
 use Rattle.code_scheme.specs.Scopes.{Scope, access_home, block_scope, count, holding, other_cells, routine_or_none, row_length, with_record, with_records}
 use Rattle.code_scheme.specs.Code.{At, By, Placed, Reached, address_code, address_of, arms_code, assign_code, block_code, blocks_code, compare_code, copy_code}
 use Rattle.code_scheme.specs.Code.{calculation_code, call_code, designators_code, dyadic_code, records_code, release_code, set_code, set_relation_instr}
+use Rattle.code_scheme.specs.Code.{asked_instr, input_code, line_passed_code, read_code, read_instr, variable_read_code}
 use Rattle.code_scheme.specs.Code.{single_code, span_code, tested_check, union_code, value_check, with_code, write_code}
 use Rattle.code_scheme.specs.Code.{end_code, expr_code, expr_step, fetch_code, field_code, index_codes, joined, line_end_code, link_code, link_step}
 use Rattle.code_scheme.specs.Code.{monadic_code}
@@ -158,6 +165,22 @@ module _ (places : ℕ → ℕ) where
   line_end_moved : (ends_line : Bool) → moved (line_end_code ends_line) ≡ line_end_code ends_line
   line_end_moved true = refl
   line_end_moved false = refl
+
+  -- what reads
+  read_instr_moved : (reads : Readable) (point : ℕ) → with_call places (read_instr reads point) ≡ read_instr reads point
+  read_instr_moved readable.Integer point = refl
+  read_instr_moved readable.Char point = refl
+
+  input_moved : (one : ReadVariable) → moved (input_code one) ≡ input_code one
+  input_moved one = ap (λ i. i ∷ instr.CheckInput one.point one.range.first one.range.last ∷ []) (read_instr_moved one.reads one.point)
+
+  line_passed_moved : (line : Option ℕ) → moved (line_passed_code line) ≡ line_passed_code line
+  line_passed_moved None = refl
+  line_passed_moved (Some point) = refl
+
+  asked_moved : (asks : InputTest) → with_call places (asked_instr asks) ≡ asked_instr asks
+  asked_moved input_test.End = refl
+  asked_moved (input_test.LineEnd point) = refl
 
   order_moved : (way : Direction) → with_call places (order_instr way) ≡ order_instr way
   order_moved direction.To = refl
@@ -352,6 +375,7 @@ module _ (places : ℕ → ℕ) where
           rolled (bare (CallOf call actuals))
           (ap (call_code (to s) call) (rows_moved (passed_code (to s)) (passed_code (from s)) actuals.items)
           ∙ call_moved s call (map (passed_code (from s)) (map (λ (p : HerePassed). p.0) actuals.items)))
+      layer (Input number asks) = rolled (Input number asks) (ap (λ i. i ∷ []) (sym (asked_moved asks)))
       layer (Set number designators members) =
           rolled (bare (Set number designators members))
           (ap (set_code designators.items) (codes_moved members.items) ∙ set_moved designators.items (codes members.items))
@@ -438,6 +462,27 @@ module _ (places : ℕ → ℕ) where
           ap (λ c. c ++ line_end_code writing.ends_line) (parameters_moved writing.parameters.items)
           ∙ simp (map-append, line_end_moved)
 
+      read_moved : (one : ReadVariable) → variable_read_code (to s) one ≡ moved (variable_read_code (from s) one)
+      read_moved one =
+          let here = index_codes (from s) one.indexes.items in
+          let way = reached (from s) one.access here in
+          ap (λ cs. store_code (input_code one) (reached (to s) one.access cs)) (indexes_moved one.indexes.items)
+          ∙ ap (store_code (input_code one)) (reached_moved (from s) one.access here)
+          ∙ ap (λ c. store_code c (way_moved way)) (sym (input_moved one))
+          ∙ store_moved (input_code one) way
+
+      reads_moved : (ones : List ReadVariable) → flat_map (variable_read_code (to s)) ones ≡ moved (flat_map (variable_read_code (from s)) ones)
+      reads_moved [] = refl
+      reads_moved (one ∷ ones) =
+          ap (λ c. c ++ flat_map (variable_read_code (to s)) ones) (read_moved one)
+          ∙ ap (λ c. moved (variable_read_code (from s) one) ++ c) (reads_moved ones)
+          ∙ sym (map-append (with_call places) (variable_read_code (from s) one) (flat_map (variable_read_code (from s)) ones))
+
+      reading_moved : (reading : Reading) → read_code (to s) reading ≡ moved (read_code (from s) reading)
+      reading_moved reading =
+          ap (λ c. c ++ line_passed_code reading.line) (reads_moved reading.variables.items)
+          ∙ simp (map-append, line_passed_moved)
+
       calling_moved : (call : Call) (actuals : List Passed)
           → call_code (to s) call (map (passed_code (to s)) actuals) ≡ moved (call_code (from s) call (map (passed_code (from s)) actuals))
       calling_moved call actuals =
@@ -520,6 +565,7 @@ module _ (places : ℕ → ℕ) where
     stmt_layer (Assign assignment) = rolled_stmt (Assign assignment) (λ s place. assign_moved s assignment)
     stmt_layer (Copy copying) = rolled_stmt (Copy copying) (λ s place. copy_moved s copying)
     stmt_layer (Write writing) = rolled_stmt (Write writing) (λ s place. writing_moved s writing)
+    stmt_layer (Read reading) = rolled_stmt (Read reading) (λ s place. reading_moved s reading)
     stmt_layer (Calling calling) = rolled_stmt (Calling calling) (λ s place. calling_moved s calling.call calling.actuals.items)
     stmt_layer (Compound number statements) =
         rolled_stmt (bare_stmt (Compound number statements)) (λ s place. placed_moved s statements.items place)

@@ -13,6 +13,12 @@ use Rattle.typed_tree.specs.declared.tree.FunctionResult.{FunctionResult}
 use Rattle.typed_tree.specs.declared.tree.Assignment.{Assignment}
 use Rattle.typed_tree.specs.declared.tree.Copying.{Copying}
 use Rattle.typed_tree.specs.declared.tree.Writing.{Writing}
+use Rattle.typed_tree.specs.declared.tree.Reading.{Reading}
+use Rattle.typed_tree.specs.declared.tree.ReadVariable.{ReadVariable}
+use Rattle.typed_tree.specs.declared.tree.Readable.{Readable}
+use Rattle.typed_tree.specs.declared.tree.Readable.TheVariants as readable
+use Rattle.typed_tree.specs.declared.tree.InputTest.{InputTest}
+use Rattle.typed_tree.specs.declared.tree.InputTest.TheVariants as input_test
 use Rattle.typed_tree.specs.declared.tree.ForHead.{ForHead}
 use Rattle.typed_tree.specs.declared.tree.CaseHead.{CaseHead}
 use Rattle.typed_tree.specs.declared.tree.Call.{Call}
@@ -52,13 +58,13 @@ use Rattle.typed_tree.specs.declared.tree.Link.{Link}
 use Rattle.typed_tree.specs.declared.tree.Passed.{Passed}
 use Rattle.typed_tree.specs.declared.tree.Expr.TheOpen.{Expr-F, Passed-F, Link-F}
 use Rattle.typed_tree.specs.declared.tree.Expr.TheOpen.Expr-F.{Constant, Variable, Monadic as MonadicOf, Chain}
-use Rattle.typed_tree.specs.declared.tree.Expr.TheOpen.Expr-F.{Compare, Call as CallOf, Set}
+use Rattle.typed_tree.specs.declared.tree.Expr.TheOpen.Expr-F.{Compare, Call as CallOf, Set, Input}
 use Rattle.typed_tree.specs.declared.tree.Expr.TheOpen.Passed-F.{Value as PassedValue, Whole as PassedWhole, Reference}
 use Rattle.typed_tree.specs.declared.tree.Expr.TheFolds.{fold-Expr, fold-Passed, fold-Link}
 use Rattle.typed_tree.specs.declared.tree.Stmt.{Stmt}
 use Rattle.typed_tree.specs.declared.tree.Stmt.TheOpen.{Stmt-F}
 use Rattle.typed_tree.specs.declared.tree.Stmt.TheOpen.Stmt-F.{Empty, Assign, Write, Compound, If, While, Repeat, For}
-use Rattle.typed_tree.specs.declared.tree.Stmt.TheOpen.Stmt-F.{Case, Copy, Call as Calling, With}
+use Rattle.typed_tree.specs.declared.tree.Stmt.TheOpen.Stmt-F.{Case, Copy, Call as Calling, With, Read}
 use Rattle.typed_tree.specs.declared.tree.Stmt.TheFolds.{fold-Stmt}
 use Rattle.typed_tree.specs.WellFormed.{length_of}
 use Rattle.code_scheme.specs.declared.routine.Routine.{Routine}
@@ -262,6 +268,11 @@ call_code scope call actuals =
     instr.MarkStack (links_to scope routine.level)
     ∷ (joined actuals ++ (instr.CallProcedure (row_length routine.cells) routine.place ∷ []))
 
+-- what is asked of the input (6.6.6.5)
+abbrev pub asked_instr : InputTest → Instr
+asked_instr input_test.End = instr.EndOfFile
+asked_instr (input_test.LineEnd point) = instr.EndOfLine point
+
 abbrev pub expr_step : Scope → Expr-F (List Instr) (List Instr) (List Instr) → List Instr
 expr_step scope (Constant number value) = instr.LoadConstant value ∷ []
 expr_step scope (Variable access indexes holds defined) = variable_code scope access indexes.items defined
@@ -271,6 +282,7 @@ expr_step scope (Compare number relation left left_indexes right right_indexes) 
     compare_code relation (length_of left) (whole_code scope left left_indexes.items)
     (whole_code scope right right_indexes.items)
 expr_step scope (CallOf call actuals) = call_code scope call actuals.items
+expr_step scope (Input number asks) = asked_instr asks ∷ []
 expr_step scope (Set number designators members) = set_code designators.items members.items
 
 abbrev pub link_step : Link-F (List Instr) (List Instr) (List Instr) → List Instr
@@ -352,6 +364,30 @@ line_end_code false = []
 -- the code of a write or writeln: each value in turn
 abbrev pub write_code : Scope → Writing → List Instr
 write_code scope writing = flat_map (parameter_code scope) writing.parameters.items ++ line_end_code writing.ends_line
+
+-- what reads a value of the input
+abbrev pub read_instr : Readable → ℕ → Instr
+read_instr readable.Integer point = instr.ReadInteger point
+read_instr readable.Char point = instr.ReadChar point
+
+-- the code that pushes what is read for a variable, checked by its type
+abbrev pub input_code : ReadVariable → List Instr
+input_code one =
+    read_instr one.reads one.point ∷ instr.CheckInput one.point one.range.first one.range.last ∷ []
+
+-- the code that reads a variable (6.9.1): its address, if it is no cell of a frame; the value, its check, its store
+abbrev pub variable_read_code : Scope → ReadVariable → List Instr
+variable_read_code scope one =
+    store_code (input_code one) (reached scope one.access (index_codes scope one.indexes.items))
+
+-- what passes the next line end behind a readln
+abbrev pub line_passed_code : Option ℕ → List Instr
+line_passed_code None = []
+line_passed_code (Some point) = instr.ReadLine point ∷ []
+
+-- the code of a read or readln (6.9.1, 6.9.2): each variable in turn
+abbrev pub read_code : Scope → Reading → List Instr
+read_code scope reading = flat_map (variable_read_code scope) reading.variables.items ++ line_passed_code reading.line
 
 -- what is known where the code of a statement is made: its block's scope, and its place
 abbrev pub Placed : Type 0
@@ -486,6 +522,7 @@ stmt_step (Empty number) scope place = []
 stmt_step (Assign assignment) scope place = assign_code scope assignment
 stmt_step (Copy copying) scope place = copy_code scope copying
 stmt_step (Write writing) scope place = write_code scope writing
+stmt_step (Read reading) scope place = read_code scope reading
 stmt_step (Calling calling) scope place = call_code scope calling.call (map (passed_code scope) calling.actuals.items)
 stmt_step (Compound number statements) scope place = placed (map (λ code. code scope) statements.items) place
 stmt_step (If number condition consequence None) scope place =

@@ -13,6 +13,7 @@ use Rattle.typed_tree.specs.declared.tree.Shift.TheVariants as shift
 use Rattle.typed_tree.specs.declared.tree.Designator.{Designator}
 use Rattle.typed_tree.specs.declared.tree.Designator.TheVariants as designator
 use Rattle.typed_tree.specs.declared.tree.WithRecord.{WithRecord}
+use Rattle.typed_tree.specs.declared.tree.ReadVariable.{ReadVariable}
 use Rattle.typed_tree.specs.declared.tree.Width.{Width}
 use Rattle.typed_tree.specs.declared.tree.WriteParameter.{WriteParameter}
 use Rattle.typed_tree.specs.declared.tree.Written.{Written}
@@ -26,13 +27,13 @@ use Rattle.typed_tree.specs.declared.tree.FunctionResult.{FunctionResult}
 use Rattle.typed_tree.specs.declared.tree.Block.{Block}
 use Rattle.typed_tree.specs.declared.tree.Expr.TheOpen.{Expr-F, Passed-F, Link-F}
 use Rattle.typed_tree.specs.declared.tree.Expr.TheOpen.Expr-F.{Constant, Variable, Monadic as MonadicOf, Chain}
-use Rattle.typed_tree.specs.declared.tree.Expr.TheOpen.Expr-F.{Compare, Call as CallOf, Set}
+use Rattle.typed_tree.specs.declared.tree.Expr.TheOpen.Expr-F.{Compare, Call as CallOf, Set, Input}
 use Rattle.typed_tree.specs.declared.tree.Expr.TheOpen.Passed-F.{Value as PassedValue, Whole as PassedWhole, Reference}
 use Rattle.typed_tree.specs.declared.tree.Expr.TheFolds.{fold-Expr, fold-Passed, fold-Link}
 use Rattle.typed_tree.specs.declared.tree.Stmt.{Stmt}
 use Rattle.typed_tree.specs.declared.tree.Stmt.TheOpen.{Stmt-F}
 use Rattle.typed_tree.specs.declared.tree.Stmt.TheOpen.Stmt-F.{Empty, Assign, Write, Compound, If, While, Repeat, For}
-use Rattle.typed_tree.specs.declared.tree.Stmt.TheOpen.Stmt-F.{Case, Copy, Call as Calling, With}
+use Rattle.typed_tree.specs.declared.tree.Stmt.TheOpen.Stmt-F.{Case, Copy, Call as Calling, With, Read}
 use Rattle.typed_tree.specs.declared.tree.Stmt.TheFolds.{fold-Stmt}
 use Rattle.typed_tree.specs.WellFormed.{length_of}
 
@@ -105,6 +106,7 @@ expr_depth_step (Chain first rest) = fold max first.value rest.items
 expr_depth_step (Compare number relation left left_indexes right right_indexes) =
     max (whole_depth left left_indexes.items) (max (whole_depth right right_indexes.items + length_of left) 2)
 expr_depth_step (CallOf call actuals) = call_depth actuals.items
+expr_depth_step (Input number asks) = 1
 expr_depth_step (Set number designators members) = designators_depth 0 designators.items members.items
 
 abbrev pub link_depth_step : Link-F ℕ PassedDepth ℕ → ℕ
@@ -150,6 +152,10 @@ parameter_depth parameter =
 abbrev pub store_depth : List Selector → List ℕ → ℕ → ℕ
 store_depth selectors indexes value = max (access_depth selectors indexes) (value + 1)
 
+-- the same of a variable that is read: the address, where it is pushed, lies below what is read
+abbrev pub read_depth : ReadVariable → ℕ
+read_depth one = store_depth one.access.selectors.items (index_depths one.indexes.items) 1
+
 -- the same of what may be there
 abbrev pub alternative_depth : Option (Box ℕ Global) → ℕ
 alternative_depth None = 0
@@ -175,6 +181,7 @@ stmt_depth_step (Copy copying) =
     max (access_depth copying.target.selectors.items (index_depths copying.indexes.items))
     (whole_depth copying.value (index_depths copying.value_indexes.items) + 1)
 stmt_depth_step (Write writing) = greatest (map parameter_depth writing.parameters.items)
+stmt_depth_step (Read reading) = greatest (map read_depth reading.variables.items)
 stmt_depth_step (Calling calling) = call_depth (map passed_depth calling.actuals.items)
 stmt_depth_step (Compound number statements) = greatest statements.items
 stmt_depth_step (If number condition consequence alternative) =

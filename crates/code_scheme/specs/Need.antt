@@ -9,6 +9,7 @@ use Rattle.std.specs.declared.alloc.Global.{Global}
 use Rattle.std.specs.declared.boxed.Box.{Box}
 use Rattle.typed_tree.specs.declared.tree.Tree.{Tree}
 use Rattle.typed_tree.specs.declared.tree.Block.{Block}
+use Rattle.typed_tree.specs.declared.tree.ReadVariable.{ReadVariable}
 use Rattle.typed_tree.specs.declared.tree.Width.{Width}
 use Rattle.typed_tree.specs.declared.tree.WithRecord.{WithRecord}
 use Rattle.typed_tree.specs.declared.tree.WriteParameter.{WriteParameter}
@@ -20,13 +21,13 @@ use Rattle.typed_tree.specs.declared.tree.Expr.{Expr}
 use Rattle.typed_tree.specs.declared.tree.Passed.{Passed}
 use Rattle.typed_tree.specs.declared.tree.Expr.TheOpen.{Expr-F, Passed-F, Link-F}
 use Rattle.typed_tree.specs.declared.tree.Expr.TheOpen.Expr-F.{Constant, Variable, Monadic as MonadicOf, Chain}
-use Rattle.typed_tree.specs.declared.tree.Expr.TheOpen.Expr-F.{Compare, Call as CallOf, Set}
+use Rattle.typed_tree.specs.declared.tree.Expr.TheOpen.Expr-F.{Compare, Call as CallOf, Set, Input}
 use Rattle.typed_tree.specs.declared.tree.Expr.TheOpen.Passed-F.{Value as PassedValue, Whole as PassedWhole, Reference}
 use Rattle.typed_tree.specs.declared.tree.Expr.TheFolds.{fold-Expr, fold-Passed}
 use Rattle.typed_tree.specs.declared.tree.Stmt.{Stmt}
 use Rattle.typed_tree.specs.declared.tree.Stmt.TheOpen.{Stmt-F}
 use Rattle.typed_tree.specs.declared.tree.Stmt.TheOpen.Stmt-F.{Empty, Assign, Write, Compound, If, While, Repeat, For}
-use Rattle.typed_tree.specs.declared.tree.Stmt.TheOpen.Stmt-F.{Case, Copy, Call as Calling, With}
+use Rattle.typed_tree.specs.declared.tree.Stmt.TheOpen.Stmt-F.{Case, Copy, Call as Calling, With, Read}
 use Rattle.typed_tree.specs.declared.tree.Stmt.TheFolds.{fold-Stmt}
 use Rattle.types.specs.Forms.{Form}
 use Rattle.types.specs.declared.form.TypeId.{TypeId}
@@ -54,6 +55,7 @@ expr_need_step (Chain first rest) = first.value + sum rest.items
 expr_need_step (Compare number relation left left_indexes right right_indexes) =
     whole_need left left_indexes.items + one_value + whole_need right right_indexes.items
 expr_need_step (CallOf call actuals) = one_value + sum actuals.items
+expr_need_step (Input number asks) = one_value
 expr_need_step (Set number designators members) = one_value + sum members.items
 
 abbrev pub link_need_step : Link-F ℕ ℕ ℕ → ℕ
@@ -105,6 +107,10 @@ module _ (types : List Form) where
   abbrev pub record_need : WithRecord → ℕ
   record_need one = access_need (index_needs one.indexes.items)
 
+  -- a variable that is read, which is an expression of one cell
+  abbrev pub read_need : ReadVariable → ℕ
+  read_need one = access_need (index_needs one.indexes.items)
+
   -- a statement, which has no value, and what is in it; the target of an assignment is an expression of one cell
   abbrev pub stmt_need_step : Stmt-F ℕ → ℕ
   stmt_need_step (Empty number) = 8
@@ -114,6 +120,7 @@ module _ (types : List Form) where
       8 + reached_need copying.type_id (index_needs copying.indexes.items)
       + whole_need copying.value (index_needs copying.value_indexes.items)
   stmt_need_step (Write writing) = 8 + sum_by parameter_need writing.parameters.items
+  stmt_need_step (Read reading) = 8 + sum_by read_need reading.variables.items
   stmt_need_step (Calling calling) = 8 + sum_by passed_need calling.actuals.items
   stmt_need_step (Compound number statements) = 8 + sum statements.items
   stmt_need_step (If number condition consequence alternative) =

@@ -58,7 +58,8 @@ const AFTER_HELP: &str = "\
 Standard error has a line for each place at which the program can fail, in order:
   LINE:COLUMN: possible error: NAME
 No line means that it cannot fail. With --go it then runs, with the checks of
-these places alone. Standard output has its output and nothing else.
+these places alone, over standard input. Standard output has its output and
+nothing else.
 
 A certificate says which variables each loop assigns, and what holds whenever a
 turn of it begins. Each claim is checked. Without one no loop may assign any.
@@ -69,8 +70,10 @@ Status, and what else is written to standard error:
   2  the source or the certificate is refused, and nothing is run:
      LINE:COLUMN: refused CODE; refused G1; certificate:LINE: refused CODE;
      certificate refused C1; LINE:COLUMN: certificate refused CODE
-  3  wrong words; cannot read PATH; no memory; write failed; budget used up
+  3  wrong words; cannot read PATH; no memory; read failed; write failed;
+     budget used up
   4  LINE:COLUMN: error: NAME, where the program failed
+  5  LINE:COLUMN: input: NAME, where the program stopped for its input
   6  store full
   7  machine fault CODE
 

@@ -6,7 +6,7 @@ ghost use Rattle.typing.specs.Passing.{each};
 ghost use Rattle.typing.specs.Typing as spec;
 ghost use Rattle.declarations.specs.Known.{AreKnown};
 
-use scopes::Denotation;
+use scopes::{Denotation, File};
 use syntax_tree::Name;
 use typed_tree::fault::TypeFault;
 use typing::{Typer, folded};
@@ -22,16 +22,30 @@ pub(crate) fn declare_parameters(typer: &mut Typer, names: &[Name]) -> Result<()
     Ok(())
 }
 
-// A program parameter: output alone may be one (K8), and once (S1).
+// A program parameter: files alone may be (K8), each of them once (S1).
 #[tactic(auto, unfolding(typing::specs::Typing::parameter_of_program))]
 fn declare_parameter(typer: &mut Typer, name: &Name) -> Result<(), TypeFault>
     requires known { Knows typer.old.regions (folded name.now.text.now) }
     ensures { Takes (spec.parameter_of_program name.now typer.old) result typer.new }
 {
-    if folded(typer.alloc, name.text)?.as_slice() != b"output".as_slice() {
+    let key = folded(typer.alloc, name.text)?;
+    let Some(file) = file_of(&key) else {
         return Err(TypeFault::NotProgramParameter(name.place));
-    }
-    typer.declare(name, Denotation::Output)?;
-    typer.give_output();
+    };
+    typer.declare(name, Denotation::File(file))?;
+    typer.give_file(file);
     Ok(())
+}
+
+// The file of a name in small letters, if it is that of one.
+fn file_of(name: &[u8]) -> Option<File>
+    ensures { result ≡ spec.file_of name.now }
+{
+    if name == b"input".as_slice() {
+        Some(File::Input)
+    } else if name == b"output".as_slice() {
+        Some(File::Output)
+    } else {
+        None
+    }
 }

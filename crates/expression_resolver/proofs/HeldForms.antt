@@ -4,6 +4,7 @@ use Rattle.std.specs.declared.alloc.Global.{Global}
 use Rattle.types.specs.declared.form.TypeId.{TypeId}
 use Rattle.typed_tree.specs.declared.tree.Access.{Access}
 use Rattle.typed_tree.specs.declared.tree.Designator.{Designator}
+use Rattle.typed_tree.specs.declared.tree.InputTest.{InputTest}
 use Rattle.typed_tree.specs.declared.tree.Monadic.{Monadic as MonadicOperation}
 use Rattle.typed_tree.specs.declared.tree.RangeTest.{RangeTest}
 use Rattle.typed_tree.specs.declared.tree.Scalar.{Scalar}
@@ -21,7 +22,7 @@ use Rattle.typed_tree.specs.declared.tree.Expr.TheViews.{roll-Link}
 use Rattle.typed_tree.specs.declared.tree.Expr.TheFolds.{fold-roll-Expr, fold-roll-Passed, fold-roll-Link}
 use Rattle.typed_tree.specs.Kinds.{Held, are_ordinal_indexes, expression_held, given, held_by, held_where, is_held, is_held_passed, is_held_value}
 use Rattle.typed_tree.specs.Kinds.{is_ordinal_expr, is_same, link_held, links_held, passed_held, taken_left, taken_right}
-use Rattle.typed_tree.proofs.Looks.{look_variable}
+use Rattle.typed_tree.proofs.Looks.{look_input, look_variable}
 use Rattle.expression_resolver.specs.Made.{held_behind}
 use Rattle.expression_resolver.specs.Values.{are_held_actuals}
 
@@ -77,6 +78,14 @@ held_call call actuals so =
     ap (λ e. is_held scalar.Ordinal (held_by e)) (sym (tree.rolls-Call call actuals))
     ∙ ap (is_held scalar.Ordinal) (fold-roll-Expr Held Bool Linking expression_held passed_held link_held (layer.Call call actuals))
     ∙ held_so scalar.Ordinal (are_held_actuals actuals.items) so
+
+pub held_input : (number : ℕ) (asks : InputTest) → is_held scalar.Ordinal (held_by (tree.Input number asks)) ≡ true
+held_input number asks =
+    ap (λ e. is_held scalar.Ordinal (held_by e)) (sym (tree.rolls-Input number asks))
+    ∙ ap (is_held scalar.Ordinal) (fold-roll-Expr Held Bool Linking expression_held passed_held link_held (layer.Input number asks))
+
+-- what is asked of the input
+pub ruleset input_forms = (held_input, look_input)
 
 pub held_set : (number : ℕ) (designators : Vec Designator Global) (members : Vec Expr Global) → are_ordinal_indexes members.items ≡ true
     → is_held scalar.Set (held_by (tree.Set number designators members)) ≡ true

@@ -25,11 +25,15 @@ use Rattle.types.specs.declared.form.TypeKind.{TypeKind}
 use Rattle.types.specs.declared.form.TypeKind.TheVariants as kind_of_type
 use Rattle.scopes.specs.declared.denotation.Denotation.{Denotation}
 use Rattle.scopes.specs.declared.denotation.Denotation.TheVariants as denotes
+use Rattle.scopes.specs.declared.denotation.File.{File}
+use Rattle.scopes.specs.declared.denotation.InputFunction.{InputFunction}
+use Rattle.scopes.specs.declared.denotation.InputFunction.TheVariants as asks
 use Rattle.scopes.specs.declared.denotation.FunctionOperation.{FunctionOperation}
 use Rattle.scopes.specs.declared.denotation.FunctionOperation.TheVariants.{Calculates, Tests}
 use Rattle.scopes.specs.declared.denotation.FunctionValue.{FunctionValue}
 use Rattle.scopes.specs.declared.denotation.FunctionValue.TheVariants as function
 use Rattle.typed_tree.specs.declared.fault.TypeFault.{TypeFault}
+use Rattle.typed_tree.specs.declared.fault.TypeFault.TheVariants as fault
 use Rattle.typed_tree.specs.declared.site.SiteKind.{SiteKind}
 use Rattle.typed_tree.specs.declared.tree.Designator.{Designator as TreeDesignator}
 use Rattle.typed_tree.specs.declared.tree.Dyadic.{Dyadic}
@@ -53,7 +57,6 @@ use Rattle.typing.specs.Expressions.{Denoted, Written, WrittenActual, WrittenLin
 use Rattle.typing_rules.specs.Targets.{Copy}
 use Rattle.typing.proofs.Ways.{Goes, Walks, test_walks}
 use Rattle.typing_rules.specs.Typed.{typed}
-use Rattle.typing_rules.specs.Denotations.{as_routine}
 use Rattle.expression_resolver.specs.Made.{fitted}
 use Rattle.expression_resolver.specs.Values.{AreTestedAlike, tested_as}
 
@@ -151,6 +154,14 @@ pub heading_at_keeps : (number : ℕ) → Keeps (Steps.heading_at number)
 unfolding Steps.heading_at
 heading_at_keeps number = record { walks = λ old id. refl }
 
+pub wants_file_keeps : (one : File) (place : Place) → Keeps (Steps.wants_file one place)
+unfolding Steps.wants_file
+wants_file_keeps one place = record { walks = λ old. given_goes old (Steps.has_file one old) }
+  where
+    given_goes : (old : Passed) (has : Bool) → Goes {A = Unit {0}} Alike old (if has then Ok (after tt [] old) else Err (fault.NotProgramParameter place))
+    given_goes old true = λ id. refl
+    given_goes old false = tt
+
 pub variable_at_keeps : (root : ℕ) → Keeps (Steps.variable_at root)
 unfolding Steps.variable_at
 variable_at_keeps root = record { walks = λ old id. refl }
@@ -169,6 +180,10 @@ enter_keeps marked = then_keeps (record { walks = λ old. unless_goes old _ _ _ 
 pub site_keeps : (kind : SiteKind) (place : Place) → Keeps (Steps.site kind place)
 unfolding Steps.site
 site_keeps kind place = record { walks = λ old. unless_goes old _ _ _ (λ id. refl) }
+
+pub point_keeps : (place : Place) → Keeps (Steps.point place)
+unfolding Steps.point
+point_keeps place = record { walks = λ old. unless_goes old _ _ _ (λ id. refl) }
 
 pub may_change_keeps : (place : Place) (root : ℕ) → Keeps (Steps.may_change place root)
 unfolding Steps.may_change
@@ -192,6 +207,8 @@ pub ruleset keep = (
   by_types_keeps,
   pass_keeps,
   site_keeps,
+  point_keeps,
+  wants_file_keeps,
   find_keeps,
   may_change_keeps,
   host_type_keeps,
@@ -214,6 +231,7 @@ string_type_keeps place n =
 pub record KeepsWritten (w : Written) : Type 0 where
   pub typing : (lead : Option SiteKind) → Keeps (w.typing lead)
   pub passing : (wanted : TypeId) (callee position : ℕ) → Keeps (w.passing wanted callee position)
+  pub file : Keeps w.file
 
 abbrev pub KeepsWidth : Option Written → Type 0
 KeepsWidth None = Unit {0}
@@ -330,6 +348,19 @@ unfolding Expressions.function_value
 function_value_keeps callee false place actuals lead laws = search keep
 function_value_keeps callee true place actuals lead laws = search (keep, behind_keeps, routine_call_keeps, result_variable_keeps) depth 12
 
+-- ---- the input
+
+input_test_keeps : (function : InputFunction) (place : Place) → Keeps (Expressions.input_test function place)
+unfolding Expressions.input_test
+input_test_keeps asks.Eof place = search keep
+input_test_keeps asks.Eoln place = search keep
+
+input_value_keeps : (function : InputFunction) (place : Place) (lead : Option SiteKind) → Keeps (Expressions.input_value function place lead)
+unfolding Expressions.input_value
+input_value_keeps function place lead = search (keep, behind_keeps, input_test_keeps) depth 14
+
+-- ---- names
+
 denoted_keeps : (d : Denotation) (place : Place) (lead : Option SiteKind) → Keeps (Expressions.denoted d place lead)
 unfolding Expressions.denoted
 denoted_keeps (denotes.Constant value type_id) place lead = search (keep, behind_keeps)
@@ -338,6 +369,7 @@ denoted_keeps (denotes.Variable root type_id) place lead = accessed_keeps (entir
 denoted_keeps (denotes.Field slot position offset type_id) place lead =
     then_keeps (variable_of_keeps place (denotes.Field slot position offset type_id)) (λ variable. accessed_keeps variable [] [] place lead tt)
 denoted_keeps (denotes.Routine block is_function) place lead = function_value_keeps block is_function place [] lead tt
+denoted_keeps (denotes.InputFunction function) place lead = input_value_keeps function place lead
 denoted_keeps other place lead = search keep
 
 operation_keeps : (operator : Operator) (place : Place) → Keeps (Expressions.operation operator place)
@@ -429,23 +461,40 @@ required_call_keeps d name actuals lead laws =
     then_keeps (mark_keeps (Look.Applied does.0)) λ _.
     pure_keeps (typed does.1 id)
 
-call_by_keeps : (routine : Option (ℕ × Bool)) (d : Denotation) (name : Name) (actuals : List WrittenActual) (lead : Option SiteKind) → KeepActuals actuals
-    → Keeps (Expressions.call_by routine d name actuals lead)
-call_by_keeps None d name actuals lead laws = required_call_keeps d name actuals lead laws
-call_by_keeps (Some routine) d name actuals lead laws = function_value_keeps routine.0 routine.1 name.place actuals lead laws
+input_call_keeps : (function : InputFunction) (place : Place) (actuals : List WrittenActual) (lead : Option SiteKind) → KeepActuals actuals
+    → Keeps (Expressions.input_call function place actuals lead)
+unfolding Expressions.input_call
+input_call_keeps function place actuals lead laws =
+    given_then (Expressions.only place actuals) _ λ w is.
+    let law = only_keeps place actuals laws w is in
+    then_keeps law.file λ named.
+    then_keeps (given_keeps _) λ _.
+    input_value_keeps function place lead
+
+call_by_keeps : (d : Denotation) (name : Name) (actuals : List WrittenActual) (lead : Option SiteKind) → KeepActuals actuals
+    → Keeps (Expressions.call_by d name actuals lead)
+call_by_keeps (denotes.Routine block is_function) name actuals lead laws = function_value_keeps block is_function name.place actuals lead laws
+call_by_keeps (denotes.InputFunction function) name actuals lead laws = input_call_keeps function name.place actuals lead laws
+call_by_keeps d name actuals lead laws = required_call_keeps d name actuals lead laws
+
+file_keeps : (name : Name) (selectors : List Selector) → Keeps (Expressions.file_named name selectors)
+unfolding Expressions.file_named
+file_keeps name [] = search keep
+file_keeps name (selector ∷ selectors) = search keep
 
 -- ---- every expression
 
 written_keeps : (place : Place) (typing : Option SiteKind → Passing Typed) → ((lead : Option SiteKind) → Keeps (typing lead))
     → KeepsWritten (Expressions.written place typing)
 unfolding Expressions.no_variable
-written_keeps place typing walks = record { typing = walks; passing = λ wanted callee position. search keep }
+written_keeps place typing walks = record { typing = walks; passing = λ wanted callee position. search keep; file = search keep }
 
 variable_keeps : (name : Name) (selectors : List Selector) (ws : List Written) (typing : Option SiteKind → Passing Typed) → KeepAll ws
     → ((lead : Option SiteKind) → Keeps (typing lead)) → KeepsWritten (Expressions.written_variable name selectors ws typing)
 variable_keeps name selectors ws typing laws walks = record {
   typing = walks;
   passing = λ wanted callee position. passed_variable_keeps name selectors ws wanted callee position laws;
+  file = file_keeps name selectors;
 }
 
 abbrev KeepsExpr : Expr → Type 0
@@ -514,7 +563,7 @@ expression_layer (layer.Component name selectors indexes) =
 expression_layer (layer.String text place) = from_layer (layer.String text place) (written_keeps place _ (string_keeps text.now place))
 expression_layer (layer.Call name actuals) =
     from_layer (bare (layer.Call name actuals))
-    (written_keeps name.place _ (λ lead. then_keeps (find_keeps name) λ d. call_by_keeps (as_routine d) d name _ lead
+    (written_keeps name.place _ (λ lead. then_keeps (find_keeps name) λ d. call_by_keeps d name _ lead
     (all_actuals actuals.items)))
 expression_layer (layer.Parenthesized place inner) =
     from_layer (bare (layer.Parenthesized place inner)) (written_keeps place _ (λ lead. search (keep, behind_keeps, inner.value.1.typing)))

@@ -8,6 +8,6 @@ mod MemberRows
 mod Named
 mod Only
 pub mod Operands
-mod PassedForms
+pub mod PassedForms
 mod Results
 pub mod Selecting

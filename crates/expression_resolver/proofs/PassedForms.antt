@@ -8,7 +8,6 @@ use Rattle.syntax_tree.specs.declared.Name.{Name}
 use Rattle.syntax_tree.specs.declared.Selector.{Selector}
 use Rattle.types.specs.declared.form.TypeId.{TypeId}
 use Rattle.typed_tree.specs.declared.tree.Passed.TheVariants as passes
-use Rattle.typed_tree.specs.declared.fault.TypeFault.{TypeFault}
 use Rattle.typed_tree.specs.declared.tree.Scalar.TheVariants as scalar
 use Rattle.typed_tree.specs.declared.tree.Selector.{Selector as TreeSelector}
 use Rattle.typed_tree.specs.declared.tree.VariableKind.{VariableKind}
@@ -17,7 +16,6 @@ use Rattle.typed_tree.specs.Accesses.{Origin, index_count, origin_of, root_of}
 use Rattle.typed_tree.specs.Look.{Access, ForValue, ForVariable, look_passed}
 use Rattle.typed_tree.specs.WellFormed.{is_variable_kind}
 use Rattle.typed_tree.proofs.Looks.{look_passed_variable}
-use Rattle.typing.specs.Outcomes.{IsFault}
 use Rattle.typing.specs.Passing.{Passed, Passing, after, by_types, mark, ◌>>=◌, ◌>>◌}
 use Rattle.typing.specs.Steps.{enter_as, may_change}
 use Rattle.typing.specs.Expressions.{Denoted, Written, expression, passable, passed_ordinal, passed_variable}
@@ -26,7 +24,7 @@ use Rattle.expression_resolver.specs.declared.typed.Reached.{Reached}
 use Rattle.expression_resolver.specs.Accesses.{look_reached, named_variable, reached}
 use Rattle.expression_resolver.specs.Made.{fitted}
 use Rattle.expression_resolver.proofs.Fitting.{by_value}
-use Rattle.expression_resolver.proofs.Selecting.{look_made, reached_then, variable_stops, variable_then}
+use Rattle.expression_resolver.proofs.Selecting.{look_made, reached_then, variable_then}
 
 -- ---- by what the formal one is
 
@@ -70,11 +68,6 @@ module _ (name : Name) (selectors : List Selector) (indexes : List Written) (wan
   access_goes old first variable finds =
       variable_then name behind_variable old first variable finds
       ∙ reached_then name.place variable selectors indexes (behind_component variable) first
-
-  pub access_stops : (old : Passed) (why : TypeFault) → IsFault (named_variable name old) why
-      → IsFault (passed_variable name selectors indexes wanted callee position old) why
-  unfolding passed_variable
-  access_stops old why stops = variable_stops name behind_variable old why stops
 
 -- as it is made
 pub variable_made : (wanted : TypeId) (made : Reached) (origin : Origin) (callee position : ℕ) → origin_of made.access ≡ origin

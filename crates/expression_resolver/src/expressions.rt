@@ -12,7 +12,7 @@ ghost use Rattle.typing.specs.Expressions.{result_variable};
 ghost use Rattle.typing.specs.View.{denoted_of};
 ghost use Rattle.expression_resolver.specs.Made.{IsHostOf, MakesActuals, MakesCall, MakesPassed};
 ghost use Rattle.expression_resolver.specs.Made.{MakesCopied, MakesFitted, copied, fitted};
-ghost use Rattle.expression_resolver.specs.Made.{AreHeldLinks, MakesTyped, MakesLink, MakesLinks, IsOnly, is_alone};
+ghost use Rattle.expression_resolver.specs.Made.{AreHeldLinks, MakesTyped, MakesLink, MakesLinks, is_alone};
 ghost use Rattle.expression_resolver.specs.Made.{MakesFirst, MakesLast, MakesMembers, TakesMember, range_behind};
 ghost use Rattle.expression_resolver.specs.Made.{typed_of};
 ghost use Rattle.expression_resolver.specs.Accesses.{MakesSelection, MakesIndex, SelectsElement, SelectsOne, IsCounted};
@@ -22,6 +22,8 @@ ghost use Rattle.expression_resolver.specs.Values.{AreTestedAlike, are_held_actu
 use crate::accesses::{
     accessed_value, begin, constant, enter, named_variable, select_field, set, text,
 };
+use crate::forms::{first_place, only};
+use crate::input::{input_call, input_value};
 use crate::operators::{self, monadic};
 use crate::typed::{
     Begun, Members, Reached, Selection, SitedMember, TypedCall, TypedExpr, TypedLinks,
@@ -39,8 +41,8 @@ use typed_tree::tree::{
 use types::{ArrayElement, TypeId, TypeKind, TypeTable};
 use typing::{DenotedVariable, Typer, characters};
 use typing_rules::{
-    Typed, as_function, as_routine, copying, fitting, may_index, may_relate, member_of,
-    member_with_site, members_test, relation_behind, result_of, sign_operation, test_kind,
+    Typed, as_function, copying, fitting, may_index, may_relate, member_of, member_with_site,
+    members_test, relation_behind, result_of, sign_operation, test_kind,
 };
 
 /// An expression, by the kind of its leading site.
@@ -184,7 +186,8 @@ fn denoted(
         Denotation::Procedure(_) | Denotation::Function(_) => {
             Err(TypeFault::WrongParameters(place))
         }
-        Denotation::TypeName(_) | Denotation::Output => Err(TypeFault::Mismatch(place)),
+        Denotation::InputFunction(function) => input_value(typer, function, place, lead),
+        Denotation::TypeName(_) | Denotation::File(_) => Err(TypeFault::Mismatch(place)),
         Denotation::Routine { .. } => unreachable!(),
     }
 }
@@ -599,11 +602,14 @@ fn call(
     ensures { MakesTyped (spec.call name.now (map spec.written_actual actuals.now) lead typer.old) result typer.new }
 {
     let denotation = typer.find(name)?;
-    match as_routine(denotation) {
-        None => required_call(typer, denotation, name, actuals, lead),
-        Some((block, is_function)) => {
+    match denotation {
+        Denotation::Routine { block, is_function } => {
             function_value(typer, block, is_function, name.place, actuals, lead)
         }
+        Denotation::InputFunction(function) => {
+            input_call(typer, function, name.place, actuals, lead)
+        }
+        _ => required_call(typer, denotation, name, actuals, lead),
     }
 }
 
@@ -986,43 +992,4 @@ pub fn copied(
         return Err(TypeFault::Mismatch(place));
     }
     Ok(made.into_whole(typer.alloc))
-}
-
-// The one actual of a function, which has no width.
-#[tactic(auto, using(crate::proofs::Only::only_one))]
-fn only<'e, 'a>(
-    place: Place,
-    actuals: &'e [syntax::Actual<'a>],
-) -> Result<&'e syntax::Expr<'a>, TypeFault>
-    ensures one { IfOk result (λ value. IsOnly actuals.now value.now) }
-    ensures only { MatchResult result
-        (λ value. spec.only place (map spec.written_actual actuals.now) ≡ Ok (spec.expression value.now))
-        (λ why. spec.only place (map spec.written_actual actuals.now) ≡ Err why) }
-{
-    let [actual] = actuals else {
-        return Err(TypeFault::WrongParameters(place));
-    };
-    if actual.width.is_some() {
-        return Err(TypeFault::WrongParameters(place));
-    }
-    Ok(&actual.value)
-}
-
-/// Where an expression begins.
-#[tactic(auto, using(typing::proofs::Written::written_expressions))]
-pub fn first_place(written: &syntax::Expr) -> Place
-    ensures { result ≡ (spec.expression written.now).first }
-{
-    match written {
-        syntax::Expr::Number { place, .. }
-        | syntax::Expr::String { place, .. }
-        | syntax::Expr::Not { place, .. }
-        | syntax::Expr::Signed { place, .. } => *place,
-        syntax::Expr::Name(name)
-        | syntax::Expr::Component { name, .. }
-        | syntax::Expr::Call { name, .. } => name.place,
-        syntax::Expr::Parenthesized { open, .. } | syntax::Expr::Set { open, .. } => *open,
-        syntax::Expr::Chain { first, .. } => first_place(first),
-        syntax::Expr::Relation { left, .. } => first_place(left),
-    }
 }

@@ -3,11 +3,15 @@
 
 mod accesses;
 mod expressions;
+mod forms;
+mod input;
 mod operators;
 mod typed;
 mod value;
 
 pub use accesses::named_variable;
-pub use expressions::{access, copied, expression, first_place, fitted, reach, routine_call};
+pub use expressions::{access, copied, expression, fitted, reach, routine_call};
+pub use forms::first_place;
+pub use input::named_file;
 pub use typed::{Reached, TypedCall, TypedExpr};
 pub use value::Value;

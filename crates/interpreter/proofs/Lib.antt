@@ -2,6 +2,7 @@ mod Activating
 mod Advancing
 mod Counts
 mod FoundArms
+mod Inputs
 mod Places
 mod Resuming
 mod Rows

@@ -15,7 +15,6 @@ use Rattle.std.specs.Option.{ok_or}
 use Rattle.meaning.specs.declared.store.Value.{Value}
 use Rattle.interpreter.specs.declared.interpreter.Run.{Run}
 use Rattle.interpreter_state.specs.declared.work.Work.{Work}
-use Rattle.interpreter_state.specs.declared.work.Work.TheVariants as work
 use Rattle.types.specs.declared.form.Step.TheVariants as step
 use Rattle.meaning.specs.declared.outcome.Ending.TheVariants as ending
 use Rattle.meaning.specs.declared.store.Value.TheVariants.{Number, Members}
@@ -28,7 +27,7 @@ use Rattle.meaning.proofs.Turns.{ExtendedCalls, extended_calls}
 use Rattle.operations.specs.Answers.{answered, checked, index_tested}
 use Rattle.meaning.specs.Meaning.{Argument, OfValue}
 use Rattle.interpreter.specs.Pending.{Resumption, Agrees, Continues, Does, pending_of, resumed, rest_of, operands_of}
-use Rattle.interpreter.specs.Pending.{tested, with_top, chosen, top_of, top_place, below_top, indexed}
+use Rattle.interpreter.specs.Pending.{tested, with_top, chosen, keeping, or_end, top_of, below_top, indexed}
 
 map_append : {A B : Type 0} (f : A → B) (xs ys : List A) → map f (xs ++ ys) ≡ map f xs ++ map f ys
 map_append f [] ys = refl
@@ -94,18 +93,26 @@ pub agreed_below : (old taken : Run) (env : Surroundings) (outer : Resumption) (
     Agrees env outer old s → Agrees env outer taken s
 agreed_below old taken env outer s same agrees = subst (λ (r : Run). Agrees env outer r s) (sym same) agrees
 
+-- a piece of work in another state, with which the run agrees in which it goes on
+pub goes_on_from : (old taken new : Run) (env : Surroundings) (outer : Resumption) (s : State) (piece : Surroundings → Resumption → Resumption)
+    (below : List Argument) (result : Result (Option Ending) AllocError) (start : Reply (Unit {0})) → taken.pending.items ≡ old.pending.items →
+    operands_of taken ≡ below → start ≡ piece env (pending_of env outer (reverse old.pending.items)) below s → Agrees env outer taken s →
+    Does piece taken result new → Continues start result new
+goes_on_from old taken new env outer s piece below result start same left is agrees does =
+    continues_as env outer old new start _ result
+    (is
+    ∙ ap (λ (l : List Argument). piece env (pending_of env outer (reverse old.pending.items)) l s) (sym left)
+    ∙ ap (λ (l : List Work). piece env (pending_of env outer (reverse l)) (operands_of taken) s) (sym same))
+    (does env outer s agrees)
+
 -- a piece of work whose operands were taken from the stack
 pub goes_on_below : (old taken new : Run) (env : Surroundings) (outer : Resumption) (s : State) (piece : Surroundings → Resumption → Resumption)
     (below : List Argument) (result : Result (Option Ending) AllocError) (start : Reply (Unit {0})) → taken ≡ record old { operands = taken.operands } →
     operands_of taken ≡ below → start ≡ piece env (pending_of env outer (reverse old.pending.items)) below s → Agrees env outer old s →
     Does piece taken result new → Continues start result new
 goes_on_below old taken new env outer s piece below result start same left is agrees does =
-    let agreed : Agrees env outer taken s = subst (λ (r : Run). Agrees env outer r s) (sym same) agrees in
-    continues_as env outer old new start _ result
-    (is
-    ∙ ap (λ (l : List Argument). piece env (pending_of env outer (reverse old.pending.items)) l s) (sym left)
-    ∙ ap (λ (r : Run). piece env (pending_of env outer (reverse r.pending.items)) (operands_of taken) s) (sym same))
-    (does env outer s agreed)
+    goes_on_from old taken new env outer s piece below result start (ap (λ (r : Run). r.pending.items) same) left is
+    (agreed_below old taken env outer s same agrees) does
 
 -- a statement, and then the rest
 abbrev pub executing : Stmt → Surroundings → Resumption → Resumption
@@ -148,15 +155,12 @@ pub taken : (env : Surroundings) (outer : Resumption) (run : Run) (left : List W
 taken env outer run left work t is =
     ap (λ (l : List Work). pending_of env outer l (operands_of run) t) (ap reverse is ∙ reverse_push left work)
 
--- the topmost operand is stored
-pub stores : (env : Surroundings) (fits : RangeTest) (next : Resumption) (operands : List Argument) (s : State) (v : Value) → v ≡ top_of operands →
-    is_in fits.range v ≡ true → resumed env (work.Store fits) next operands s ≡
-    next (below_top (below_top operands)) (record s { store = kept s.store (top_place (below_top operands)) v })
-stores env fits next operands s v top fine =
-    let then_rest : Value → Unit {0} → Action (Unit {0}) =
-    λ u _. store (top_place (below_top operands)) u >>= λ _. next (below_top (below_top operands)) in
-    ap (λ (u : Value). and_then (require (is_in fits.range u) fits.site s) (then_rest u)) (sym top)
-    ∙ ap (λ (b : Bool). and_then (require b fits.site s) (then_rest v)) fine
+-- a value in its range is stored
+pub keeps : (place : Option Place) (v u : Value) (range : OrdinalRange) (ending : Ending) (next : Resumption) (operands : List Argument) (s : State) →
+    v ≡ u → is_in range v ≡ true → keeping place v range ending next operands s ≡ next operands (record s { store = kept s.store place u })
+keeps place v u range ending next operands s same fine =
+    ap (λ (b : Bool). and_then (or_end b ending s) (λ _. store place v >>= λ _. next operands)) fine
+    ∙ ap (λ (w : Value). next operands (record s { store = kept s.store place w })) same
 
 -- an index that was tested
 abbrev pub index_answer : Option Place → Result ℤ ℕ → Action (Option Place)

@@ -146,11 +146,11 @@ does-Links first rest all is env outer works operands s =
     ∙ and_then-and_then value combination then_rest
 
 -- what is pending after a statement
-abbrev executed : Surroundings → Resumption → Stmt → List Work → List Argument → Action (Unit {0})
+abbrev pub executed : Surroundings → Resumption → Stmt → List Work → List Argument → Action (Unit {0})
 executed env outer e works operands = effect_of e env >>= λ _. pending_of env outer works operands
 
 -- a statement that is made of a layer, and then the rest
-executed-rolled : (x : Stmt-F Stmt) (given made : Stmt) → given ≡ made → roll-Stmt x ≡ made →
+pub executed-rolled : (x : Stmt-F Stmt) (given made : Stmt) → given ≡ made → roll-Stmt x ≡ made →
     (env : Surroundings) (outer : Resumption) (works : List Work) (operands : List Argument) (s : State) →
     executed env outer given works operands s ≡
     and_then (effect_step (map-Stmt Stmt Execution effect_of x) env s) (λ _. pending_of env outer works operands)

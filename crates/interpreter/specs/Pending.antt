@@ -2,7 +2,7 @@
 -- It says nothing of how many steps the work takes.
 use Rattle.std.specs.Prelude.{◌≡◌, ◌+◌, ◌^◌, ◌<◌, ◌≤◌, zero, suc, ℕ, ℤ, pos, Bool, List, [], ◌∷◌, Option, Some, None}
 use Rattle.std.specs.Prelude.{Result, Ok, Err, Vec, IfOk}
-use Rattle.std.specs.Prelude.{if◌then◌else◌, drop, length, map, reverse, slice_get}
+use Rattle.std.specs.Prelude.{if◌then◌else◌, length, map, reverse, slice_get}
 use Rattle.std.specs.BTreeMap.{BTreeMap, get}
 use Rattle.std.specs.declared.alloc.AllocError.{AllocError}
 use Rattle.std.specs.declared.alloc.Global.{Global}
@@ -10,6 +10,7 @@ use Rattle.std.specs.declared.boxed.Box.{Box}
 use Rattle.types.specs.declared.form.Step.{Step}
 use Rattle.types.specs.declared.form.Step.TheVariants as step
 use Rattle.types.specs.Components.{components_of}
+use Rattle.types.specs.declared.form.OrdinalRange.{OrdinalRange}
 use Rattle.typed_tree.specs.declared.tree.Tree.{Tree}
 use Rattle.typed_tree.specs.declared.tree.Block.{Block}
 use Rattle.typed_tree.specs.declared.tree.Call.{Call}
@@ -25,6 +26,8 @@ use Rattle.typed_tree.specs.declared.tree.ForHead.{ForHead}
 use Rattle.typed_tree.specs.declared.tree.LoopHead.{LoopHead}
 use Rattle.typed_tree.specs.declared.tree.ProcedureCall.{ProcedureCall}
 use Rattle.typed_tree.specs.declared.tree.RangeTest.{RangeTest}
+use Rattle.typed_tree.specs.declared.tree.ReadVariable.{ReadVariable}
+use Rattle.typed_tree.specs.declared.tree.InputTest.{InputTest}
 use Rattle.typed_tree.specs.declared.tree.Expr.{Expr}
 use Rattle.typed_tree.specs.declared.tree.Stmt.{Stmt}
 use Rattle.typed_tree.specs.declared.tree.Whole.{Whole}
@@ -46,19 +49,22 @@ use Rattle.interpreter_state.specs.declared.work.Rounds.TheVariants.{Between, Be
 use Rattle.interpreter_state.specs.declared.work.Work.{Work}
 use Rattle.interpreter_state.specs.declared.work.Work.TheVariants as work
 use Rattle.interpreter_state.specs.contracts.store.PlaceOrd.TheImpl.{ghosts as places}
-use Rattle.interpreter_state.specs.Views.{operand_seen, place_of, place_seen, records_in, row_in, value_in, visible_in}
+use Rattle.interpreter_state.specs.Views.{left_in, operand_seen, place_of, place_seen, records_in, row_in, value_in}
+use Rattle.interpreter_state.specs.Views.{visible_in}
 use Rattle.interpreter.specs.declared.interpreter.Run.{Run}
 use Rattle.meaning.specs.Store.{Environment, Place, Store, held, kept, part, stored}
-use Rattle.meaning.specs.Effect.{State, Reply, Gives, Stops, Action, Round, ◌>>=◌, give, require, enter, use_turn}
+use Rattle.meaning.specs.Effect.{State, Reply, Gives, Stops, Action, Round, ◌>>=◌, give, stop, require, enter, use_turn}
 use Rattle.meaning.specs.Effect.{another, fetch, fetch_all, looped, number_of, store, store_all, undefine, write, is_in}
 use Rattle.meaning.specs.Effect.{end_with, members_of, row_text, text_of}
 use Rattle.meaning.specs.Meaning.{Argument, OfValue, OfPlace, OfRow, Surroundings, Combination, Execution, Passing}
-use Rattle.meaning.specs.Meaning.{activated, begun, calls_of, completed, ended, operated, compared, passing_of}
+use Rattle.meaning.specs.Integers.{truth}
+use Rattle.meaning.specs.Meaning.{activated, begun, calls_of, ended, operated, compared, passing_of}
 use Rattle.meaning.specs.Meaning.{opened, operated_both, with_one, with_range, with_record}
 use Rattle.meaning.specs.Meaning.{place_passed, result_of, run_of}
 use Rattle.meaning.specs.Meaning.{default_width, link_of, selected, value_of, values_of, whole_of}
 use Rattle.meaning.specs.Meaning.{effect_of, all_of, width_of, parameter_of, line_ended, is_so, turn_if, while_round}
-use Rattle.meaning.specs.Meaning.{repeat_round, for_between, arm_of}
+use Rattle.meaning.specs.Meaning.{repeat_round, for_between, arm_of, asked, line_passed, read_as, read_of}
+use Rattle.meaning.specs.Meaning.{unless_outside}
 
 -- what is done with the operands, the topmost first, and the state
 abbrev pub Resumption : Type 0
@@ -118,6 +124,36 @@ linking env (link ∷ links) next operands = with_top (λ v. giving (link env v)
 abbrev pub line_ending : Bool → Resumption → Resumption
 line_ending ends_line next operands = do
   _ ← line_ended ends_line
+  next operands
+
+-- the line end of a readln, and then the rest
+abbrev pub line_passing : Option ℕ → Resumption → Resumption
+line_passing point next operands = do
+  _ ← line_passed point
+  next operands
+
+-- a variable is read whose place is known
+abbrev pub read_at : ReadVariable → Option Place → Action (Unit {0})
+read_at one place = do
+  n ← read_as one.reads one.point
+  _ ← unless_outside one.range one.point n
+  store place (Number n)
+
+-- what is asked of the input is the topmost operand, and then comes the rest
+abbrev pub asking : InputTest → Resumption → Resumption
+asking asks next operands = do
+  b ← asked asks
+  next (OfValue (Number (truth b)) ∷ operands)
+
+-- the run goes on, or it ends so
+abbrev pub or_end : Bool → Ending → Action (Unit {0})
+or_end goes_on ending = if goes_on then give tt else stop ending
+
+-- a value is stored, if it lies in a range; else the run ends so
+abbrev pub keeping : Option Place → Value → OrdinalRange → Ending → Resumption → Resumption
+keeping place v range ending next operands = do
+  _ ← or_end (is_in range v) ending
+  _ ← store place v
   next operands
 
 -- the statement behind `else`, or nothing where there is none
@@ -270,7 +306,7 @@ resumed env (work.Statement statement) next operands = do
   next operands
 resumed env (work.Choose consequence alternative) next operands =
     with_top
-    (λ v below. chosen (is_so v) consequence.now alternative.now env >>= λ _. next below)
+    (λ v below. chosen (is_so v) consequence.now.value alternative.now env >>= λ _. next below)
     operands
 resumed env (work.WhileTurn head body) next operands =
     with_top
@@ -296,6 +332,11 @@ resumed env (work.Case head arms) next operands =
 resumed env (work.Parameters parameters ends_line) next operands = do
   _ ← all_of (map parameter_of parameters.now) env
   line_ending ends_line next operands
+resumed env (work.Variables variables line) next operands = do
+  _ ← all_of (map read_of variables.now) env
+  line_passing line next operands
+resumed env (work.Read variable) next operands =
+    with_place (λ place below. read_at variable.now place >>= λ _. next below) operands
 resumed env (work.Width width representation) next operands =
     giving_number (width_of width.now (default_width representation) env) next operands
 resumed env (work.WidthTest site) next operands =
@@ -508,7 +549,7 @@ Agrees env outer run s = record {
   deep : run.turns ≤ run.activation.depth;
   few : run.called + run.turns < 2 ^ 64;
   store : StoreAgrees run.store s.store;
-  input : drop run.taken (completed run.input.now) ≡ s.input;
+  input : left_in run.input ≡ s.input;
   output : run.output.items ≡ s.output;
   turns : run.turns ≡ s.turns;
   activations : suc run.called ≡ s.activations;
@@ -585,7 +626,7 @@ IsFresh run s = record {
   called : run.called ≡ 0;
   few : run.turns < 2 ^ 64;
   store : StoreAgrees run.store s.store;
-  input : drop run.taken (completed run.input.now) ≡ s.input;
+  input : left_in run.input ≡ s.input;
   output : run.output.items ≡ s.output;
   turns : run.turns ≡ s.turns;
   activations : s.activations ≡ 1;

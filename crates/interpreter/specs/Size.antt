@@ -10,6 +10,7 @@ use Rattle.typed_tree.specs.declared.tree.Assignment.{Assignment}
 use Rattle.typed_tree.specs.declared.tree.Copying.{Copying}
 use Rattle.typed_tree.specs.declared.tree.Designator.{Designator}
 use Rattle.typed_tree.specs.declared.tree.ProcedureCall.{ProcedureCall}
+use Rattle.typed_tree.specs.declared.tree.ReadVariable.{ReadVariable}
 use Rattle.typed_tree.specs.declared.tree.Width.{Width}
 use Rattle.typed_tree.specs.declared.tree.WithRecord.{WithRecord}
 use Rattle.typed_tree.specs.declared.tree.WriteParameter.{WriteParameter}
@@ -23,13 +24,13 @@ use Rattle.typed_tree.specs.declared.tree.Link.{Link}
 use Rattle.typed_tree.specs.declared.tree.Passed.{Passed}
 use Rattle.typed_tree.specs.declared.tree.Expr.TheOpen.{Expr-F, Passed-F, Link-F}
 use Rattle.typed_tree.specs.declared.tree.Expr.TheOpen.Expr-F.{Constant, Variable, Monadic, Chain, Compare}
-use Rattle.typed_tree.specs.declared.tree.Expr.TheOpen.Expr-F.{Call as CallOf, Set}
+use Rattle.typed_tree.specs.declared.tree.Expr.TheOpen.Expr-F.{Call as CallOf, Input, Set}
 use Rattle.typed_tree.specs.declared.tree.Expr.TheOpen.Passed-F.{Value as PassedValue, Whole as PassedWhole, Reference}
 use Rattle.typed_tree.specs.declared.tree.Expr.TheFolds.{fold-Expr, fold-Passed, fold-Link}
 use Rattle.typed_tree.specs.declared.tree.Stmt.{Stmt}
 use Rattle.typed_tree.specs.declared.tree.Stmt.TheOpen.{Stmt-F}
 use Rattle.typed_tree.specs.declared.tree.Stmt.TheOpen.Stmt-F.{Empty, Assign, Write, Compound, If, While, Repeat, For}
-use Rattle.typed_tree.specs.declared.tree.Stmt.TheOpen.Stmt-F.{Case, Copy, Call as Calling, With}
+use Rattle.typed_tree.specs.declared.tree.Stmt.TheOpen.Stmt-F.{Case, Copy, Call as Calling, Read, With}
 use Rattle.typed_tree.specs.declared.tree.Stmt.TheFolds.{fold-Stmt}
 use Rattle.meaning.specs.declared.outcome.Ending.{Ending}
 use Rattle.interpreter.specs.declared.interpreter.Run.{Run}
@@ -72,6 +73,7 @@ expression_size (Monadic n operation operand) = 2 + operand.value
 expression_size (Chain first rest) = 2 + first.value + row_size 3 rest.items
 expression_size (Compare n relation left left_indexes right right_indexes) =
     4 + whole_size left left_indexes.items + whole_size right right_indexes.items
+expression_size (Input n asks) = 0
 expression_size (Set n designators members) = 1 + gather_size designators.items members.items
 expression_size (CallOf call actuals) = call_size actuals.items
 
@@ -100,6 +102,9 @@ size_of_written (String value indexes) = 2 + size_of_whole value indexes.items
 
 abbrev pub size_of_parameter : WriteParameter → ℕ
 size_of_parameter parameter = size_of_written parameter.value + size_of_width parameter.width
+
+abbrev pub size_of_read : ReadVariable → ℕ
+size_of_read one = size_of_selectors one.access.selectors.items one.indexes.items
 
 abbrev pub size_of_assignment : Assignment → ℕ
 size_of_assignment assignment =
@@ -134,6 +139,7 @@ statement_size (Empty n) = 0
 statement_size (Assign assignment) = size_of_assignment assignment
 statement_size (Copy copying) = size_of_copying copying
 statement_size (Write writing) = row_size 1 (map size_of_parameter writing.parameters.items)
+statement_size (Read reading) = row_size 3 (map size_of_read reading.variables.items)
 statement_size (Calling procedure) = size_of_procedure procedure
 statement_size (Compound n statements) = row_size 2 statements.items
 statement_size (If n condition consequence alternative) =
@@ -158,9 +164,10 @@ abbrev pub size_of : Work → ℕ
 size_of (work.Statements statements) = row_size 2 (map size_of_statement statements.now)
 size_of (work.Statement statement) = size_of_statement statement.now
 size_of (work.Choose consequence alternative) =
-    1 + size_of_statement consequence.now + size_of_alternative alternative.now
+    1 + size_of_statement consequence.now.value + size_of_alternative alternative.now
 size_of (work.Case head arms) = row_size 1 (map size_of_statement arms.now.items)
 size_of (work.Parameters parameters ends_line) = row_size 1 (map size_of_parameter parameters.now)
+size_of (work.Variables variables line) = row_size 3 (map size_of_read variables.now)
 size_of (work.Width width representation) = size_of_width width.now
 size_of (work.Select selectors indexes) = size_of_selectors selectors.now indexes.now
 size_of (work.Whole value indexes) = size_of_whole value.now indexes.now

@@ -1,20 +1,22 @@
-ghost use Rattle.std.specs.Prelude.{◌≡◌, ◌+◌, ◌∷◌, [], OnOk};
+ghost use Rattle.std.specs.Prelude.{◌≡◌, ◌+◌, ◌∷◌, [], OnOk, option_map};
 ghost use Rattle.meaning.specs.Store.{part};
 ghost use Rattle.meaning.specs.Meaning.{OfPlace};
-ghost use Rattle.interpreter.specs.Pending.{Does, accessing, below_top, operands_of, resumed, selecting};
+ghost use Rattle.interpreter_state.specs.Views.{place_seen};
+ghost use Rattle.interpreter.specs.Pending.{Does, accessing, below_top, keeping, operands_of, resumed, selecting};
 ghost use Rattle.interpreter.specs.Pending.{top_place};
 ghost use Rattle.interpreter.specs.Size.{Adds, Lightens, size_of, size_of_selectors};
 
 use crate::interpreter::Run;
 use interpreter_state::operand::Operand;
-use interpreter_state::store::part;
+use interpreter_state::store::{Place, part};
 use interpreter_state::work::{Work, put};
 use meaning::outcome::Ending;
+use meaning::store::Value;
 use operations::ordinals::{tested_index, value_in};
 use operations::rows::row_of;
 use std::alloc::AllocError;
 use typed_tree::tree::{Access, Expr, RangeTest, Selector, Whole};
-use types::{Step, TypeId};
+use types::{OrdinalRange, Step, TypeId};
 
 // The steps of accesses and of whole values.
 impl<'t> Run<'t, '_> {
@@ -31,13 +33,11 @@ impl<'t> Run<'t, '_> {
     {
         let place = self.start(access)?;
         self.push(Operand::Place(place))?;
-        self.plan(
-            Work::Select {
-                selectors: &access.selectors,
-                indexes,
-            },
-            later,
-        )
+        let select = Work::Select {
+            selectors: &access.selectors,
+            indexes,
+        };
+        self.plan(select, later)
     }
 
     pub(crate) fn select(
@@ -131,12 +131,26 @@ impl<'t> Run<'t, '_> {
     {
         let value = self.popped();
         let place = self.popped_place();
-        match value_in(fits.range, value) {
+        self.keep_within(place, value, fits.range, Ending::Error(fits.site))
+    }
+
+    // Keeps a value at a place if it lies in a range; else the run ends so.
+    pub(crate) fn keep_within(
+        &mut self,
+        place: Option<Place>,
+        value: Value,
+        range: OrdinalRange,
+        ending: Ending,
+    ) -> Result<Option<Ending>, AllocError>
+        ensures size { Adds 0 self.old result self.new }
+        ensures does { Does (λ env. keeping (option_map place_seen place) value range ending) self.old result self.new }
+    {
+        match value_in(range, value) {
             Some(value) => {
                 self.keep(place, value)?;
                 Ok(None)
             }
-            None => Ok(Some(Ending::Error(fits.site))),
+            None => Ok(Some(ending)),
         }
     }
 

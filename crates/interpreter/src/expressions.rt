@@ -52,6 +52,7 @@ impl<'t> Run<'t, '_> {
                     indexes: right_indexes,
                 },
             ),
+            Expr::Input { asks, .. } => self.asked(*asks),
             Expr::Set {
                 designators,
                 members,

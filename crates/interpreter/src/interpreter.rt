@@ -5,6 +5,7 @@ ghost use Rattle.interpreter.specs.Pending.{turning_tested};
 ghost use Rattle.interpreter.specs.Size.{Adds, Lightens, Shrinks, size_of, size_of_expression};
 
 use interpreter_state::activation::Activation;
+use interpreter_state::input::Input;
 use interpreter_state::operand::Operand;
 use interpreter_state::store::Place;
 use interpreter_state::work::{Caller, Work, put};
@@ -30,8 +31,7 @@ pub fn interpret(
         alloc,
         tree,
         store: BTreeMap::new(alloc),
-        input,
-        taken: 0,
+        input: Input::new(input),
         output: Vec::new(alloc),
         turns,
         called: 0,
@@ -53,9 +53,8 @@ pub(crate) struct Run<'t, 'i> {
     pub(crate) alloc: Global,
     pub(crate) tree: &'t Tree,
     pub(crate) store: BTreeMap<Place, Value>,
-    input: &'i [u8],
-    // How many bytes of the input were read, its last line end among them if it has to be supplied.
-    taken: usize,
+    // What is left of the input.
+    pub(crate) input: Input<'i>,
     pub(crate) output: Vec<u8>,
     // How many turns are left.
     pub(crate) turns: u64,
@@ -149,6 +148,8 @@ impl<'t> Run<'t, '_> {
                 parameters,
                 ends_line,
             } => self.parameters(parameters, ends_line),
+            Work::Variables { variables, line } => self.variables(variables, line),
+            Work::Read(variable) => self.read(variable),
             Work::Width {
                 width,
                 representation,

@@ -7,6 +7,7 @@ mod calls;
 mod expressions;
 mod interpreter;
 mod operand;
+mod reading;
 mod statements;
 mod variables;
 

@@ -46,6 +46,7 @@ impl<'t> Run<'t, '_> {
             Stmt::Assign(assignment) => self.assignment(assignment),
             Stmt::Copy(copying) => self.copying(copying),
             Stmt::Write(writing) => self.parameters(&writing.parameters, writing.ends_line),
+            Stmt::Read(reading) => self.variables(&reading.variables, reading.line),
             Stmt::Call(procedure) => self.procedure(procedure),
             Stmt::Compound { statements, .. } => self.statements(statements),
             Stmt::If {
@@ -118,7 +119,7 @@ impl<'t> Run<'t, '_> {
 
     pub(crate) fn choose(
         &mut self,
-        consequence: &'t Stmt,
+        consequence: &'t Box<Stmt>,
         alternative: &'t Option<Box<Stmt>>,
     ) -> Result<Option<Ending>, AllocError>
         ensures fewer { Lightens (Work.Choose consequence.entry alternative.entry) self.old result self.new }

@@ -1,1 +1,2 @@
+mod Inputs
 pub mod Sees

@@ -1,8 +1,13 @@
--- What the definitions of the meaning see of the data that an interpreter keeps: places, what is in hand, and where the
--- variables lie that are visible in an activation.
+-- What the definitions of the meaning see of the data that an interpreter keeps: places, what is in hand, where the
+-- variables lie that are visible in an activation, and the input that is left.
 -- It says nothing of when activations begin and end.
-use Rattle.std.specs.Prelude.{ℕ, pos, List, [], ◌∷◌, Option, Some, None, if◌then◌else◌, map, nat_eq, option_map}
-use Rattle.std.specs.Prelude.{slice_get}
+use Rattle.std.specs.Prelude.{ℕ, ℤ, pos, Bool, List, [], ◌∷◌, ◌++◌, Option, Some, None, Result, Ok, Err}
+use Rattle.std.specs.Prelude.{if◌then◌else◌, map, nat_eq, option_map, slice_get}
+use Rattle.text_input.specs.declared.InputFault.{InputFault}
+use Rattle.text_input.specs.declared.InputFault.TheVariants as fault
+use Rattle.text_input.specs.Input.{Reading, Reads, Fails, Ends, read_character, read_integer}
+use Rattle.typed_tree.specs.declared.tree.Readable.{Readable}
+use Rattle.typed_tree.specs.declared.tree.Readable.TheVariants as readable
 use Rattle.typed_tree.specs.Accesses.{Origin, AtVariable, AtRecord}
 use Rattle.typed_tree.specs.declared.tree.Variable.{Variable as DeclaredVariable}
 use Rattle.typed_tree.specs.declared.tree.VariableKind.{VariableKind}
@@ -11,6 +16,7 @@ use Rattle.meaning.specs.declared.store.Value.{Value}
 use Rattle.meaning.specs.declared.store.Value.TheVariants.{Number}
 use Rattle.meaning.specs.Store.{Place}
 use Rattle.meaning.specs.Meaning.{Argument, OfValue, OfRow, OfPlace, own_place, place_at, place_passed}
+use Rattle.interpreter_state.specs.declared.input.Input.{Input}
 use Rattle.interpreter_state.specs.declared.store.Place.{Place as KeptPlace}
 use Rattle.interpreter_state.specs.declared.operand.Operand.{Operand}
 use Rattle.interpreter_state.specs.declared.operand.Operand.TheVariants as operand
@@ -95,3 +101,43 @@ abbrev pub start_of : Activation → List DeclaredVariable → Origin → Option
 start_of activation variables (AtVariable root) =
     place_of (visible_in activation) root (slice_get variables root)
 start_of activation variables (AtRecord root slot path) = place_at (slice_get (records_in activation) slot)
+
+-- ---- the input
+
+-- what is left of an input, with the line end that is supplied behind it
+abbrev pub left_in : Input → List ℕ
+left_in input = input.bytes.now ++ (if input.lacks_end then 10 ∷ [] else [])
+
+-- what is wrong with the input
+abbrev pub failed : {A : Type 0} → InputFault → Reading A
+failed fault.EndOfInput = Ends
+failed other = Fails other
+
+-- what is read and what is left behind it, or what is wrong
+abbrev pub told : Result (ℤ × Input) InputFault → Reading ℤ
+told (Ok read) = Reads read.0 (left_in read.1)
+told (Err why) = failed why
+
+-- what is left behind a line, or what is wrong
+abbrev pub passed : Result Input InputFault → Reading (Unit {0})
+passed (Ok rest) = Reads tt (left_in rest)
+passed (Err why) = failed why
+
+-- what is so at the beginning of an input, or what is wrong
+abbrev pub looked : Input → Result Bool InputFault → Reading Bool
+looked input (Ok is_so) = Reads is_so (left_in input)
+looked input (Err why) = failed why
+
+-- a character by its ordinal number
+abbrev pub by_number : Reading ℕ → Reading ℤ
+by_number (Reads n rest) = Reads (pos n) rest
+by_number (Fails why) = Fails why
+by_number Ends = Ends
+
+abbrev pub character_read : List ℕ → Reading ℤ
+character_read bytes = by_number (read_character bytes)
+
+-- what is read for a variable
+abbrev pub read_by : Readable → List ℕ → Reading ℤ
+read_by readable.Integer bytes = read_integer bytes
+read_by readable.Char bytes = character_read bytes

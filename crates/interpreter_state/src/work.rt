@@ -4,7 +4,8 @@ use crate::activation::Activation;
 use std::alloc::AllocError;
 use typed_tree::tree::{
     CaseHead, Designator, Dyadic, Expr, ForHead, Link, LoopHead, Monadic, Passed, RangeTest,
-    Relation, Representation, Selector, Stmt, Whole, Width, WithRecord, WriteParameter,
+    ReadVariable, Relation, Representation, Selector, Stmt, Whole, Width, WithRecord,
+    WriteParameter,
 };
 use types::TypeId;
 
@@ -16,7 +17,7 @@ pub enum Work<'t> {
     Statement(&'t Stmt),
     /// The statement of an if that the topmost value chooses.
     Choose {
-        consequence: &'t Stmt,
+        consequence: &'t Box<Stmt>,
         alternative: &'t Option<Box<Stmt>>,
     },
     /// A turn of a while, and its further rounds, if the topmost value asks for them.
@@ -62,6 +63,13 @@ pub enum Work<'t> {
     WriteRowIn {
         places: usize,
     },
+    /// The variables of a read, one after another, and behind them the line end of a readln, wanted at its point.
+    Variables {
+        variables: &'t [ReadVariable],
+        line: Option<u32>,
+    },
+    /// Reads a variable, whose place is topmost.
+    Read(&'t ReadVariable),
     /// Tests the topmost value and stores it at the place below it.
     Store(RangeTest),
     /// Stores the topmost row at the place below it, which has this type.

@@ -398,5 +398,6 @@ fn counts_the_failures_of_a_reader(rt: HostRuntime) {
 fn laws_are_called(_rt: HostRuntime) -> Result<(), Fail> {
     laws::runs_compose();
     laws::output_only_grows();
+    laws::runs_on_bytes();
     Ok(())
 }

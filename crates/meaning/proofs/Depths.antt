@@ -14,6 +14,7 @@ use Rattle.meaning.specs.Meaning.{Argument, Calls, all_of, value_of, effect_of, 
 use Rattle.meaning.specs.Laws.{state_after, Extends, TurnsGoOn, TurnsExtendTheOutput, EndingsStay, DepthsAreEnough, standing}
 use Rattle.meaning.proofs.Walks.{Closed, closed_by_rounds, RelatedCalls, of_value, of_effect, of_statements, of_executed}
 use Rattle.meaning.proofs.Turns.{Extended, extended_give, extended_stop, extended_enter, extended_fetch, extended_store, extended_undefine, extended_write}
+use Rattle.meaning.proofs.Turns.{extended_take, extended_end}
 use Rattle.meaning.proofs.Turns.{extended_use_turn, extended_end_with, extended_run, activation_of, output_extended, ending_kept}
 
 -- of two actions: from each state with fewer turns than a bound they do the same, and give none back
@@ -69,6 +70,9 @@ module _ (bound : ℕ) where
     undefines = λ place. agrees bound _ (extended_undefine place);
     writes = λ bytes. agrees bound _ (extended_write bytes);
     turns = agrees bound _ extended_use_turn;
+    takes = λ point reading. agrees bound _ (extended_take point reading);
+    asks = agrees bound _ extended_end;
+    refuses = λ point why. agrees bound _ (extended_stop (ending.Input point why));
   }) (λ A round other each a. agreed_looped round other each a)
 
 -- an activation begins, and then comes what agrees with one turn less

@@ -11,6 +11,8 @@ use Rattle.meaning.specs.Effect.{State, Reply, Gives, Stops, Action, Round, ◌>
 use Rattle.meaning.specs.Effect.{begin_with, end_with}
 use Rattle.meaning.specs.Meaning.{Argument, Calls, Surroundings, all_of, value_of, effect_of, executed, activated, calls_of}
 use Rattle.meaning.specs.Laws.{CallsReturn}
+use Rattle.meaning.specs.Effect.{taken}
+use Rattle.text_input.specs.Input.{Reading, Reads, Fails, Ends}
 use Rattle.meaning.proofs.Walks.{Closed, closed_by_rounds, of_value, of_effect, of_statements}
 use Rattle.meaning.proofs.Turns.{activation_of}
 
@@ -50,6 +52,11 @@ module _ {A : Type 0} (round : Round A) (each : (a : A) (s : State) → Lasting 
       lasting_rest s.living (round a s) (λ more. another more (looping left round)) (each a s)
       (λ more t. lasting_another more (looping left round) (lasting_looping left) t)
 
+lasting_taken : {A : Type 0} (point : ℕ) (reading : Reading A) (s : State) → Lasting s.living (taken point reading s)
+lasting_taken point (Reads a rest) s = refl
+lasting_taken point (Fails why) s = tt
+lasting_taken point Ends s = tt
+
 lasts_closed : Closed Lasts
 lasts_closed = closed_by_rounds Lasts (record {
   follows = λ action other rest others first each s. lasting_rest s.living (action s) rest (first s) each;
@@ -61,6 +68,9 @@ lasts_closed = closed_by_rounds Lasts (record {
   undefines = λ place s. refl;
   writes = λ bytes s. refl;
   turns = λ s. lasting_turn s.turns s;
+  takes = λ point reading s. lasting_taken point (reading s.input) s;
+  asks = λ s. refl;
+  refuses = λ point why s. tt;
 }) (λ A round other each a s. lasting_looping round each s.turns a s)
 
 -- ---- calls

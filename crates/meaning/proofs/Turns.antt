@@ -20,6 +20,8 @@ use Rattle.meaning.specs.Effect.{fetched, fetch, store, undefine, write, begin_w
 use Rattle.meaning.specs.Meaning.{Argument, Calls, Surroundings, Activation, all_of, accessed, whole_of, values_of, value_of, passing_of, effect_of, call_of}
 use Rattle.meaning.specs.Meaning.{executed, activated, calls_of, Meaning, run_of, ended}
 use Rattle.meaning.specs.Laws.{with_turns, reply_with_turns, state_after, Begins, Extends}
+use Rattle.meaning.specs.Effect.{at_end, take_in, taken}
+use Rattle.text_input.specs.Input.{Reading, Reads, Fails, Ends}
 use Rattle.meaning.proofs.Walks.{Closed, closed_by_rounds, of_value, of_passing, of_access, of_whole_value, of_called, of_effect, of_statements, of_executed}
 
 -- nothing more was written
@@ -93,6 +95,22 @@ extended_undefine p = record { grows = λ s. nothing s.output; falls = λ s. ome
 
 pub extended_write : (bytes : List ℕ) → Extended (write bytes)
 extended_write bytes = record { grows = λ s. (bytes, refl); falls = λ s. omega arith; extends = λ more s. inl refl }
+
+-- what is taken of the input writes nothing, whatever the turns
+pub extended_taken : {A : Type 0} (point : ℕ) (reading : Reading A) → Extended (taken point reading)
+extended_taken point (Reads a rest) = record { grows = λ s. nothing s.output; falls = λ s. omega arith; extends = λ more s. inl refl }
+extended_taken point (Fails why) = record { grows = λ s. nothing s.output; falls = λ s. omega arith; extends = λ more s. inl refl }
+extended_taken point Ends = record { grows = λ s. nothing s.output; falls = λ s. omega arith; extends = λ more s. inl refl }
+
+pub extended_take : {A : Type 0} (point : ℕ) (reading : List ℕ → Reading A) → Extended (take_in point reading)
+extended_take point reading = record {
+  grows = λ s. (extended_taken point (reading s.input)).grows s;
+  falls = λ s. (extended_taken point (reading s.input)).falls s;
+  extends = λ more s. (extended_taken point (reading s.input)).extends more s;
+}
+
+pub extended_end : Extended at_end
+extended_end = record { grows = λ s. nothing s.output; falls = λ s. omega arith; extends = λ more s. inl refl }
 
 -- a turn writes nothing
 turn_grows : (turns : ℕ) (s : State) → Begins s.output (state_after (take_turn turns s)).output
@@ -230,6 +248,9 @@ extended_closed = closed_by_rounds (λ A action other. Extended action) (record 
   undefines = extended_undefine;
   writes = extended_write;
   turns = extended_use_turn;
+  takes = λ point reading. extended_take point reading;
+  asks = extended_end;
+  refuses = λ point why. extended_stop (ending.Input point why);
 }) (λ A round other each a. extended_looped round each a)
 
 -- what calls do, more turns only extend

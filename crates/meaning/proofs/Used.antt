@@ -16,8 +16,11 @@ use Rattle.meaning.specs.Effect.{State, Reply, Gives, Stops, Action, Round, ◌>
 use Rattle.meaning.specs.Effect.{fetched, fetch, store, begin_with, begin, living_now, end_with}
 use Rattle.meaning.specs.Meaning.{Argument, Calls, Surroundings, Activation, all_of, value_of, effect_of, executed, activated, calls_of, is_so, turn_if}
 use Rattle.meaning.specs.Laws.{state_after, UsedTurns, UsesTurnsExactly, StatementsUseTurnsExactly, standing}
+use Rattle.meaning.specs.Effect.{at_end, take_in, taken}
+use Rattle.text_input.specs.Input.{Reading, Reads, Fails, Ends}
 use Rattle.meaning.proofs.Walks.{Closed, while_again, repeat_again, for_again, of_value, of_effect, of_statements, of_executed}
 use Rattle.meaning.proofs.Turns.{Extended, extended_then, extended_give, extended_stop, extended_enter, extended_fetch, extended_store, extended_undefine}
+use Rattle.meaning.proofs.Turns.{extended_take, extended_end}
 use Rattle.meaning.proofs.Turns.{extended_write, extended_use_turn, extended_closed, activation_of, extended_calls}
 use Rattle.meaning.proofs.Loops.{UsesTurns, Spent, looped-rounds, while_uses, repeat_uses, counted_uses}
 
@@ -51,6 +54,17 @@ fetched_turns (Some v) site s = refl
 fetched_left : (value : Option Value) (site : ℕ) (s : State) (left : ℕ) → fetched value site (record s { turns = left }) ≡ left_at left (fetched value site s)
 fetched_left None site s left = refl
 fetched_left (Some v) site s left = refl
+
+taken_turns : {A : Type 0} (point : ℕ) (reading : Reading A) (s : State) → (state_after (taken point reading s)).turns ≡ s.turns
+taken_turns point (Reads a rest) s = refl
+taken_turns point (Fails why) s = refl
+taken_turns point Ends s = refl
+
+taken_left : {A : Type 0} (point : ℕ) (reading : Reading A) (s : State) (left : ℕ)
+    → taken point reading (record s { turns = left }) ≡ left_at left (taken point reading s)
+taken_left point (Reads a rest) s left = refl
+taken_left point (Fails why) s left = refl
+taken_left point Ends s left = refl
 
 -- ---- one after the other
 
@@ -201,6 +215,12 @@ exact_closed = record {
   undefines = λ place. (extended_undefine place, exact_plain _ (λ s. refl) (λ s left. refl));
   writes = λ bytes. (extended_write bytes, exact_plain _ (λ s. refl) (λ s left. refl));
   turns = (extended_use_turn, exact_turn);
+  takes = λ point reading. (
+    extended_take point reading,
+    exact_plain (take_in point reading) (λ s. taken_turns point (reading s.input) s) (λ s left. taken_left point (reading s.input) s left),
+  );
+  asks = (extended_end, exact_plain _ (λ s. refl) (λ s left. refl));
+  refuses = λ point why. (extended_stop (ending.Input point why), exact_stop (stop (ending.Input point why)) (λ s t a is. absurd cc));
   whiles = λ condition test body other tested done.
       (extended_closed.whiles condition condition body body tested.0 done.0, exact_while condition body tested done);
   repeats = λ body other condition test done tested.

@@ -39,13 +39,13 @@ use Rattle.typed_tree.specs.declared.tree.Passed.{Passed}
 use Rattle.typed_tree.specs.declared.tree.Link.{Link}
 use Rattle.typed_tree.specs.declared.tree.Stmt.{Stmt}
 use Rattle.typed_tree.specs.declared.tree.Expr.TheOpen.{Expr-F, Passed-F, Link-F}
-use Rattle.typed_tree.specs.declared.tree.Expr.TheOpen.Expr-F.{Constant, Variable, Monadic as MonadicOf, Chain, Compare, Call as CallOf, Set}
+use Rattle.typed_tree.specs.declared.tree.Expr.TheOpen.Expr-F.{Constant, Variable, Monadic as MonadicOf, Chain, Compare, Call as CallOf, Set, Input}
 use Rattle.typed_tree.specs.declared.tree.Expr.TheOpen.Passed-F.{Value as PassedValue, Whole as PassedWhole, Reference}
 use Rattle.typed_tree.specs.declared.tree.Expr.TheFolds.{map-Expr, map-Passed, map-Link, fold-roll-Expr, fold-roll-Passed, fold-roll-Link}
 use Rattle.typed_tree.specs.declared.tree.Expr.TheFolds.{ind-Expr, ind-Passed}
 use Rattle.typed_tree.specs.declared.tree.Expr.TheViews.{roll-Expr, roll-Passed, roll-Link}
 use Rattle.typed_tree.specs.declared.tree.Stmt.TheOpen.{Stmt-F}
-use Rattle.typed_tree.specs.declared.tree.Stmt.TheOpen.Stmt-F.{Empty, Assign, Copy, Write, Compound, If, While, Repeat, For, Case, Call as Calling, With}
+use Rattle.typed_tree.specs.declared.tree.Stmt.TheOpen.Stmt-F.{Empty, Assign, Copy, Write, Compound, If, While, Repeat, For, Case, Call as Calling, With, Read}
 use Rattle.typed_tree.specs.declared.tree.Stmt.TheFolds.{map-Stmt, fold-roll-Stmt, ind-Stmt}
 use Rattle.meaning.specs.declared.outcome.Ending.TheVariants as ending
 use Rattle.meaning.specs.declared.store.Value.{Value}
@@ -62,6 +62,18 @@ use Rattle.meaning.specs.Meaning.{compared, selected, accessed, whole_of, values
 use Rattle.meaning.specs.Meaning.{line_ended, is_so, turn_if, for_rounds, for_between, is_among, arm_of}
 use Rattle.meaning.specs.Meaning.{begun, gathered, opened, operated_both, with_one, with_range}
 use Rattle.meaning.specs.Meaning.{value_of, passing_of, link_of, effect_of, assign, assign_all, result_of, Activation, environment_of, executed}
+use Rattle.meaning.specs.Meaning.{asked, line_passed, read_as, read_of, unless_outside}
+use Rattle.meaning.specs.Effect.{at_end, take_in}
+use Rattle.meaning.specs.Integers.{truth}
+use Rattle.text_input.specs.declared.InputFault.{InputFault}
+use Rattle.text_input.specs.declared.InputFault.TheVariants.{OutsideType}
+use Rattle.text_input.specs.Input.{Reading, read_character, read_eoln, read_integer, read_line}
+use Rattle.types.specs.declared.form.OrdinalRange.{OrdinalRange}
+use Rattle.typed_tree.specs.declared.tree.ReadVariable.{ReadVariable}
+use Rattle.typed_tree.specs.declared.tree.Readable.{Readable}
+use Rattle.typed_tree.specs.declared.tree.Readable.TheVariants as readable
+use Rattle.typed_tree.specs.declared.tree.InputTest.{InputTest}
+use Rattle.typed_tree.specs.declared.tree.InputTest.TheVariants as input_test
 
 -- a relation of what actions do that holds of those of which pieces are made, and of one after the other
 pub record OfActions (R : (A : Type 0) → Action A → Action A → Type 0) : Type 1 where
@@ -74,6 +86,9 @@ pub record OfActions (R : (A : Type 0) → Action A → Action A → Type 0) : T
   pub undefines : (place : Option Place) → R (Unit {0}) (undefine place) (undefine place)
   pub writes : (bytes : List ℕ) → R (Unit {0}) (write bytes) (write bytes)
   pub turns : R (Unit {0}) use_turn use_turn
+  pub takes : {A : Type 0} (point : ℕ) (reading : List ℕ → Reading A) → R A (take_in point reading) (take_in point reading)
+  pub asks : R Bool at_end at_end
+  pub refuses : {A : Type 0} (point : ℕ) (why : InputFault) → R A (stop (ending.Input point why)) (stop (ending.Input point why))
 
 -- rounds of loops, of what they are made of
 abbrev pub while_again : Action Value → Action (Unit {0}) → Round (Unit {0})
@@ -96,6 +111,9 @@ pub record Closed (R : (A : Type 0) → Action A → Action A → Type 0) : Type
   pub undefines : (place : Option Place) → R (Unit {0}) (undefine place) (undefine place)
   pub writes : (bytes : List ℕ) → R (Unit {0}) (write bytes) (write bytes)
   pub turns : R (Unit {0}) use_turn use_turn
+  pub takes : {A : Type 0} (point : ℕ) (reading : List ℕ → Reading A) → R A (take_in point reading) (take_in point reading)
+  pub asks : R Bool at_end at_end
+  pub refuses : {A : Type 0} (point : ℕ) (why : InputFault) → R A (stop (ending.Input point why)) (stop (ending.Input point why))
   pub whiles : (condition test : Action Value) (body other : Action (Unit {0})) → R Value condition test → R (Unit {0}) body other
       → R (Unit {0}) (looped (while_again condition body) tt) (looped (while_again test other) tt)
   pub repeats : (body other : Action (Unit {0})) (condition test : Action Value) → R (Unit {0}) body other → R Value condition test
@@ -123,6 +141,9 @@ module _ (R : (A : Type 0) → Action A → Action A → Type 0) (actions : OfAc
     undefines = actions.undefines;
     writes = actions.writes;
     turns = actions.turns;
+    takes = λ point reading. actions.takes point reading;
+    asks = actions.asks;
+    refuses = λ point why. actions.refuses point why;
     whiles = λ condition test body other tested done.
         loops (Unit {0}) (while_again condition body) (while_again test other)
         (λ start. actions.follows _ _ _ _ tested (λ v. turn_if_related (is_so v) body other done)) tt;
@@ -223,6 +244,25 @@ module _ (R : (A : Type 0) → Action A → Action A → Type 0) (closed : Close
       → R A (if b then one else other) (if b then two else second)
   of_chosen true one two other second first rest = first
   of_chosen false one two other second first rest = rest
+
+  -- ---- the input
+
+  pub of_asked : (asks : InputTest) → R Bool (asked asks) (asked asks)
+  of_asked input_test.End = closed.asks
+  of_asked (input_test.LineEnd point) = closed.takes point read_eoln
+
+  of_read_as : (reads : Readable) (point : ℕ) → R ℤ (read_as reads point) (read_as reads point)
+  of_read_as readable.Integer point = closed.takes point read_integer
+  of_read_as readable.Char point = closed.follows _ _ _ _ (closed.takes point read_character) (λ c. closed.gives (pos c))
+
+  of_unless_outside : (range : OrdinalRange) (point : ℕ) (n : ℤ) → R (Unit {0}) (unless_outside range point n) (unless_outside range point n)
+  of_unless_outside range point n =
+      of_chosen (is_in range (Number n)) (give tt) (give tt) (stop (ending.Input point OutsideType)) (stop (ending.Input point OutsideType))
+      (closed.gives tt) (closed.refuses point OutsideType)
+
+  pub of_line_passed : (line : Option ℕ) → R (Unit {0}) (line_passed line) (line_passed line)
+  of_line_passed None = closed.gives tt
+  of_line_passed (Some point) = closed.takes point read_line
 
   -- what is passed is written to a value parameter
   pub of_assign : (types : List Form) (place : Option Place) (formal : Option DeclaredVariable) (argument : Argument)
@@ -383,6 +423,8 @@ module _ (R : (A : Type 0) → Action A → Action A → Type 0) (closed : Close
         closed.follows _ _ _ _ (of_components left left_indexes.items records)
         (λ a. closed.follows _ _ _ _ (closed.enters number visible)
         (λ _. closed.follows _ _ _ _ (of_components right right_indexes.items records) (λ b. closed.gives (Number (compared relation a b)))))
+    of_layer (Input number asks) records =
+        closed.follows _ _ _ _ (closed.enters number visible) (λ _. closed.follows _ _ _ _ (of_asked asks) (λ b. closed.gives (Number (truth b))))
     of_layer (Set number designators members) records =
         closed.follows _ _ _ _ (closed.enters number visible)
         (λ _. closed.follows _ _ _ _ (of_gathered designators.items members.items records sets.empty) (λ set. closed.gives (Members set)))
@@ -490,6 +532,16 @@ module _ (R : (A : Type 0) → Action A → Action A → Type 0) (closed : Close
     of_parameters (parameter ∷ parameters) records =
         closed.follows _ _ _ _ (of_written parameter.value parameter.width records) (λ _. of_parameters parameters records)
 
+    pub of_reads : (variables : List ReadVariable) (records : List (Option Place))
+        → R (Unit {0}) (all_of (map read_of variables) (here records)) (all_of (map read_of variables) (there records))
+    of_reads [] records = closed.gives tt
+    of_reads (one ∷ variables) records =
+        closed.follows _ _ _ _
+        (closed.follows _ _ _ _ (of_access one.access one.indexes.items records)
+        (λ place. closed.follows _ _ _ _ (of_read_as one.reads one.point)
+        (λ n. closed.follows _ _ _ _ (of_unless_outside one.range one.point n) (λ _. closed.stores place (Number n)))))
+        (λ _. of_reads variables records)
+
     -- ---- the rounds of a for
 
     pub of_for_rounds : (head : ForHead) (body : Execution) (records : List (Option Place))
@@ -561,6 +613,9 @@ module _ (R : (A : Type 0) → Action A → Action A → Type 0) (closed : Close
     of_stmt_layer (Write writing) records =
         closed.follows _ _ _ _ (closed.enters writing.number visible)
         (λ _. closed.follows _ _ _ _ (of_parameters writing.parameters.items records) (λ _. of_line_ended writing.ends_line))
+    of_stmt_layer (Read reading) records =
+        closed.follows _ _ _ _ (closed.enters reading.number visible)
+        (λ _. closed.follows _ _ _ _ (of_reads reading.variables.items records) (λ _. of_line_passed reading.line))
     of_stmt_layer (Calling calling) records = closed.follows _ _ _ _ (of_called calling.call calling.actuals.items records) (λ _. closed.gives tt)
     of_stmt_layer (Compound number statements) records = closed.follows _ _ _ _ (closed.enters number visible) (λ _. of_all statements.items records)
     of_stmt_layer (If number condition consequence None) records =

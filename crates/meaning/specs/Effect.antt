@@ -4,6 +4,8 @@ use Rattle.std.specs.Prelude.{ℕ, zero, suc, ℤ, pos, negsuc, ◌-◌, ◌++�
 use Rattle.std.specs.Prelude.{if◌then◌else◌, int_le, length, map, replicate, take, codes}
 use Rattle.std.specs.Fmt.{signed_decimal}
 use Rattle.members.specs.Members as sets
+use Rattle.text_input.specs.declared.InputFault.TheVariants.{EndOfInput}
+use Rattle.text_input.specs.Input.{Reading, Reads, Fails, Ends, is_at_end}
 use Rattle.types.specs.declared.form.OrdinalRange.{OrdinalRange}
 use Rattle.types.specs.declared.form.Step.{Step}
 use Rattle.typed_tree.specs.declared.tree.Representation.{Representation}
@@ -167,6 +169,20 @@ undefine place s = Gives tt (record s { store = forgotten s.store place })
 -- bytes are put behind the output
 abbrev pub write : List ℕ → Action (Unit {0})
 write bytes s = Gives tt (record s { output = s.output ++ bytes })
+
+-- the bytes that were read are taken from the input; else the run ends at the point, also where nothing is left
+abbrev pub taken : {A : Type 0} → ℕ → Reading A → Action A
+taken point (Reads a rest) s = Gives a (record s { input = rest })
+taken point (Fails fault) s = Stops (ending.Input point fault) s
+taken point Ends s = Stops (ending.Input point EndOfInput) s
+
+-- what is read of the input that is left, at a point
+abbrev pub take_in : {A : Type 0} → ℕ → (List ℕ → Reading A) → Action A
+take_in point reading s = taken point (reading s.input) s
+
+-- nothing is left of the input
+abbrev pub at_end : Action Bool
+at_end s = Gives (is_at_end s.input) s
 
 -- a value in the range of an ordinal type (6.4.2), and a set of which each member is (6.4.6); each range lies in that
 -- of integer

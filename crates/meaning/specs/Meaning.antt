@@ -9,12 +9,16 @@ use Rattle.std.specs.List.{list_any}
 use Rattle.std.specs.declared.alloc.Global.{Global}
 use Rattle.std.specs.declared.boxed.Box.{Box}
 use Rattle.members.specs.Members as sets
+use Rattle.text_input.specs.declared.InputFault.TheVariants.{OutsideType}
+pub use Rattle.text_input.specs.Input.{completed}
+use Rattle.text_input.specs.Input.{read_character, read_eoln, read_integer, read_line}
 use Rattle.members.specs.declared.sets.Operator.TheVariants.{Union, Intersection, Difference}
 use Rattle.members.specs.declared.sets.Relation.{Relation as RelationOfSets}
 use Rattle.members.specs.declared.sets.Relation.TheVariants as way
 use Rattle.types.specs.declared.form.Step.TheVariants as step
 use Rattle.types.specs.Components.{components_of}
 use Rattle.types.specs.Forms.{Form}
+use Rattle.types.specs.declared.form.OrdinalRange.{OrdinalRange}
 use Rattle.typed_tree.specs.declared.tree.Tree.{Tree}
 use Rattle.typed_tree.specs.declared.tree.Access.{Access}
 use Rattle.typed_tree.specs.declared.tree.Selector.{Selector}
@@ -47,6 +51,11 @@ use Rattle.typed_tree.specs.declared.tree.Representation.TheVariants as represen
 use Rattle.typed_tree.specs.declared.tree.ForHead.{ForHead}
 use Rattle.typed_tree.specs.declared.tree.Width.{Width}
 use Rattle.typed_tree.specs.declared.tree.WithRecord.{WithRecord}
+use Rattle.typed_tree.specs.declared.tree.ReadVariable.{ReadVariable}
+use Rattle.typed_tree.specs.declared.tree.Readable.{Readable}
+use Rattle.typed_tree.specs.declared.tree.Readable.TheVariants as readable
+use Rattle.typed_tree.specs.declared.tree.InputTest.{InputTest}
+use Rattle.typed_tree.specs.declared.tree.InputTest.TheVariants as input_test
 use Rattle.typed_tree.specs.declared.tree.WriteParameter.{WriteParameter}
 use Rattle.typed_tree.specs.declared.tree.Written.{Written}
 use Rattle.typed_tree.specs.declared.tree.Written.TheVariants.{Ordinal, String}
@@ -57,13 +66,13 @@ use Rattle.typed_tree.specs.declared.tree.Link.{Link}
 use Rattle.typed_tree.specs.declared.tree.Passed.{Passed}
 use Rattle.typed_tree.specs.declared.tree.Expr.TheOpen.{Expr-F, Passed-F, Link-F}
 use Rattle.typed_tree.specs.declared.tree.Expr.TheOpen.Expr-F.{Constant, Variable, Monadic as MonadicOf, Chain}
-use Rattle.typed_tree.specs.declared.tree.Expr.TheOpen.Expr-F.{Compare, Call as CallOf, Set}
+use Rattle.typed_tree.specs.declared.tree.Expr.TheOpen.Expr-F.{Compare, Call as CallOf, Set, Input}
 use Rattle.typed_tree.specs.declared.tree.Expr.TheOpen.Passed-F.{Value as PassedValue, Whole as PassedWhole, Reference}
 use Rattle.typed_tree.specs.declared.tree.Expr.TheFolds.{fold-Expr, fold-Passed, fold-Link}
 use Rattle.typed_tree.specs.declared.tree.Stmt.{Stmt}
 use Rattle.typed_tree.specs.declared.tree.Stmt.TheOpen.{Stmt-F}
 use Rattle.typed_tree.specs.declared.tree.Stmt.TheOpen.Stmt-F.{Empty, Assign, Write, Compound, If, While, Repeat, For}
-use Rattle.typed_tree.specs.declared.tree.Stmt.TheOpen.Stmt-F.{Case, Copy, Call as Calling, With}
+use Rattle.typed_tree.specs.declared.tree.Stmt.TheOpen.Stmt-F.{Case, Copy, Call as Calling, With, Read}
 use Rattle.typed_tree.specs.declared.tree.Stmt.TheFolds.{fold-Stmt}
 use Rattle.typed_tree.specs.Accesses.{Origin, AtVariable, AtRecord, origin_of}
 use Rattle.typed_tree.specs.WellFormed.{is_one_of, length_of}
@@ -77,7 +86,7 @@ use Rattle.meaning.specs.Counting.{has_values, value_behind}
 use Rattle.meaning.specs.Effect.{State, Reply, Gives, Stops, Action, Round, ◌>>=◌, give, stop, require, enter, use_turn}
 use Rattle.meaning.specs.Effect.{looped, begin, living_now, end_with}
 use Rattle.meaning.specs.Effect.{fetch, fetch_all, store, store_all, undefine, write, is_in, is_positive, number_of}
-use Rattle.meaning.specs.Effect.{members_of, row_text, text_of}
+use Rattle.meaning.specs.Effect.{members_of, row_text, text_of, take_in, at_end}
 
 -- what is passed to a formal parameter: an ordinal or a set, the components of a structured value, or a place (6.6.3)
 pub data Argument : Type 0 where
@@ -326,6 +335,11 @@ call_of call actuals env = do
   arguments ← all_passed actuals env
   env.calls call.block arguments env.visible
 
+-- what is asked of the input (6.6.6.5)
+abbrev pub asked : InputTest → Action Bool
+asked input_test.End = at_end
+asked (input_test.LineEnd point) = take_in point read_eoln
+
 -- one layer of an expression: it is entered, and then its parts come
 abbrev pub value_step : Expr-F Evaluation Passing Combination → Evaluation
 value_step (Constant number value) env = do
@@ -347,6 +361,10 @@ value_step (Compare number relation left left_indexes right right_indexes) env =
   _ ← enter number env.visible
   b ← whole_of right right_indexes.items env
   give (Number (compared relation a b))
+value_step (Input number asks) env = do
+  _ ← enter number env.visible
+  b ← asked asks
+  give (Number (truth b))
 value_step (Set number designators members) env = do
   _ ← enter number env.visible
   set ← gathered designators.items members.items env sets.empty
@@ -412,6 +430,31 @@ parameter_of parameter = written_of parameter.value parameter.width
 -- a line end behind a writeln (6.9.4)
 abbrev pub line_ended : Bool → Action (Unit {0})
 line_ended ends_line = if ends_line then write (10 ∷ []) else give tt
+
+-- what is read: an integer, or a character as its ordinal number
+abbrev pub read_as : Readable → ℕ → Action ℤ
+read_as readable.Integer point = take_in point read_integer
+read_as readable.Char point = do
+  c ← take_in point read_character
+  give (pos c)
+
+-- what is read has to be a value of the variable's type
+abbrev pub unless_outside : OrdinalRange → ℕ → ℤ → Action (Unit {0})
+unless_outside range point n =
+    if is_in range (Number n) then give tt else stop (ending.Input point OutsideType)
+
+-- a variable is accessed, and then it is read (6.9.1)
+abbrev pub read_of : ReadVariable → Execution
+read_of one env = do
+  place ← accessed one.access (values_of one.indexes.items) env
+  n ← read_as one.reads one.point
+  _ ← unless_outside one.range one.point n
+  store place (Number n)
+
+-- the next line end is passed behind a readln (6.9.2)
+abbrev pub line_passed : Option ℕ → Action (Unit {0})
+line_passed None = give tt
+line_passed (Some point) = take_in point read_line
 
 -- a truth value
 abbrev pub is_so : Value → Bool
@@ -506,6 +549,10 @@ effect_step (Write writing) env = do
   _ ← enter writing.number env.visible
   _ ← all_of (map parameter_of writing.parameters.items) env
   line_ended writing.ends_line
+effect_step (Read reading) env = do
+  _ ← enter reading.number env.visible
+  _ ← all_of (map read_of reading.variables.items) env
+  line_passed reading.line
 effect_step (Calling calling) env = do
   _ ← call_of calling.call (map passing_of calling.actuals.items) env
   give tt
@@ -540,12 +587,6 @@ effect_step (With head body) env = do
 -- what a statement does
 abbrev pub effect_of : Stmt → Execution
 effect_of = fold-Stmt Execution effect_step
-
--- the input as lines, each of them ended
-abbrev pub completed : List ℕ → List ℕ
-completed [] = []
-completed (b ∷ []) = if nat_eq b 10 then b ∷ [] else b ∷ 10 ∷ []
-completed (b ∷ c ∷ bytes) = b ∷ completed (c ∷ bytes)
 
 -- the state at the start of a run: nothing is defined, and the program's own activation is the first
 abbrev pub first_state : List ℕ → ℕ → State

@@ -1,17 +1,4 @@
-/// What is wrong with the input where a run stops for it.
-#[derive(Clone, Copy)]
-pub enum InputFault {
-    /// N1: a character, a number or a line end is needed, and nothing is left.
-    EndOfInput,
-    /// N2: no number stands there.
-    NotANumber,
-    /// N3: outside -2147483647 to 2147483647.
-    NumberTooLarge,
-    /// N4: a value outside the type of the variable that is read.
-    ValueOutsideType,
-    /// N5: a byte above 127 that is read as a character.
-    NotACharacter,
-}
+use text_input::InputFault;
 
 /// How a run ends.
 #[derive(Clone, Copy)]

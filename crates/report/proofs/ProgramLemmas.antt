@@ -10,7 +10,7 @@ use Rattle.report_text.specs.Messages.{Page, Gets}
 use Rattle.report.specs.Program.{End, Refused, Listed, Ran, Comes, Does, Finishes, HasMachine, IsPrepared, budget, cells, last_line, messages, report_of}
 use Rattle.report.specs.Program.{report_status, status_of}
 use Rattle.report_text.specs.Text.{stop_status}
-use Rattle.report.specs.Whole.{RunsStripped}
+use Rattle.report.specs.Whole.{RunsStripped, Streams}
 use Rattle.report_text.proofs.MessagesLemmas.{Gets-then}
 
 -- a line in three parts, of which the first was written
@@ -40,7 +40,7 @@ go_with true (Some n) m h e = (refl, cc)
 go_with false held m h e = cc
 
 -- a source comes to the end at which it finishes behind its report
-pub comes_to : {W : Type 0} (view : W → Page) (source text : List ℕ) (go : Bool) (reported : Reported) (end : End) (old new : W)
+pub comes_to : {W : Type 0} (view : W → Streams) (source text : List ℕ) (go : Bool) (reported : Reported) (end : End) (old new : W)
     → IsPrepared source text go reported.prepared
     → Finishes reported end view old new → Comes source text go end view old new
 comes_to view source text go reported (Refused fault) old new p h = absurd h
@@ -49,10 +49,10 @@ comes_to view source text go reported (Listed open_sites) old new p h =
 comes_to view source text go reported (Ran open_sites stop) old new p h =
     let with : (go ≡ true) × (cell_count h.0 ≡ cells) = go_with go reported.prepared.machine h.0 p.machine h.1 in
     let compiled = reported.prepared.compiled in
-    (with.0, h.4, compiled, p.compiled, h.2, subst (λ n. RunsStripped compiled stop n budget (view old).known (view new).known) with.1 h.3)
+    (with.0, compiled, p.compiled, h.2, subst (λ n. RunsStripped compiled stop n budget (view old) (view new)) with.1 h.3)
 
 -- the report and what comes behind it are the messages of the end
-pub messages_of : {W : Type 0} (view : W → Page) (source text : List ℕ) (go : Bool) (reported : Reported) (end : End) (old new : W)
+pub messages_of : {W : Type 0} (view : W → Streams) (source text : List ℕ) (go : Bool) (reported : Reported) (end : End) (old new : W)
     → IsPrepared source text go reported.prepared
     → Finishes reported end view old new → reported.prepared.report.items ++ last_line end ≡ messages end
 messages_of view source text go reported (Refused fault) old new p h = absurd h
@@ -67,7 +67,7 @@ run_answer open_sites sites stop report status answer same lines stopped h =
     h ∙ ap (λ r. if status == 0 then r else status) (lines ∙ ap report_status same) ∙ ap (λ s. if s == 0 then report_status open_sites else s) stopped
 
 -- what is told and done behind what was prepared is what the program does with the source
-pub does : {W : Type 0} (view : W → Page) (source text : List ℕ) (go : Bool) (answer : ℕ) (reported : Reported) (end : End) (old new : W) (a b c : Page)
+pub does : {W : Type 0} (view : W → Streams) (source text : List ℕ) (go : Bool) (answer : ℕ) (reported : Reported) (end : End) (old new : W) (a b c : Page)
     → IsPrepared source text go reported.prepared → Gets a b reported.prepared.report.items → b.failures ≡ a.failures + (if reported.told then 0 else 1)
     → Finishes reported end view old new → MatchBool reported.told (Gets b c (last_line end)) (c ≡ b) → answer ≡ status_of end
     → Does view source text go answer old new a c

@@ -8,7 +8,6 @@ use Rattle.cert_checker.specs.declared.Verdict.{Verdict}
 use Rattle.stack_machine.specs.declared.machine.Machine.{Machine}
 use Rattle.stack_machine.specs.declared.stop.Stop.{Stop}
 use Rattle.stack_machine.specs.Does.{cell_count}
-use Rattle.stack_machine.specs.Failures.{write_failures_of}
 use Rattle.report.specs.declared.compile.Compiled.{Compiled}
 use Rattle.report_text.specs.declared.fault.Fault.{Fault}
 use Rattle.report.specs.declared.prepared.Prepared.{Prepared}
@@ -16,7 +15,7 @@ use Rattle.report.specs.declared.prepared.Reported.{Reported}
 use Rattle.report_text.specs.Messages.{Page, Gets}
 use Rattle.report.specs.Refusals.{IsRefusal}
 use Rattle.report_text.specs.Text.{open_line, refusal_of, refusal_line, refusal_status, stop_line, stop_status}
-use Rattle.report.specs.Whole.{IsCompiled, RunsStripped}
+use Rattle.report.specs.Whole.{IsCompiled, RunsStripped, Streams}
 
 -- the line of a file that can't be read, by its path, and the status
 abbrev pub unreadable_line : List ℕ → List ℕ
@@ -33,14 +32,14 @@ abbrev pub budget : ℕ
 budget = 2 ^ 64 - 1
 
 -- A source was compiled with this verdict, and the code without the checks of the sites that aren't open was run, on so
--- many cells and for at most so many instructions: this is its stop, and the writer has what the run wrote.
-pub record IsRunOf (source text : List ℕ) (cells budget : ℕ) (verdict : Verdict) (stop : Stop) (before after : Page)
+-- many cells and for at most so many instructions: this is its stop, and the writer has what the run wrote of what the
+-- reader gave.
+pub record IsRunOf (source text : List ℕ) (cells budget : ℕ) (verdict : Verdict) (stop : Stop) (before after : Streams)
     : Type 0 where
   pub compiled : Compiled
   pub is_compiled : IsCompiled source text compiled
   pub verdict_is : compiled.verdict ≡ verdict
-  pub ran : RunsStripped compiled stop cells budget before.known after.known
-  pub failed : after.failures ≡ before.failures + write_failures_of stop
+  pub ran : RunsStripped compiled stop cells budget before after
 
 -- how the program ends: the source is refused, or its open sites are listed, or its code is run too
 pub data End : Type 0 where
@@ -82,8 +81,8 @@ pub record IsPrepared (source text : List ℕ) (go : Bool) (prepared : Prepared)
   pub machine : HasMachine go prepared.machine
 
 -- behind its report a program ends: without a run where there is no machine, and else by a run of the code without the
--- checks of the sites that aren't open
-abbrev pub Finishes : {W : Type 0} → Reported → End → (W → Page) → W → W → Type 0
+-- checks of the sites that aren't open; `W` is the reader and the writer
+abbrev pub Finishes : {W : Type 0} → Reported → End → (W → Streams) → W → W → Type 0
 Finishes reported (Refused fault) view old new = ⊥
 Finishes reported (Listed open_sites) view old new =
     (reported.prepared.machine ≡ None) × (reported.prepared.compiled.verdict.open_sites.items ≡ open_sites)
@@ -91,8 +90,7 @@ Finishes reported (Listed open_sites) view old new =
 Finishes reported (Ran open_sites stop) view old new =
     (m : Machine) × (reported.prepared.machine ≡ Some m)
     × (reported.prepared.compiled.verdict.open_sites.items ≡ open_sites)
-    × RunsStripped reported.prepared.compiled stop (cell_count m) budget (view old).known (view new).known
-    × ((view new).failures ≡ (view old).failures + write_failures_of stop)
+    × RunsStripped reported.prepared.compiled stop (cell_count m) budget (view old) (view new)
 
 -- what standard error gets behind the report
 abbrev pub last_line : End → List ℕ
@@ -100,23 +98,22 @@ last_line (Refused fault) = []
 last_line (Listed open_sites) = []
 last_line (Ran open_sites stop) = stop_line stop
 
--- a source comes to this end: it is refused for what the first layer says that refuses it, and nothing is written; or
--- it is compiled and not run; or its code without the checks of the sites that aren't open is run
-abbrev pub Comes : {W : Type 0} → List ℕ → List ℕ → Bool → End → (W → Page) → W → W → Type 0
+-- a source comes to this end: it is refused for what the first layer says that refuses it, and nothing is read or
+-- written; or it is compiled and not run; or its code without the checks of the sites that aren't open is run
+abbrev pub Comes : {W : Type 0} → List ℕ → List ℕ → Bool → End → (W → Streams) → W → W → Type 0
 Comes source text go (Refused fault) view old new = IsRefusal source text fault × (new ≡ old)
 Comes source text go (Listed open_sites) view old new =
     (go ≡ false) × (new ≡ old)
     × (compiled : Compiled) × IsCompiled source text compiled × (compiled.verdict.open_sites.items ≡ open_sites)
 Comes source text go (Ran open_sites stop) view old new =
-    (go ≡ true) × ((view new).failures ≡ (view old).failures + write_failures_of stop)
-    × (compiled : Compiled) × IsCompiled source text compiled × (compiled.verdict.open_sites.items ≡ open_sites)
-    × RunsStripped compiled stop cells budget (view old).known (view new).known
+    (go ≡ true) × (compiled : Compiled) × IsCompiled source text compiled
+    × (compiled.verdict.open_sites.items ≡ open_sites) × RunsStripped compiled stop cells budget (view old) (view new)
 
 -- what the program does with a source and a certificate's text: standard error gets the messages of the end to which
 -- they come, and the status is its status
-pub record Does {W : Type 0} (view : W → Page) (source text : List ℕ) (go : Bool) (status : ℕ)
-    (writer writer' : W) (errors errors' : Page) : Type 0 where
+pub record Does {W : Type 0} (view : W → Streams) (source text : List ℕ) (go : Bool) (status : ℕ)
+    (streams streams' : W) (errors errors' : Page) : Type 0 where
   pub end : End
-  pub comes : Comes source text go end view writer writer'
+  pub comes : Comes source text go end view streams streams'
   pub told : Gets errors errors' (messages end)
   pub answer : status ≡ status_of end

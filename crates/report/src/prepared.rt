@@ -2,6 +2,7 @@ ghost use Rattle.std.specs.Prelude.{◌≡◌, ◌<◌, ◌+◌, ◌-◌, ◌^�
 ghost use Rattle.report_text.specs.Messages.{Gets, page};
 ghost use Rattle.report.specs.Program.{End, Finishes, IsPrepared, last_line, report_status, status_of, unreadable_line};
 ghost use Rattle.report.specs.Program.{unreadable_status};
+ghost use Rattle.report.specs.Whole.{of_both, streams};
 ghost use Rattle.report.specs.Refusals.{IsRefusal, text_of};
 ghost use Rattle.report_text.specs.Text.{refusal_line, refusal_of, refusal_status, stop_line, stop_status};
 
@@ -122,11 +123,12 @@ impl Reported {
         requires writer_counts { W.failures writer.old < 2 ^ 64 - 1 }
         requires errors_count { self.told ≡ true → E.failures errors.old < 2 ^ 64 - 1 }
         ensures ends { (end : End)
-            × Finishes self end (λ w. page (W.contents w) (W.failures w)) writer.old writer.new
+            × Finishes self end (of_both (λ r w. streams (R.remaining r) (R.asked r) (R.failures r)
+            (W.contents w) (W.offered w) (W.failures w)))
+            (reader.old, writer.old) (reader.new, writer.new)
             × MatchBool self.told (Gets (page (E.contents errors.old) (E.failures errors.old))
             (page (E.contents errors.new) (E.failures errors.new)) (last_line end)) (errors.new ≡ errors.old)
             × (result ≡ status_of end) }
-        ensures input_left { reader.new ≡ reader.old }
     {
         let Reported { prepared, told } = self;
         let Prepared {

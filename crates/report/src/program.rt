@@ -2,6 +2,7 @@ ghost use Rattle.std.specs.Prelude.{◌≡◌, ◌<◌, ◌-◌, ◌^◌};
 ghost use Rattle.report_text.specs.Messages.{page};
 ghost use Rattle.report.specs.Program.{Does};
 ghost use Rattle.report.specs.Refusals.{text_of};
+ghost use Rattle.report.specs.Whole.{of_both, streams};
 
 use crate::prepared::{prepare, refuse};
 use stack_machine::bytes::{Feed, Sink};
@@ -10,6 +11,7 @@ use std::alloc::Global;
 /// Compiles a source, with the text of a certificate or with the plain one, tells its open sites and then, where `go`
 /// says so, runs it on 1,000,000 cells for at most `u64::MAX` instructions. Answers the status of the program.
 ///
+/// The run asks the reader for input only where it needs a byte and holds none, and what it wrote has gone out then.
 /// Standard error has got the report before the run begins. What takes memory comes before the first line. Once
 /// standard error has failed it gets nothing more; the status tells the same.
 pub fn run_program<R: Feed, W: Sink, E: Sink>(
@@ -24,10 +26,11 @@ pub fn run_program<R: Feed, W: Sink, E: Sink>(
     requires reader_counts { R.failures reader.old < 2 ^ 64 - 1 }
     requires writer_counts { W.failures writer.old < 2 ^ 64 - 1 }
     requires errors_count { E.failures errors.old < 2 ^ 64 - 1 }
-    ensures does { Does (λ w. page (W.contents w) (W.failures w)) source.now (text_of certificate.entry) go result
-        writer.old writer.new (page (E.contents errors.old) (E.failures errors.old))
+    ensures does { Does (of_both (λ r w. streams (R.remaining r) (R.asked r) (R.failures r)
+        (W.contents w) (W.offered w) (W.failures w)))
+        source.now (text_of certificate.entry) go result (reader.old, writer.old) (reader.new, writer.new)
+        (page (E.contents errors.old) (E.failures errors.old))
         (page (E.contents errors.new) (E.failures errors.new)) }
-    ensures input_left { reader.new ≡ reader.old }
 {
     match prepare(alloc, source, certificate, go) {
         Ok(prepared) => prepared

@@ -1,10 +1,8 @@
-ghost use Rattle.std.specs.Prelude.{◌≡◌, ◌≤◌, ◌<◌, ◌+◌, ◌-◌, ◌^◌, MatchResult};
-ghost use Rattle.report_text.specs.Messages.{page};
+ghost use Rattle.std.specs.Prelude.{◌≡◌, ◌≤◌, ◌<◌, ◌-◌, ◌^◌, MatchResult};
 ghost use Rattle.report.specs.Program.{IsRunOf};
 ghost use Rattle.report.specs.Refusals.{IsRefusal, text_of};
-ghost use Rattle.report.specs.Whole.{RunsStripped};
+ghost use Rattle.report.specs.Whole.{RunsStripped, streams};
 ghost use Rattle.stack_machine.specs.Does.{cell_count};
-ghost use Rattle.stack_machine.specs.Failures.{write_failures_of};
 
 use crate::compile::{Compiled, compile};
 use cert_checker::Verdict;
@@ -26,10 +24,11 @@ impl Compiled {
     ) -> Stop
         requires reader_counts { R.failures reader.old < 2 ^ 64 - 1 }
         requires writer_counts { W.failures writer.old < 2 ^ 64 - 1 }
-        ensures ran { RunsStripped self.now result (cell_count machine.old) budget (W.contents writer.old)
-            (W.contents writer.new) }
-        ensures write_failed { W.failures writer.new ≡ W.failures writer.old + write_failures_of result }
-        ensures input_left { reader.new ≡ reader.old }
+        ensures runs { RunsStripped self.now result (cell_count machine.old) budget
+            (streams (R.remaining reader.old) (R.asked reader.old) (R.failures reader.old) (W.contents writer.old)
+            (W.offered writer.old) (W.failures writer.old))
+            (streams (R.remaining reader.new) (R.asked reader.new) (R.failures reader.new) (W.contents writer.new)
+            (W.offered writer.new) (W.failures writer.new)) }
     {
         machine.run(&self.stripped, reader, writer, budget)
     }
@@ -40,7 +39,7 @@ impl Compiled {
 /// verdict and how the run stopped.
 ///
 /// # Errors
-/// Those of `compile`, and want of memory; then nothing is written.
+/// Those of `compile`, and want of memory; then nothing is read or written.
 pub fn go<R: Feed, W: Sink>(
     alloc: Global,
     source: &[u8],
@@ -55,9 +54,12 @@ pub fn go<R: Feed, W: Sink>(
     requires writer_counts { W.failures writer.old < 2 ^ 64 - 1 }
     ensures runs { MatchResult result
         (λ done. IsRunOf source.now (text_of certificate.entry) cells budget done.0 done.1
-        (page (W.contents writer.old) (W.failures writer.old)) (page (W.contents writer.new) (W.failures writer.new)))
-        (λ fault. IsRefusal source.now (text_of certificate.entry) fault × (writer.new ≡ writer.old)) }
-    ensures input_left { reader.new ≡ reader.old }
+        (streams (R.remaining reader.old) (R.asked reader.old) (R.failures reader.old) (W.contents writer.old)
+        (W.offered writer.old) (W.failures writer.old))
+        (streams (R.remaining reader.new) (R.asked reader.new) (R.failures reader.new) (W.contents writer.new)
+        (W.offered writer.new) (W.failures writer.new)))
+        (λ fault. IsRefusal source.now (text_of certificate.entry) fault
+        × (reader.new ≡ reader.old) × (writer.new ≡ writer.old)) }
 {
     let compiled = compile(alloc, source, certificate)?;
     let mut machine = Machine::new(alloc, cells)?;

@@ -19,8 +19,8 @@ use Rattle.code_generator.specs.declared.fault.GenFault.{GenFault}
 use Rattle.code_generator.specs.declared.fault.GenFault.TheVariants as generate
 use Rattle.stack_machine.specs.declared.stop.Stop.{Stop}
 use Rattle.stack_machine.specs.declared.stop.Stop.TheVariants as stop
-use Rattle.stack_machine.specs.declared.stop.InputFault.{InputFault}
-use Rattle.stack_machine.specs.declared.stop.InputFault.TheVariants as input
+use Rattle.text_input.specs.declared.InputFault.{InputFault}
+use Rattle.text_input.specs.declared.InputFault.TheVariants as input
 use Rattle.stack_machine.specs.declared.stop.MachineFault.{MachineFault}
 use Rattle.stack_machine.specs.declared.stop.MachineFault.TheVariants as machine
 use Rattle.report_text.specs.declared.fault.Fault.{Fault}

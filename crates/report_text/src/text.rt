@@ -14,8 +14,9 @@ use code_generator::fault::GenFault;
 use itoa::Buffer;
 use place::Place;
 use smallvec::SmallVec;
-use stack_machine::stop::{InputFault, MachineFault, Stop};
+use stack_machine::stop::{MachineFault, Stop};
 use std::alloc::{AllocError, Global};
+use text_input::InputFault;
 use typed_tree::fault::TypeFault;
 use typed_tree::site::{Site, SiteKind};
 

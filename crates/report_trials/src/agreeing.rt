@@ -1,7 +1,7 @@
 //! Programs that look random: what the checker accepts errs at open sites alone, and the interpreter, the code with all
 //! checks and the code that is run agree.
 
-use crate::generated::{certificate, program};
+use crate::generated::{certificate, input, program};
 use crate::numbers::Numbers;
 use crate::shown::{Ran, is_same_end, run};
 use interpreter::interpret;
@@ -25,6 +25,7 @@ struct Counts {
     refused: u32,
     finished: u32,
     erred: u32,
+    starved: u32,
     unended: u32,
 }
 
@@ -43,11 +44,11 @@ fn is_open(compiled: &Compiled, id: u32) -> bool {
     compiled.verdict.open_sites.iter().any(|site| site.id == id)
 }
 
-// What the interpreter does with a program. Fails where a code does something else, or a closed site errs.
-fn agreed(alloc: Global, compiled: &Compiled) -> Result<Ending, Fail> {
-    let outcome = interpret(alloc, &compiled.tree, b"", TURNS)?;
+// What the interpreter does with a program and an input. Fails where a code does something else, or a closed site errs.
+fn agreed(alloc: Global, compiled: &Compiled, input: &[u8]) -> Result<Ending, Fail> {
+    let outcome = interpret(alloc, &compiled.tree, input, TURNS)?;
     for code in [&compiled.full, &compiled.stripped] {
-        if !is_meant(&outcome, &run(alloc, code, CELLS, BUDGET)?) {
+        if !is_meant(&outcome, &run(alloc, code, input, CELLS, BUDGET)?) {
             return Err(Fail::new("the machine does something else than the interpreter"));
         }
     }
@@ -59,8 +60,14 @@ fn agreed(alloc: Global, compiled: &Compiled) -> Result<Ending, Fail> {
     }
 }
 
-// Counts what becomes of a program with a certificate; refused are certificates alone.
-fn count(alloc: Global, source: &[u8], claims: &[u8], counts: &mut Counts) -> Result<(), Fail> {
+// Counts what becomes of a program with a certificate and an input; refused are certificates alone.
+fn count(
+    alloc: Global,
+    source: &[u8],
+    claims: &[u8],
+    input: &[u8],
+    counts: &mut Counts,
+) -> Result<(), Fail> {
     let compiled = match compile(alloc, source, Some(claims)) {
         Ok(compiled) => compiled,
         Err(Fault::Check(_)) => {
@@ -69,10 +76,11 @@ fn count(alloc: Global, source: &[u8], claims: &[u8], counts: &mut Counts) -> Re
         }
         Err(fault) => return Err(fault.into()),
     };
-    let counter = match agreed(alloc, &compiled)? {
+    let counter = match agreed(alloc, &compiled, input)? {
         Ending::Finished => &mut counts.finished,
         Ending::Error(_) => &mut counts.erred,
-        _ => &mut counts.unended,
+        Ending::Input { .. } => &mut counts.starved,
+        Ending::More => &mut counts.unended,
     };
     *counter = counter.saturating_add(1);
     Ok(())
@@ -86,15 +94,17 @@ fn generated_programs_agree_and_err_at_open_sites_alone(rt: HostRuntime) -> Resu
     for _ in 0..600 {
         let source = program(alloc, &mut numbers)?;
         let claims = certificate(alloc, &mut numbers, &source)?;
-        count(alloc, &source, claims.as_bytes(), &mut counts)?;
+        let input = input(alloc, &mut numbers)?;
+        count(alloc, &source, claims.as_bytes(), &input, &mut counts)?;
     }
     // Each comes often.
     let Counts {
         refused,
         finished,
         erred,
+        starved,
         unended,
     } = counts;
-    assert!(rt; refused > 90 && finished > 60 && erred > 140 && unended > 8);
+    assert!(rt; refused > 90 && finished > 60 && erred > 140 && starved > 20 && unended > 8);
     Ok(())
 }

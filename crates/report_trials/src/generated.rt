@@ -4,7 +4,7 @@ use crate::numbers::Numbers;
 use std::alloc::{AllocError, Global};
 
 // What may stand for a letter or sign that has a row here; those in it stand for further texts.
-static CHOICES: [(u8, &[&str]); 37] = [
+static CHOICES: [(u8, &[&str]); 39] = [
     // At most seven statements.
     (
         b'P',
@@ -30,6 +30,12 @@ static CHOICES: [(u8, &[&str]); 37] = [
             "with w[G] do begin ` end; ",
             "with w[1] do begin ` end; ",
             "with w[1], w[2] do begin ` end; ",
+            "read{; ",
+            "read{; ",
+            "readln{; ",
+            "readln; ",
+            "if not eof then begin S end; ",
+            "while not eof do begin readln; Q end; ",
             "q(J, V); ",
             "q(J, V); ",
             "write(YW, 'it''s'W); ",
@@ -45,6 +51,43 @@ static CHOICES: [(u8, &[&str]); 37] = [
             "case B of true: X; false: X end; ",
             "case Y of 'a', 'm': X; 'b', '''': X end; ",
             "case E of red: X; green, blue: X end; ",
+        ],
+    ),
+    // Variables that are read, and a piece of an input.
+    (
+        b'{',
+        &[
+            "(V)",
+            "(V)",
+            "(input, V)",
+            "(V, V)",
+            "(F)",
+            "(k)",
+            "(w[G].x)",
+            "(V, w[V].x, F)",
+        ],
+    ),
+    (
+        b'}',
+        &[
+            "1 ",
+            "2 ",
+            "1\n",
+            "2\n",
+            "3 ",
+            "-7 ",
+            "12 ",
+            "400 ",
+            "9",
+            " 5\n",
+            "\n",
+            "+6 ",
+            "8 a\n",
+            "x",
+            "ab\n",
+            "-",
+            "99999999999 ",
+            "\u{e9}",
         ],
     ),
     // A statement in a branch or a loop, and at most two more behind the first of a loop.
@@ -191,7 +234,7 @@ static CHOICES: [(u8, &[&str]); 37] = [
         ],
     ),
     (b'U', &["T", "not T", "(TLT)", "odd(J)", "(JRJ)", "(JRJ)"]),
-    (b'T', &["false", "e", "d", "d"]),
+    (b'T', &["false", "e", "d", "d", "eof", "eoln"]),
     (b'D', &["d", "e"]),
     (b'L', &[" and ", " or "]),
     (b'R', &[" = ", " <> ", " < ", " > ", " <= ", " >= "]),
@@ -246,7 +289,8 @@ fn choice(numbers: &mut Numbers, letter: u8) -> Option<&'static str> {
     None
 }
 
-const VARIABLES: &[u8] = b"program p(output); var a, b, c: integer; d, e: Boolean; i, j: integer;
+const VARIABLES: &[u8] =
+    b"program p(input, output); var a, b, c: integer; d, e: Boolean; i, j: integer;
 f, g: char; h: (red, green, blue); k: 1..9; u, v: set of 0..9;
 w: array [1..2] of record x: integer; y: set of 0..9 end;
 ";
@@ -263,7 +307,7 @@ const BODY: &str =
 v := [1..3]; w[1].x := 2; w[1].y := []; Pend.";
 
 // A program of a few statements over five integers and two Booleans, two characters, a colour, a digit, two sets and
-// two records, with a function and two procedures, one in the other.
+// two records, with a function and two procedures, one in the other; it reads now and then.
 pub(crate) fn program(alloc: Global, numbers: &mut Numbers) -> Result<Vec<u8>, AllocError> {
     let mut text = Vec::from_slice(alloc, VARIABLES)?;
     // What is still to be written, its end first.
@@ -277,6 +321,20 @@ pub(crate) fn program(alloc: Global, numbers: &mut Numbers) -> Result<Vec<u8>, A
         match choice(numbers, byte) {
             Some(chosen) => put(chosen, &mut rest)?,
             None => text.push(byte)?,
+        }
+    }
+    Ok(text)
+}
+
+// At most so many pieces of an input.
+const PIECES: usize = 24;
+
+// An input for a program: numbers in the main, some letters, signs and line ends.
+pub(crate) fn input(alloc: Global, numbers: &mut Numbers) -> Result<Vec<u8>, AllocError> {
+    let mut text = Vec::new(alloc);
+    for _ in 0..numbers.below(PIECES) {
+        if let Some(piece) = choice(numbers, b'}') {
+            text.extend_from_slice(piece.as_bytes())?;
         }
     }
     Ok(text)

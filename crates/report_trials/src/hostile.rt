@@ -3,18 +3,19 @@ use crate::shown::refusal;
 use std::alloc::{AllocError, Global};
 use std::test::Fail;
 
-const PIECES: [&str; 58] = [
+const PIECES: [&str; 63] = [
     "program ", "p", "(output)", ";", " var ", "x", "y", ",", ": ", "integer", " begin ", " end",
     ".", ":=", "writeln", "(", ")", "+", "-", "1", "maxint", "'a'", "{ }", " := ", "goto ", "(*",
-    "^", "*", " div ", " mod ", " and ", " or ", " not ", "=", "<>", "<", ">=", "true", "write",
-    "sqr(", ": 1", "Boolean", "odd", " if ", " then ", " else ", " while ", " do ", " repeat ",
-    " until ", " for ", " to ", " case ", " of ", "'", "{", "*)", "_",
+    "^", "read(x)", "readln", "eof", "eoln", "(input)", "*", " div ", " mod ", " and ", " or ",
+    " not ", "=", "<>", "<", ">=", "true", "write", "sqr(", ": 1", "Boolean", "odd", " if ",
+    " then ", " else ", " while ", " do ", " repeat ", " until ", " for ", " to ", " case ",
+    " of ", "'", "{", "*)", "_",
 ];
 
 fn text_of_pieces(alloc: Global, numbers: &mut Numbers) -> Result<Vec<u8>, AllocError> {
     let mut text = Vec::new(alloc);
     for _ in 0..numbers.below(30) {
-        let piece = PIECES[numbers.below(58)];
+        let piece = PIECES[numbers.below(63)];
         text.extend_from_slice(piece.as_bytes())?;
     }
     Ok(text)

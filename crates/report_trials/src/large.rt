@@ -58,7 +58,7 @@ fn long_sources_run(rt: HostRuntime) -> Result<(), Fail> {
 }
 
 // Sources, and how many statements and expressions they have.
-static VISITS: [(&str, &str); 8] = [
+static VISITS: [(&str, &str); 10] = [
     // 4 statements, 2 targets, 6 factors, 2 operators and 1 sign.
     (
         "program p(output); var x, y: integer; begin x := 7; y := x - 10; writeln(x + y, -x) end.",
@@ -86,6 +86,16 @@ static VISITS: [(&str, &str); 8] = [
     ),
     // 4 statements and the index.
     ("program p; begin case 1 of 1: ; 2: end end.", "5"),
+    // 3 statements and the variable.
+    (
+        "program p(input); var x: integer; begin read(x); readln end.",
+        "4",
+    ),
+    // 5 statements and 2 conditions.
+    (
+        "program p(input); begin if eof then; if eoln(input) then end.",
+        "7",
+    ),
 ];
 
 fn visits_told(alloc: Global, source: &&str) -> Result<String, Fault> {

@@ -5,6 +5,8 @@
 #[cfg(test)]
 mod agreeing;
 #[cfg(test)]
+mod feeding;
+#[cfg(test)]
 mod generated;
 #[cfg(test)]
 mod hostile;

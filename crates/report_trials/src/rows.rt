@@ -3,10 +3,11 @@ use certificate::fault::ReadFault;
 use pcode_assembler::code::{Point, Site};
 use report::fault::Fault;
 use report::text::fault_text;
-use stack_machine::stop::{InputFault, MachineFault, Stop};
+use stack_machine::stop::{MachineFault, Stop};
 use std::alloc::Global;
 use std::test::Fail;
 use test_words::rows::all_hold;
+use text_input::InputFault;
 
 // Faults in certificates too long to stand here, and the line of their refusal. Line 4294967296 takes 33 bits.
 static LATE_LINES: [(Fault, &str); 3] = [
@@ -66,7 +67,7 @@ static SENTENCES: [(&str, &str); 16] = [
         "1:39: wrong parameters",
     ),
     (
-        "program p(input); begin end.",
+        "program p(inputs); begin end.",
         "1:11: input or output is no program parameter",
     ),
 ];

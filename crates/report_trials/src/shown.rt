@@ -15,6 +15,7 @@ use stack_machine::machine::Machine;
 use stack_machine::stop::Stop;
 use std::alloc::{AllocError, Global};
 use std::test::Fail;
+use text_input::InputFault;
 
 pub(crate) const CELLS: u32 = 1_000_000;
 
@@ -33,12 +34,18 @@ pub(crate) struct Ran {
     pub(crate) stop: Stop,
 }
 
-// Runs a code without input. The writer is a vector, so it fails for want of memory alone.
-pub(crate) fn run(alloc: Global, code: &Code, cells: u32, budget: u64) -> Result<Ran, Fault>
+// Runs a code on an input. The writer is a vector, so it fails for want of memory alone.
+pub(crate) fn run(
+    alloc: Global,
+    code: &Code,
+    input: &[u8],
+    cells: u32,
+    budget: u64,
+) -> Result<Ran, Fault>
     requires { (1 ≤ cells) × (cells ≤ 16777216) }
 {
     let mut machine = Machine::new(alloc, cells)?;
-    let mut reader = Counted::new(b"".as_slice());
+    let mut reader = Counted::new(input);
     let mut writer = Counted::new(Vec::new(alloc));
     let stop = machine.run(code, &mut reader, &mut writer, budget);
     if matches!(stop, Stop::WriteFailed) {
@@ -83,8 +90,26 @@ pub(crate) fn is_same_end(stop: Stop, ending: Ending) -> bool {
     match (stop, ending) {
         (Stop::Finished, Ending::Finished) => true,
         (Stop::Error(site), Ending::Error(id)) => site.id == id,
+        (
+            Stop::Input { point, fault },
+            Ending::Input {
+                point: id,
+                fault: meant,
+            },
+        ) => point.id == id && is_same_fault(fault, meant),
         _ => false,
     }
+}
+
+fn is_same_fault(told: InputFault, meant: InputFault) -> bool {
+    matches!(
+        (told, meant),
+        (InputFault::EndOfInput, InputFault::EndOfInput)
+            | (InputFault::NotANumber, InputFault::NotANumber)
+            | (InputFault::NumberTooLarge, InputFault::NumberTooLarge)
+            | (InputFault::OutsideType, InputFault::OutsideType)
+            | (InputFault::NotACharacter, InputFault::NotACharacter)
+    )
 }
 
 // What a run without a limit to its steps shows. Fails where the interpreter does something else.

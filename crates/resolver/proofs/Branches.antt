@@ -7,10 +7,10 @@ use Rattle.typed_tree.specs.declared.tree.Stmt.{Stmt}
 use Rattle.typed_tree.specs.declared.tree.Stmt.TheVariants as stmt
 use Rattle.typed_tree.specs.Accesses.{AtVariable}
 use Rattle.typed_tree.specs.Look.{Look, Fits, If, Then, Else, Controls, For, ForEnds, Ends, look_expr, look_stmt}
-use Rattle.typed_tree.proofs.Looks.{look_case, look_compound, look_for, look_if, look_if_else, look_repeat, look_while, look_with, look_write}
+use Rattle.typed_tree.proofs.Looks.{look_case, look_compound, look_for, look_if, look_if_else, look_reading, look_repeat, look_while, look_with, look_write}
 use Rattle.typing.proofs.Written.{written_statements}
 use Rattle.resolver.specs.Made.{for_head_look, look_bound, look_else}
-use Rattle.resolver.proofs.HeldStatements.{held_case, held_choice, held_compound, held_for, held_repeat, held_while, held_with, held_write}
+use Rattle.resolver.proofs.HeldStatements.{held_case, held_choice, held_compound, held_for, held_read, held_repeat, held_while, held_with, held_write}
 
 behind : (number : ℕ) (condition : Expr) (rest : Look)
     → ◌≡◌ {A = Look} (If number ∷ (look_expr condition ++ (Then ∷ rest))) ((If number ∷ (look_expr condition ++ (Then ∷ []))) ++ rest)
@@ -45,6 +45,8 @@ look_counted head body =
     ∙ sym (append_assoc one two inside))
 
 -- other statements, as they are made
+pub ruleset made_read = (look_reading, held_read)
+
 pub ruleset made_write = (look_write, held_write)
 
 pub ruleset made_compound = (look_compound, held_compound)

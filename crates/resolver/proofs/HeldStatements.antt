@@ -11,13 +11,15 @@ use Rattle.typed_tree.specs.declared.tree.Expr.{Expr}
 use Rattle.typed_tree.specs.declared.tree.ForHead.{ForHead}
 use Rattle.typed_tree.specs.declared.tree.LoopHead.{LoopHead}
 use Rattle.typed_tree.specs.declared.tree.ProcedureCall.{ProcedureCall}
+use Rattle.typed_tree.specs.declared.tree.Reading.{Reading}
 use Rattle.typed_tree.specs.declared.tree.WithHead.{WithHead}
 use Rattle.typed_tree.specs.declared.tree.Writing.{Writing}
 use Rattle.typed_tree.specs.declared.tree.Stmt.{Stmt}
 use Rattle.typed_tree.specs.declared.tree.Stmt.TheVariants as stmt
 use Rattle.typed_tree.specs.declared.tree.Stmt.TheOpen as layer
 use Rattle.typed_tree.specs.declared.tree.Stmt.TheFolds.{fold-roll-Stmt}
-use Rattle.typed_tree.specs.Kinds.{are_ordinal_indexes, held_by, is_held, is_held_parameter, is_held_passed, is_held_record, is_held_stmt, is_held_value}
+use Rattle.typed_tree.specs.Kinds.{are_ordinal_indexes, held_by, is_held, is_held_parameter, is_held_passed, is_held_read, is_held_record, is_held_stmt}
+use Rattle.typed_tree.specs.Kinds.{is_held_value}
 use Rattle.typed_tree.specs.Kinds.{is_ordinal_expr, statement_held}
 use Rattle.typed_tree.specs.Tests.{all_hold}
 use Rattle.resolver.specs.Made.{is_held_else}
@@ -58,6 +60,9 @@ pub ruleset held_assigned = (held_assign, held_copy)
 
 pub held_write : (writing : Writing) → all_hold (map is_held_parameter writing.parameters.items) ≡ true → is_held_stmt (stmt.Write writing) ≡ true
 held_write writing so = ap is_held_stmt (sym (stmt.rolls-Write writing)) ∙ fold-roll-Stmt Bool statement_held (layer.Write writing) ∙ so
+
+pub held_read : (reading : Reading) → all_hold (map is_held_read reading.variables.items) ≡ true → is_held_stmt (stmt.Read reading) ≡ true
+held_read reading so = ap is_held_stmt (sym (stmt.rolls-Read reading)) ∙ fold-roll-Stmt Bool statement_held (layer.Read reading) ∙ so
 
 pub held_procedure_call : (calling : ProcedureCall) → all_hold (map is_held_passed calling.actuals.items) ≡ true → is_held_stmt (stmt.Call calling) ≡ true
 held_procedure_call calling so = ap is_held_stmt (sym (stmt.rolls-Call calling)) ∙ fold-roll-Stmt Bool statement_held (layer.Call calling) ∙ so

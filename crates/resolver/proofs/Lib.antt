@@ -3,10 +3,11 @@ mod BlockForms
 mod Branches
 mod CaseArms
 mod ControlTypes
-mod Files
+mod FileParameters
 mod HeldStatements
 mod MadeRows
 mod OpenedRecords
 mod Programs
+mod Readings
 mod Tables
 mod Targets

@@ -3,12 +3,10 @@ use Rattle.std.proofs.Common.{◌≡◌, ℕ, zero, suc, ◌+◌, ◌<◌, ◌�
 use Rattle.std.proofs.lemmas.List.{at_drop_all}
 use Rattle.syntax_tree.specs.declared.RecordVariable.{RecordVariable}
 use Rattle.types.specs.declared.form.TypeId.{TypeId}
-use Rattle.typed_tree.specs.declared.fault.TypeFault.{TypeFault}
 use Rattle.typed_tree.specs.declared.tree.Selector.{Selector}
 use Rattle.typed_tree.specs.Accesses.{Origin, index_count, origin_of}
 use Rattle.typed_tree.specs.Look.{Access, Opens, look_record}
 use Rattle.typing.specs.Expressions.{Denoted, selected, variable_of}
-use Rattle.typing.specs.Outcomes.{IsFault}
 use Rattle.typing.specs.Passing.{Passed, Passing, after, behind_marks, each, mark, ◌>>=◌, ◌>>◌}
 use Rattle.typing_rules.specs.Checked.{and_then}
 use Rattle.typing.specs.Statements.{WrittenVariable, opened, opened_record, written_record}
@@ -16,7 +14,7 @@ use Rattle.typing.specs.Steps.{close_record, enter_as, open_record}
 use Rattle.typing.proofs.Rows.{behind_nothing}
 use Rattle.expression_resolver.specs.declared.typed.Reached.{Reached}
 use Rattle.expression_resolver.specs.Accesses.{component_of, look_reached, named_variable}
-use Rattle.expression_resolver.proofs.Selecting.{component_then, look_made, variable_stops, variable_then}
+use Rattle.expression_resolver.proofs.Selecting.{component_then, look_made, variable_then}
 
 module _ (one : WrittenVariable) where
   abbrev pub behind_record : Denoted → List Selector × TypeId → Passing (Unit {0})
@@ -34,10 +32,6 @@ module _ (one : WrittenVariable) where
   unfolding opened
   opened_goes old first variable finds =
       variable_then one.name behind_variable old first variable finds ∙ component_then variable one.selectors one.indexes (behind_record variable) first
-
-  pub opened_stops : (old : Passed) (why : TypeFault) → IsFault (named_variable one.name old) why → IsFault (opened one old) why
-  unfolding opened
-  opened_stops old why stops = variable_stops one.name behind_variable old why stops
 
 -- as it is made
 pub record_made : (made : Reached) (origin : Origin) → origin_of made.access ≡ origin

@@ -4,6 +4,7 @@ use Rattle.std.proofs.Common.{IfErr, Ok, Err, inl, refl, sym, ap, ap₂, subst, 
 use Rattle.std.specs.Prelude.{IsPermutation, flat_map, vec_len}
 use Rattle.std.specs.List.{range_with_len}
 use Rattle.std.proofs.lemmas.Grind.{flat_map-append}
+use Rattle.std.proofs.lemmas.List.{length-map}
 use Rattle.place.specs.Place.{ArePlacesInOrder}
 use Rattle.syntax_tree.specs.declared.Program.{Program}
 use Rattle.syntax_tree.specs.Places.{program_places}
@@ -12,7 +13,7 @@ use Rattle.typed_tree.specs.declared.fault.TypeFault.{TypeFault}
 use Rattle.typed_tree.specs.declared.fault.TypeFault.TheVariants.{Memory}
 use Rattle.typed_tree.specs.declared.tree.Tree.{Tree}
 use Rattle.typed_tree.specs.Entries.{AreNumbered, of_block}
-use Rattle.typed_tree.specs.Ids.{AreInOrder, AreByPlace}
+use Rattle.typed_tree.specs.Ids.{AreInOrder, AreByPlace, ArePointsInOrder}
 use Rattle.typed_tree.specs.Look.{blocks_of_look, heading_look, look_block, look_stmt, mark_blocks, tree_look}
 use Rattle.typed_tree.specs.Kinds.{are_held}
 use Rattle.typed_tree.specs.Loops.{loops_of}
@@ -97,8 +98,14 @@ module _ (program : Program) (tree : Tree) (resolved : IsResolved program tree) 
   pub ids_in_order : AreInOrder tree.sites.items
   ids_in_order = resolved.is_typed.is_left.ids
 
-  pub has_no_points : tree.points.items ≡ []
-  has_no_points = resolved.is_typed.is_left.points
+  pub points_in_order : ArePointsInOrder tree.points.items
+  points_in_order = resolved.is_typed.is_left.point_ids
+
+  pub has_few_points : vec_len tree.points ≤ 1000000
+  has_few_points =
+      let as_many : length tree.points.items ≡ length resolved.is_typed.left.points =
+      sym (length-map tree.points.items (λ point. point.place)) ∙ ap length resolved.is_typed.is_left.points in
+      omega (arith, tree.points.ok.0, as_many, lawful.few_points)
 
   pub has_types : BeginWithRequired tree.types
   has_types =

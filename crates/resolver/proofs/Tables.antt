@@ -7,7 +7,7 @@ use Rattle.typed_tree.specs.declared.tree.Stmt.{Stmt}
 use Rattle.typed_tree.specs.Loops.{Inside, no_loop, both_inside, all_inside, looped, inside_of}
 use Rattle.typed_tree.specs.Loops.{controlled as controlled_inside}
 use Rattle.typed_tree.proofs.Insides.{inside_empty, inside_assign, inside_call, inside_copy, inside_write, inside_compound, inside_if, inside_if_else}
-use Rattle.typed_tree.proofs.Insides.{inside_while}
+use Rattle.typed_tree.proofs.Insides.{inside_read, inside_while}
 use Rattle.typed_tree.proofs.Insides.{inside_repeat, inside_for, inside_case, inside_with}
 use Rattle.resolver.specs.Table.{Seen, Meets, seen, row_of, rows_of, meets, controlled, opened, closed}
 use Rattle.resolver.specs.declared.table.Met.{Met}
@@ -94,6 +94,7 @@ pub ruleset met_forms = (
   inside_empty,
   inside_assign,
   inside_copy,
+  inside_read,
   inside_write,
   inside_call,
   inside_compound,

@@ -24,6 +24,7 @@ use Rattle.typed_tree.specs.declared.tree.ForHead.{ForHead}
 use Rattle.typed_tree.specs.declared.tree.CaseHead.{CaseHead}
 use Rattle.typed_tree.specs.declared.tree.Expr.{Expr}
 use Rattle.typed_tree.specs.declared.tree.Stmt.{Stmt}
+use Rattle.typed_tree.specs.declared.tree.ReadVariable.{ReadVariable}
 use Rattle.typed_tree.specs.declared.tree.WriteParameter.{WriteParameter}
 use Rattle.typed_tree.specs.declared.tree.Width.{Width}
 use Rattle.typed_tree.specs.declared.tree.Written.{Written as WrittenValue}
@@ -36,8 +37,8 @@ use Rattle.typed_tree.specs.Accesses.{AtVariable, origin_of}
 use Rattle.typed_tree.specs.Kinds.{are_held, is_held_stmt}
 use Rattle.typed_tree.specs.Look.{Look, Mark, Fits, If, Then, Else, For, Case, Target, WholeTarget, blocks_of_look}
 use Rattle.typed_tree.specs.Look.{look_block, look_expr, look_stmt, arms_look, tree_look, look_access, look_written}
-use Rattle.typed_tree.specs.Look.{look_parameter, look_record, look_width}
-use Rattle.typing.specs.Expressions.{Denoted, entire}
+use Rattle.typed_tree.specs.Look.{look_parameter, look_read, look_record, look_width}
+use Rattle.typing.specs.Expressions.{Denoted, WrittenActual, entire, written_actual}
 use Rattle.typing.specs.Passing.{Passed, Passing, After, after, pure, ◌>>=◌, ◌>>◌}
 use Rattle.typing_rules.specs.Checked.{Checked}
 use Rattle.typing.specs.Outcomes.{IsFault, Makes}
@@ -166,9 +167,9 @@ look_else (Some made) = Else ∷ look_stmt made.value
 abbrev pub MakesAlternative : Checked (After (Unit {0})) → Result (Option (Box Stmt Global)) TypeFault → Passed → Type 0
 MakesAlternative = Makes (λ made. tt) look_else
 
--- the values that are written
-abbrev pub MakesValues : Checked (After (List Actual)) → Result (Bor (List Actual)) TypeFault → Passed → Type 0
-MakesValues = Makes (λ values. values.now) (λ values. [])
+-- actual parameters
+abbrev pub MakesActuals : Checked (After (List WrittenActual)) → Result (Bor (List Actual)) TypeFault → Passed → Type 0
+MakesActuals = Makes (λ actuals. map written_actual actuals.now) (λ actuals. [])
 
 -- what is written, of something that looks so, where a mark behind that tells how
 pub record IsWrittenAs (form : Option Mark) (look : Look) (made : WrittenValue) : Type 0 where
@@ -191,6 +192,13 @@ MakesWidth = Makes (λ made. tt) look_width
 -- a width
 abbrev pub MakesOwnWidth : Checked (After (Unit {0})) → Result Width TypeFault → Passed → Type 0
 MakesOwnWidth = Makes (λ made. tt) (λ made. look_width (Some made))
+
+-- a variable that is read, and those of a read, one after another
+abbrev pub MakesRead : Checked (After (Unit {0})) → Result ReadVariable TypeFault → Passed → Type 0
+MakesRead = Makes (λ made. tt) look_read
+
+abbrev pub MakesReads : Checked (After (Unit {0})) → Result (Vec ReadVariable Global) TypeFault → Passed → Type 0
+MakesReads = Makes (λ made. tt) (λ made. flat_map look_read made.items)
 
 -- a record of a with, and its records, one after another
 abbrev pub MakesRecord : Checked (After (Unit {0})) → Result WithRecord TypeFault → Passed → Type 0

@@ -7,23 +7,23 @@ ghost use Rattle.typed_tree.specs.declared.fault.TypeFault.TheVariants.{Mismatch
 ghost use Rattle.typing.specs.Passing.{each};
 ghost use Rattle.typing.specs.Expressions.{expression, written_actual};
 ghost use Rattle.typing.specs.Statements as spec;
-ghost use Rattle.typing.specs.Outcomes.{Takes};
 ghost use Rattle.typing_rules.specs.declared.typed.TypedValue.TheVariants.{Ordinal};
 ghost use Rattle.expression_resolver.specs.Made.{typed_of};
 ghost use Rattle.expression_resolver.specs.Values.{look_value, value_of};
 ghost use Rattle.resolver.specs.Made.{MakesStmt, MakesParameter, MakesParameters, MakesWidth, MakesOwnWidth};
-ghost use Rattle.resolver.specs.Made.{MakesValues, IsWrittenAs};
+ghost use Rattle.resolver.specs.Made.{MakesActuals, IsWrittenAs};
 
-use expression_resolver::{TypedExpr, expression, first_place, routine_call};
+use crate::reading::read;
+use expression_resolver::{TypedExpr, expression, first_place, named_file, routine_call};
 use place::Place;
-use scopes::{Denotation, RequiredProcedure};
+use scopes::{Denotation, File, RequiredProcedure};
 use syntax_tree as syntax;
 use typed_tree::fault::TypeFault;
 use typed_tree::site::SiteKind;
 use typed_tree::tree::{ProcedureCall, Stmt, Width, WriteParameter, Writing, Written};
 use types::{TypeId, TypeTable};
 use typing::Typer;
-use typing_rules::{TypedValue, as_procedure, as_routine, ends_line, is_output, representation};
+use typing_rules::{TypedValue, as_procedure, as_routine, representation};
 
 /// The call of a procedure.
 #[tactic(auto, unfolding(typing::specs::Statements::procedure_call))]
@@ -32,7 +32,8 @@ pub(crate) fn procedure_call(
     name: &syntax::Name,
     actuals: &[syntax::Actual],
 ) -> Result<Stmt, TypeFault>
-    ensures made { MakesStmt (spec.procedure_call name.now actuals.now typer.old) result typer.new }
+    ensures made { MakesStmt (spec.procedure_call name.now (map written_actual actuals.now) typer.old) result
+        typer.new }
     ensures held { IfOk result (λ made. is_held_stmt made ≡ true) }
 {
     let denotation = typer.find(name)?;
@@ -42,19 +43,24 @@ pub(crate) fn procedure_call(
     }
 }
 
-// The call of a required procedure.
-#[tactic(auto, unfolding(typing::specs::Statements::required_call))]
+// The call of a required procedure: K8 at its name where its file is no program parameter.
+#[tactic(auto, unfolding(typing::specs::Statements::required_call, typing::specs::Statements::file_call))]
 fn required_call(
     typer: &mut Typer,
     denotation: Denotation,
     name: &syntax::Name,
     actuals: &[syntax::Actual],
 ) -> Result<Stmt, TypeFault>
-    ensures made { MakesStmt (spec.required_call denotation name.now actuals.now typer.old) result typer.new }
+    ensures made { MakesStmt (spec.required_call denotation name.now (map written_actual actuals.now) typer.old) result
+        typer.new }
     ensures held { IfOk result (λ made. is_held_stmt made ≡ true) }
 {
     let procedure = as_procedure(name.place, denotation)?;
-    write(typer, name, actuals, procedure)
+    typer.wants_file(procedure.file, name.place)?;
+    match procedure.file {
+        File::Input => read(typer, name, actuals, procedure),
+        File::Output => write(typer, name, actuals, procedure),
+    }
 }
 
 // The call of a procedure that a program declares (6.8.2.3): K3 at the name of a function.
@@ -88,63 +94,76 @@ fn write(
     actuals: &[syntax::Actual],
     procedure: RequiredProcedure,
 ) -> Result<Stmt, TypeFault>
-    ensures made { MakesStmt (spec.write name.now actuals.now procedure typer.old) result typer.new }
+    ensures made { MakesStmt (spec.write name.now (map written_actual actuals.now) procedure typer.old) result
+        typer.new }
     ensures held { IfOk result (λ made. is_held_stmt made ≡ true) }
 {
-    typer.wants_output(name.place)?;
     let number = typer.enter()?;
-    let values = written_values(typer, actuals)?;
-    has_values(name.place, procedure, values)?;
+    let values = parameters_of(typer, name.place, procedure, actuals)?;
     Ok(Stmt::Write(Writing {
         number,
         name: name.place,
         parameters: parameters(typer, values)?,
-        ends_line: ends_line(procedure),
+        ends_line: procedure.ends_line,
     }))
 }
 
-// A write has a value; a writeln needs none.
-fn has_values(
+/// The parameters of a read or a write behind its file, which may be named first: K3 at the call's name where there are
+/// none, unless it ends the line.
+#[tactic(auto, unfolding(typing::specs::Statements::parameters_of))]
+pub(crate) fn parameters_of<'e, 'a>(
+    typer: &mut Typer,
     place: Place,
     procedure: RequiredProcedure,
-    values: &[syntax::Actual],
-) -> Result<(), TypeFault>
-    ensures { result ≡ spec.has_values place procedure values.now }
+    actuals: &'e [syntax::Actual<'a>],
+) -> Result<&'e [syntax::Actual<'a>], TypeFault>
+    ensures { MakesActuals (spec.parameters_of place procedure (map written_actual actuals.now) typer.old) result
+        typer.new }
 {
-    if values.is_empty() && !ends_line(procedure) {
+    let parameters = without_file(typer, procedure.file, place, actuals)?;
+    has_parameters(place, procedure, parameters)?;
+    Ok(parameters)
+}
+
+// A read or a write has a parameter; a readln or a writeln needs none.
+fn has_parameters(
+    place: Place,
+    procedure: RequiredProcedure,
+    parameters: &[syntax::Actual],
+) -> Result<(), TypeFault>
+    ensures { result ≡ spec.has_parameters place procedure (map written_actual parameters.now) }
+{
+    if parameters.is_empty() && !procedure.ends_line {
         return Err(TypeFault::WrongParameters(place));
     }
     Ok(())
 }
 
-// The values that are written: the actuals without the file.
-#[tactic(auto, unfolding(typing::specs::Statements::written_values))]
-fn written_values<'e, 'a>(
+// The parameters behind the file: K3 at the call's name where another one is named. A width makes the first a value.
+#[tactic(auto, using(crate::proofs::FileParameters::first_forms), unfolding(typing::specs::Statements::without_file))]
+fn without_file<'e, 'a>(
     typer: &mut Typer,
+    wanted: File,
+    place: Place,
     actuals: &'e [syntax::Actual<'a>],
 ) -> Result<&'e [syntax::Actual<'a>], TypeFault>
-    ensures { MakesValues (spec.written_values actuals.now typer.old) result typer.new }
+    ensures { MakesActuals (spec.without_file wanted place (map written_actual actuals.now) typer.old) result
+        typer.new }
 {
     let Some((first, rest)) = actuals.split_first() else {
         return Ok(actuals);
     };
-    if is_file(typer, first)? {
-        return Ok(rest);
+    if first.width.is_some() {
+        return Ok(actuals);
     }
-    Ok(actuals)
-}
-
-// Whether the first parameter of a write is the file; a width makes it a value.
-#[tactic(auto, using(crate::proofs::Files::no_name), unfolding(typing::specs::Statements::is_file))]
-fn is_file(typer: &mut Typer, actual: &syntax::Actual) -> Result<bool, TypeFault>
-    ensures { Takes (spec.is_file actual.now typer.old) result typer.new }
-{
-    if actual.width.is_some() {
-        return Ok(false);
-    }
-    match &actual.value {
-        syntax::Expr::Name(name) => Ok(is_output(typer.find(name)?)),
-        _ => Ok(false),
+    let Some(named) = named_file(typer, &first.value)? else {
+        return Ok(actuals);
+    };
+    match (wanted, named) {
+        (File::Input, File::Input) | (File::Output, File::Output) => Ok(rest),
+        (File::Input, File::Output) | (File::Output, File::Input) => {
+            Err(TypeFault::WrongParameters(place))
+        }
     }
 }
 

@@ -8,6 +8,7 @@ mod calls;
 mod cases;
 mod heads;
 mod program;
+mod reading;
 mod records;
 mod statements;
 mod table;

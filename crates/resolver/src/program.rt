@@ -3,7 +3,7 @@ ghost use Rattle.std.specs.List.{range_with_len};
 ghost use Rattle.place.specs.Place.{ArePlacesInOrder};
 ghost use Rattle.syntax_tree.specs.Places.{program_places};
 ghost use Rattle.typed_tree.specs.Entries.{AreNumbered};
-ghost use Rattle.typed_tree.specs.Ids.{AreInOrder, AreByPlace};
+ghost use Rattle.typed_tree.specs.Ids.{AreInOrder, AreByPlace, ArePointsInOrder};
 ghost use Rattle.typed_tree.specs.Loops.{loops_of};
 ghost use Rattle.typed_tree.specs.WellFormed.{IsWellFormed};
 ghost use Rattle.typing.specs.Outcomes.{IsFault};
@@ -49,9 +49,12 @@ pub fn resolve(alloc: Global, program: &Program) -> Result<Tree, TypeFault>
         → IfOk result (λ tree. AreByPlace (map stands tree.sites.items)) }
     ensures few_sites { IfOk result (λ tree. vec_len tree.sites ≤ MOST_SITES) }
 
-    // Each variable and each site that the tree names is in its table.
+    // Points have their places in the table as ids.
+    ensures points_in_order { IfOk result (λ tree. ArePointsInOrder tree.points.items) }
+    ensures few_points { IfOk result (λ tree. vec_len tree.points ≤ MOST_SITES) }
+
+    // Each variable, each site and each point that the tree names is in its table.
     ensures well_formed { IfOk result IsWellFormed }
-    ensures points { IfOk result (λ tree. tree.points.items ≡ []) }
 
     // Its types are the required ones, and then the program's own.
     ensures types { IfOk result (λ tree. BeginWithRequired tree.types) }

@@ -57,7 +57,12 @@ fn meet(met: &mut Met, statement: &Stmt)
     ensures { Meets (meets (inside_of statement.now)) met.old met.new }
 {
     match statement {
-        Stmt::Empty { .. } | Stmt::Assign(_) | Stmt::Copy(_) | Stmt::Write(_) | Stmt::Call(_) => {}
+        Stmt::Empty { .. }
+        | Stmt::Assign(_)
+        | Stmt::Copy(_)
+        | Stmt::Read(_)
+        | Stmt::Write(_)
+        | Stmt::Call(_) => {}
         Stmt::Compound { statements, .. } => meet_all(met, statements),
         Stmt::If {
             consequence,

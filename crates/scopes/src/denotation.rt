@@ -33,8 +33,10 @@ pub enum Denotation {
         block: u32,
         is_function: bool,
     },
-    /// The file output, a program parameter.
-    Output,
+    /// A required function that asks something of the input (6.6.6.5).
+    InputFunction(InputFunction),
+    /// A file, a program parameter (6.10).
+    File(File),
 }
 
 /// A name in small letters, and what it denotes.
@@ -44,11 +46,26 @@ pub struct Definition {
     pub denotation: Denotation,
 }
 
-/// A required procedure (6.6.4, 6.9).
-#[derive(Clone, Copy, PartialEq, Eq)]
-pub enum RequiredProcedure {
-    Write,
-    Writeln,
+/// A file that a program may have (6.10).
+#[derive(Clone, Copy)]
+pub enum File {
+    Input,
+    Output,
+}
+
+/// A required function of the file input (6.6.6.5).
+#[derive(Clone, Copy)]
+pub enum InputFunction {
+    Eof,
+    Eoln,
+}
+
+/// A required procedure (6.6.4, 6.9): it reads the input or writes the output.
+#[derive(Clone, Copy)]
+pub struct RequiredProcedure {
+    pub file: File,
+    /// A readln passes the next line end, and a writeln ends the line.
+    pub ends_line: bool,
 }
 
 /// A required function of one ordinal (6.6.6), by what it takes and gives, and what it does.

@@ -6,8 +6,8 @@ mod fault;
 mod regions;
 
 pub use denotation::{
-    Definition, Denotation, FunctionArgument, FunctionOperation, FunctionTest, FunctionType,
-    FunctionValue, RequiredFunction, RequiredProcedure,
+    Definition, Denotation, File, FunctionArgument, FunctionOperation, FunctionTest, FunctionType,
+    FunctionValue, InputFunction, RequiredFunction, RequiredProcedure,
 };
 pub use fault::ScopeFault;
 pub use regions::{Region, Scopes, copied};

@@ -1,13 +1,17 @@
 pub mod Addressed
-pub mod Written
 pub mod Called
 pub mod Used
 pub mod Characters
 pub mod Examples
 mod ExamplesOfCalls
+mod ExamplesOfInput
 mod ExamplesOfRows
 mod ExamplesOfSets
+pub mod Asking
+pub mod Reading
 pub mod Steps
+pub mod Running
+pub mod Finishing
 pub mod Growing
 pub mod Bits
 pub mod Seen

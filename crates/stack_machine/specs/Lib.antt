@@ -8,8 +8,7 @@ pub mod Frames
 pub mod Halts
 pub mod Laws
 pub mod Machine
-pub mod Output
-pub mod Ports
+pub mod Ran
 pub mod Rows
 pub mod Run
 pub mod Sets

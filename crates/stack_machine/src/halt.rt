@@ -1,26 +1,53 @@
 ghost use Rattle.std.specs.Prelude.{◌≡◌};
 ghost use Rattle.stack_machine.specs.declared.halt.Halt.TheVariants.{Fault};
-ghost use Rattle.stack_machine.specs.Halts.{stop_at};
+ghost use Rattle.stack_machine.specs.Halts.{stop_at, unread, untold};
+ghost use Rattle.stack_machine.specs.Machine.{tables_of};
 
 use crate::stop::{MachineFault, Stop};
 use pcode_assembler::code::Code;
+use run_ports::fault::ReadStop;
+use text_input::InputFault;
 
-/// Why an instruction stops a run: a `Stop` in 8 bytes, which has the number of a site in place of the site. So no
-/// `Stop` is made while a run goes on.
+/// Why an instruction stops a run: a `Stop` in 8 bytes, which has the number of a site or of a point in place of it. So
+/// no `Stop` is made while a run goes on.
 #[derive(Clone, Copy)]
 pub enum Halt {
     Finished,
     /// The number of a site: its place in the code's table.
     Error(u32),
+    /// The number of a point, and what was wrong with the input there.
+    Input(u32, InputFault),
     StoreFull,
     Fault(MachineFault),
+    ReadFailed,
     WriteFailed,
 }
 
 impl Halt {
-    /// The stop of a run of this code. A site that isn't in the table is a fault.
+    /// What stops an instruction that reads at this point.
+    pub fn unread(point: u32, stop: ReadStop) -> Halt
+        ensures { result ≡ unread point stop }
+    {
+        match stop {
+            ReadStop::Input(fault) => Halt::Input(point, fault),
+            ReadStop::ReadFailed => Halt::ReadFailed,
+            ReadStop::WriteFailed => Halt::WriteFailed,
+        }
+    }
+
+    /// What stops an instruction that asks whether the input is at its end, which is no fault of the input.
+    pub fn untold(stop: ReadStop) -> Halt
+        ensures { result ≡ untold stop }
+    {
+        match stop {
+            ReadStop::Input(_) | ReadStop::ReadFailed => Halt::ReadFailed,
+            ReadStop::WriteFailed => Halt::WriteFailed,
+        }
+    }
+
+    /// The stop of a run of this code. A site or a point that isn't in its table is a fault.
     pub fn stop(self, code: &Code) -> Stop
-        ensures { result ≡ stop_at code.now.sites.items self }
+        ensures { result ≡ stop_at (tables_of code.now) self }
     {
         match self {
             Halt::Finished => Stop::Finished,
@@ -28,8 +55,16 @@ impl Halt {
                 Some(site) => Stop::Error(*site),
                 None => Stop::Fault(MachineFault::OutOfBounds),
             },
+            Halt::Input(point, fault) => match code.points.get(point as usize) {
+                Some(point) => Stop::Input {
+                    point: *point,
+                    fault,
+                },
+                None => Stop::Fault(MachineFault::OutOfBounds),
+            },
             Halt::StoreFull => Stop::StoreFull,
             Halt::Fault(fault) => Stop::Fault(fault),
+            Halt::ReadFailed => Stop::ReadFailed,
             Halt::WriteFailed => Stop::WriteFailed,
         }
     }

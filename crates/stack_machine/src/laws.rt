@@ -1,5 +1,5 @@
 //! What holds of every run. Each law is the contract of a function that does nothing.
-ghost use Rattle.stack_machine.specs.Laws.{RunsCompose, OutputOnlyGrows};
+ghost use Rattle.stack_machine.specs.Laws.{RunsCompose, OutputOnlyGrows, RunsOnBytes};
 
 /// So many instructions, and then more from the state that they reach, are a run of both numbers together.
 pub fn runs_compose()
@@ -9,4 +9,9 @@ pub fn runs_compose()
 /// With a greater budget the output only grows at its end.
 pub fn output_only_grows()
     ensures { OutputOnlyGrows }
+{}
+
+/// A run on a reader whose bytes are known, which didn't fail, is the run on these bytes.
+pub fn runs_on_bytes()
+    ensures { RunsOnBytes }
 {}

@@ -5,13 +5,12 @@ pub mod cell;
 mod cells;
 mod form;
 mod halt;
-mod input;
 pub mod laws;
 pub mod machine;
-mod output;
 mod plane;
 mod rows;
 pub mod stop;
 mod store;
+mod writing;
 
 pub use byte_ports::bytes;

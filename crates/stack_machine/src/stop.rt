@@ -1,4 +1,5 @@
 use pcode_assembler::code::{Point, Site};
+use text_input::InputFault;
 
 /// Why a run ended.
 #[derive(Clone, Copy)]
@@ -19,21 +20,6 @@ pub enum Stop {
     ReadFailed,
     /// The writer failed.
     WriteFailed,
-}
-
-/// What was wrong with the input.
-#[derive(Clone, Copy)]
-pub enum InputFault {
-    /// N1: nothing was left.
-    EndOfInput,
-    /// N2: no number stood there.
-    NotANumber,
-    /// N3: a number outside -2147483647 to 2147483647.
-    NumberTooLarge,
-    /// N4: a value outside the type of its variable.
-    OutsideType,
-    /// N5: a byte above 127 was read as a char.
-    NotACharacter,
 }
 
 /// What was wrong with the code. Of several faults at one instruction the first of these is told.

@@ -93,12 +93,29 @@ impl Store {
         true
     }
 
+    /// A fault where one more cell has no room.
+    pub fn has_room(&self) -> Result<(), MachineFault>
+        ensures room { IfOk result (λ _. self.now.used < self.now.limit) }
+        ensures value { result ≡ frames.has_room_after 0 (view self.now) }
+    {
+        self.has_room_after(0)
+    }
+
+    /// Pushes a number for which there is room.
+    pub fn push(&mut self, number: i32)
+        requires { self.old.used < self.old.limit }
+        ensures value { view self.new ≡ frames.pushed (Number number) (view self.old) }
+        ensures size { self.new.size ≡ self.old.size }
+    {
+        self.replace_by_number(0, number);
+    }
+
     /// `ldc`
     pub fn load_constant(&mut self, value: i32) -> Result<(), MachineFault>
         ensures { Acts result (view self.old) (view self.new) (frames.load_constant value (view self.old)) }
     {
-        self.has_room_after(0)?;
-        self.replace_by_number(0, value);
+        self.has_room()?;
+        self.push(value);
         Ok(())
     }
 

@@ -1,6 +1,6 @@
 //! Codes that tests write as texts: instructions by their mnemonics, with `;` between them.
 
-use crate::machines::{CHECKED, run_told};
+use crate::machines::{CHECKED, READ, run_told};
 use pcode_assembler::code::Code;
 use pcode_assembler::instr::Instr;
 use std::alloc::Global;
@@ -9,18 +9,18 @@ use std::test::Fail;
 /// A code, the cells of the store and a budget.
 pub type RunRow = (&'static str, u32, u64);
 
-/// What a run of a code writes, and behind it how it stops.
+/// What a run of a code without input writes, and behind it how it stops.
 pub fn row_told(alloc: Global, row: &RunRow) -> Result<String, Fail> {
     let (text, cells, budget) = *row;
     let code = assembled(alloc, text)?;
     run_told(alloc, &code, cells.max(1).min(4194304), budget)
 }
 
-/// The code of a text, with one site.
+/// The code of a text, with one site and one point.
 pub fn assembled(alloc: Global, text: &str) -> Result<Code, Fail> {
     Ok(Code {
         sites: vec![in alloc; CHECKED]?,
-        points: Vec::new(alloc),
+        points: vec![in alloc; READ]?,
         instructions: instructions(alloc, text)?,
     })
 }
@@ -68,6 +68,7 @@ fn instruction(part: &str) -> Option<Instr> {
         .or(leveled(name, first, second))
         .or(sized(name, first, second))
         .or(checking(name, first, second))
+        .or(reading(name, first, second))
 }
 
 /// The set of 32 hexadecimal digits, of which the first is that of the members 127 to 124.
@@ -80,7 +81,7 @@ fn set_of(digits: &str) -> Option<u128> {
 }
 
 /// Those without operands.
-static PLAIN: [(&str, Instr); 34] = [
+static PLAIN: [(&str, Instr); 35] = [
     ("adi", Instr::Add),
     ("sbi", Instr::Subtract),
     ("mpi", Instr::Multiply),
@@ -114,6 +115,7 @@ static PLAIN: [(&str, Instr); 34] = [
     ("wrc", Instr::WriteChar),
     ("wrb", Instr::WriteBoolean),
     ("wln", Instr::WriteLine),
+    ("eof", Instr::EndOfFile),
     ("stp", Instr::Stop),
 ];
 
@@ -179,6 +181,22 @@ fn checking(name: &str, site: u32, second: u32) -> Option<Instr> {
         "ckm" => Some(Instr::CheckProduct { site }),
         "ckq" => Some(Instr::CheckSquare { site }),
         "ckr" => Some(Instr::CheckMembers { site }),
+        _ => None,
+    }
+}
+
+/// Those that read at a point. A value that was read is admitted from 1 to the second operand.
+fn reading(name: &str, point: u32, second: u32) -> Option<Instr> {
+    match name {
+        "rdi" => Some(Instr::ReadInteger { point }),
+        "rdc" => Some(Instr::ReadChar { point }),
+        "rln" => Some(Instr::ReadLine { point }),
+        "eln" => Some(Instr::EndOfLine { point }),
+        "chn" => Some(Instr::CheckInput {
+            point,
+            low: 1,
+            high: i32::try_from(second).ok()?,
+        }),
         _ => None,
     }
 }

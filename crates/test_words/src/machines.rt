@@ -1,14 +1,14 @@
-ghost use Rattle.std.specs.Prelude.{◌≡◌, ◌≤◌, IfOk, string_bytes};
+ghost use Rattle.std.specs.Prelude.{◌≡◌, ◌≤◌, [], IfOk, string_bytes};
 ghost use Rattle.stack_machine.specs.Run.{machine};
-ghost use Rattle.test_words.specs.Runs.{IsToldRun, word_of};
+ghost use Rattle.test_words.specs.Runs.{IsToldRun, fault_word, word_of};
 
-use pcode_assembler::code::{Code, Site};
+use pcode_assembler::code::{Code, Point, Site};
 use stack_machine::bytes::Counted;
 use stack_machine::machine::Machine;
 use stack_machine::stop::{MachineFault, Stop};
 use std::alloc::Global;
-use std::io;
 use std::test::Fail;
+use text_input::InputFault;
 
 /// The site of the checks in the codes that stand in tests.
 pub const CHECKED: Site = Site {
@@ -18,15 +18,28 @@ pub const CHECKED: Site = Site {
     kind: 11,
 };
 
-/// How a run stops, in a word; none where it finishes. Of the errors that of the first site has a word of its own.
+/// The point at which the codes that stand in tests read.
+pub const READ: Point = Point {
+    id: 0,
+    line: 2,
+    column: 3,
+};
+
+/// How a run stops, in a word; none where it finishes. Of the errors that of the first site has a word of its own, and
+/// of the faults of the input those at the first point.
 pub fn word_of(stop: Stop) -> &'static str
     ensures { result.now ≡ word_of stop }
 {
     match stop {
         Stop::Finished => "",
         Stop::Error(Site { id: 0, .. }) => "error",
+        Stop::Input {
+            point: Point { id: 0, .. },
+            fault,
+        } => fault_word(fault),
         Stop::More => "more",
         Stop::StoreFull => "full",
+        Stop::ReadFailed => "unread",
         Stop::WriteFailed => "failed",
         Stop::Fault(MachineFault::Underflow) => "M1",
         Stop::Fault(MachineFault::OutOfBounds) => "M2",
@@ -36,13 +49,40 @@ pub fn word_of(stop: Stop) -> &'static str
     }
 }
 
-/// What a run of the code writes, and behind it how it stops.
+/// A fault of the input, in a word.
+fn fault_word(fault: InputFault) -> &'static str
+    ensures { result.now ≡ fault_word fault }
+{
+    match fault {
+        InputFault::EndOfInput => "N1",
+        InputFault::NotANumber => "N2",
+        InputFault::NumberTooLarge => "N3",
+        InputFault::OutsideType => "N4",
+        InputFault::NotACharacter => "N5",
+    }
+}
+
+/// What a run of the code without input writes, and behind it how it stops.
 pub fn run_told(alloc: Global, code: &Code, cells: u32, budget: u64) -> Result<String, Fail>
     requires { (1 ≤ cells) × (cells ≤ 16777216) }
-    ensures { IfOk result (λ told. IsToldRun (string_bytes told) (λ input. machine code.now input cells budget)) }
+    ensures { IfOk result (λ told. IsToldRun (string_bytes told) (machine code.now [] cells budget)) }
+{
+    run_on(alloc, code, &[], cells, budget)
+}
+
+/// What a run of the code on this input writes, and behind it how it stops.
+pub fn run_on(
+    alloc: Global,
+    code: &Code,
+    input: &[u8],
+    cells: u32,
+    budget: u64,
+) -> Result<String, Fail>
+    requires { (1 ≤ cells) × (cells ≤ 16777216) }
+    ensures { IfOk result (λ told. IsToldRun (string_bytes told) (machine code.now input.now cells budget)) }
 {
     let mut machine = Machine::new(alloc, cells)?;
-    let mut reader = Counted::new(io::empty());
+    let mut reader = Counted::new(input);
     let mut writer = Counted::new(Vec::new(alloc));
     let word = word_of(machine.run(code, &mut reader, &mut writer, budget));
     let mut told = String::from_utf8(writer.into_inner())?;

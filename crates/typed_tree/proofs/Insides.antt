@@ -9,6 +9,7 @@ use Rattle.typed_tree.specs.declared.tree.LoopHead.{LoopHead}
 use Rattle.typed_tree.specs.declared.tree.ProcedureCall.{ProcedureCall}
 use Rattle.typed_tree.specs.declared.tree.WithHead.{WithHead}
 use Rattle.typed_tree.specs.declared.tree.Writing.{Writing}
+use Rattle.typed_tree.specs.declared.tree.Reading.{Reading}
 use Rattle.typed_tree.specs.declared.tree.Expr.{Expr}
 use Rattle.typed_tree.specs.declared.tree.Stmt.{Stmt}
 use Rattle.typed_tree.specs.declared.tree.Stmt.TheVariants as stmt
@@ -29,6 +30,9 @@ inside_assign assignment = rolled (stmt.Assign assignment) (layer.Assign assignm
 
 pub inside_copy : (copying : Copying) → inside_of (stmt.Copy copying) ≡ no_loop
 inside_copy copying = rolled (stmt.Copy copying) (layer.Copy copying) (stmt.rolls-Copy copying)
+
+pub inside_read : (reading : Reading) → inside_of (stmt.Read reading) ≡ no_loop
+inside_read reading = rolled (stmt.Read reading) (layer.Read reading) (stmt.rolls-Read reading)
 
 pub inside_write : (writing : Writing) → inside_of (stmt.Write writing) ≡ no_loop
 inside_write writing = rolled (stmt.Write writing) (layer.Write writing) (stmt.rolls-Write writing)

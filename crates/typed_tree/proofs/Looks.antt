@@ -24,6 +24,8 @@ use Rattle.typed_tree.specs.declared.tree.LoopHead.{LoopHead}
 use Rattle.typed_tree.specs.declared.tree.ProcedureCall.{ProcedureCall}
 use Rattle.typed_tree.specs.declared.tree.WithHead.{WithHead}
 use Rattle.typed_tree.specs.declared.tree.Writing.{Writing}
+use Rattle.typed_tree.specs.declared.tree.Reading.{Reading}
+use Rattle.typed_tree.specs.declared.tree.InputTest.{InputTest}
 use Rattle.typed_tree.specs.declared.tree.Expr.{Expr}
 use Rattle.typed_tree.specs.declared.tree.Passed.{Passed}
 use Rattle.typed_tree.specs.declared.tree.Passed.TheVariants as actual
@@ -40,7 +42,7 @@ use Rattle.typed_tree.specs.Look.{passed_look, look_call, look_passed, ForValue,
 use Rattle.typed_tree.specs.Look.{Look, link_look, expression_look, look_expr, look_link, look_parameter, statement_look, look_stmt, Constant, Value}
 use Rattle.typed_tree.specs.Look.{Operation, Applied, Begins, Operator, Ends, Empty, Assign, Target, Fits, Write, Compound, If, Then, Else, While, Do, Repeat}
 use Rattle.typed_tree.specs.Look.{Until, For, Controls, ForEnds, Case, arms_look, look_whole, look_access, compared, WholeTarget, Copied}
-use Rattle.typed_tree.specs.Look.{Constructs, Constructed, With, WithEnds, look_record}
+use Rattle.typed_tree.specs.Look.{Constructs, Constructed, With, WithEnds, look_record, Read, Input, look_read}
 use Rattle.typed_tree.specs.Accesses.{AtVariable, origin_of}
 use Rattle.typed_tree.specs.Entries.{joined}
 use Rattle.typed_tree.specs.WellFormed.{length_of, source_of}
@@ -90,6 +92,10 @@ pub look_function_call : (call : Call) (actuals : Vec Passed Global) → look_ex
 look_function_call call actuals =
     ap look_expr (sym (tree.rolls-Call call actuals))
     ∙ fold-roll-Expr Look Passing Look expression_look passed_look link_look (layer.Call call actuals)
+
+pub look_input : (number : ℕ) (asks : InputTest) → look_expr (tree.Input number asks) ≡ Input number asks ∷ []
+look_input number asks =
+    ap look_expr (sym (tree.rolls-Input number asks)) ∙ fold-roll-Expr Look Passing Look expression_look passed_look link_look (layer.Input number asks)
 
 pub look_set : (number : ℕ) (designators : Vec Designator Global) (members : Vec Expr Global)
     → look_expr (tree.Set number designators members)
@@ -160,6 +166,11 @@ pub look_write : (writing : Writing)
     → look_stmt (stmt.Write writing)
     ≡ Write writing.number writing.name writing.ends_line ∷ (flat_map look_parameter writing.parameters.items ++ (Ends ∷ []))
 look_write writing = ap look_stmt (sym (stmt.rolls-Write writing)) ∙ fold-roll-Stmt Look statement_look (stmt_layer.Write writing)
+
+pub look_reading : (reading : Reading)
+    → look_stmt (stmt.Read reading)
+    ≡ Read reading.number reading.name reading.line ∷ (flat_map look_read reading.variables.items ++ (Ends ∷ []))
+look_reading reading = ap look_stmt (sym (stmt.rolls-Read reading)) ∙ fold-roll-Stmt Look statement_look (stmt_layer.Read reading)
 
 pub look_procedure_call : (calling : ProcedureCall) → look_stmt (stmt.Call calling) ≡ look_call false calling.call calling.actuals.items
 look_procedure_call calling = ap look_stmt (sym (stmt.rolls-Call calling)) ∙ fold-roll-Stmt Look statement_look (stmt_layer.Call calling)

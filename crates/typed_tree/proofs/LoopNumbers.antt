@@ -9,18 +9,19 @@ use Rattle.typed_tree.specs.declared.tree.Block.{Block}
 use Rattle.typed_tree.specs.declared.tree.Expr.{Expr}
 use Rattle.typed_tree.specs.declared.tree.Stmt.{Stmt}
 use Rattle.typed_tree.specs.declared.tree.Stmt.TheOpen.{Stmt-F}
-use Rattle.typed_tree.specs.declared.tree.Stmt.TheOpen.Stmt-F.{Empty, Assign, Write, Compound, If, While, Repeat, For, Case, Copy, Call as Calling, With}
+use Rattle.typed_tree.specs.declared.tree.Stmt.TheOpen.Stmt-F.{Empty, Assign, Write, Compound, If, While, Repeat, For, Case, Copy, Call as Calling, With, Read}
 use Rattle.typed_tree.specs.declared.tree.Stmt.TheFolds.{map-Stmt, fold-roll-Stmt, ind-Stmt}
 use Rattle.typed_tree.specs.Accesses.{AtVariable, origin_of}
 use Rattle.typed_tree.specs.Entries.{joined, of_block}
 use Rattle.typed_tree.specs.WellFormed.{length_of, source_of}
 use Rattle.typed_tree.specs.Loops.{Inside, statement_inside, inside_of, loops_of, loops_of_block}
-use Rattle.typed_tree.proofs.Quiet.{quiet_expr, quiet_accessed, quiet_value, quiet_parameters, quiet_called, quiet_records}
+use Rattle.typed_tree.proofs.Quiet.{quiet_expr, quiet_accessed, quiet_value, quiet_parameters, quiet_called, quiet_reads, quiet_records}
 use Rattle.typed_tree.specs.Look.{Mark, Look, look_expr, look_record, look_parameter, arms_look, statement_look}
 use Rattle.typed_tree.specs.Look.{look_stmt, look_block, look_access, look_whole, Target, WholeTarget}
 use Rattle.typed_tree.specs.Look.{tree_look, mark_loops, loops_of_look, Ends, Then, Else, Do, Until, Controls, ForEnds, Fits as FitsMark, heading_look}
 use Rattle.typed_tree.specs.Look.{WithEnds}
 use Rattle.typed_tree.specs.Look.{Copied}
+use Rattle.typed_tree.specs.Look.{look_read}
 
 -- a form, and then one that is no loop
 ended : (look : Look) (end : Mark) → mark_loops end ≡ [] → loops_of_look (look ++ (end ∷ [])) ≡ loops_of_look look
@@ -92,6 +93,7 @@ numbers_layer (Copy copying) =
     ∙ ended (look_whole copying.value copying.value_indexes.items) end refl
     ∙ (quiet_value copying.value copying.value_indexes.items).0
 numbers_layer (Write writing) = ended (flat_map look_parameter writing.parameters.items) Ends refl ∙ (quiet_parameters writing.parameters.items).0
+numbers_layer (Read reading) = ended (flat_map look_read reading.variables.items) Ends refl ∙ (quiet_reads reading.variables.items).0
 numbers_layer (Calling calling) = (quiet_called false calling.call calling.actuals.items).0
 numbers_layer (Compound number statements) = ended (joined (map look_stmt (map (λ s. s.0) statements.items))) Ends refl ∙ numbers_joined statements.items
 numbers_layer (If number condition consequence None) =

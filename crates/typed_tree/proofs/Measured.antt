@@ -24,14 +24,14 @@ use Rattle.typed_tree.specs.declared.tree.Expr.{Expr}
 use Rattle.typed_tree.specs.declared.tree.Link.{Link}
 use Rattle.typed_tree.specs.declared.tree.Passed.{Passed}
 use Rattle.typed_tree.specs.declared.tree.Expr.TheOpen.{Expr-F, Passed-F, Link-F}
-use Rattle.typed_tree.specs.declared.tree.Expr.TheOpen.Expr-F.{Constant, Variable, Monadic as MonadicOf, Chain, Compare, Call as CallOf, Set}
+use Rattle.typed_tree.specs.declared.tree.Expr.TheOpen.Expr-F.{Constant, Variable, Monadic as MonadicOf, Chain, Compare, Call as CallOf, Set, Input}
 use Rattle.typed_tree.specs.declared.tree.Expr.TheOpen.Passed-F.{Value as PassedValue, Whole as PassedWhole, Reference}
 use Rattle.typed_tree.specs.declared.tree.Expr.TheFolds.{fold-Expr, fold-Passed, fold-Link, map-Expr, map-Passed, map-Link, fold-roll-Expr, fold-roll-Passed}
 use Rattle.typed_tree.specs.declared.tree.Expr.TheFolds.{fold-roll-Link, ind-Expr, ind-Passed}
 use Rattle.typed_tree.specs.declared.tree.Expr.TheViews.{roll-Expr, roll-Passed, roll-Link}
 use Rattle.typed_tree.specs.declared.tree.Stmt.{Stmt}
 use Rattle.typed_tree.specs.declared.tree.Stmt.TheOpen.{Stmt-F}
-use Rattle.typed_tree.specs.declared.tree.Stmt.TheOpen.Stmt-F.{Empty, Assign, Write, Compound, If, While, Repeat, For, Case, Copy, Call as Calling, With}
+use Rattle.typed_tree.specs.declared.tree.Stmt.TheOpen.Stmt-F.{Empty, Assign, Write, Compound, If, While, Repeat, For, Case, Copy, Call as Calling, With, Read}
 use Rattle.typed_tree.specs.declared.tree.Stmt.TheFolds.{fold-Stmt, map-Stmt, fold-roll-Stmt, ind-Stmt}
 use Rattle.typed_tree.specs.Accesses.{AtVariable, origin_of}
 use Rattle.typed_tree.specs.Entries.{joined, expression_entries, link_entries, entries_of_expression, entries_of_width, entries_of_parameter, statement_entries}
@@ -50,6 +50,10 @@ use Rattle.typed_tree.specs.Look.{look_stmt, look_block, tree_look, mark_entries
 use Rattle.typed_tree.specs.Look.{Controls, Fits as FitsMark, Written as WrittenMark, Width as WidthMark, WrittenString, compared, look_whole, look_written}
 use Rattle.typed_tree.specs.Look.{Constructed, Opens, WithEnds, look_record}
 use Rattle.typed_tree.specs.Look.{ForEnds, Applied, Operator, Copied, access_look, whole_look, look_access, Value, WholeValue, Target, WholeTarget}
+use Rattle.typed_tree.specs.Look.{look_read, Reads}
+use Rattle.typed_tree.specs.WellFormed.{is_well_formed_input, is_well_formed_line, is_well_formed_read}
+use Rattle.typed_tree.specs.Entries.{entries_of_read}
+use Rattle.typed_tree.specs.declared.tree.ReadVariable.{ReadVariable}
 
 -- ---- a measure of looks that is a fold over trees
 
@@ -252,6 +256,7 @@ entries_layer (Compare number relation left left_indexes right right_indexes) =
 entries_layer (CallOf call actuals) =
     entries_call true call (map look_passed (map (λ p. p.0) actuals.items)) (map entries_of_passed (map (λ p. p.0) actuals.items))
     (entries_placed actuals.items call.block 0)
+entries_layer (Input number asks) = refl
 entries_layer (Set number designators members) =
     ap (λ entries. number ∷ entries)
     (entries_ended (joined (map look_expr (map (λ e. e.0) members.items)))
@@ -314,6 +319,12 @@ entries_record one =
     entries_access one.access (map look_expr one.indexes.items) (map entries_of_expression one.indexes.items)
     (Opens (origin_of one.access) one.access.selectors.items (length one.indexes.items)) (entries_indexes one.indexes.items) refl
 
+-- what a variable that is read enters
+entries_read : (one : ReadVariable) → entries_of_look (look_read one) ≡ entries_of_read one
+entries_read one =
+    entries_access one.access (map look_expr one.indexes.items) (map entries_of_expression one.indexes.items)
+    (Reads (origin_of one.access) one.access.selectors.items (length one.indexes.items) one.reads one.point one.range) (entries_indexes one.indexes.items) refl
+
 -- what an if enters, by what its two statements do
 entries_chosen : (number : ℕ) (condition : Expr) (look rest : Look)
     → entries_of_look (IfMark number ∷ (look_expr condition ++ (Then ∷ (look ++ (rest ++ (Ends ∷ []))))))
@@ -363,6 +374,10 @@ entries_stmt_layer (Write writing) =
     ap (λ entries. writing.number ∷ entries)
     (entries_ended (flat_map look_parameter writing.parameters.items) Ends refl
     ∙ entries_mapped look_parameter entries_of_parameter entries_parameter writing.parameters.items)
+entries_stmt_layer (Read reading) =
+    ap (λ entries. reading.number ∷ entries)
+    (entries_ended (flat_map look_read reading.variables.items) Ends refl
+    ∙ entries_mapped look_read entries_of_read entries_read reading.variables.items)
 entries_stmt_layer (Calling calling) =
     entries_call false calling.call (map look_passed calling.actuals.items) (map entries_of_passed calling.actuals.items)
     (entries_actuals calling.actuals.items calling.call.block 0)
@@ -563,6 +578,7 @@ module _ (outline : Outline) (block_number : ℕ) where
       let tests = map (is_well_formed_passed outline block_number) inside in
       formed_call true call (map look_passed inside) tests (formed_placed actuals.items call.block 0)
       (length-map inside look_passed ∙ sym (length-map inside (is_well_formed_passed outline block_number)))
+  formed_layer (Input number asks) = and-true (is_well_formed_input outline block_number asks)
   formed_layer (Set number designators members) =
       let inside = map (λ e. e.0) members.items in
       let test = is_well_formed_expr outline block_number in
@@ -649,6 +665,11 @@ module _ (outline : Outline) (block_number : ℕ) where
       formed_access one.access (map look_expr one.indexes.items) (map (is_well_formed_expr outline block_number) one.indexes.items)
       (Opens (origin_of one.access) one.access.selectors.items (length one.indexes.items)) (formed_indexes one.indexes.items)
 
+  formed_read : (one : ReadVariable) → is_formed (look_read one) ≡ is_well_formed_read outline block_number one
+  formed_read one =
+      formed_access one.access (map look_expr one.indexes.items) (map (is_well_formed_expr outline block_number) one.indexes.items)
+      (Reads (origin_of one.access) one.access.selectors.items (length one.indexes.items) one.reads one.point one.range) (formed_indexes one.indexes.items)
+
   abbrev opened_stmt : Stmt-F (ToldStmt is_formed (stmt_is_well_formed outline block_number)) → Stmt-F Stmt
   opened_stmt = stmt_opened is_formed (stmt_is_well_formed outline block_number)
 
@@ -702,6 +723,11 @@ module _ (outline : Outline) (block_number : ℕ) where
       formed_ended (flat_map look_parameter writing.parameters.items) Ends refl
       ∙ formed_mapped look_parameter (is_well_formed_parameter outline block_number) formed_parameter writing.parameters.items
       ∙ sym (list_all-map (λ b. b) (is_well_formed_parameter outline block_number) writing.parameters.items)
+  formed_stmt_layer (Read reading) =
+      ap (λ b. is_well_formed_line outline block_number reading.line && b)
+      (formed_ended (flat_map look_read reading.variables.items) Ends refl
+      ∙ formed_mapped look_read (is_well_formed_read outline block_number) formed_read reading.variables.items
+      ∙ sym (list_all-map (λ b. b) (is_well_formed_read outline block_number) reading.variables.items))
   formed_stmt_layer (Calling calling) =
       let test = is_well_formed_passed outline block_number in
       formed_call false calling.call (map look_passed calling.actuals.items) (map test calling.actuals.items)

@@ -16,14 +16,14 @@ use Rattle.typed_tree.specs.declared.tree.Expr.{Expr}
 use Rattle.typed_tree.specs.declared.tree.Passed.{Passed}
 use Rattle.typed_tree.specs.declared.tree.Link.{Link}
 use Rattle.typed_tree.specs.declared.tree.Expr.TheOpen.{Expr-F, Passed-F, Link-F}
-use Rattle.typed_tree.specs.declared.tree.Expr.TheOpen.Expr-F.{Constant, Variable, Monadic as MonadicOf, Chain, Compare, Call as CallOf, Set}
+use Rattle.typed_tree.specs.declared.tree.Expr.TheOpen.Expr-F.{Constant, Variable, Monadic as MonadicOf, Chain, Compare, Call as CallOf, Set, Input}
 use Rattle.typed_tree.specs.declared.tree.Expr.TheOpen.Passed-F.{Value as PassedValue, Whole as PassedWhole, Reference}
 use Rattle.typed_tree.specs.declared.tree.Expr.TheFolds.{map-Expr, map-Passed, map-Link, fold-roll-Expr, fold-roll-Passed, fold-roll-Link}
 use Rattle.typed_tree.specs.declared.tree.Expr.TheFolds.{ind-Expr, ind-Passed}
 use Rattle.typed_tree.specs.declared.tree.Expr.TheViews.{roll-Expr, roll-Passed, roll-Link}
 use Rattle.typed_tree.specs.declared.tree.Stmt.{Stmt}
 use Rattle.typed_tree.specs.declared.tree.Stmt.TheOpen.{Stmt-F}
-use Rattle.typed_tree.specs.declared.tree.Stmt.TheOpen.Stmt-F.{Empty, Assign, Write, Compound, If, While, Repeat, For, Case, Copy, Call as Calling, With}
+use Rattle.typed_tree.specs.declared.tree.Stmt.TheOpen.Stmt-F.{Empty, Assign, Write, Compound, If, While, Repeat, For, Case, Copy, Call as Calling, With, Read}
 use Rattle.typed_tree.specs.declared.tree.Stmt.TheFolds.{map-Stmt, fold-roll-Stmt, ind-Stmt}
 use Rattle.typed_tree.specs.Entries.{joined}
 use Rattle.typed_tree.specs.WellFormed.{placed}
@@ -31,6 +31,8 @@ use Rattle.typed_tree.specs.Look.{Mark, Look, link_look, passed_look, expression
 use Rattle.typed_tree.specs.Look.{look_record, look_width, look_parameter, arms_look}
 use Rattle.typed_tree.specs.Look.{statement_look, call_look, look_call, look_stmt, look_written, access_look, whole_look, look_access, look_whole}
 use Rattle.typed_tree.specs.Look.{mark_loops, loops_of_look, mark_blocks, blocks_of_look}
+use Rattle.typed_tree.specs.Look.{look_read}
+use Rattle.typed_tree.specs.declared.tree.ReadVariable.{ReadVariable}
 
 -- no block ends in it
 abbrev pub Inner : Look → Type 0
@@ -121,6 +123,7 @@ quiet_layer (Compare number relation left left_indexes right right_indexes) =
     (quiet_then second (_ ∷ _ ∷ [])
     (quiet_whole right (map look_expr (map (λ e. e.0) right_indexes.items)) (quiet_joined look_expr right_indexes.items)) (refl, refl))
 quiet_layer (CallOf call actuals) = quiet_call true call (map look_passed (map (λ p. p.0) actuals.items)) (quiet_placed actuals.items call.block 0)
+quiet_layer (Input number asks) = (refl, refl)
 quiet_layer (Set number designators members) =
     quiet_then (joined (map look_expr (map (λ e. e.0) members.items))) (_ ∷ []) (quiet_joined look_expr members.items) (refl, refl)
 
@@ -194,6 +197,12 @@ quiet_record one = quiet_accessed one.access one.indexes.items _ (refl, refl)
 pub quiet_records : (records : List WithRecord) → Quiet (flat_map look_record records)
 quiet_records = quiet_mapped look_record quiet_record
 
+quiet_read : (one : ReadVariable) → Quiet (look_read one)
+quiet_read one = quiet_accessed one.access one.indexes.items _ (refl, refl)
+
+pub quiet_reads : (variables : List ReadVariable) → Quiet (flat_map look_read variables)
+quiet_reads = quiet_mapped look_read quiet_read
+
 quiet_actuals : (actuals : List Passed) (callee position : ℕ) → Quiet (joined (placed callee position (map look_passed actuals)))
 quiet_actuals [] callee position = (refl, refl)
 quiet_actuals (one ∷ others) callee position =
@@ -235,6 +244,7 @@ inner_layer (Copy copying) =
     (quiet_accessed copying.target copying.indexes.items _ (refl, refl)).1
     (inner_then (look_whole copying.value copying.value_indexes.items) (_ ∷ []) (quiet_value copying.value copying.value_indexes.items).1 refl)
 inner_layer (Write writing) = inner_then (flat_map look_parameter writing.parameters.items) (_ ∷ []) (quiet_parameters writing.parameters.items).1 refl
+inner_layer (Read reading) = inner_then (flat_map look_read reading.variables.items) (_ ∷ []) (quiet_reads reading.variables.items).1 refl
 inner_layer (Calling calling) = (quiet_called false calling.call calling.actuals.items).1
 inner_layer (Compound number statements) = inner_then (joined (map look_stmt (map (λ s. s.0) statements.items))) (_ ∷ []) (inner_joined statements.items) refl
 inner_layer (If number condition consequence None) =

@@ -8,7 +8,7 @@ use Rattle.typed_tree.specs.declared.tree.Link.{Link}
 use Rattle.typed_tree.specs.declared.tree.Passed.{Passed}
 use Rattle.typed_tree.specs.declared.tree.Expr.TheOpen.{Expr-F, Passed-F, Link-F}
 use Rattle.typed_tree.specs.declared.tree.Expr.TheOpen.Expr-F.{Constant, Variable, Monadic as MonadicOf, Chain}
-use Rattle.typed_tree.specs.declared.tree.Expr.TheOpen.Expr-F.{Compare, Call, Set}
+use Rattle.typed_tree.specs.declared.tree.Expr.TheOpen.Expr-F.{Compare, Call, Set, Input}
 use Rattle.typed_tree.specs.declared.tree.Expr.TheOpen.Passed-F.{Value, Whole as WholeOf, Reference}
 use Rattle.typed_tree.specs.declared.tree.Expr.TheFolds.{fold-Expr, fold-Passed, fold-Link}
 use Rattle.typed_tree.specs.WellFormed.{whole_indexes}
@@ -33,6 +33,7 @@ expression_holds_call (Chain first rest) = first.value || any_holds rest.items
 expression_holds_call (Compare number relation left left_indexes right right_indexes) =
     any_holds (whole_indexes left left_indexes.items) || any_holds (whole_indexes right right_indexes.items)
 expression_holds_call (Call call actuals) = true
+expression_holds_call (Input number asks) = false
 expression_holds_call (Set number designators members) = any_holds members.items
 
 -- an expression holds a call

@@ -12,6 +12,7 @@ use Rattle.typed_tree.specs.declared.tree.Block.{Block}
 use Rattle.typed_tree.specs.declared.tree.Call.{Call}
 use Rattle.typed_tree.specs.declared.tree.Width.{Width}
 use Rattle.typed_tree.specs.declared.tree.WithRecord.{WithRecord}
+use Rattle.typed_tree.specs.declared.tree.ReadVariable.{ReadVariable}
 use Rattle.typed_tree.specs.declared.tree.WriteParameter.{WriteParameter}
 use Rattle.typed_tree.specs.declared.tree.Written.{Written}
 use Rattle.typed_tree.specs.declared.tree.Written.TheVariants.{Ordinal, String}
@@ -21,13 +22,13 @@ use Rattle.typed_tree.specs.declared.tree.Expr.{Expr}
 use Rattle.typed_tree.specs.declared.tree.Passed.{Passed}
 use Rattle.typed_tree.specs.declared.tree.Expr.TheOpen.{Expr-F, Passed-F, Link-F}
 use Rattle.typed_tree.specs.declared.tree.Expr.TheOpen.Expr-F.{Constant, Variable, Monadic as MonadicOf, Chain}
-use Rattle.typed_tree.specs.declared.tree.Expr.TheOpen.Expr-F.{Compare, Call as CallOf, Set}
+use Rattle.typed_tree.specs.declared.tree.Expr.TheOpen.Expr-F.{Compare, Call as CallOf, Set, Input}
 use Rattle.typed_tree.specs.declared.tree.Expr.TheOpen.Passed-F.{Value, Whole as WholeOf, Reference}
 use Rattle.typed_tree.specs.declared.tree.Expr.TheFolds.{fold-Expr, fold-Passed}
 use Rattle.typed_tree.specs.declared.tree.Stmt.{Stmt}
 use Rattle.typed_tree.specs.declared.tree.Stmt.TheOpen.{Stmt-F}
 use Rattle.typed_tree.specs.declared.tree.Stmt.TheOpen.Stmt-F.{Empty, Assign, Write, Compound, If, While, Repeat, For}
-use Rattle.typed_tree.specs.declared.tree.Stmt.TheOpen.Stmt-F.{Case, Copy, Call as Calling, With}
+use Rattle.typed_tree.specs.declared.tree.Stmt.TheOpen.Stmt-F.{Case, Copy, Call as Calling, With, Read}
 use Rattle.typed_tree.specs.declared.tree.Stmt.TheFolds.{fold-Stmt}
 
 -- several rows as one
@@ -65,6 +66,7 @@ expression_entries (Chain first rest) = first.value ++ joined rest.items
 expression_entries (Compare number relation left left_indexes right right_indexes) =
     whole_entries left left_indexes.items ++ (number ∷ whole_entries right right_indexes.items)
 expression_entries (CallOf call actuals) = call_entries call actuals.items
+expression_entries (Input number asks) = number ∷ []
 expression_entries (Set number designators members) = number ∷ joined members.items
 
 -- the numbers of an expression's entries
@@ -96,6 +98,10 @@ entries_of_parameter parameter = entries_of_written parameter.value ++ entries_o
 abbrev pub entries_of_record : WithRecord → List ℕ
 entries_of_record one = access_entries one.access (index_entries one.indexes.items)
 
+-- the numbers of the entries of a variable that is read
+abbrev pub entries_of_read : ReadVariable → List ℕ
+entries_of_read one = access_entries one.access (index_entries one.indexes.items)
+
 -- the numbers of the entries of the statement behind `else`, where there is one
 abbrev pub alternative_entries : Option (Box (List ℕ) Global) → List ℕ
 alternative_entries None = []
@@ -111,6 +117,7 @@ statement_entries (Copy copying) =
     ∷ (access_entries copying.target (index_entries copying.indexes.items)
     ++ whole_entries copying.value (index_entries copying.value_indexes.items))
 statement_entries (Write writing) = writing.number ∷ flat_map entries_of_parameter writing.parameters.items
+statement_entries (Read reading) = reading.number ∷ flat_map entries_of_read reading.variables.items
 statement_entries (Calling calling) = call_entries calling.call (map entries_of_passed calling.actuals.items)
 statement_entries (Compound number statements) = number ∷ joined statements.items
 statement_entries (If number condition consequence alternative) =

@@ -1,9 +1,10 @@
--- The table of sites (ISO 7185:1990, 3.1, for the errors that sites may commit): the id of each is its place in the
--- table, and they stand there by place and then by kind. It says nothing of where a program has sites.
+-- The tables of sites (ISO 7185:1990, 3.1, for the errors that sites may commit) and of points: the id of each is its
+-- place in its table, and sites stand there by place and then by kind. It says nothing of where a program has them.
 use Rattle.std.specs.Prelude.{◌≡◌, ◌&&◌, ◌||◌, Bool, IsTrue, List, [], ◌∷◌, map, length, nat_eq, nat_lt}
 use Rattle.std.specs.List.{range_with_len}
 use Rattle.place.specs.declared.Place.{Place}
 use Rattle.place.specs.Place.{comes_before}
+use Rattle.typed_tree.specs.declared.site.Point.{Point}
 use Rattle.typed_tree.specs.declared.site.Site.{Site}
 use Rattle.typed_tree.specs.declared.site.SiteKind.{SiteKind}
 use Rattle.typed_tree.specs.Sites.{number_of}
@@ -11,6 +12,10 @@ use Rattle.typed_tree.specs.Sites.{number_of}
 -- from 0, one after another
 abbrev pub AreInOrder : List Site → Type 0
 AreInOrder sites = map (λ site. site.id) sites ≡ range_with_len 0 (length sites)
+
+-- the same of points
+abbrev pub ArePointsInOrder : List Point → Type 0
+ArePointsInOrder points = map (λ point. point.id) points ≡ range_with_len 0 (length points)
 
 -- where an error stands: its kind and its place
 abbrev pub Stands : Type 0

@@ -11,6 +11,7 @@ use Rattle.typed_tree.specs.declared.tree.Scalar.{Scalar}
 use Rattle.typed_tree.specs.declared.tree.Scalar.TheVariants as scalar
 use Rattle.typed_tree.specs.declared.tree.Width.{Width}
 use Rattle.typed_tree.specs.declared.tree.WithRecord.{WithRecord}
+use Rattle.typed_tree.specs.declared.tree.ReadVariable.{ReadVariable}
 use Rattle.typed_tree.specs.declared.tree.WriteParameter.{WriteParameter}
 use Rattle.typed_tree.specs.declared.tree.Written.{Written}
 use Rattle.typed_tree.specs.declared.tree.Written.TheVariants.{Ordinal, String}
@@ -19,13 +20,13 @@ use Rattle.typed_tree.specs.declared.tree.Expr.{Expr}
 use Rattle.typed_tree.specs.declared.tree.Passed.{Passed}
 use Rattle.typed_tree.specs.declared.tree.Expr.TheOpen.{Expr-F, Passed-F, Link-F}
 use Rattle.typed_tree.specs.declared.tree.Expr.TheOpen.Expr-F.{Constant, Variable, Monadic as MonadicOf, Chain}
-use Rattle.typed_tree.specs.declared.tree.Expr.TheOpen.Expr-F.{Compare, Call as CallOf, Set}
+use Rattle.typed_tree.specs.declared.tree.Expr.TheOpen.Expr-F.{Compare, Call as CallOf, Set, Input}
 use Rattle.typed_tree.specs.declared.tree.Expr.TheOpen.Passed-F.{Value, Whole as WholeOf, Reference}
 use Rattle.typed_tree.specs.declared.tree.Expr.TheFolds.{fold-Expr, fold-Passed}
 use Rattle.typed_tree.specs.declared.tree.Stmt.{Stmt}
 use Rattle.typed_tree.specs.declared.tree.Stmt.TheOpen.{Stmt-F}
 use Rattle.typed_tree.specs.declared.tree.Stmt.TheOpen.Stmt-F.{Empty, Assign, Write, Compound, If, While, Repeat, For}
-use Rattle.typed_tree.specs.declared.tree.Stmt.TheOpen.Stmt-F.{Case, Copy, Call as Calling, With}
+use Rattle.typed_tree.specs.declared.tree.Stmt.TheOpen.Stmt-F.{Case, Copy, Call as Calling, With, Read}
 use Rattle.typed_tree.specs.declared.tree.Stmt.TheFolds.{fold-Stmt}
 use Rattle.typed_tree.specs.Tests.{all_hold, whole_indexes}
 
@@ -95,6 +96,7 @@ expression_held (Compare number relation left left_indexes right right_indexes) 
     (are_ordinals (whole_indexes left left_indexes.items) && are_ordinals (whole_indexes right right_indexes.items))
     scalar.Ordinal
 expression_held (CallOf call actuals) = held_where (all_hold actuals.items) scalar.Ordinal
+expression_held (Input number asks) = Some scalar.Ordinal
 expression_held (Set number designators members) = held_where (are_ordinals members.items) scalar.Set
 
 -- an expression
@@ -129,6 +131,9 @@ is_held_parameter parameter = is_held_written parameter.value && is_held_width p
 abbrev pub is_held_record : WithRecord → Bool
 is_held_record one = are_ordinal_indexes one.indexes.items
 
+abbrev pub is_held_read : ReadVariable → Bool
+is_held_read one = are_ordinal_indexes one.indexes.items
+
 abbrev pub alternative_held : Option (Box Bool Global) → Bool
 alternative_held None = true
 alternative_held (Some held) = held.value
@@ -140,6 +145,7 @@ statement_held (Assign assignment) =
 statement_held (Copy copying) =
     are_ordinal_indexes copying.indexes.items && is_held_value copying.value copying.value_indexes.items
 statement_held (Write writing) = all_hold (map is_held_parameter writing.parameters.items)
+statement_held (Read reading) = all_hold (map is_held_read reading.variables.items)
 statement_held (Calling calling) = all_hold (map is_held_passed calling.actuals.items)
 statement_held (Compound number statements) = all_hold statements.items
 statement_held (If number condition consequence alternative) =

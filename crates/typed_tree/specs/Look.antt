@@ -9,6 +9,7 @@ use Rattle.std.specs.declared.boxed.Box.{Box}
 use Rattle.place.specs.declared.Place.{Place}
 use Rattle.typed_tree.specs.declared.tree.Tree.{Tree}
 use Rattle.types.specs.declared.form.TypeId.{TypeId}
+use Rattle.types.specs.declared.form.OrdinalRange.{OrdinalRange}
 use Rattle.typed_tree.specs.declared.tree.Access.{Access as VariableAccess}
 use Rattle.typed_tree.specs.declared.tree.Selector.{Selector}
 use Rattle.typed_tree.specs.declared.tree.Block.{Block}
@@ -25,6 +26,9 @@ use Rattle.typed_tree.specs.declared.tree.Direction.{Direction}
 use Rattle.typed_tree.specs.declared.tree.Representation.{Representation}
 use Rattle.typed_tree.specs.declared.tree.Width.{Width as TotalWidth}
 use Rattle.typed_tree.specs.declared.tree.WithRecord.{WithRecord}
+use Rattle.typed_tree.specs.declared.tree.ReadVariable.{ReadVariable}
+use Rattle.typed_tree.specs.declared.tree.Readable.{Readable}
+use Rattle.typed_tree.specs.declared.tree.InputTest.{InputTest}
 use Rattle.typed_tree.specs.declared.tree.WriteParameter.{WriteParameter}
 use Rattle.typed_tree.specs.declared.tree.Written.{Written as WrittenValue}
 use Rattle.typed_tree.specs.declared.tree.Written.TheVariants.{Ordinal, String}
@@ -37,6 +41,7 @@ use Rattle.typed_tree.specs.declared.tree.Expr.TheOpen.{Expr-F, Passed-F, Link-F
 use Rattle.typed_tree.specs.declared.tree.Expr.TheOpen.Expr-F.{Constant as ConstantOf, Variable as VariableOf}
 use Rattle.typed_tree.specs.declared.tree.Expr.TheOpen.Expr-F.{Monadic as MonadicOf, Chain as ChainOf}
 use Rattle.typed_tree.specs.declared.tree.Expr.TheOpen.Expr-F.{Compare as CompareOf, Call as CallOf, Set as SetOf}
+use Rattle.typed_tree.specs.declared.tree.Expr.TheOpen.Expr-F.{Input as InputOf}
 use Rattle.typed_tree.specs.declared.tree.Expr.TheOpen.Passed-F.{Value as PassedValue, Whole as PassedWhole, Reference}
 use Rattle.typed_tree.specs.declared.tree.Expr.TheFolds.{fold-Expr, fold-Passed, fold-Link}
 use Rattle.typed_tree.specs.declared.tree.Stmt.{Stmt}
@@ -45,6 +50,7 @@ use Rattle.typed_tree.specs.declared.tree.Stmt.TheOpen.Stmt-F.{Empty as EmptyOf,
 use Rattle.typed_tree.specs.declared.tree.Stmt.TheOpen.Stmt-F.{Compound as CompoundOf, If as IfOf, While as WhileOf}
 use Rattle.typed_tree.specs.declared.tree.Stmt.TheOpen.Stmt-F.{Repeat as RepeatOf, For as ForOf, Case as CaseOf}
 use Rattle.typed_tree.specs.declared.tree.Stmt.TheOpen.Stmt-F.{Copy as CopyOf, Call as Calling, With as WithOf}
+use Rattle.typed_tree.specs.declared.tree.Stmt.TheOpen.Stmt-F.{Read as ReadOf}
 use Rattle.typed_tree.specs.declared.tree.Stmt.TheFolds.{fold-Stmt}
 use Rattle.typed_tree.specs.Accesses.{Origin, AtVariable, origin_of}
 use Rattle.typed_tree.specs.Entries.{in_text, joined}
@@ -53,7 +59,8 @@ use Rattle.typed_tree.specs.WellFormed.{are_designators, compare, dyadic_is_well
 use Rattle.typed_tree.specs.WellFormed.{is_text}
 use Rattle.typed_tree.specs.WellFormed.{leads_to_held, leads_to_record, leads_to_scalar, leads_to_whole, is_value_of}
 use Rattle.typed_tree.specs.WellFormed.{may_call, may_copy, passes_value, passes_variable}
-use Rattle.typed_tree.specs.WellFormed.{passes_whole, source_of}
+use Rattle.typed_tree.specs.WellFormed.{passes_whole, source_of, is_well_formed_input, is_well_formed_line}
+use Rattle.typed_tree.specs.WellFormed.{leads_to_read}
 
 -- a form, or where one ends; numbers are those of entries
 pub data Mark : Type 0 where
@@ -103,6 +110,13 @@ pub data Mark : Type 0 where
   Fits : Origin → List Selector → RangeTest → Mark
   -- a write, with the place of its name; or a writeln, which ends the line
   Write : ℕ → Place → Bool → Mark
+  -- a read, with the place of its name; or a readln, with the point at which it wants a line end
+  Read : ℕ → Place → Option ℕ → Mark
+  -- what was accessed before it is read: where the access begins, the selectors, and how many index expressions they
+  -- take; what is read, at which point, and the values that it may have
+  Reads : Origin → List Selector → ℕ → Readable → ℕ → OrdinalRange → Mark
+  -- what is asked of the input
+  Input : ℕ → InputTest → Mark
   -- a string: its number and its characters
   Text : ℕ → List ℕ → Mark
   -- the two strings before it are compared: of each the type of the variable whose value it is, if it is one, and how
@@ -191,6 +205,7 @@ expression_look (CompareOf number relation left left_indexes right right_indexes
     ++ (Operator number (dyadic.Relation relation)
     ∷ (whole_look right right_indexes.items ++ (compared left right ∷ Ends ∷ []))))
 expression_look (CallOf call actuals) = call_look true call actuals.items
+expression_look (InputOf number asks) = Input number asks ∷ []
 expression_look (SetOf number designators members) =
     Constructs number ∷ (joined members.items ++ (Constructed designators.items (length members.items) ∷ []))
 
@@ -241,6 +256,12 @@ look_record one =
     look_access one.access one.indexes.items
     (Opens (origin_of one.access) one.access.selectors.items (length one.indexes.items))
 
+-- how a variable that is read looks
+abbrev pub look_read : ReadVariable → Look
+look_read one =
+    look_access one.access one.indexes.items
+    (Reads (origin_of one.access) one.access.selectors.items (length one.indexes.items) one.reads one.point one.range)
+
 -- how the statement behind `else` looks, where there is one
 abbrev pub look_alternative : Option (Box Look Global) → Look
 look_alternative None = []
@@ -270,6 +291,8 @@ statement_look (CopyOf copying) =
 statement_look (WriteOf writing) =
     Write writing.number writing.name writing.ends_line
     ∷ (flat_map look_parameter writing.parameters.items ++ (Ends ∷ []))
+statement_look (ReadOf reading) =
+    Read reading.number reading.name reading.line ∷ (flat_map look_read reading.variables.items ++ (Ends ∷ []))
 statement_look (Calling calling) = look_call false calling.call calling.actuals.items
 statement_look (CompoundOf number statements) = Compound number ∷ (joined statements.items ++ (Ends ∷ []))
 statement_look (IfOf number condition consequence alternative) =
@@ -334,6 +357,9 @@ mark_entries (WholeTarget origin selectors indexes type_id) = []
 mark_entries (Copied type_id source cells) = []
 mark_entries (Fits origin selectors fits) = []
 mark_entries (Write number name ends_line) = number ∷ []
+mark_entries (Read number name line) = number ∷ []
+mark_entries (Reads origin selectors indexes reads point range) = []
+mark_entries (Input number asks) = number ∷ []
 mark_entries (Text number characters) = number ∷ []
 mark_entries (Compared left length right other) = []
 mark_entries (Written representation) = []
@@ -403,6 +429,10 @@ is_formed_mark outline block (WholeTarget origin selectors indexes type_id) =
 is_formed_mark outline block (Copied type_id source cells) = may_copy outline block type_id source cells
 is_formed_mark outline block (Fits origin selectors fits) = fits_target outline block fits origin selectors
 is_formed_mark outline block (Write number name ends_line) = true
+is_formed_mark outline block (Read number name line) = is_well_formed_line outline block line
+is_formed_mark outline block (Reads origin selectors indexes reads point range) =
+    leads_to_read outline block point range origin selectors indexes
+is_formed_mark outline block (Input number asks) = is_well_formed_input outline block asks
 is_formed_mark outline block (Text number characters) = are_characters characters
 is_formed_mark outline block (Compared left length right other) = compare outline block left length right other
 is_formed_mark outline block (Written representation) = true

@@ -9,7 +9,7 @@ use Rattle.typed_tree.specs.declared.tree.Loop.{Loop}
 use Rattle.typed_tree.specs.declared.tree.Stmt.{Stmt}
 use Rattle.typed_tree.specs.declared.tree.Stmt.TheOpen.{Stmt-F}
 use Rattle.typed_tree.specs.declared.tree.Stmt.TheOpen.Stmt-F.{Empty, Assign, Write, Compound, If, While, Repeat, For}
-use Rattle.typed_tree.specs.declared.tree.Stmt.TheOpen.Stmt-F.{Case, Copy, Call, With}
+use Rattle.typed_tree.specs.declared.tree.Stmt.TheOpen.Stmt-F.{Case, Copy, Call, With, Read}
 use Rattle.typed_tree.specs.declared.tree.Stmt.TheFolds.{fold-Stmt}
 use Rattle.typed_tree.specs.Entries.{in_text}
 
@@ -49,6 +49,7 @@ statement_inside (Empty number) = no_loop
 statement_inside (Assign assignment) = no_loop
 statement_inside (Copy copying) = no_loop
 statement_inside (Write writing) = no_loop
+statement_inside (Read reading) = no_loop
 statement_inside (Call calling) = no_loop
 statement_inside (Compound number statements) = all_inside statements.items
 statement_inside (If number condition consequence alternative) =

@@ -12,6 +12,7 @@ use Rattle.typed_tree.specs.declared.tree.PathStep.{PathStep}
 use Rattle.typed_tree.specs.declared.tree.PathStep.TheVariants as path
 use Rattle.typed_tree.specs.declared.tree.Width.{Width}
 use Rattle.typed_tree.specs.declared.tree.WithRecord.{WithRecord}
+use Rattle.typed_tree.specs.declared.tree.ReadVariable.{ReadVariable}
 use Rattle.typed_tree.specs.declared.tree.WriteParameter.{WriteParameter}
 use Rattle.typed_tree.specs.declared.tree.Written.{Written}
 use Rattle.typed_tree.specs.declared.tree.Written.TheVariants.{Ordinal, String}
@@ -21,13 +22,13 @@ use Rattle.typed_tree.specs.declared.tree.Expr.{Expr}
 use Rattle.typed_tree.specs.declared.tree.Passed.{Passed}
 use Rattle.typed_tree.specs.declared.tree.Expr.TheOpen.{Expr-F, Passed-F, Link-F}
 use Rattle.typed_tree.specs.declared.tree.Expr.TheOpen.Expr-F.{Constant, Variable, Monadic as MonadicOf, Chain}
-use Rattle.typed_tree.specs.declared.tree.Expr.TheOpen.Expr-F.{Compare, Call as CallOf, Set}
+use Rattle.typed_tree.specs.declared.tree.Expr.TheOpen.Expr-F.{Compare, Call as CallOf, Set, Input}
 use Rattle.typed_tree.specs.declared.tree.Expr.TheOpen.Passed-F.{Value, Whole as WholeOf, Reference}
 use Rattle.typed_tree.specs.declared.tree.Expr.TheFolds.{fold-Expr, fold-Passed}
 use Rattle.typed_tree.specs.declared.tree.Stmt.{Stmt}
 use Rattle.typed_tree.specs.declared.tree.Stmt.TheOpen.{Stmt-F}
 use Rattle.typed_tree.specs.declared.tree.Stmt.TheOpen.Stmt-F.{Empty, Assign, Write, Compound, If, While, Repeat, For}
-use Rattle.typed_tree.specs.declared.tree.Stmt.TheOpen.Stmt-F.{Case, Copy, Call as Calling, With}
+use Rattle.typed_tree.specs.declared.tree.Stmt.TheOpen.Stmt-F.{Case, Copy, Call as Calling, With, Read}
 use Rattle.typed_tree.specs.declared.tree.Stmt.TheFolds.{fold-Stmt}
 use Rattle.typed_tree.specs.Accesses.{Origin, AtVariable, AtRecord, origin_of, step_of, steps_of}
 use Rattle.typed_tree.specs.Tests.{of_one}
@@ -88,6 +89,7 @@ expression_begins (Chain first rest) records = first.value records && all_begin 
 expression_begins (Compare number relation left left_indexes right right_indexes) records =
     whole_begins left left_indexes.items records && whole_begins right right_indexes.items records
 expression_begins (CallOf call actuals) records = all_begin actuals.items records
+expression_begins (Input number asks) records = true
 expression_begins (Set number designators members) records = all_begin members.items records
 
 -- an expression
@@ -116,6 +118,9 @@ written_begins (String value indexes) = value_begins value indexes.items
 abbrev pub parameter_begins : WriteParameter → Begin
 parameter_begins parameter records = written_begins parameter.value records && width_begins parameter.width records
 
+abbrev pub read_begins : ReadVariable → Begin
+read_begins one = accesses_begin one.access one.indexes.items
+
 abbrev pub alternative_begins : Option (Box Begin Global) → Begin
 alternative_begins None records = true
 alternative_begins (Some statement) records = statement.value records
@@ -135,6 +140,7 @@ statement_begins (Copy copying) records =
     accesses_begin copying.target copying.indexes.items records
     && value_begins copying.value copying.value_indexes.items records
 statement_begins (Write writing) records = all_begin (map parameter_begins writing.parameters.items) records
+statement_begins (Read reading) records = all_begin (map read_begins reading.variables.items) records
 statement_begins (Calling calling) records = all_begin (map passed_begin calling.actuals.items) records
 statement_begins (Compound number statements) records = all_begin statements.items records
 statement_begins (If number condition consequence alternative) records =

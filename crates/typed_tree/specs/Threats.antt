@@ -9,6 +9,7 @@ use Rattle.std.specs.declared.boxed.Box.{Box}
 use Rattle.typed_tree.specs.declared.tree.Block.{Block}
 use Rattle.typed_tree.specs.declared.tree.Width.{Width}
 use Rattle.typed_tree.specs.declared.tree.WithRecord.{WithRecord}
+use Rattle.typed_tree.specs.declared.tree.ReadVariable.{ReadVariable}
 use Rattle.typed_tree.specs.declared.tree.WriteParameter.{WriteParameter}
 use Rattle.typed_tree.specs.declared.tree.Written.{Written}
 use Rattle.typed_tree.specs.declared.tree.Written.TheVariants.{Ordinal, String}
@@ -19,13 +20,13 @@ use Rattle.typed_tree.specs.declared.tree.Link.{Link}
 use Rattle.typed_tree.specs.declared.tree.Passed.{Passed}
 use Rattle.typed_tree.specs.declared.tree.Expr.TheOpen.{Expr-F, Passed-F, Link-F}
 use Rattle.typed_tree.specs.declared.tree.Expr.TheOpen.Expr-F.{Constant, Variable, Monadic as MonadicOf, Chain}
-use Rattle.typed_tree.specs.declared.tree.Expr.TheOpen.Expr-F.{Compare, Call as CallOf, Set}
+use Rattle.typed_tree.specs.declared.tree.Expr.TheOpen.Expr-F.{Compare, Call as CallOf, Set, Input}
 use Rattle.typed_tree.specs.declared.tree.Expr.TheOpen.Passed-F.{Value, Whole as WholeOf, Reference}
 use Rattle.typed_tree.specs.declared.tree.Expr.TheFolds.{fold-Expr, fold-Passed, fold-Link}
 use Rattle.typed_tree.specs.declared.tree.Stmt.{Stmt}
 use Rattle.typed_tree.specs.declared.tree.Stmt.TheOpen.{Stmt-F}
 use Rattle.typed_tree.specs.declared.tree.Stmt.TheOpen.Stmt-F.{Empty, Assign, Write, Compound, If, While, Repeat, For}
-use Rattle.typed_tree.specs.declared.tree.Stmt.TheOpen.Stmt-F.{Case, Copy, Call as Calling, With}
+use Rattle.typed_tree.specs.declared.tree.Stmt.TheOpen.Stmt-F.{Case, Copy, Call as Calling, With, Read}
 use Rattle.typed_tree.specs.declared.tree.Stmt.TheFolds.{fold-Stmt}
 use Rattle.typed_tree.specs.Loops.{controls_of}
 
@@ -61,6 +62,7 @@ module _ (roots : List ℕ) where
   expr_spares (Compare number relation left left_indexes right right_indexes) =
       indexes_so left left_indexes.items && indexes_so right right_indexes.items
   expr_spares (CallOf call actuals) = all_so actuals.items
+  expr_spares (Input number asks) = true
   expr_spares (Set number designators members) = all_so members.items
 
   -- an expression spares these variables
@@ -99,6 +101,10 @@ module _ (roots : List ℕ) where
   abbrev pub spares_in_record : WithRecord → Bool
   spares_in_record one = spares_in_indexes one.indexes.items
 
+  -- a variable that is read is changed
+  abbrev pub spares_in_read : ReadVariable → Bool
+  spares_in_read one = spares_in_indexes one.indexes.items && is_none_of roots one.access.root
+
 -- ---- statements
 
 -- whether something spares variables
@@ -122,6 +128,7 @@ statement_spares (Copy copying) roots =
     spares_in_indexes roots copying.indexes.items
     && (is_none_of roots copying.target.root && spares_in_whole roots copying.value copying.value_indexes.items)
 statement_spares (Write writing) roots = all_so (map (spares_in_parameter roots) writing.parameters.items)
+statement_spares (Read reading) roots = all_so (map (spares_in_read roots) reading.variables.items)
 statement_spares (Calling calling) roots = all_so (map (spares_in_passed roots) calling.actuals.items)
 statement_spares (Compound number statements) roots = all_spare statements.items roots
 statement_spares (If number condition consequence alternative) roots =

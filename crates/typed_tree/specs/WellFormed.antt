@@ -48,6 +48,9 @@ use Rattle.typed_tree.specs.declared.tree.Designator.{Designator}
 use Rattle.typed_tree.specs.declared.tree.Designator.TheVariants as designator
 use Rattle.typed_tree.specs.declared.tree.Width.{Width}
 use Rattle.typed_tree.specs.declared.tree.WithRecord.{WithRecord}
+use Rattle.typed_tree.specs.declared.tree.ReadVariable.{ReadVariable}
+use Rattle.typed_tree.specs.declared.tree.InputTest.{InputTest}
+use Rattle.typed_tree.specs.declared.tree.InputTest.TheVariants as input_test
 use Rattle.typed_tree.specs.declared.tree.WriteParameter.{WriteParameter}
 use Rattle.typed_tree.specs.declared.tree.Written.{Written}
 use Rattle.typed_tree.specs.declared.tree.Written.TheVariants.{Ordinal, String}
@@ -58,13 +61,13 @@ use Rattle.typed_tree.specs.declared.tree.Link.{Link}
 use Rattle.typed_tree.specs.declared.tree.Passed.{Passed}
 use Rattle.typed_tree.specs.declared.tree.Expr.TheOpen.{Expr-F, Passed-F, Link-F}
 use Rattle.typed_tree.specs.declared.tree.Expr.TheOpen.Expr-F.{Constant, Variable, Monadic as MonadicOf, Chain}
-use Rattle.typed_tree.specs.declared.tree.Expr.TheOpen.Expr-F.{Compare, Call as CallOf, Set}
+use Rattle.typed_tree.specs.declared.tree.Expr.TheOpen.Expr-F.{Compare, Call as CallOf, Set, Input}
 use Rattle.typed_tree.specs.declared.tree.Expr.TheOpen.Passed-F.{Value, Whole as WholeOf, Reference}
 use Rattle.typed_tree.specs.declared.tree.Expr.TheFolds.{fold-Expr, fold-Passed, fold-Link}
 use Rattle.typed_tree.specs.declared.tree.Stmt.{Stmt}
 use Rattle.typed_tree.specs.declared.tree.Stmt.TheOpen.{Stmt-F}
 use Rattle.typed_tree.specs.declared.tree.Stmt.TheOpen.Stmt-F.{Empty, Assign, Write, Compound, If, While, Repeat, For}
-use Rattle.typed_tree.specs.declared.tree.Stmt.TheOpen.Stmt-F.{Case, Copy, Call as Calling, With}
+use Rattle.typed_tree.specs.declared.tree.Stmt.TheOpen.Stmt-F.{Case, Copy, Call as Calling, With, Read}
 use Rattle.typed_tree.specs.declared.tree.Stmt.TheFolds.{fold-Stmt}
 use Rattle.typed_tree.specs.Accesses.{Origin, AtVariable, accessed, are_values_of, index_count, is_type, origin_of}
 use Rattle.typed_tree.specs.Accesses.{root_of}
@@ -124,8 +127,9 @@ are_whole constants = list_all is_whole constants.items
 pub record Outline : Type 0 where
   pub variables : List DeclaredVariable
   pub types : List Form
-  -- how many sites there are
+  -- how many sites there are, and how many points
   pub sites : ℕ
+  pub points : ℕ
   -- by block number
   pub headings : List Heading
 
@@ -137,6 +141,7 @@ outline_of tree = record {
   variables = tree.variables.items;
   types = tree.types;
   sites = length tree.sites.items;
+  points = length tree.points.items;
   headings = map heading_of tree.blocks.items;
 }
 
@@ -203,6 +208,10 @@ holds types held id = is_held_by held (kind_of types id)
 -- the same of a test for a type of a table
 abbrev pub tests_type : List Form → RangeTest → TypeId → Bool
 tests_type types fits id = is_test_of fits.tests fits.range (kind_of types id)
+
+-- a type is an ordinal one with these values
+abbrev pub has_values : List Form → OrdinalRange → TypeId → Bool
+has_values types range id = is_test_of scalar.Ordinal range (kind_of types id)
 
 -- a value that is tested so may be passed to a value parameter of a scalar type (6.6.3.2)
 abbrev pub takes_value : Outline → RangeTest → DeclaredVariable → Bool
@@ -296,6 +305,12 @@ module _ (outline : Outline) (block : ℕ) where
   abbrev pub leads_to_type : TypeId → Origin → List Selector → ℕ → Bool
   leads_to_type type_id = leads_to (λ id. is_same id type_id)
 
+  -- to an ordinal of a type with these values, which is read at a point
+  abbrev pub leads_to_read : ℕ → OrdinalRange → Origin → List Selector → ℕ → Bool
+  leads_to_read point range origin selectors indexes =
+      leads_to (has_values outline.types range) origin selectors indexes
+      && (nat_lt point outline.points && (is_whole range.first && is_whole range.last))
+
   -- the test of a value has the range of the type of what is accessed
   abbrev pub fits_target : RangeTest → Origin → List Selector → Bool
   fits_target fits origin selectors =
@@ -355,6 +370,16 @@ module _ (outline : Outline) (block : ℕ) where
   dyadic_is_well_formed dyadic.Intersection = true
   dyadic_is_well_formed (dyadic.SetRelation relation) = true
   dyadic_is_well_formed dyadic.In = true
+
+  -- what is asked of the input
+  abbrev pub is_well_formed_input : InputTest → Bool
+  is_well_formed_input input_test.End = true
+  is_well_formed_input (input_test.LineEnd point) = nat_lt point outline.points
+
+  -- the point of a readln
+  abbrev pub is_well_formed_line : Option ℕ → Bool
+  is_well_formed_line None = true
+  is_well_formed_line (Some point) = nat_lt point outline.points
 
   -- the designators of a set constructor of so many expressions
   abbrev pub are_designators : List Designator → ℕ → Bool
@@ -418,6 +443,7 @@ module _ (outline : Outline) (block : ℕ) where
       && (is_well_formed_whole right (length right_indexes.items)
       && compare (source_of left) (length_of left) (source_of right) (length_of right))))
   expr_is_well_formed (CallOf call actuals) = is_well_formed_call true call actuals.items
+  expr_is_well_formed (Input number asks) = is_well_formed_input asks
   expr_is_well_formed (Set number designators members) =
       all_hold members.items && are_designators designators.items (length members.items)
 
@@ -463,6 +489,12 @@ module _ (outline : Outline) (block : ℕ) where
       are_well_formed one.indexes.items
       && leads_to_record (origin_of one.access) one.access.selectors.items (length one.indexes.items)
 
+  -- a variable that is read
+  abbrev pub is_well_formed_read : ReadVariable → Bool
+  is_well_formed_read one =
+      are_well_formed one.indexes.items
+      && leads_to_read one.point one.range (origin_of one.access) one.access.selectors.items (length one.indexes.items)
+
   -- the statement behind `else`, where there is one
   abbrev pub alternative_is_well_formed : Option (Box Bool Global) → Bool
   alternative_is_well_formed None = true
@@ -487,6 +519,8 @@ module _ (outline : Outline) (block : ℕ) where
       && (is_well_formed_value copying.value copying.value_indexes.items
       && may_copy copying.type_id (source_of copying.value) (length_of copying.value)))
   stmt_is_well_formed (Write writing) = all_hold (map is_well_formed_parameter writing.parameters.items)
+  stmt_is_well_formed (Read reading) =
+      is_well_formed_line reading.line && all_hold (map is_well_formed_read reading.variables.items)
   stmt_is_well_formed (Calling calling) =
       is_well_formed_call false calling.call (map is_well_formed_passed calling.actuals.items)
   stmt_is_well_formed (Compound number statements) = all_hold statements.items

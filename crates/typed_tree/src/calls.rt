@@ -11,7 +11,7 @@ pub fn holds_call(expression: &Expr) -> bool
     ensures { result ≡ holds_call expression.now }
 {
     match expression {
-        Expr::Constant { .. } => false,
+        Expr::Constant { .. } | Expr::Input { .. } => false,
         Expr::Variable { indexes, .. } => hold_call(indexes.as_slice()),
         Expr::Set { members, .. } => hold_call(members.as_slice()),
         Expr::Monadic { operand, .. } => holds_call(operand),

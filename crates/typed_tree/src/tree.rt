@@ -160,6 +160,7 @@ pub enum Stmt {
     Assign(Assignment),
     Copy(Copying),
     Write(Writing),
+    Read(Reading),
     Call(ProcedureCall),
     Compound {
         number: u32,
@@ -235,6 +236,37 @@ pub struct Writing {
     pub name: Place,
     pub parameters: Vec<WriteParameter>,
     pub ends_line: bool,
+}
+
+/// A read or readln (6.9.1, 6.9.2): each variable is accessed and read before the next; a readln passes the next line
+/// end behind them.
+#[derive(Drop)]
+pub struct Reading {
+    pub number: u32,
+    /// The place of its name.
+    pub name: Place,
+    pub variables: Vec<ReadVariable>,
+    /// The point at which a readln wants a line end.
+    pub line: Option<u32>,
+}
+
+/// A variable that is read, of a type whose host is integer or char.
+#[derive(Drop)]
+pub struct ReadVariable {
+    pub access: Access,
+    pub indexes: Vec<Expr>,
+    pub reads: Readable,
+    /// The point at which it is read.
+    pub point: u32,
+    /// The values of its type, within -2147483647 to 2147483647.
+    pub range: OrdinalRange,
+}
+
+/// What is read of the input (6.9.1).
+#[derive(Clone, Copy)]
+pub enum Readable {
+    Integer,
+    Char,
 }
 
 /// A procedure is called (6.8.2.3): its actual parameters are passed from left to right, and then its block is
@@ -460,6 +492,11 @@ pub enum Expr {
         holds: Scalar,
         defined: u32,
     },
+    /// What is asked of the input.
+    Input {
+        number: u32,
+        asks: InputTest,
+    },
     /// A set constructor (6.7.1): of its members the next one for each designator that is single, the next two for each
     /// range. Those of a designator are tested before the next are evaluated: each lies in 0 to 127.
     Set {
@@ -533,6 +570,15 @@ pub enum Whole {
         cells: u32,
         defined: u32,
     },
+}
+
+/// What is asked of the input (6.6.6.5).
+#[derive(Clone, Copy)]
+pub enum InputTest {
+    /// Whether nothing is left of it.
+    End,
+    /// Whether a line ends there; something has to be left, at this point.
+    LineEnd { point: u32 },
 }
 
 /// An operator of a chain, and its right operand.

@@ -6,9 +6,11 @@ use Rattle.std.proofs.Common.{◌≡◌, ◌∷◌, ◌++◌, [], List, Some, No
 use Rattle.std.specs.Prelude.{codes, pos, neg_ℤ, true, false}
 use Rattle.place.specs.declared.Place.{Place}
 use Rattle.scopes.specs.declared.denotation.Denotation.TheVariants as denotes
+use Rattle.scopes.specs.declared.denotation.File.TheVariants as file
 use Rattle.typed_tree.specs.declared.tree.Calculation.TheVariants as calculation
 use Rattle.typed_tree.specs.declared.tree.Monadic.{Monadic}
 use Rattle.typed_tree.specs.declared.tree.Monadic.TheVariants as monadic
+use Rattle.typed_tree.specs.declared.tree.Readable.TheVariants as readable
 use Rattle.typed_tree.specs.declared.tree.Shift.{Shift}
 use Rattle.typed_tree.specs.declared.tree.Shift.TheVariants as shift
 use Rattle.syntax_tree.specs.declared.Operator.TheVariants as op
@@ -19,8 +21,8 @@ use Rattle.types.specs.Forms.{FieldForm, Enumeration, Subrange, Array, Record, S
 use Rattle.types.specs.declared.form.TypeId.{TypeId}
 use Rattle.types.specs.Types.{required_forms, integer, boolean, char, range_of, field_of}
 use Rattle.typing.specs.Names.{folded, required_region}
-use Rattle.typing.specs.Expressions.{field_named}
-use Rattle.typing_rules.specs.Targets.{copying, fitting}
+use Rattle.typing.specs.Expressions.{WrittenActual, field_named, is_input}
+use Rattle.typing_rules.specs.Targets.{copying, fitting, read_as}
 use Rattle.typing_rules.specs.Typed.{typed, typed_text, typed_variable}
 use Rattle.typing_rules.specs.Operators.{may_compare, may_contain}
 use Rattle.typing_rules.specs.Denotations.{as_function}
@@ -35,9 +37,11 @@ use Rattle.typed_tree.specs.declared.tree.Scalar.TheVariants as scalar
 use Rattle.types.specs.declared.sets.SetBase.{SetBase}
 use Rattle.syntax_tree.specs.declared.RelationalOperator.TheVariants as relational
 use Rattle.typing.specs.Constants.{as_constant, behind_sign, constant_place}
-use Rattle.typing.specs.Statements.{own_constant}
+use Rattle.typing.specs.Statements.{behind_file, has_parameters, own_constant}
 use Rattle.typing.specs.Denoters.{named_type, between, named_fields}
-use Rattle.typing.specs.Steps.{begins, site, value_of}
+use Rattle.typing.specs.Passing.{after, ◌>>=◌}
+use Rattle.typing.specs.Steps.{begins, point, site, value_of}
+use Rattle.typing.specs.Typing.{file_of}
 use Rattle.typing_rules.specs.Checked.{told}
 use Rattle.typing.specs.Strings.{string_characters}
 use Rattle.syntax_tree.specs.declared.Name.{Name}
@@ -386,3 +390,55 @@ integer_in_none = refl
 
 pub boolean_in_set : may_contain (value.Ordinal boolean) (value.Set of_integers) ≡ false
 boolean_in_set = refl
+
+-- ---- the input
+
+-- readln reads the input, and passes the next line end
+pub readln_is_procedure : found (required_region ∷ []) (codes "readln") ≡ Ok (denotes.Procedure (record { file = file.Input; ends_line = true }))
+unfolding required_region
+readln_is_procedure = refl
+
+-- the two files alone may be program parameters
+pub input_is_file : file_of (codes "input") ≡ Some file.Input
+input_is_file = refl
+
+pub other_is_no_file : file_of (codes "inputs") ≡ None
+other_is_no_file = refl
+
+-- integers and characters are read, and no truth value
+pub integer_is_read : (place : Place)
+    → read_as required_forms place integer ≡ Ok (readable.Integer, record { first = neg_ℤ (pos 2147483647); last = pos 2147483647 })
+integer_is_read place = refl
+
+pub character_is_read : (place : Place) → read_as required_forms place char ≡ Ok (readable.Char, record { first = pos 0; last = pos 127 })
+character_is_read place = refl
+
+pub boolean_is_not_read : (place : Place) → read_as required_forms place boolean ≡ Err (fault.Mismatch place)
+boolean_is_not_read place = refl
+
+-- a read wants a variable, a readln may have none
+pub read_without_variable : (place : Place)
+    → has_parameters place (record { file = file.Input; ends_line = false }) [] ≡ Err (fault.WrongParameters place)
+read_without_variable place = refl
+
+pub readln_without_variable : (place : Place) → has_parameters place (record { file = file.Input; ends_line = true }) [] ≡ Ok tt
+readln_without_variable place = refl
+
+-- a call names its own file first, if any; the other one is refused at the call's name
+pub file_first : (place : Place) (first : WrittenActual) (rest : List WrittenActual) → behind_file file.Input place first rest (Some file.Input) ≡ Ok rest
+file_first place first rest = refl
+
+pub other_file_first : (place : Place) (first : WrittenActual) (rest : List WrittenActual)
+    → behind_file file.Output place first rest (Some file.Input) ≡ Err (fault.WrongParameters place)
+other_file_first place first rest = refl
+
+-- nothing is asked of the output
+pub end_of_output : (place : Place) → is_input place (Some file.Output) ≡ Err (fault.WrongParameters place)
+end_of_output place = refl
+
+-- points are numbered one after another
+pub second_point : (first second : Place)
+    → (point first >>= (λ one. point second)) (begins first)
+    ≡ Ok (after 1 [] (record (begins first) { points = first ∷ second ∷ []; latest = second }))
+unfolding point
+second_point first second = refl

@@ -3,6 +3,7 @@ use Rattle.std.proofs.Common.{◌≡◌, ℕ, ◌+◌, ◌<◌, ◌≤◌, List,
 use Rattle.std.proofs.Common.{append_assoc}
 use Rattle.std.proofs.lemmas.List.{map-append, length-map, drop_more, at_drop_all}
 use Rattle.typed_tree.specs.declared.fault.TypeFault.{TypeFault}
+use Rattle.typed_tree.specs.declared.site.Point.{Point}
 use Rattle.typed_tree.specs.declared.site.Site.{Site}
 use Rattle.typed_tree.specs.Look.{Look}
 use Rattle.typing.specs.Sound.{stands}
@@ -17,6 +18,13 @@ site_added sites site = map-append stands sites (site ∷ [])
 -- as many are told as there are
 pub sites_counted : (sites : List Site) → length (map stands sites) ≡ length sites
 sites_counted sites = length-map sites stands
+
+-- the same of points
+pub point_added : (points : List Point) (point : Point) → map (λ p. p.place) (points ++ point ∷ []) ≡ map (λ p. p.place) points ++ point.place ∷ []
+point_added points point = map-append (λ (p : Point). p.place) points (point ∷ [])
+
+pub points_counted : (points : List Point) → length (map (λ p. p.place) points) ≡ length points
+points_counted points = length-map points (λ (p : Point). p.place)
 
 module _ {A : Type 0} where
   -- nothing before
@@ -88,3 +96,5 @@ then_assoc {A} {B} {C} first second third s = by (first s)
     by (Ok a) = inner a.look (second a.answer a.passed)
 
 pub ruleset one_site_more = (site_added, sites_counted)
+
+pub ruleset one_point_more = (point_added, points_counted)

@@ -1,8 +1,7 @@
 -- Each definition, each declaration and each block goes a way, and so does a whole program.
 use Rattle.std.proofs.Common.{◌≡◌, ◌++◌, ◌&&◌, ap, length, nat_le, refl, ℕ, suc, ◌+◌, Bool, true, false, if◌then◌else◌, List, [], ◌∷◌, Option, Some, None, Vec}
-use Rattle.std.proofs.Common.{Ok, Err, codes, nat_eq, map, sym, subst}
+use Rattle.std.proofs.Common.{Ok, Err, nat_eq, map, sym, subst}
 use Rattle.std.specs.declared.alloc.Global.{Global}
-use Rattle.std.specs.Cmp.Lexicographic.{pointwise}
 use Rattle.place.specs.declared.Place.{Place}
 use Rattle.syntax_tree.specs.declared.Name.{Name}
 use Rattle.syntax_tree.specs.declared.Constant.{Constant}
@@ -35,14 +34,15 @@ use Rattle.typed_tree.specs.declared.tree.FunctionResult.{FunctionResult}
 use Rattle.typed_tree.specs.declared.site.SiteKind.TheVariants as kind
 use Rattle.typed_tree.specs.Look.{Mark, BlockEnds}
 use Rattle.typing.specs.Names.{folded}
-use Rattle.typing.specs.Passing.{Headed, Passed, Passing, after, behind_marks, each, fail, pure, mark, ◌>>=◌, ◌>>◌}
+use Rattle.typing.specs.Passing.{Headed, Passed, Passing, after, behind_marks, each, pure, mark, ◌>>=◌}
 use Rattle.typing_rules.specs.Checked.{Checked, and_then}
-use Rattle.typing.specs.Steps.{is_assigned, most_sites, site, begins, declare, give_output}
+use Rattle.typing.specs.Steps.{is_assigned, most_sites, site, begins}
 use Rattle.typing.specs.Denoters as Denoters
 use Rattle.typing.specs.Denoters.{WrittenDenoter, denoted_type, denoter_step}
 use Rattle.typing.specs.Routines as Routines
 use Rattle.typing.specs.Routines.{Begun, TypedBlock, TypedRoutine, block_step, routine_step, typed_block, typed_routine}
 use Rattle.typing.specs.Typing as Typing
+use Rattle.scopes.specs.declared.denotation.File.{File}
 use Rattle.typing.proofs.Ways.{Owner, Anyone, Owns, Defines, Way, Stay, One, Then, Token, Site, Ended, below, Goes, Walks, then_walks, pure_walks, given_walks}
 use Rattle.typing.proofs.Ways.{by_types_walks, walk}
 use Rattle.typing.proofs.Ways.{each_walks, declare_walks, latest_walks, add_type_walks, pass_walks, enclosing_now_walks, with_enclosing_walks, heading_at_walks}
@@ -179,11 +179,11 @@ module _ (acts : Bool) (owner : Owner) (defines : Defines owner) (depth : ℕ) w
 
   pub parameter_walks : (name : Name) → Goes_by (Typing.parameter_of_program name)
   unfolding Typing.parameter_of_program
-  parameter_walks name = by (pointwise nat_eq (folded name.text.now) (codes "output"))
+  parameter_walks name = by (Typing.file_of (folded name.text.now))
     where
-      by : (b : Bool) → Goes_by (if b then declare name denotes.Output >> give_output else fail (fault.NotProgramParameter name.place))
-      by true = search (walk, defines)
-      by false = search walk
+      by : (file : Option File) → Goes_by (Typing.declares_file name file)
+      by (Some file) = search (walk, defines)
+      by None = search walk
 
   -- ---- headings
 

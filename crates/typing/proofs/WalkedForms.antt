@@ -21,7 +21,7 @@ use Rattle.syntax_tree.specs.declared.Expr.{Expr}
 use Rattle.syntax_tree.specs.declared.Link.{Link}
 use Rattle.syntax_tree.specs.declared.Actual.{Actual}
 use Rattle.syntax_tree.specs.declared.Expr.TheOpen as layer
-use Rattle.syntax_tree.specs.declared.Expr.TheViews.{roll-Expr, roll-Link, roll-Actual, out-Expr, out-Actual}
+use Rattle.syntax_tree.specs.declared.Expr.TheViews.{roll-Expr, roll-Link, roll-Actual}
 use Rattle.syntax_tree.specs.declared.Expr.TheFolds.{map-Expr, map-Link, map-Actual, fold-roll-Expr, fold-roll-Link, fold-roll-Actual, ind-Expr, ind-Actual}
 use Rattle.syntax_tree.specs.declared.Stmt.{Stmt}
 use Rattle.syntax_tree.specs.declared.Stmt.TheOpen as stmt_layer
@@ -43,6 +43,10 @@ use Rattle.scopes.specs.declared.denotation.FunctionOperation.TheVariants.{Calcu
 use Rattle.scopes.specs.declared.denotation.FunctionValue.{FunctionValue}
 use Rattle.scopes.specs.declared.denotation.FunctionValue.TheVariants as function
 use Rattle.scopes.specs.declared.denotation.RequiredProcedure.{RequiredProcedure}
+use Rattle.scopes.specs.declared.denotation.File.{File}
+use Rattle.scopes.specs.declared.denotation.File.TheVariants as file
+use Rattle.scopes.specs.declared.denotation.InputFunction.{InputFunction}
+use Rattle.scopes.specs.declared.denotation.InputFunction.TheVariants as asks
 use Rattle.typed_tree.specs.declared.site.SiteKind.{SiteKind}
 use Rattle.typed_tree.specs.declared.tree.Designator.{Designator as TreeDesignator}
 use Rattle.typed_tree.specs.declared.tree.Dyadic.{Dyadic}
@@ -69,7 +73,8 @@ use Rattle.typing_rules.specs.Targets.{Copy, representation_of}
 use Rattle.typing.specs.Statements as Statements
 use Rattle.typing.specs.Statements.{WrittenVariable, statement, written_record}
 use Rattle.typing.proofs.Ways.{Assigned, Goes, find_walks, targets_at, with_result}
-use Rattle.typing.proofs.Ways.{Owner, Way, Walks, numbers_of, then_walks, test_walks, mark_walks, pure_walks, given_walks, enter_walks, tells_then, given_tells}
+use Rattle.typing.proofs.Ways.{Owner, Way, Walks, Tells, numbers_of, then_walks, test_walks, mark_walks, pure_walks, given_walks, enter_walks}
+use Rattle.typing.proofs.Ways.{tells_then, tells_on, then_tells, pure_tells, given_tells, wants_file_walks}
 use Rattle.typing.proofs.Ways.{test_tells, walk}
 use Rattle.typing.proofs.Ways.{pass_walks, enter_loop_walks, for_body_walks, next_slot_walks, open_record_walks, close_record_walks}
 use Rattle.typing_rules.specs.Typed.{typed}
@@ -197,12 +202,17 @@ module _ (owner : Owner) (depth : ℕ) where
   abbrev pub Goes_by : {A : Type 0} → Passing A → Type 0
   Goes_by p = Walks (Way true owner depth depth) p
 
+  abbrev Tells_by : {A : Type 0} → Passing A → (A → Type 0) → Type 0
+  Tells_by p Says = Tells (Way true owner depth depth) p Says
+
   -- ---- expressions
 
   -- an expression, however it is passed
   pub record WrittenWalks (w : Written) : Type 0 where
     pub typing : (lead : Option SiteKind) → Goes_by (w.typing lead)
     pub passing : (wanted : TypeId) (callee position : ℕ) → Goes_by (w.passing wanted callee position)
+    pub reading : Goes_by w.reading
+    pub file : Goes_by w.file
 
   abbrev pub WidthWalks : Option Written → Type 0
   WidthWalks None = Unit {0}
@@ -270,6 +280,16 @@ module _ (owner : Owner) (depth : ℕ) where
   variable_of_walks place (denotes.Field slot position offset type_id) = search walk
   variable_of_walks place other = search walk
 
+  read_variable_walks : (name : Name) (selectors : List Selector) (ws : List Written) → AllWalk ws
+      → Goes_by (Expressions.read_variable name selectors ws)
+  unfolding Expressions.read_variable
+  read_variable_walks name selectors ws laws = search (walk, variable_of_walks, selected_walks) depth 14
+
+  file_walks : (name : Name) (selectors : List Selector) → Goes_by (Expressions.file_named name selectors)
+  unfolding Expressions.file_named
+  file_walks name [] = search walk
+  file_walks name (selector ∷ selectors) = search walk
+
   passed_variable_walks : (name : Name) (selectors : List Selector) (ws : List Written) (wanted : TypeId) (callee position : ℕ) → AllWalk ws
       → Goes_by (Expressions.passed_variable name selectors ws wanted callee position)
   unfolding Expressions.passed_variable
@@ -319,6 +339,15 @@ module _ (owner : Owner) (depth : ℕ) where
   function_value_walks callee false place actuals lead laws = search walk
   function_value_walks callee true place actuals lead laws = search (walk, behind_walks, routine_call_walks, result_variable_walks) depth 12
 
+  input_test_walks : (function : InputFunction) (place : Place) → Goes_by (Expressions.input_test function place)
+  unfolding Expressions.input_test
+  input_test_walks asks.Eof place = search walk
+  input_test_walks asks.Eoln place = search walk
+
+  input_walks : (function : InputFunction) (place : Place) (lead : Option SiteKind) → Goes_by (Expressions.input_value function place lead)
+  unfolding Expressions.input_value
+  input_walks function place lead = search (walk, behind_walks, input_test_walks) depth 14
+
   denoted_walks : (d : Denotation) (place : Place) (lead : Option SiteKind) → Goes_by (Expressions.denoted d place lead)
   unfolding Expressions.denoted
   denoted_walks (denotes.Constant value type_id) place lead = search (walk, behind_walks)
@@ -327,6 +356,7 @@ module _ (owner : Owner) (depth : ℕ) where
   denoted_walks (denotes.Field slot position offset type_id) place lead =
       then_walks (variable_of_walks place (denotes.Field slot position offset type_id)) (λ variable. accessed_walks variable [] [] place lead tt)
   denoted_walks (denotes.Routine block is_function) place lead = function_value_walks block is_function place [] lead tt
+  denoted_walks (denotes.InputFunction function) place lead = input_walks function place lead
   denoted_walks other place lead = search walk
 
   operation_walks : (operator : Operator) (place : Place) → Goes_by (Expressions.operation operator place)
@@ -417,23 +447,40 @@ module _ (owner : Owner) (depth : ℕ) where
       then_walks (mark_walks (Look.Applied does.0) refl) λ _.
       pure_walks (typed does.1 id)
 
-  call_by_walks : (routine : Option (ℕ × Bool)) (d : Denotation) (name : Name) (actuals : List WrittenActual) (lead : Option SiteKind) → ActualsWalk actuals
-      → Goes_by (Expressions.call_by routine d name actuals lead)
-  call_by_walks None d name actuals lead laws = required_call_walks d name actuals lead laws
-  call_by_walks (Some routine) d name actuals lead laws = function_value_walks routine.0 routine.1 name.place actuals lead laws
+  input_call_walks : (function : InputFunction) (place : Place) (actuals : List WrittenActual) (lead : Option SiteKind) → ActualsWalk actuals
+      → Goes_by (Expressions.input_call function place actuals lead)
+  unfolding Expressions.input_call
+  input_call_walks function place actuals lead laws =
+      tells_then (given_tells WrittenWalks _ (only_walks place actuals laws)) λ w law.
+      then_walks law.file λ named.
+      then_walks (given_walks _) λ _.
+      input_walks function place lead
+
+  call_by_walks : (d : Denotation) (name : Name) (actuals : List WrittenActual) (lead : Option SiteKind) → ActualsWalk actuals
+      → Goes_by (Expressions.call_by d name actuals lead)
+  call_by_walks (denotes.Routine block is_function) name actuals lead laws = function_value_walks block is_function name.place actuals lead laws
+  call_by_walks (denotes.InputFunction function) name actuals lead laws = input_call_walks function name.place actuals lead laws
+  call_by_walks d name actuals lead laws = required_call_walks d name actuals lead laws
 
   -- ---- every expression
 
   written_walks : (place : Place) (typing : Option SiteKind → Passing Typed) → ((lead : Option SiteKind) → Goes_by (typing lead))
       → WrittenWalks (Expressions.written place typing)
-  unfolding Expressions.no_variable
-  written_walks place typing walks = record { typing = walks; passing = λ wanted callee position. search walk }
+  unfolding Expressions.no_variable Expressions.not_readable
+  written_walks place typing walks = record {
+    typing = walks;
+    passing = λ wanted callee position. search walk;
+    reading = search walk;
+    file = search walk;
+  }
 
   variable_walks : (name : Name) (selectors : List Selector) (ws : List Written) (typing : Option SiteKind → Passing Typed) → AllWalk ws
       → ((lead : Option SiteKind) → Goes_by (typing lead)) → WrittenWalks (Expressions.written_variable name selectors ws typing)
   variable_walks name selectors ws typing laws walks = record {
     typing = walks;
     passing = λ wanted callee position. passed_variable_walks name selectors ws wanted callee position laws;
+    reading = read_variable_walks name selectors ws laws;
+    file = file_walks name selectors;
   }
 
   abbrev ExprWalks : Expr → Type 0
@@ -502,7 +549,7 @@ module _ (owner : Owner) (depth : ℕ) where
   expression_layer (layer.String text place) = from_layer (layer.String text place) (written_walks place _ (string_walks text.now place))
   expression_layer (layer.Call name actuals) =
       from_layer (bare (layer.Call name actuals))
-      (written_walks name.place _ (λ lead. then_walks (find_walks name) λ d. call_by_walks (as_routine d) d name _ lead
+      (written_walks name.place _ (λ lead. then_walks (find_walks name) λ d. call_by_walks d name _ lead
       (all_actuals actuals.items)))
   expression_layer (layer.Parenthesized place inner) =
       from_layer (bare (layer.Parenthesized place inner)) (written_walks place _ (λ lead. search (walk, behind_walks, inner.value.1.typing)))
@@ -623,18 +670,18 @@ module _ (owner : Owner) (depth : ℕ) where
   unfolding Statements.assignment Expressions.kind_now
   assignment_walks name selectors ws place w laws law = search (walk, target_walks, becomes_walks)
 
-  names_file_walks : (form : layer.Expr-F Expr Actual Link) → Goes_by (Statements.names_file form)
-  names_file_walks (layer.Name name) = search walk
-  names_file_walks other = search walk
+  unless_wide_walks : (value : Written) (width : Option Written) → WrittenWalks value → Goes_by (Statements.unless_wide value width)
+  unless_wide_walks value None law = law.file
+  unless_wide_walks value (Some width) law = search walk
 
-  unless_wide_walks : (value : Expr) (width : Option Expr) → Goes_by (Statements.unless_wide value width)
-  unless_wide_walks value None = names_file_walks (out-Expr value)
-  unless_wide_walks value (Some width) = search walk
-
-  written_values_walk : (actuals : List Actual) → Goes_by (Statements.written_values actuals)
-  unfolding Statements.written_values Statements.is_file
-  written_values_walk [] = search walk
-  written_values_walk (first ∷ rest) = then_walks (unless_wide_walks (out-Actual first).value (out-Actual first).width) (λ file. pure_walks _)
+  -- the parameters behind the file are some of the call's
+  behind_file_all : (wanted : File) (place : Place) (first : WrittenActual) (rest : List WrittenActual) (named : Option File) (found : List WrittenActual)
+      → ActualsWalk (first ∷ rest) → Statements.behind_file wanted place first rest named ≡ Ok found → ActualsWalk found
+  behind_file_all wanted place first rest None found laws is = let same : first ∷ rest ≡ found = cc in subst ActualsWalk same laws
+  behind_file_all file.Input place first rest (Some file.Input) found laws is = let same : rest ≡ found = cc in subst ActualsWalk same laws.1
+  behind_file_all file.Output place first rest (Some file.Output) found laws is = let same : rest ≡ found = cc in subst ActualsWalk same laws.1
+  behind_file_all file.Input place first rest (Some file.Output) found laws is = absurd cc
+  behind_file_all file.Output place first rest (Some file.Input) found laws is = absurd cc
 
   width_walks : (width : Option Written) → WidthWalks width → Goes_by (Statements.width width)
   unfolding Statements.width
@@ -670,13 +717,68 @@ module _ (owner : Owner) (depth : ℕ) where
       then_walks (mark_walks form no_entry) λ _.
       width_walks a.width law.width
 
-  parameters_walk : (actuals : List Actual) → Goes_by (each Statements.parameter (map written_actual actuals))
-  parameters_walk [] = search walk
-  parameters_walk (a ∷ actuals) = then_walks (parameter_walks (written_actual a) (written_actual_walks a)) (λ _. parameters_walk actuals)
+  parameters_walk : (actuals : List WrittenActual) → ActualsWalk actuals → Goes_by (each Statements.parameter actuals)
+  parameters_walk [] laws = search walk
+  parameters_walk (a ∷ actuals) laws = then_walks (parameter_walks a laws.0) (λ _. parameters_walk actuals laws.1)
 
-  write_walks : (name : Name) (actuals : List Actual) (procedure : RequiredProcedure) → Goes_by (Statements.write name actuals procedure)
+  without_file_tells : (wanted : File) (place : Place) (actuals : List WrittenActual) → ActualsWalk actuals
+      → Tells_by (Statements.without_file wanted place actuals) ActualsWalk
+  unfolding Statements.without_file
+  without_file_tells wanted place [] laws = pure_tells ActualsWalk [] tt
+  without_file_tells wanted place (first ∷ rest) laws =
+      then_tells (unless_wide_walks first.value first.width laws.0.value) λ named.
+      given_tells ActualsWalk _ (λ found is. behind_file_all wanted place first rest named found laws is)
+
+  parameters_tell : (place : Place) (procedure : RequiredProcedure) (actuals : List WrittenActual) → ActualsWalk actuals
+      → Tells_by (Statements.parameters_of place procedure actuals) ActualsWalk
+  unfolding Statements.parameters_of
+  parameters_tell place procedure actuals laws =
+      tells_on (without_file_tells procedure.file place actuals laws) λ found all.
+      then_tells (given_walks (Statements.has_parameters place procedure found)) λ _.
+      pure_tells ActualsWalk found all
+
+  write_walks : (name : Name) (actuals : List WrittenActual) (procedure : RequiredProcedure) → ActualsWalk actuals
+      → Goes_by (Statements.write name actuals procedure)
   unfolding Statements.write
-  write_walks name actuals procedure = search (walk, written_values_walk, parameters_walk) depth 12
+  write_walks name actuals procedure laws =
+      then_walks (enter_walks (λ n. Look.Write n name.place procedure.ends_line) (λ n. refl)) λ _.
+      tells_then (parameters_tell name.place procedure actuals laws) λ values all.
+      then_walks (parameters_walk values all) λ _.
+      mark_walks Look.Ends refl
+
+  read_parameter_walks : (a : WrittenActual) → ActualWalks a → Goes_by (Statements.read_parameter a)
+  unfolding Statements.read_parameter
+  read_parameter_walks a law = then_walks (given_walks _) (λ _. law.value.reading)
+
+  read_parameters_walk : (actuals : List WrittenActual) → ActualsWalk actuals → Goes_by (each Statements.read_parameter actuals)
+  read_parameters_walk [] laws = search walk
+  read_parameters_walk (a ∷ actuals) laws = then_walks (read_parameter_walks a laws.0) (λ _. read_parameters_walk actuals laws.1)
+
+  line_point_walks : (place : Place) (ends_line : Bool) → Goes_by (Statements.line_point place ends_line)
+  unfolding Statements.line_point
+  line_point_walks place false = search walk
+  line_point_walks place true = search walk
+
+  read_walks : (name : Name) (actuals : List WrittenActual) (procedure : RequiredProcedure) → ActualsWalk actuals
+      → Goes_by (Statements.read name actuals procedure)
+  unfolding Statements.read
+  read_walks name actuals procedure laws =
+      then_walks (line_point_walks name.place procedure.ends_line) λ line.
+      then_walks (enter_walks (λ n. Look.Read n name.place line) (λ n. refl)) λ _.
+      tells_then (parameters_tell name.place procedure actuals laws) λ variables all.
+      then_walks (read_parameters_walk variables all) λ _.
+      mark_walks Look.Ends refl
+
+  by_file_walks : (one : File) (name : Name) (actuals : List WrittenActual) (procedure : RequiredProcedure) → ActualsWalk actuals
+      → Goes_by (Statements.by_file one name actuals procedure)
+  by_file_walks file.Input name actuals procedure laws = read_walks name actuals procedure laws
+  by_file_walks file.Output name actuals procedure laws = write_walks name actuals procedure laws
+
+  file_call_walks : (name : Name) (actuals : List WrittenActual) (procedure : RequiredProcedure) → ActualsWalk actuals
+      → Goes_by (Statements.file_call name actuals procedure)
+  unfolding Statements.file_call
+  file_call_walks name actuals procedure laws =
+      then_walks (wants_file_walks procedure.file name.place) (λ _. by_file_walks procedure.file name actuals procedure laws)
 
   declared_call_walks : (callee : ℕ) (is_function : Bool) (name : Name) (actuals : List Actual)
       → Goes_by (Statements.declared_call callee is_function name (map written_actual actuals))
@@ -686,12 +788,13 @@ module _ (owner : Owner) (depth : ℕ) where
       then_walks (routine_call_walks false callee name.place (map written_actual actuals) (every_actual actuals)) (λ _. pure_walks tt)
 
   statement_call_walks : (routine : Option (ℕ × Bool)) (d : Denotation) (name : Name) (actuals : List Actual)
-      → Goes_by (Statements.call_by routine d name actuals)
+      → Goes_by (Statements.call_by routine d name (map written_actual actuals))
   unfolding Statements.required_call
-  statement_call_walks None d name actuals = search (walk, write_walks)
+  statement_call_walks None d name actuals =
+      then_walks (given_walks _) (λ procedure. file_call_walks name (map written_actual actuals) procedure (every_actual actuals))
   statement_call_walks (Some routine) d name actuals = declared_call_walks routine.0 routine.1 name actuals
 
-  procedure_call_walks : (name : Name) (actuals : List Actual) → Goes_by (Statements.procedure_call name actuals)
+  procedure_call_walks : (name : Name) (actuals : List Actual) → Goes_by (Statements.procedure_call name (map written_actual actuals))
   unfolding Statements.procedure_call
   procedure_call_walks name actuals = search (walk, statement_call_walks)
 

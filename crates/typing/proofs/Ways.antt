@@ -13,6 +13,8 @@ use Rattle.types.specs.declared.form.TypeId.{TypeId}
 use Rattle.types.specs.Types.{form_at}
 use Rattle.scopes.specs.Scopes.{Region, define, opened_with, outer}
 use Rattle.scopes.specs.declared.denotation.Denotation.{Denotation}
+use Rattle.scopes.specs.declared.denotation.File.{File}
+use Rattle.scopes.specs.declared.denotation.File.TheVariants as file
 use Rattle.scopes.specs.declared.fault.ScopeFault.{ScopeFault}
 use Rattle.typed_tree.specs.declared.fault.TypeFault.{TypeFault}
 use Rattle.typed_tree.specs.declared.fault.TypeFault.TheVariants.{TooMany}
@@ -79,6 +81,9 @@ pub data Step : Bool → Owner → ℕ → ℕ → Look → Passed → Passed �
   Site :
       {owner : Owner} {depth : ℕ} {s : Passed} (kind : SiteKind) (place : Place) → length s.sites < Steps.most_sites
       → Step true owner depth depth [] s (record s { sites = s.sites ++ (kind, place) ∷ []; latest = place })
+  Point :
+      {owner : Owner} {depth : ℕ} {s : Passed} (place : Place) → length s.points < Steps.most_sites
+      → Step true owner depth depth [] s (record s { points = s.points ++ place ∷ []; latest = place })
   -- a variable may be changed from here on
   Threat : {owner : Owner} {depth : ℕ} {s : Passed} (root : ℕ) → Step true owner depth depth [] s (record s { threatened = Steps.with_one s.threatened root })
   -- a type and the characters of a string, by their numbers
@@ -87,7 +92,10 @@ pub data Step : Bool → Owner → ℕ → ℕ → Look → Passed → Passed �
   Text :
       {acts : Bool} {owner : Owner} {depth : ℕ} {s : Passed} (characters : List ℕ)
       → Step acts owner depth depth [] s (record s { texts = s.texts ++ characters ∷ [] })
-  Output : {acts : Bool} {owner : Owner} {depth : ℕ} {s : Passed} → Step acts owner depth depth [] s (record s { has_output = true })
+  -- a file is a program parameter: whether each is
+  Given :
+      {acts : Bool} {owner : Owner} {depth : ℕ} {s : Passed} (input output : Bool)
+      → Step acts owner depth depth [] s (record s { has_input = input; has_output = output })
   -- a name is defined
   Define :
       {acts : Bool} {owner : Owner} {depth : ℕ} {s : Passed} (name : List ℕ) (denotation : Denotation) (regions : List Region) → Defines owner
@@ -153,6 +161,13 @@ pub record Tells (R : Look → Passed → Passed → Type 0) {A : Type 0} (p : P
 
 -- ---- one behind another
 
+walk_tells : {R : Look → Passed → Passed → Type 0} {A : Type 0} {p : Passing A} → Walks R p → Tells R p (λ _. Unit {0})
+walk_tells {R = R} {A = A} {p = p} walks = record { tells = λ old. by old (p old) (walks.walks old) }
+  where
+    by : (old : Passed) (outcome : Checked (After A)) → Goes R old outcome → IfOk outcome (λ a. R a.look old a.passed × Unit {0})
+    by old (Ok a) way = (way, tt)
+    by old (Err why) way = tt
+
 module _ {acts : Bool} {owner : Owner} {A B : Type 0} where
   then_goes : (from between to : ℕ) (Says : A → Type 0) (f : A → Passing B) → ((a : A) → Says a → Walks (Way acts owner between to) (f a)) → (old : Passed)
       (outcome : Checked (After A)) → IfOk outcome (λ a. Way acts owner from between a.look old a.passed × Says a.answer)
@@ -172,13 +187,30 @@ module _ {acts : Bool} {owner : Owner} {A B : Type 0} where
 
   pub then_walks : {from between to : ℕ} {p : Passing A} {f : A → Passing B} → Walks (Way acts owner from between) p
       → ((a : A) → Walks (Way acts owner between to) (f a)) → Walks (Way acts owner from to) (p >>= f)
-  then_walks {from = from} {between = between} {p = p} first rest =
-      tells_then {p = p} {Says = λ _. Unit {0}} (record { tells = λ old. by old (p old) (first.walks old) }) (λ a _. rest a)
+  then_walks {p = p} first rest = tells_then {p = p} {Says = λ _. Unit {0}} (walk_tells first) (λ a _. rest a)
+
+  told_on : (from between to : ℕ) (Says : A → Type 0) (More : B → Type 0) (f : A → Passing B)
+      → ((a : A) → Says a → Tells (Way acts owner between to) (f a) More) → (old : Passed) (outcome : Checked (After A))
+      → IfOk outcome (λ a. Way acts owner from between a.look old a.passed × Says a.answer)
+      → IfOk (and_then outcome (λ a. behind_marks a.look (f a.answer a.passed))) (λ b. Way acts owner from to b.look old b.passed × More b.answer)
+  told_on from between to Says More f rest old (Err why) told = tt
+  told_on from between to Says More f rest old (Ok a) told = by (f a.answer a.passed) ((rest a.answer told.1).tells a.passed)
     where
-      by : (old : Passed) (outcome : Checked (After A)) → Goes (Way acts owner from between) old outcome
-          → IfOk outcome (λ a. Way acts owner from between a.look old a.passed × Unit {0})
-      by old (Ok a) way = (way, tt)
-      by old (Err why) way = tt
+      by : (outcome : Checked (After B)) → IfOk outcome (λ b. Way acts owner between to b.look a.passed b.passed × More b.answer)
+          → IfOk (behind_marks a.look outcome) (λ b. Way acts owner from to b.look old b.passed × More b.answer)
+      by (Ok b) more = (Then told.0 more.0, more.1)
+      by (Err why) more = tt
+
+  pub tells_on : {from between to : ℕ} {p : Passing A} {Says : A → Type 0} {More : B → Type 0} {f : A → Passing B}
+      → Tells (Way acts owner from between) p Says → ((a : A) → Says a → Tells (Way acts owner between to) (f a) More)
+      → Tells (Way acts owner from to) (p >>= f) More
+  tells_on {from = from} {between = between} {to = to} {p = p} {Says = Says} {More = More} {f = f} first rest = record {
+    tells = λ old. told_on from between to Says More f rest old (p old) (first.tells old);
+  }
+
+  pub then_tells : {from between to : ℕ} {p : Passing A} {More : B → Type 0} {f : A → Passing B} → Walks (Way acts owner from between) p
+      → ((a : A) → Tells (Way acts owner between to) (f a) More) → Tells (Way acts owner from to) (p >>= f) More
+  then_tells {p = p} first rest = tells_on {p = p} {Says = λ _. Unit {0}} (walk_tells first) (λ a _. rest a)
 
   -- the same among regions that stay open
   pub goes_on : {depth : ℕ} {p : Passing A} {f : A → Passing B} → Walks (Way acts owner depth depth) p
@@ -220,6 +252,9 @@ checked_tells R Says old stay (Err why) says = tt
 module _ {acts : Bool} {owner : Owner} {depth : ℕ} {A : Type 0} where
   pub pure_walks : (a : A) → Walks (Way acts owner depth depth) (pure a)
   pure_walks a = record { walks = λ old. Stay }
+
+  pub pure_tells : (Says : A → Type 0) (a : A) → Says a → Tells (Way acts owner depth depth) (pure a) Says
+  pure_tells Says a says = record { tells = λ old. (Stay, says) }
 
   pub fail_walks : (why : TypeFault) → Walks (Way acts owner depth depth) {A = A} (fail why)
   fail_walks why = record { walks = λ old. tt }
@@ -291,13 +326,14 @@ module _ {acts : Bool} {owner : Owner} {depth : ℕ} where
   unfolding Steps.latest
   latest_walks = record { walks = λ old. Stay }
 
-  pub give_output_walks : Walks (Way acts owner depth depth) Steps.give_output
-  unfolding Steps.give_output
-  give_output_walks = record { walks = λ old. One Output }
+  pub give_file_walks : (file : File) → Walks (Way acts owner depth depth) (Steps.give_file file)
+  unfolding Steps.give_file
+  give_file_walks file.Input = record { walks = λ old. One (Given true old.has_output) }
+  give_file_walks file.Output = record { walks = λ old. One (Given old.has_input true) }
 
-  pub wants_output_walks : (place : Place) → Walks (Way acts owner depth depth) (Steps.wants_output place)
-  unfolding Steps.wants_output
-  wants_output_walks place = record { walks = λ old. if_goes (Way acts owner depth depth) old _ _ _ Stay }
+  pub wants_file_walks : (file : File) (place : Place) → Walks (Way acts owner depth depth) (Steps.wants_file file place)
+  unfolding Steps.wants_file
+  wants_file_walks file place = record { walks = λ old. if_goes (Way acts owner depth depth) old _ _ _ Stay }
 
   pub next_root_walks : (place : Place) → Walks (Way acts owner depth depth) (Steps.next_root place)
   unfolding Steps.next_root
@@ -369,6 +405,12 @@ module _ {owner : Owner} {depth : ℕ} where
   unfolding Steps.site
   site_walks kind place = record {
     walks = λ old. unless_goes (Way true owner depth depth) old (nat_le Steps.most_sites (length old.sites)) _ _ (λ few. One (Site kind place (below _ _ few)));
+  }
+
+  pub point_walks : (place : Place) → Walks (Way true owner depth depth) (Steps.point place)
+  unfolding Steps.point
+  point_walks place = record {
+    walks = λ old. unless_goes (Way true owner depth depth) old (nat_le Steps.most_sites (length old.points)) _ _ (λ few. One (Point place (below _ _ few)));
   }
 
   pub may_change_walks : (place : Place) (root : ℕ) → Walks (Way true owner depth depth) (Steps.may_change place root)
@@ -468,6 +510,7 @@ pub ruleset walk = (
   each_walks,
   pass_walks,
   site_walks,
+  point_walks,
   find_walks,
   may_change_walks,
   may_control_walks,
@@ -476,8 +519,8 @@ pub ruleset walk = (
   keep_text_walks,
   text_at_walks,
   latest_walks,
-  give_output_walks,
-  wants_output_walks,
+  give_file_walks,
+  wants_file_walks,
   next_root_walks,
   enclosing_now_walks,
   may_nest_walks,

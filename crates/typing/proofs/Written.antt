@@ -142,7 +142,8 @@ typing_assign name selectors indexes becomes value =
     ap statement (sym (stmt.rolls-Assign name selectors indexes becomes value))
     ∙ fold-roll-Stmt (Passing (Unit {0})) statement_step (stmt_layer.Assign name selectors indexes becomes value)
 
-pub typing_procedure_call : (name : Name) (actuals : Vec Actual Global) → statement (stmt.Call name actuals) ≡ procedure_call name actuals.items
+pub typing_procedure_call : (name : Name) (actuals : Vec Actual Global)
+    → statement (stmt.Call name actuals) ≡ procedure_call name (map written_actual actuals.items)
 typing_procedure_call name actuals =
     ap statement (sym (stmt.rolls-Call name actuals)) ∙ fold-roll-Stmt (Passing (Unit {0})) statement_step (stmt_layer.Call name actuals)
 

@@ -32,7 +32,8 @@ as_constant place (denotes.TypeName type_id) = Err (fault.Mismatch place)
 as_constant place (denotes.Procedure procedure) = Err (fault.Mismatch place)
 as_constant place (denotes.Function function) = Err (fault.Mismatch place)
 as_constant place (denotes.Routine block is_function) = Err (fault.Mismatch place)
-as_constant place denotes.Output = Err (fault.Mismatch place)
+as_constant place (denotes.InputFunction function) = Err (fault.Mismatch place)
+as_constant place (denotes.File file) = Err (fault.Mismatch place)
 
 -- a constant without its sign: a number, which is at most maxint, a string, or a name
 unfoldable pub unsigned_constant : ConstantValue → Passing Denotation

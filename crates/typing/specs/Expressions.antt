@@ -1,7 +1,7 @@
 -- The typing of expressions (ISO 7185:1990, 6.5, 6.7): of each form the first rule that it breaks, or its type, how its
--- typed form looks, and its sites. What asks for a site of its own at an expression's first token (a width) hands its
--- kind in, as the leading kind: that site stands behind the token's own, and before all others. It says nothing of what
--- a program does.
+-- typed form looks, its sites and its points. What asks for a site of its own at an expression's first token (a width)
+-- hands its kind in, as the leading kind: that site stands behind the token's own, and before all others. It says
+-- nothing of what a program does.
 use Rattle.std.specs.Prelude.{ℕ, ◌+◌, Bool, true, false, not, List, [], ◌∷◌, ◌++◌, Option, Some, None}
 use Rattle.std.specs.Prelude.{Ok, Err, pos, if◌then◌else◌, nat_eq, length, option_map}
 use Rattle.std.specs.Prelude.{slice_get}
@@ -35,6 +35,10 @@ use Rattle.types.specs.Types.{integer, boolean, char, is_same, is_compatible, ki
 use Rattle.types.specs.Types.{cells_of, element_of, field_of, form_at}
 use Rattle.scopes.specs.declared.denotation.Denotation.{Denotation}
 use Rattle.scopes.specs.declared.denotation.Denotation.TheVariants as denotes
+use Rattle.scopes.specs.declared.denotation.File.{File}
+use Rattle.scopes.specs.declared.denotation.File.TheVariants as file
+use Rattle.scopes.specs.declared.denotation.InputFunction.{InputFunction}
+use Rattle.scopes.specs.declared.denotation.InputFunction.TheVariants as asks
 use Rattle.typed_tree.specs.declared.fault.TypeFault.TheVariants as fault
 use Rattle.typed_tree.specs.declared.site.SiteKind.{SiteKind}
 use Rattle.typed_tree.specs.declared.site.SiteKind.TheVariants as kind
@@ -45,6 +49,8 @@ use Rattle.typed_tree.specs.declared.tree.Dyadic.{Dyadic}
 use Rattle.typed_tree.specs.declared.tree.Dyadic.TheVariants as dyadic
 use Rattle.typed_tree.specs.declared.tree.Designator.{Designator}
 use Rattle.typed_tree.specs.declared.tree.Designator.TheVariants as designator
+use Rattle.typed_tree.specs.declared.tree.InputTest.{InputTest}
+use Rattle.typed_tree.specs.declared.tree.InputTest.TheVariants as test
 use Rattle.typed_tree.specs.declared.tree.Scalar.TheVariants as scalar
 use Rattle.typed_tree.specs.declared.tree.Selector.{Selector as TreeSelector}
 use Rattle.typed_tree.specs.declared.tree.Selector.TheVariants as tree
@@ -53,7 +59,7 @@ use Rattle.typed_tree.specs.Accesses.{Origin, AtVariable, AtRecord, index_count,
 use Rattle.typed_tree.specs.WellFormed.{is_variable_kind, members_wanted}
 use Rattle.typed_tree.specs.Look.{Constant, Text, Access, Value, WholeValue, Operation, Applied, Begins, Compared, Ends}
 use Rattle.typed_tree.specs.Look.{Calls, Called, Constructs, Constructed, ForValue, ForVariable, ForWhole}
-use Rattle.typed_tree.specs.Look.{Operator as OperatorMark}
+use Rattle.typed_tree.specs.Look.{Input, Operator as OperatorMark, Reads}
 use Rattle.typing_rules.specs.declared.typed.Typed.{Typed}
 use Rattle.typing.specs.Passing.{OpenRecord, Passing, pure, fail, given, by_types, mark}
 use Rattle.typing_rules.specs.Checked.{Checked}
@@ -65,19 +71,23 @@ use Rattle.typing.specs.Steps.{text_at, value_of, variable_at}
 use Rattle.typing.specs.Names.{folded}
 use Rattle.typing.specs.Functions.{begins_as, applied}
 use Rattle.typing.specs.Strings.{string_characters, string_type}
+use Rattle.typing.specs.Steps.{point, wants_file}
 use Rattle.typing_rules.specs.Typed.{typed, typed_set, typed_text, typed_variable, is_scalar_value, is_ordinal_of}
 use Rattle.typing_rules.specs.Typed.{is_of}
 use Rattle.typing_rules.specs.Operators.{sign_operation, result_of, set_operation_behind, relation_behind_value}
 use Rattle.typing_rules.specs.Operators.{may_relate, member_of, member_with_site}
-use Rattle.typing_rules.specs.Denotations.{as_function, as_routine}
-use Rattle.typing_rules.specs.Targets.{fitting, Copy, whole_copy, copying, members_test}
+use Rattle.typing_rules.specs.Denotations.{as_file, as_function}
+use Rattle.typing_rules.specs.Targets.{fitting, Copy, whole_copy, copying, members_test, read_as}
 
--- an expression as it is typed: its first token, by the leading kind what it is, and how it is passed to a variable
--- parameter of a type, of the callee's block and at a place among its parameters
+-- an expression as it is typed: its first token, by the leading kind what it is, how it is passed to a variable
+-- parameter of a type, of the callee's block and at a place among its parameters, how it is read, and the file that it
+-- names, if it is the name of one
 pub record Written : Type 0 where
   pub first : Place
   pub typing : Option SiteKind → Passing Typed
   pub passing : TypeId → ℕ → ℕ → Passing (Unit {0})
+  pub reading : Passing (Unit {0})
+  pub file : Passing (Option File)
 
 -- an actual: its value, and its width if there is one
 pub record WrittenActual : Type 0 where
@@ -158,7 +168,8 @@ variable_of place (denotes.TypeName type_id) = fail (fault.NotVariable place)
 variable_of place (denotes.Procedure procedure) = fail (fault.NotVariable place)
 variable_of place (denotes.Function function) = fail (fault.NotVariable place)
 variable_of place (denotes.Routine block is_function) = fail (fault.NotVariable place)
-variable_of place denotes.Output = fail (fault.NotVariable place)
+variable_of place (denotes.InputFunction function) = fail (fault.NotVariable place)
+variable_of place (denotes.File file) = fail (fault.NotVariable place)
 
 abbrev pub or_not_declared : Place → Option RecordField → Checked RecordField
 or_not_declared place (Some field) = Ok field
@@ -292,6 +303,22 @@ passed_variable name selectors indexes wanted callee position = do
   by_types (λ types. passable types wanted variable.from component.0 component.1 name.place)
   mark (ForVariable wanted variable.origin component.0 (index_count component.0) callee position)
 
+-- what is accessed is read, at a point at its first token
+unfoldable pub read_variable : Name → List Selector → List Written → Passing (Unit {0})
+read_variable name selectors indexes = do
+  d ← find name
+  variable ← variable_of name.place d
+  may_change name.place (root_of variable.origin)
+  id ← point name.place
+  enter_as Access
+  component ← selected variable.selectors variable.type_id selectors indexes
+  read ← by_types (λ types. read_as types name.place component.1)
+  mark (Reads variable.origin component.0 (index_count component.0) read.0 id read.1)
+
+-- what is no variable isn't: K2 at its first token
+unfoldable pub not_readable : Place → Passing (Unit {0})
+not_readable place = fail (fault.NotVariable place)
+
 -- what is no variable isn't: K2 at its first token
 unfoldable pub no_variable : Place → TypeId → ℕ → ℕ → Passing (Unit {0})
 no_variable place wanted callee position = fail (fault.NotVariable place)
@@ -388,6 +415,45 @@ function_value callee true place actuals lead = do
   host ← host_type result.type_id
   pure (typed host id)
 
+abbrev pub without_width : Place → Written → Option Written → Checked Written
+without_width place value None = Ok value
+without_width place value (Some width) = Err (fault.WrongParameters place)
+
+-- the one actual of a function, which has no width
+abbrev pub only : Place → List WrittenActual → Checked Written
+only place [] = Err (fault.WrongParameters place)
+only place (actual ∷ []) = without_width place actual.value actual.width
+only place (actual ∷ another ∷ others) = Err (fault.WrongParameters place)
+
+-- ---- the input (6.6.6.5)
+
+-- what a function asks of the input; eoln has a point at its name
+unfoldable pub input_test : InputFunction → Place → Passing InputTest
+input_test asks.Eof place = pure test.End
+input_test asks.Eoln place = point place >>= (λ id. pure (test.LineEnd id))
+
+-- the value of such a function, at its name; K8 there where input is no program parameter
+unfoldable pub input_value : InputFunction → Place → Option SiteKind → Passing Typed
+input_value function place lead = do
+  pass place
+  wants_file file.Input place
+  id ← behind lead place
+  asked ← input_test function place
+  enter_as (λ n. Input n asked)
+  pure (typed boolean id)
+
+-- its one actual is the name of the file input; K3 at the function's name where it isn't
+abbrev pub is_input : Place → Option File → Checked (Unit {0})
+is_input place (Some file.Input) = Ok tt
+is_input place other = Err (fault.WrongParameters place)
+
+unfoldable pub input_call : InputFunction → Place → List WrittenActual → Option SiteKind → Passing Typed
+input_call function place actuals lead = do
+  actual ← given (only place actuals)
+  named ← actual.file
+  given (is_input place named)
+  input_value function place lead
+
 -- ---- names
 
 -- a name as an expression: a constant, a variable, or a function without parameters
@@ -409,7 +475,8 @@ denoted (denotes.Procedure procedure) place lead = fail (fault.WrongParameters p
 denoted (denotes.Function function) place lead = fail (fault.WrongParameters place)
 denoted (denotes.Routine block is_function) place lead = function_value block is_function place [] lead
 denoted (denotes.TypeName type_id) place lead = fail (fault.Mismatch place)
-denoted denotes.Output place lead = fail (fault.Mismatch place)
+denoted (denotes.InputFunction function) place lead = input_value function place lead
+denoted (denotes.File file) place lead = fail (fault.Mismatch place)
 
 unfoldable pub named : Name → Option SiteKind → Passing Typed
 named name lead = find name >>= (λ d. denoted d name.place lead)
@@ -550,16 +617,6 @@ constructed place ms lead = do
   mark (Constructed made.0 (members_wanted made.0))
   pure (typed_set (record { host = made.1; packed = None }) id)
 
-abbrev pub without_width : Place → Written → Option Written → Checked Written
-without_width place value None = Ok value
-without_width place value (Some width) = Err (fault.WrongParameters place)
-
--- the one actual of a function, which has no width
-abbrev pub only : Place → List WrittenActual → Checked Written
-only place [] = Err (fault.WrongParameters place)
-only place (actual ∷ []) = without_width place actual.value actual.width
-only place (actual ∷ another ∷ others) = Err (fault.WrongParameters place)
-
 -- the call of a required function; what it does depends on its argument's type, and is told behind that
 unfoldable pub required_call : Denotation → Name → List WrittenActual → Option SiteKind → Passing Typed
 required_call d name actuals lead = do
@@ -572,22 +629,40 @@ required_call d name actuals lead = do
   mark (Applied does.0)
   pure (typed does.1 id)
 
-abbrev pub call_by : Option (ℕ × Bool) → Denotation → Name → List WrittenActual → Option SiteKind → Passing Typed
-call_by None d name actuals lead = required_call d name actuals lead
-call_by (Some routine) d name actuals lead = function_value routine.0 routine.1 name.place actuals lead
+abbrev pub call_by : Denotation → Name → List WrittenActual → Option SiteKind → Passing Typed
+call_by (denotes.Routine block is_function) name actuals lead =
+    function_value block is_function name.place actuals lead
+call_by (denotes.InputFunction function) name actuals lead = input_call function name.place actuals lead
+call_by d name actuals lead = required_call d name actuals lead
 
 -- the call of a function
 unfoldable pub call : Name → List WrittenActual → Option SiteKind → Passing Typed
-call name actuals lead = find name >>= (λ d. call_by (as_routine d) d name actuals lead)
+call name actuals lead = find name >>= (λ d. call_by d name actuals lead)
 
 -- an expression that is no variable
 abbrev pub written : Place → (Option SiteKind → Passing Typed) → Written
-written first typing = record { first = first; typing = typing; passing = no_variable first }
+written first typing = record {
+  first = first;
+  typing = typing;
+  passing = no_variable first;
+  reading = not_readable first;
+  file = pure None;
+}
+
+-- the file that a name without selectors denotes
+unfoldable pub file_named : Name → List Selector → Passing (Option File)
+file_named name [] = find name >>= (λ d. pure (as_file d))
+file_named name (selector ∷ selectors) = pure None
 
 -- a variable, or a component of one
 abbrev pub written_variable : Name → List Selector → List Written → (Option SiteKind → Passing Typed) → Written
-written_variable name selectors indexes typing =
-    record { first = name.place; typing = typing; passing = passed_variable name selectors indexes }
+written_variable name selectors indexes typing = record {
+  first = name.place;
+  typing = typing;
+  passing = passed_variable name selectors indexes;
+  reading = read_variable name selectors indexes;
+  file = file_named name selectors;
+}
 
 abbrev pub actual_step : Actual-F Written WrittenActual WrittenLink → WrittenActual
 actual_step actual = record { value = actual.value; width = actual.width }

@@ -2,7 +2,8 @@
 -- identifiers stand in a region round the program, and its block defines its parameters, its constants, its types, the
 -- constants of enumerated types, and its variables.
 -- It says nothing of the order in which definitions are passed.
-use Rattle.std.specs.Prelude.{ℕ, pos, ◌+◌, ◌&&◌, ◌++◌, List, [], ◌∷◌, Some, if◌then◌else◌, nat_le, map}
+use Rattle.std.specs.Prelude.{ℕ, Bool, true, false, pos, ◌+◌, ◌&&◌, ◌++◌, List, [], ◌∷◌, Some}
+use Rattle.std.specs.Prelude.{if◌then◌else◌, nat_le, map}
 use Rattle.std.specs.Prelude.{codes, flat_map}
 use Rattle.syntax_tree.specs.declared.Name.{Name}
 use Rattle.syntax_tree.specs.declared.ConstantDefinition.{ConstantDefinition}
@@ -22,7 +23,9 @@ use Rattle.scopes.specs.Scopes.{Region}
 use Rattle.scopes.specs.declared.denotation.Denotation.{Denotation}
 use Rattle.scopes.specs.declared.denotation.Denotation.TheVariants.{TypeName, Constant}
 use Rattle.scopes.specs.declared.denotation.Denotation.TheVariants as denotes
-use Rattle.scopes.specs.declared.denotation.RequiredProcedure.TheVariants.{Write, Writeln}
+use Rattle.scopes.specs.declared.denotation.File.{File}
+use Rattle.scopes.specs.declared.denotation.File.TheVariants as file
+use Rattle.scopes.specs.declared.denotation.InputFunction.TheVariants.{Eof, Eoln}
 use Rattle.scopes.specs.declared.denotation.FunctionArgument.{FunctionArgument}
 use Rattle.scopes.specs.declared.denotation.FunctionArgument.TheVariants as takes
 use Rattle.scopes.specs.declared.denotation.FunctionType.{FunctionType}
@@ -59,14 +62,24 @@ required_functions =
     ∷ (codes "succ", function takes.Ordinal gives.OfArgument (Tests test.Next))
     ∷ (codes "pred", function takes.Ordinal gives.OfArgument (Tests test.Previous)) ∷ []
 
+-- a required procedure, by its file, and whether it passes or ends a line (6.9)
+abbrev pub procedure : File → Bool → Denotation
+procedure f ends_line = denotes.Procedure (record { file = f; ends_line = ends_line })
+
+-- the required procedures and functions of the files
+abbrev pub required_of_files : List (List ℕ × Denotation)
+required_of_files =
+    (codes "write", procedure file.Output false) ∷ (codes "writeln", procedure file.Output true)
+    ∷ (codes "read", procedure file.Input false) ∷ (codes "readln", procedure file.Input true)
+    ∷ (codes "eof", denotes.InputFunction Eof) ∷ (codes "eoln", denotes.InputFunction Eoln) ∷ []
+
 -- the required identifiers (6.2.2.10)
 abbrev pub required : List (List ℕ × Denotation)
 required =
     (codes "integer", TypeName integer) ∷ (codes "boolean", TypeName boolean) ∷ (codes "char", TypeName char)
     ∷ (codes "maxint", Constant (pos 2147483647) integer)
     ∷ (codes "false", Constant (pos 0) boolean) ∷ (codes "true", Constant (pos 1) boolean)
-    ∷ (codes "write", denotes.Procedure Write) ∷ (codes "writeln", denotes.Procedure Writeln)
-    ∷ required_functions
+    ∷ (required_of_files ++ required_functions)
 
 -- their region: all of them are defined
 unfoldable pub required_region : Region

@@ -51,10 +51,13 @@ pub record Passed : Type 0 where
   pub headings : List Headed
   -- the block round the place
   pub enclosing : Enclosing
-  -- output is a program parameter
+  -- input is a program parameter, and output is
+  pub has_input : Bool
   pub has_output : Bool
   -- the sites, by id
   pub sites : List Stands
+  -- the points, by id
+  pub points : List Place
   -- how many statements and expressions were entered
   pub entries : ℕ
   -- how many loops began

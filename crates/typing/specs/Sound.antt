@@ -1,10 +1,10 @@
 -- What a typed tree has of what is known behind its program, and whether it is the program's typed tree.
 -- It says nothing of what typing answers.
-use Rattle.std.specs.Prelude.{◌≡◌, ℕ, List, [], Ok, map}
+use Rattle.std.specs.Prelude.{◌≡◌, ℕ, List, Ok, map}
 use Rattle.syntax_tree.specs.declared.Program.{Program}
 use Rattle.typed_tree.specs.declared.site.Site.{Site}
 use Rattle.typed_tree.specs.declared.tree.Tree.{Tree}
-use Rattle.typed_tree.specs.Ids.{Stands, AreInOrder}
+use Rattle.typed_tree.specs.Ids.{Stands, AreInOrder, ArePointsInOrder}
 use Rattle.typed_tree.specs.Look.{tree_look}
 use Rattle.typed_tree.specs.declared.tree.Block.{Block}
 use Rattle.typed_tree.specs.Entries.{in_text}
@@ -16,13 +16,14 @@ use Rattle.typing.specs.Typing.{typing}
 abbrev pub stands : Site → Stands
 stands site = (site.kind, site.place)
 
--- a tree has the variables, the sites and the types that are known
+-- a tree has the variables, the sites, the points and the types that are known
 pub record IsLeft (passed : Passed) (tree : Tree) : Type 0 where
   pub variables : tree.variables.items ≡ passed.variables
   pub sites : map stands tree.sites.items ≡ passed.sites
   pub ids : AreInOrder tree.sites.items
   pub types : tree.types ≡ passed.types
-  pub points : tree.points.items ≡ []
+  pub points : map (λ point. point.place) tree.points.items ≡ passed.points
+  pub point_ids : ArePointsInOrder tree.points.items
 
 -- the loops of a block of a number: of each the block, and the control variables inside it
 abbrev pub rows_of_block : ℕ → Block → List (ℕ × List ℕ)

@@ -1,5 +1,5 @@
 -- The typing of statements (ISO 7185:1990, 6.8, 6.9): of each form the first rule that it breaks, or how its typed form
--- looks, and its sites. It says nothing of what a program does.
+-- looks, its sites and its points. It says nothing of what a program does.
 use Rattle.std.specs.List.{list_any}
 use Rattle.std.specs.Ordering.{int_eq}
 use Rattle.std.specs.Prelude.{ℕ, ℤ, Bool, true, false, not, ◌&&◌, ◌++◌, List, [], ◌∷◌, Option, Some, None, Ok}
@@ -7,16 +7,6 @@ use Rattle.std.specs.Prelude.{Err, if◌then◌else◌, map}
 use Rattle.std.specs.Prelude.{option_map}
 use Rattle.place.specs.declared.Place.{Place}
 use Rattle.syntax_tree.specs.declared.Name.{Name}
-use Rattle.syntax_tree.specs.declared.Expr.{Expr}
-use Rattle.syntax_tree.specs.declared.Actual.{Actual}
-use Rattle.syntax_tree.specs.declared.Expr.TheOpen.{Expr-F}
-use Rattle.syntax_tree.specs.declared.Expr.TheOpen.Expr-F.{Number as NumberOf, Name as NameOf, Call as FunctionOf}
-use Rattle.syntax_tree.specs.declared.Expr.TheOpen.Expr-F.{Parenthesized as ParenthesizedOf, Not as NotOf}
-use Rattle.syntax_tree.specs.declared.Expr.TheOpen.Expr-F.{Signed as SignedOf, Chain as ChainOf, String as StringOf}
-use Rattle.syntax_tree.specs.declared.Expr.TheOpen.Expr-F.{Relation as RelationOf, Set as SetOf}
-use Rattle.syntax_tree.specs.declared.Expr.TheOpen.Expr-F.{Component as ComponentOf}
-use Rattle.syntax_tree.specs.declared.Expr.TheViews.{out-Expr, out-Actual}
-use Rattle.syntax_tree.specs.declared.Link.{Link}
 use Rattle.syntax_tree.specs.declared.Constant.{Constant}
 use Rattle.syntax_tree.specs.declared.Selector.{Selector}
 use Rattle.syntax_tree.specs.Places.{arms_of}
@@ -35,8 +25,9 @@ use Rattle.types.specs.declared.form.TypeKind.{TypeKind}
 use Rattle.types.specs.declared.form.TypeKind.TheVariants as kind_of_type
 use Rattle.types.specs.Types.{integer, boolean, is_compatible, is_ordinal, is_string}
 use Rattle.scopes.specs.declared.denotation.Denotation.{Denotation}
+use Rattle.scopes.specs.declared.denotation.File.{File}
+use Rattle.scopes.specs.declared.denotation.File.TheVariants as file
 use Rattle.scopes.specs.declared.denotation.RequiredProcedure.{RequiredProcedure}
-use Rattle.scopes.specs.declared.denotation.RequiredProcedure.TheVariants as procedure
 use Rattle.typed_tree.specs.declared.fault.TypeFault.TheVariants as fault
 use Rattle.typed_tree.specs.declared.site.SiteKind.TheVariants as kind
 use Rattle.typed_tree.specs.declared.tree.Selector.{Selector as TreeSelector}
@@ -48,7 +39,7 @@ use Rattle.typed_tree.specs.WellFormed.{is_one_of}
 use Rattle.typed_tree.specs.Look.{Mark, Access, Assign, Target, WholeTarget, Copied, Fits, Write}
 use Rattle.typed_tree.specs.Look.{Written as WrittenMark, WrittenString, Width}
 use Rattle.typed_tree.specs.Look.{Empty, Compound, If, Then, Else, While, Do, Repeat, Until, For, Controls, ForEnds}
-use Rattle.typed_tree.specs.Look.{Case, Arm, Ends, Opens, With, WithEnds}
+use Rattle.typed_tree.specs.Look.{Case, Arm, Ends, Opens, Read, With, WithEnds}
 use Rattle.typing.specs.Passing.{OpenRecord, Passing, pure, fail, given, by_types, mark, each}
 use Rattle.typing_rules.specs.Checked.{Checked, and_then}
 use Rattle.typing.specs.Passing.{◌>>=◌, ◌>>◌}
@@ -56,7 +47,7 @@ use Rattle.typing.specs.Passing.{◌>>?◌}
 use Rattle.typing.specs.Steps.{assign_result, pass, enter_as, enter_loop, site, find, heading_at}
 use Rattle.typing_rules.specs.Checked.{fits, or_mismatch}
 use Rattle.typing.specs.Steps.{may_change, may_control, begin_control, end_control, enclosing_now, variable_at}
-use Rattle.typing.specs.Steps.{close_record, next_slot, open_record, wants_output}
+use Rattle.typing.specs.Steps.{close_record, next_slot, open_record, point, wants_file}
 use Rattle.typing.specs.Constants.{ordinal_constant, constant_place}
 use Rattle.typing_rules.specs.declared.typed.Typed.{Typed}
 use Rattle.typing_rules.specs.declared.typed.TypedValue.{TypedValue}
@@ -69,8 +60,8 @@ use Rattle.typing.specs.Expressions.{variable_of}
 use Rattle.typing.specs.Expressions.{kind_now, routine_call, selected}
 use Rattle.typing_rules.specs.Targets.{fitting, test_kind}
 use Rattle.typing_rules.specs.Typed.{ordinal_type}
-use Rattle.typing.specs.Expressions.{written_actual}
-use Rattle.typing_rules.specs.Denotations.{as_procedure, ends_line, is_output, as_control}
+use Rattle.typing.specs.Expressions.{unless_width, written_actual}
+use Rattle.typing_rules.specs.Denotations.{as_procedure, as_control}
 use Rattle.typing_rules.specs.Targets.{way, representation_of, ordinal_of}
 
 -- what is accessed left of `:=`, by the kind of its type
@@ -154,38 +145,35 @@ assignment name selectors indexes becomes value = do
   found ← kind_now to.type_id
   assigned_by_kind found to becomes value
 
--- whether a value is the name of the file output
-abbrev pub names_file : Expr-F Expr Actual Link → Passing Bool
-names_file (NameOf name) = find name >>= (λ d. pure (is_output d))
-names_file (NumberOf value place) = pure false
-names_file (ComponentOf name selectors indexes) = pure false
-names_file (StringOf text place) = pure false
-names_file (FunctionOf name actuals) = pure false
-names_file (ParenthesizedOf place inner) = pure false
-names_file (NotOf place operand) = pure false
-names_file (SignedOf sign place term) = pure false
-names_file (ChainOf first rest) = pure false
-names_file (RelationOf left operator place right) = pure false
-names_file (SetOf place designators members) = pure false
+-- the file that the first parameter names; a width makes it a value
+abbrev pub unless_wide : Written → Option Written → Passing (Option File)
+unless_wide value None = value.file
+unless_wide value (Some width) = pure None
 
-abbrev pub unless_wide : Expr → Option Expr → Passing Bool
-unless_wide value None = names_file (out-Expr value)
-unless_wide value (Some width) = pure false
+-- the parameters behind the file, which may be named first; K3 at the call's name where it is the other file
+abbrev pub behind_file : File → Place → WrittenActual → List WrittenActual → Option File
+    → Checked (List WrittenActual)
+behind_file wanted place first rest None = Ok (first ∷ rest)
+behind_file file.Input place first rest (Some file.Input) = Ok rest
+behind_file file.Output place first rest (Some file.Output) = Ok rest
+behind_file wanted place first rest (Some other) = Err (fault.WrongParameters place)
 
--- whether the first parameter of a write is the file; a width makes it a value
-unfoldable pub is_file : Actual → Passing Bool
-is_file actual = unless_wide (out-Actual actual).value (out-Actual actual).width
+unfoldable pub without_file : File → Place → List WrittenActual → Passing (List WrittenActual)
+without_file wanted place [] = pure []
+without_file wanted place (first ∷ rest) =
+    unless_wide first.value first.width >>= (λ named. given (behind_file wanted place first rest named))
 
--- the values that are written: the actuals without the file
-unfoldable pub written_values : List Actual → Passing (List Actual)
-written_values [] = pure []
-written_values (first ∷ rest) = is_file first >>= (λ file. pure (if file then rest else first ∷ rest))
+-- a read or a write has a parameter; a readln or a writeln needs none
+abbrev pub has_parameters : Place → RequiredProcedure → List WrittenActual → Checked (Unit {0})
+has_parameters place procedure [] = if procedure.ends_line then Ok tt else Err (fault.WrongParameters place)
+has_parameters place procedure (one ∷ others) = Ok tt
 
--- a write has a value; a writeln needs none
-abbrev pub has_values : Place → RequiredProcedure → List Actual → Checked (Unit {0})
-has_values place procedure.Write [] = Err (fault.WrongParameters place)
-has_values place procedure.Writeln [] = Ok tt
-has_values place procedure (value ∷ values) = Ok tt
+-- those of a call, behind the file
+unfoldable pub parameters_of : Place → RequiredProcedure → List WrittenActual → Passing (List WrittenActual)
+parameters_of place procedure actuals = do
+  parameters ← without_file procedure.file place actuals
+  given (has_parameters place procedure parameters)
+  pure parameters
 
 -- how a value is written: an ordinal by its type, or a string
 abbrev pub written_value : List Form → TypedValue → Option Mark
@@ -217,30 +205,58 @@ parameter p = do
   width p.width
 
 -- a write or writeln
-unfoldable pub write : Name → List Actual → RequiredProcedure → Passing (Unit {0})
+unfoldable pub write : Name → List WrittenActual → RequiredProcedure → Passing (Unit {0})
 write name actuals procedure = do
-  wants_output name.place
-  enter_as (λ n. Write n name.place (ends_line procedure))
-  values ← written_values actuals
-  given (has_values name.place procedure values)
-  each parameter (map written_actual values)
+  enter_as (λ n. Write n name.place procedure.ends_line)
+  values ← parameters_of name.place procedure actuals
+  each parameter values
   mark Ends
 
+-- a variable that is read has no width; K3 at its first token where it has
+unfoldable pub read_parameter : WrittenActual → Passing (Unit {0})
+read_parameter p = do
+  given (unless_width p.value.first p.width)
+  p.value.reading
+
+-- the point at which a readln wants a line end, at its name
+unfoldable pub line_point : Place → Bool → Passing (Option ℕ)
+line_point place false = pure None
+line_point place true = point place >>= (λ id. pure (Some id))
+
+-- a read or readln (6.9.1, 6.9.2)
+unfoldable pub read : Name → List WrittenActual → RequiredProcedure → Passing (Unit {0})
+read name actuals procedure = do
+  line ← line_point name.place procedure.ends_line
+  enter_as (λ n. Read n name.place line)
+  variables ← parameters_of name.place procedure actuals
+  each read_parameter variables
+  mark Ends
+
+-- the call of a procedure of a file, which has to be a program parameter
+abbrev pub by_file : File → Name → List WrittenActual → RequiredProcedure → Passing (Unit {0})
+by_file file.Input = read
+by_file file.Output = write
+
+unfoldable pub file_call : Name → List WrittenActual → RequiredProcedure → Passing (Unit {0})
+file_call name actuals procedure = do
+  wants_file procedure.file name.place
+  by_file procedure.file name actuals procedure
+
 -- the call of a required procedure
-unfoldable pub required_call : Denotation → Name → List Actual → Passing (Unit {0})
-required_call d name actuals = given (as_procedure name.place d) >>= write name actuals
+unfoldable pub required_call : Denotation → Name → List WrittenActual → Passing (Unit {0})
+required_call d name actuals = given (as_procedure name.place d) >>= file_call name actuals
 
 -- the call of a procedure that a program declares (6.8.2.3); K3 at the name of a function
 unfoldable pub declared_call : ℕ → Bool → Name → List WrittenActual → Passing (Unit {0})
 declared_call callee true name actuals = fail (fault.WrongParameters name.place)
 declared_call callee false name actuals = routine_call false callee name.place actuals >> pure tt
 
-abbrev pub call_by : Option (ℕ × Bool) → Denotation → Name → List Actual → Passing (Unit {0})
+abbrev pub call_by : Option (ℕ × Bool) → Denotation → Name → List WrittenActual → Passing (Unit {0})
 call_by None d name actuals = required_call d name actuals
-call_by (Some routine) d name actuals = declared_call routine.0 routine.1 name (map written_actual actuals)
+call_by (Some routine) d name actuals = declared_call routine.0 routine.1 name actuals
 
 -- the call of a procedure
-unfoldable pub procedure_call : Name → List Actual → Passing (Unit {0})
+unfoldable pub procedure_call : Name → List WrittenActual → Passing (Unit {0})
 procedure_call name actuals = find name >>= (λ d. call_by (as_routine d) d name actuals)
 
 -- statements between begin and end
@@ -418,7 +434,7 @@ abbrev pub statement_step : Stmt-F (Passing (Unit {0})) → Passing (Unit {0})
 statement_step EmptyOf = enter_as Empty
 statement_step (AssignOf name selectors indexes becomes value) =
     assignment name selectors.items (map expression indexes.items) becomes (expression value)
-statement_step (CallOf name actuals) = procedure_call name actuals.items
+statement_step (CallOf name actuals) = procedure_call name (map written_actual actuals.items)
 statement_step (CompoundOf statements) = compound statements.items
 statement_step (IfOf place condition consequence alternative) =
     choice place (expression condition) consequence.value (option_map (λ statement. statement.value) alternative)

@@ -17,6 +17,8 @@ pub use Rattle.scopes.specs.Scopes.{innermost, outer}
 use Rattle.scopes.specs.Scopes.{Region, found, opened, opened_beside, opened_with, define}
 use Rattle.scopes.specs.declared.denotation.Denotation.{Denotation}
 use Rattle.scopes.specs.declared.denotation.Denotation.TheVariants as denotes
+use Rattle.scopes.specs.declared.denotation.File.{File}
+use Rattle.scopes.specs.declared.denotation.File.TheVariants as file
 use Rattle.typed_tree.specs.declared.fault.TypeFault.{TypeFault}
 use Rattle.typed_tree.specs.declared.fault.TypeFault.TheVariants as fault
 use Rattle.typed_tree.specs.declared.site.SiteKind.{SiteKind}
@@ -30,7 +32,7 @@ use Rattle.typing_rules.specs.Checked.{Checked, and_then}
 use Rattle.typing.specs.Passing.{◌>>=◌}
 use Rattle.typing_rules.specs.Checked.{fits, told}
 
--- the most sites of a program
+-- the most sites of a program, and the most points
 abbrev pub most_sites : ℕ
 most_sites = 1000000
 
@@ -51,8 +53,10 @@ begins start = record {
   variables = [];
   headings = program_heading ∷ [];
   enclosing = program_block;
+  has_input = false;
   has_output = false;
   sites = [];
+  points = [];
   entries = 0;
   loops = 0;
   controls = [];
@@ -97,6 +101,12 @@ unfoldable pub site : SiteKind → Place → Passing ℕ
 site kind place = λ s.
     if nat_le most_sites (length s.sites) then Err (fault.TooMany place)
     else Ok (after (length s.sites) [] (record s { sites = s.sites ++ (kind, place) ∷ []; latest = place }))
+
+-- a point, by its id
+unfoldable pub point : Place → Passing ℕ
+point place = λ s.
+    if nat_le most_sites (length s.points) then Err (fault.TooMany place)
+    else Ok (after (length s.points) [] (record s { points = s.points ++ place ∷ []; latest = place }))
 
 -- what a name denotes
 unfoldable pub find : Name → Passing Denotation
@@ -244,13 +254,22 @@ text_at number = λ s. Ok (after (get_or s.texts number []) [] s)
 unfoldable pub latest : Passing Place
 latest = λ s. Ok (after s.latest [] s)
 
--- output is a program parameter
-unfoldable pub give_output : Passing (Unit {0})
-give_output = λ s. Ok (after tt [] (record s { has_output = true }))
+-- whether a file is a program parameter
+abbrev pub has_file : File → Passed → Bool
+has_file file.Input s = s.has_input
+has_file file.Output s = s.has_output
 
--- a write or writeln needs output
-unfoldable pub wants_output : Place → Passing (Unit {0})
-wants_output place = λ s. if s.has_output then Ok (after tt [] s) else Err (fault.NotProgramParameter place)
+abbrev pub with_file : File → Passed → Passed
+with_file file.Input s = record s { has_input = true }
+with_file file.Output s = record s { has_output = true }
+
+-- a file is a program parameter
+unfoldable pub give_file : File → Passing (Unit {0})
+give_file one = λ s. Ok (after tt [] (with_file one s))
+
+-- what uses a file needs it as a program parameter
+unfoldable pub wants_file : File → Place → Passing (Unit {0})
+wants_file one place = λ s. if has_file one s then Ok (after tt [] s) else Err (fault.NotProgramParameter place)
 
 -- the root number of the next variable; one too many is told at its name
 unfoldable pub next_root : Place → Passing ℕ

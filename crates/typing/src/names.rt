@@ -3,8 +3,8 @@ ghost use Rattle.typing.specs.Names.{folded};
 ghost use Rattle.typing.specs.Routines.{heading_name};
 
 use scopes::{
-    Denotation, FunctionArgument, FunctionOperation, FunctionTest, FunctionType, FunctionValue,
-    RequiredFunction, RequiredProcedure,
+    Denotation, File, FunctionArgument, FunctionOperation, FunctionTest, FunctionType,
+    FunctionValue, InputFunction, RequiredFunction, RequiredProcedure,
 };
 use std::alloc::{AllocError, Global};
 use syntax_tree::{Heading, Name};
@@ -41,7 +41,7 @@ pub fn heading_name<'a>(heading: &Heading<'a>) -> Name<'a>
 }
 
 /// The required identifiers (6.2.2.10).
-pub const REQUIRED: [(&[u8], Denotation); 15] = [
+pub const REQUIRED: [(&[u8], Denotation); 19] = [
     (b"integer", Denotation::TypeName(TypeTable::INTEGER)),
     (b"boolean", Denotation::TypeName(TypeTable::BOOLEAN)),
     (b"char", Denotation::TypeName(TypeTable::CHAR)),
@@ -66,11 +66,36 @@ pub const REQUIRED: [(&[u8], Denotation); 15] = [
             type_id: TypeTable::BOOLEAN,
         },
     ),
-    (b"write", Denotation::Procedure(RequiredProcedure::Write)),
+    (
+        b"write",
+        Denotation::Procedure(RequiredProcedure {
+            file: File::Output,
+            ends_line: false,
+        }),
+    ),
     (
         b"writeln",
-        Denotation::Procedure(RequiredProcedure::Writeln),
+        Denotation::Procedure(RequiredProcedure {
+            file: File::Output,
+            ends_line: true,
+        }),
     ),
+    (
+        b"read",
+        Denotation::Procedure(RequiredProcedure {
+            file: File::Input,
+            ends_line: false,
+        }),
+    ),
+    (
+        b"readln",
+        Denotation::Procedure(RequiredProcedure {
+            file: File::Input,
+            ends_line: true,
+        }),
+    ),
+    (b"eof", Denotation::InputFunction(InputFunction::Eof)),
+    (b"eoln", Denotation::InputFunction(InputFunction::Eoln)),
     (
         b"abs",
         Denotation::Function(RequiredFunction {

@@ -8,10 +8,10 @@ ghost use Rattle.typing.specs.Passing.{after};
 use crate::names::{REQUIRED, fold_into, folded};
 use crate::typer::{MOST_ENTRIES, MOST_SITES, Typer};
 use place::Place;
-use scopes::{Denotation, Region};
+use scopes::{Denotation, File, Region};
 use syntax_tree::Name;
 use typed_tree::fault::TypeFault;
-use typed_tree::site::{Site, SiteKind};
+use typed_tree::site::{Point, Site, SiteKind};
 use typed_tree::tree::VariableKind;
 use typing_rules::placed;
 
@@ -62,6 +62,21 @@ impl Typer {
         }
         let id = self.sites.len() as u32;
         self.sites.push(Site { id, kind, place })?;
+        self.latest = place;
+        Ok(id)
+    }
+
+    /// A point, by its id.
+    #[tactic(auto, using(crate::proofs::Rows::one_point_more), unfolding(crate::specs::Steps::point))]
+    pub fn point(&mut self, place: Place) -> Result<u32, TypeFault>
+        ensures taken { Takes (spec.point place self.old) result self.new }
+        ensures memory { result ≡ Err Memory → IsOk (spec.point place self.old) }
+    {
+        if self.points.len() >= MOST_SITES {
+            return Err(TypeFault::TooMany(place));
+        }
+        let id = self.points.len() as u32;
+        self.points.push(Point { id, place })?;
         self.latest = place;
         Ok(id)
     }
@@ -197,20 +212,27 @@ impl Typer {
         placed(self.scopes.declare(key, denotation), name.place)
     }
 
-    /// Output is a program parameter.
-    #[tactic(auto, unfolding(crate::specs::Steps::give_output))]
-    pub fn give_output(&mut self)
-        ensures { spec.give_output self.old ≡ Ok (after tt [] self.new) }
+    /// A file is a program parameter.
+    #[tactic(auto, unfolding(crate::specs::Steps::give_file))]
+    pub fn give_file(&mut self, file: File)
+        ensures { spec.give_file file self.old ≡ Ok (after tt [] self.new) }
     {
-        self.has_output = true;
+        match file {
+            File::Input => self.has_input = true,
+            File::Output => self.has_output = true,
+        }
     }
 
-    /// A write or writeln needs output; K8 at its name where there is none.
-    #[tactic(auto, unfolding(crate::specs::Steps::wants_output))]
-    pub fn wants_output(&self, place: Place) -> Result<(), TypeFault>
-        ensures { Tells (spec.wants_output place self.now) result self.now }
+    /// What uses a file needs it as a program parameter; K8 at the place where it is none.
+    #[tactic(auto, unfolding(crate::specs::Steps::wants_file))]
+    pub fn wants_file(&self, file: File, place: Place) -> Result<(), TypeFault>
+        ensures { Tells (spec.wants_file file place self.now) result self.now }
     {
-        if !self.has_output {
+        let given = match file {
+            File::Input => self.has_input,
+            File::Output => self.has_output,
+        };
+        if !given {
             return Err(TypeFault::NotProgramParameter(place));
         }
         Ok(())

@@ -1,5 +1,5 @@
 ghost use Rattle.std.specs.Prelude.{◌≡◌, ◌≤◌, MatchResult, map, vec_len};
-ghost use Rattle.typed_tree.specs.Ids.{AreInOrder};
+ghost use Rattle.typed_tree.specs.Ids.{AreInOrder, ArePointsInOrder};
 ghost use Rattle.typed_tree.specs.declared.fault.TypeFault.TheVariants.{Memory};
 ghost use Rattle.typing.specs.Passing.{Passed};
 ghost use Rattle.typing.specs.Sound.{stands};
@@ -14,7 +14,7 @@ use scopes::Scopes;
 use std::alloc::Global;
 use std::marker::Model;
 use typed_tree::fault::TypeFault;
-use typed_tree::site::Site;
+use typed_tree::site::{Point, Site};
 use typed_tree::tree::{Block, Loop, Tree, Variable};
 use types::TypeTable;
 
@@ -44,9 +44,12 @@ pub struct Typer {
     pub(crate) headings: Vec<PassedHeading>,
     // The block round the place.
     pub(crate) enclosing: EnclosingBlock,
+    pub(crate) has_input: bool,
     pub(crate) has_output: bool,
     // By id.
     pub(crate) sites: Vec<Site>,
+    // By id.
+    pub(crate) points: Vec<Point>,
     // How many statements and expressions were entered.
     pub(crate) entries: u32,
     // How many loops began: each is a statement.
@@ -65,6 +68,8 @@ pub struct Typer {
     pub(crate) key: Vec<u8>,
     ghost in_order: { AreInOrder sites.items },
     ghost few_sites: { vec_len sites ≤ MOST_SITES },
+    ghost points_in_order: { ArePointsInOrder points.items },
+    ghost few_points: { vec_len points ≤ MOST_SITES },
     ghost few_entries: { entries ≤ MOST_ENTRIES },
     ghost few_loops: { loops ≤ entries },
     ghost few_records: { vec_len records ≤ MOST_ENTRIES },
@@ -80,8 +85,10 @@ impl Model for Typer {
       variables = t.variables.items;
       headings = map headed_of t.headings.items;
       enclosing = enclosing_of t.enclosing;
+      has_input = t.has_input;
       has_output = t.has_output;
       sites = map stands t.sites.items;
+      points = map (λ point. point.place) t.points.items;
       entries = t.entries;
       loops = t.loops;
       controls = t.controls.items;
@@ -110,8 +117,10 @@ impl Typer {
             variables: Vec::new(alloc),
             headings,
             enclosing: EnclosingBlock::of_program(alloc),
+            has_input: false,
             has_output: false,
             sites: Vec::new(alloc),
+            points: Vec::new(alloc),
             entries: 0,
             loops: 0,
             controls: Vec::new(alloc),
@@ -138,13 +147,12 @@ impl Typer {
         ensures loops { result.loops ≡ loops }
         ensures left { IsLeft self result }
     {
-        let points = Vec::new(self.alloc);
         Tree {
             blocks,
             bodies,
             variables: self.variables,
             sites: self.sites,
-            points,
+            points: self.points,
             loops,
             types: self.types,
         }

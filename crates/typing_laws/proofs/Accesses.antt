@@ -24,7 +24,7 @@ use Rattle.types.specs.declared.form.TypeKind.{TypeKind}
 use Rattle.types.specs.declared.form.TypeKind.TheVariants as kind_of_type
 use Rattle.types.specs.declared.sets.SetBase.{SetBase}
 use Rattle.types.specs.Types.{cells_of, element_of, field_at, field_of, form_at, is_compatible, is_ordinal, is_same, is_scalar, is_structured}
-use Rattle.types.specs.Types.{is_structured_kind, kind_of, most_cells, scalar_range, scalar_range_of}
+use Rattle.types.specs.Types.{is_structured_kind, kind_of, most_cells, range_of, scalar_range, scalar_range_of}
 use Rattle.scopes.specs.declared.denotation.Denotation.{Denotation}
 use Rattle.scopes.specs.declared.denotation.Denotation.TheVariants as denotes
 use Rattle.types.proofs.Elements.{is_array}
@@ -46,7 +46,7 @@ use Rattle.typed_tree.specs.Look.{Access, Value, WholeValue}
 use Rattle.typed_tree.specs.Records.{is_open_as, is_same_step, is_there}
 use Rattle.typed_tree.specs.WellFormed.{Outline, encloses, is_one_of, is_round, is_visible, is_well_formed_selector, leads_to, leads_to_held, leads_to_whole}
 use Rattle.typed_tree.specs.WellFormed.{leads_to_ordinal, leads_to_record, leads_to_scalar, fits_target, holds, is_held_by, is_record, is_test_of, of_one}
-use Rattle.typed_tree.specs.WellFormed.{is_record_form, tests_type}
+use Rattle.typed_tree.specs.WellFormed.{has_values, is_record_form, leads_to_read, tests_type}
 use Rattle.typing.specs.Names.{folded}
 use Rattle.typing.specs.Passing.{OpenRecord, after}
 use Rattle.typing_rules.specs.Checked.{Checked}
@@ -69,7 +69,7 @@ use Rattle.typing_laws.proofs.Strings.{fit_is, there}
 use Rattle.typing_laws.proofs.Steps.{Does, Nothing, joins, quietly, last, checks, sited, mark_does, pass_does, pure_does, by_types_does, fail_does, enter_does}
 use Rattle.typing_laws.proofs.Steps.{host_type_does, site_does, led, IsFound, IsKnown, answered, behind_does, silent_leaves}
 use Rattle.typing_laws.proofs.Tables.{AreLawful, stands_longer, is_ordinal_longer, is_structured_longer, cells_of_longer, element_of_longer, field_of_longer}
-use Rattle.typing_laws.proofs.Tables.{form_at_longer, has_kind, held_scalar, kind_longer, lying_longer}
+use Rattle.typing_laws.proofs.Tables.{form_at_longer, has_kind, held_scalar, kind_longer, lying_longer, ordinal_held}
 use Rattle.typing_laws.proofs.WholeRanges.{IsWholeRange, ordinal_values}
 use Rattle.typing_laws.proofs.Leading.{IsLed, Types, known_later, ordinal_types, set_types, lt_true, LawfulWritten, covers_test, led_covers, led_behind}
 
@@ -438,7 +438,8 @@ module _ (here : Here) where
   variable_does place (denotes.Procedure procedure) sound = fail_does (fault.NotVariable place)
   variable_does place (denotes.Function function) sound = fail_does (fault.NotVariable place)
   variable_does place (denotes.Routine block is_function) sound = fail_does (fault.NotVariable place)
-  variable_does place denotes.Output sound = fail_does (fault.NotVariable place)
+  variable_does place (denotes.InputFunction function) sound = fail_does (fault.NotVariable place)
+  variable_does place (denotes.File file) sound = fail_does (fault.NotVariable place)
 
   -- the record that is opened by an access lies there
   pub opened_lies : (origin : Origin) (selectors : List TreeSelector) (id root_type : TypeId) (now : Reached) → LeadsTo origin selectors id now
@@ -519,6 +520,17 @@ module _ (here : Here) where
   fits_formed origin selectors id fits now o l h known held range whole =
       both_true _ _ (both_true _ _ (lt_true fits.site o.sites (omega (arith, known, h.sites))) whole)
       (ap (is_type (tests_type o.types fits)) (l.leads_there (whole_of o) h) ∙ test_formed id fits now (whole_of o) l.stands h held range)
+
+  -- what is accessed is read: an ordinal with the values of its type
+  pub read_formed : (origin : Origin) (selectors : List TreeSelector) (id : TypeId) (range : OrdinalRange) (point : ℕ) (now : Reached) (o : Outline)
+      → LeadsTo origin selectors id now → IsFurther now (whole_of o) → point < now.points → AreLawful now.types → range_of now.types id ≡ Some range
+      → leads_to_read o here.block point range origin selectors (index_count selectors) ≡ true
+  read_formed origin selectors id range point now o l h known lawful values =
+      let scalars = ordinal_values now.types id range values in
+      let test : RangeTest = record { site = 0; tests = scalar.Ordinal; range = range } in
+      let held = ordinal_held now.types id (ap is_some values) in
+      both_true _ _ (leads_formed origin selectors id now l (has_values o.types range) o h (test_formed id test now (whole_of o) l.stands h held scalars))
+      (both_true _ _ (lt_true point o.points (omega (arith, known, h.points))) (lawful.whole id range scalars))
 
   -- ---- values of accesses
 

@@ -16,7 +16,7 @@ use Rattle.typed_tree.specs.declared.tree.Expr.{Expr}
 use Rattle.typed_tree.specs.declared.tree.Link.{Link}
 use Rattle.typed_tree.specs.declared.tree.Passed.{Passed}
 use Rattle.typed_tree.specs.declared.tree.Expr.TheOpen.{Expr-F, Passed-F, Link-F}
-use Rattle.typed_tree.specs.declared.tree.Expr.TheOpen.Expr-F.{Constant, Variable, Monadic as MonadicOf, Chain, Compare, Call as CallOf, Set}
+use Rattle.typed_tree.specs.declared.tree.Expr.TheOpen.Expr-F.{Constant, Variable, Monadic as MonadicOf, Chain, Compare, Call as CallOf, Set, Input}
 use Rattle.typed_tree.specs.declared.tree.Expr.TheOpen.Passed-F.{Value as PassedValue, Whole as PassedWhole, Reference}
 use Rattle.typed_tree.specs.declared.tree.Expr.TheFolds.{fold-Link, map-Expr, map-Passed, map-Link, fold-roll-Expr, fold-roll-Passed, fold-roll-Link, ind-Expr}
 use Rattle.typed_tree.specs.declared.tree.Expr.TheFolds.{ind-Passed}
@@ -24,8 +24,9 @@ use Rattle.typed_tree.specs.declared.tree.Expr.TheViews.{roll-Expr, roll-Passed,
 use Rattle.typed_tree.specs.declared.tree.Stmt.{Stmt}
 use Rattle.typed_tree.specs.declared.tree.Stmt.TheOpen.{Stmt-F}
 use Rattle.typed_tree.specs.declared.tree.Stmt.TheOpen.Stmt-F.{Empty, Assign, Write, Compound, If, While, Repeat, For, Case, Copy, Call as Calling}
-use Rattle.typed_tree.specs.declared.tree.Stmt.TheOpen.Stmt-F.{With}
+use Rattle.typed_tree.specs.declared.tree.Stmt.TheOpen.Stmt-F.{Read, With}
 use Rattle.typed_tree.specs.declared.tree.Access.{Access}
+use Rattle.typed_tree.specs.declared.tree.ReadVariable.{ReadVariable}
 use Rattle.typed_tree.specs.declared.tree.WithRecord.{WithRecord}
 use Rattle.typed_tree.specs.Accesses.{AtVariable, origin_of}
 use Rattle.typed_tree.specs.declared.tree.Stmt.TheFolds.{map-Stmt, fold-roll-Stmt, ind-Stmt}
@@ -33,11 +34,12 @@ use Rattle.typed_tree.specs.declared.tree.Stmt.TheViews.{roll-Stmt}
 use Rattle.typed_tree.specs.Entries.{joined}
 use Rattle.typed_tree.specs.WellFormed.{placed, source_of}
 use Rattle.typed_tree.specs.Look.{Look, Mark, Ends, Then, Else, Do, Until, Fits, Controls, ForEnds, Target, WholeTarget, Width, Written}
-use Rattle.typed_tree.specs.Look.{Opens, WithEnds, look_record}
+use Rattle.typed_tree.specs.Look.{Opens, WithEnds, look_read, look_record}
 use Rattle.typed_tree.specs.Look.{WrittenString, whole_look, passed_look, link_look, expression_look, look_expr, look_passed}
 use Rattle.typed_tree.specs.Look.{look_link, look_whole, look_width, look_written, look_parameter, arms_look, statement_look, look_stmt}
 use Rattle.typed_tree.specs.Records.{Begin, OpenRecord, accesses_begin, all_begin, begins, begins_in, expression_begins, is_there, link_begins}
-use Rattle.typed_tree.specs.Records.{opened_by, parameter_begins, passed_begin, passed_begins, statement_begins, value_begins, whole_begins, width_begins}
+use Rattle.typed_tree.specs.Records.{opened_by, parameter_begins, passed_begin, passed_begins, read_begins, statement_begins, value_begins, whole_begins}
+use Rattle.typed_tree.specs.Records.{width_begins}
 use Rattle.typed_tree.specs.Records.{with_begins, written_begins}
 use Rattle.typing_laws.specs.Opened.{mark_opened, opened_behind, record_of}
 use Rattle.typing_laws.proofs.Opened.{opened_append}
@@ -221,6 +223,7 @@ tells_layer (Compare number relation left left_indexes right right_indexes) =
 tells_layer (CallOf call actuals) =
     tells_before (joined (placed call.block 0 (map look_passed (map (λ p. p.0) actuals.items)))) _
     (all_begin (map passed_begin (map (λ p. p.0) actuals.items))) (λ records. refl) (tells_placed actuals.items call.block 0)
+tells_layer (Input number asks) = nothing
 tells_layer (Set number designators members) =
     tells_before (joined (map look_expr (map (λ e. e.0) members.items))) _ (all_begin (map begins (map (λ e. e.0) members.items))) (λ records. refl)
     (tells_indexes members.items)
@@ -300,6 +303,16 @@ tells_parameters (parameter ∷ parameters) =
     (tells_then (look_written parameter.value) (look_width parameter.width) (written_begins parameter.value) (width_begins parameter.width)
     (tells_written parameter.value) (tells_width parameter.width))
     (tells_parameters parameters)
+
+tells_read : (one : ReadVariable) → Tells (look_read one) (read_begins one)
+tells_read one =
+    tells_access (joined (map look_expr one.indexes.items)) _ one.access (all_begin (map begins one.indexes.items)) (λ records. refl)
+    (tells_exprs one.indexes.items)
+
+tells_reads : (variables : List ReadVariable) → Tells (flat_map look_read variables) (all_begin (map read_begins variables))
+tells_reads [] = nothing
+tells_reads (one ∷ others) =
+    tells_then (look_read one) (flat_map look_read others) (read_begins one) (all_begin (map read_begins others)) (tells_read one) (tells_reads others)
 
 -- ---- statements
 
@@ -411,6 +424,9 @@ tells_stmt_layer (Copy copying) =
 tells_stmt_layer (Write writing) =
     tells_before (flat_map look_parameter writing.parameters.items) Ends (all_begin (map parameter_begins writing.parameters.items)) (λ records. refl)
     (tells_parameters writing.parameters.items)
+tells_stmt_layer (Read reading) =
+    tells_before (flat_map look_read reading.variables.items) Ends (all_begin (map read_begins reading.variables.items)) (λ records. refl)
+    (tells_reads reading.variables.items)
 tells_stmt_layer (Calling calling) =
     tells_before (joined (placed calling.call.block 0 (map look_passed calling.actuals.items))) _ (all_begin (map passed_begin calling.actuals.items))
     (λ records. refl) (tells_actuals calling.actuals.items calling.call.block 0)

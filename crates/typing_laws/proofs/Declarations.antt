@@ -1,6 +1,6 @@
 -- What declarations do: they add no site and no entry, each name denotes what is sound, and the variables have room.
 use Rattle.std.proofs.Common.{ℤ, pos, nat_le, map, Vec, ◌<◌, ◌≡◌, ℕ, ◌+◌, ◌-◌, ◌≤◌, ◌&&◌, Bool, true, false, nat_eq, nat_lt, if◌then◌else◌, List, [], ◌∷◌, ◌++◌}
-use Rattle.std.proofs.Common.{length, option_map, Option, Some, None, Result, Ok, Err, codes, length-append, refl, sym, ap, subst, ◌∙◌, arith, inl, inr, ◌⊎◌}
+use Rattle.std.proofs.Common.{length, option_map, Option, Some, None, Result, Ok, Err, length-append, refl, sym, ap, subst, ◌∙◌, arith, inl, inr, ◌⊎◌}
 use Rattle.std.proofs.Common.{slice_get}
 use Rattle.std.proofs.lemmas.Bool.{eq-eqb}
 use Rattle.std.proofs.lemmas.Bool.Decides.{nat_tests}
@@ -28,6 +28,8 @@ use Rattle.types.proofs.Built.{IsOver}
 use Rattle.scopes.specs.Scopes.{Region, said, put, is_defined, found, define, outer}
 use Rattle.scopes.specs.declared.denotation.Denotation.{Denotation}
 use Rattle.scopes.specs.declared.denotation.Denotation.TheVariants as denotes
+use Rattle.scopes.specs.declared.denotation.File.{File}
+use Rattle.scopes.specs.declared.denotation.File.TheVariants as file
 use Rattle.scopes.specs.declared.fault.ScopeFault.{ScopeFault}
 use Rattle.scopes.specs.declared.fault.ScopeFault.TheVariants as scope
 use Rattle.scopes.specs.declared.fault.ScopeFault.TheVariants.{DeclaredTwice}
@@ -37,9 +39,9 @@ use Rattle.typed_tree.specs.declared.tree.VariableKind.{VariableKind}
 use Rattle.typed_tree.specs.declared.tree.VariableKind.TheVariants as variable
 use Rattle.typed_tree.specs.WellFormed.{is_character, are_characters, is_local_kind, is_parameter_kind, is_result_kind, most_variables, roots_where}
 use Rattle.typing.specs.Names.{folded}
-use Rattle.typing.specs.Passing.{Passed, After, Passing, after, behind_marks, by_types, pure, fail, given, ◌>>=◌, ◌>>◌, ◌>>?◌}
+use Rattle.typing.specs.Passing.{Passed, After, Passing, after, behind_marks, by_types, pure, given, ◌>>=◌, ◌>>?◌}
 use Rattle.typing_rules.specs.Checked.{Checked}
-use Rattle.typing.specs.Steps.{value_of, pass, find, declare, add_type, keep_text, latest, give_output, next_root, enclosing_now}
+use Rattle.typing.specs.Steps.{value_of, pass, find, declare, add_type, keep_text, latest, give_file, next_root, enclosing_now}
 use Rattle.typing_rules.specs.Checked.{fits, or_mismatch, told}
 use Rattle.typing.specs.Steps.{reserve}
 use Rattle.typing.specs.Strings.{string_characters, string_type, string_constant}
@@ -47,19 +49,19 @@ use Rattle.typing.specs.Constants.{as_ordinal, unsigned_constant, constant, ordi
 use Rattle.typing.specs.Denoters.{WrittenDenoter, named_type, type_of_name, constants_from, enumeration, between, subrange, index_type, index_types, arrays}
 use Rattle.typing.specs.Denoters.{array, named_fields, grouped_fields, record_type, set_form, set_type, denoter_step, denoted_type}
 use Rattle.typing.specs.Routines.{definition, type_definition, declared, local, group}
-use Rattle.typing.specs.Typing.{parameter_of_program}
+use Rattle.typing.specs.Typing.{declares_file, file_of, parameter_of_program}
 use Rattle.typing_laws.proofs.WholeRanges.{HaveWholeRanges, IfWhole, form_values, ordinal_values}
 use Rattle.typing_laws.proofs.Tables.{is_string_longer, lawful_more, stands_longer, texts_more}
 use Rattle.typing_laws.proofs.Constants.{IsWhole, IsWholeOrdinal, number_whole, number_sound, constant_is, behind_sound, ordinal_whole}
 use Rattle.typing_laws.proofs.Strings.{AreOfChar, IsStringOf, fit_is, all_of_char, no_characters, char_whole, there as is_there, type_added, string_type_is}
 use Rattle.typing_laws.proofs.Grown.{both_true}
 use Rattle.typing_laws.proofs.Owned.{cells_more, declares, parameters_of, results_of, roots_none_more, roots_one_more}
-use Rattle.typing.proofs.Ways.{Nobody, One, Stay, Token, Typed, Text, Output, Define, Declare}
+use Rattle.typing.proofs.Ways.{Nobody, One, Stay, Token, Typed, Text, Given, Define, Declare}
 use Rattle.typing_laws.proofs.Went.{grows}
 use Rattle.typing_laws.proofs.Reached.{IsLonger, as_long, one_longer, Head, Here, is_round_here, get_last, last_or_before}
 use Rattle.typing_laws.proofs.Sound.{IsSound, IsVariable, found_holds, define_holds, inside_itself, regions_later}
 use Rattle.typing_laws.proofs.Ready.{base_variable}
-use Rattle.typing_laws.proofs.Keeping.{Ready, Keeps, Kept, ready_regions, ready_latest, ready_output, ready_types, keeps_then, always, each_keeps, keeps_checks}
+use Rattle.typing_laws.proofs.Keeping.{Ready, Keeps, Kept, ready_regions, ready_latest, ready_files, ready_types, keeps_then, always, each_keeps, keeps_checks}
 use Rattle.typing_laws.proofs.Keeping.{pure_keeps, behind, before, aside}
 use Rattle.typing_laws.proofs.Steps.{split, split_unless, below}
 
@@ -307,18 +309,22 @@ module _ (here : Here) (under : List Region) (counted : ℕ) (heads : List Head)
 
   -- ---- program parameters
 
-  give_output_keeps : Keeps counted IsReady give_output Readied
-  unfolding give_output
-  give_output_keeps = always give_output tt (λ s. record s { has_output = true }) (λ s. refl) λ s r. (One Output, ready_output r)
+  give_file_keeps : (one : File) → Keeps counted IsReady (give_file one) Readied
+  unfolding give_file
+  give_file_keeps file.Input =
+      always (give_file file.Input) tt (λ s. record s { has_input = true }) (λ s. refl) λ s r.
+      (One (Given true s.has_output), ready_files true s.has_output r)
+  give_file_keeps file.Output =
+      always (give_file file.Output) tt (λ s. record s { has_output = true }) (λ s. refl) λ s r.
+      (One (Given s.has_input true), ready_files s.has_input true r)
 
   pub parameter_keeps : (name : Name) → Keeps counted IsReady (parameter_of_program name) Readied
   unfolding parameter_of_program
-  parameter_keeps name = by (pointwise nat_eq (folded name.text.now) (codes "output"))
+  parameter_keeps name = by (file_of (folded name.text.now))
     where
-      by : (test : Bool)
-          → Keeps counted IsReady (if test then declare name denotes.Output >> give_output else fail (fault.NotProgramParameter name.place)) Readied
-      by true = keeps_then (before (λ s r. (r, tt)) (define_keeps name denotes.Output)) λ _. give_output_keeps
-      by false = record { keeps = λ s a is r. absurd cc }
+      by : (found : Option File) → Keeps counted IsReady (declares_file name found) Readied
+      by (Some one) = keeps_then (before (λ s r. (r, tt)) (define_keeps name (denotes.File one))) λ _. give_file_keeps one
+      by None = record { keeps = λ s a is r. absurd cc }
 
   -- ---- variables
 

@@ -10,42 +10,52 @@ use Rattle.syntax_tree.specs.declared.Sign.{Sign}
 use Rattle.syntax_tree.specs.declared.Sign.TheVariants as sign
 use Rattle.syntax_tree.specs.Places.{selector_places}
 use Rattle.types.specs.Forms.{Form}
+use Rattle.types.specs.declared.form.OrdinalRange.{OrdinalRange}
 use Rattle.types.specs.declared.form.TypeId.{TypeId}
-use Rattle.types.specs.Types.{integer, boolean, char, is_same}
+use Rattle.types.specs.Types.{integer, boolean, char, host_of, is_same, range_of}
 use Rattle.scopes.specs.declared.denotation.Denotation.{Denotation}
 use Rattle.scopes.specs.declared.denotation.Denotation.TheVariants as denotes
+use Rattle.scopes.specs.declared.denotation.File.TheVariants as file
+use Rattle.scopes.specs.declared.denotation.InputFunction.{InputFunction}
+use Rattle.scopes.specs.declared.denotation.InputFunction.TheVariants as asks
 use Rattle.typed_tree.specs.declared.fault.TypeFault.TheVariants as fault
 use Rattle.typed_tree.specs.declared.site.SiteKind.{SiteKind}
 use Rattle.typed_tree.specs.declared.tree.Calculation.TheVariants as calculation
+use Rattle.typed_tree.specs.declared.tree.InputTest.{InputTest}
+use Rattle.typed_tree.specs.declared.tree.InputTest.TheVariants as test
 use Rattle.typed_tree.specs.declared.tree.Monadic.{Monadic}
 use Rattle.typed_tree.specs.declared.tree.Monadic.TheVariants as monadic
+use Rattle.typed_tree.specs.declared.tree.Readable.{Readable}
 use Rattle.typed_tree.specs.declared.tree.Selector.{Selector as TreeSelector}
 use Rattle.typed_tree.specs.declared.tree.Variable.{Variable}
 use Rattle.typed_tree.specs.Accesses.{index_count, root_of}
-use Rattle.typed_tree.specs.WellFormed.{Outline, monadic_is_well_formed, is_character, is_variable_kind, of_one, takes_variable}
-use Rattle.typed_tree.specs.Look.{Access, Constant, Text, Operation, Applied, ForVariable}
+use Rattle.typed_tree.specs.WellFormed.{Outline, monadic_is_well_formed, is_character, is_variable_kind, is_well_formed_input, of_one, takes_variable}
+use Rattle.typed_tree.specs.Look.{Access, Constant, Text, Operation, Applied, ForVariable, Input, Reads}
 use Rattle.typing.specs.Passing.{pure, ◌>>=◌, ◌>>◌}
-use Rattle.typing_rules.specs.Checked.{Checked}
+use Rattle.typing_rules.specs.Checked.{Checked, and_then, or_mismatch}
 use Rattle.typing.specs.Steps.{enter_as, value_of}
 use Rattle.typing.specs.Strings.{string_characters, string_type}
 use Rattle.typing_rules.specs.declared.typed.Typed.{Typed}
 use Rattle.typing.specs.Expressions.{Written, written, written_variable, number, spelled, string, component, denoted, entire, named}
 use Rattle.typing_rules.specs.Typed.{typed, typed_text}
 use Rattle.typing.specs.Expressions.{parenthesized, prefixed, negation, signed, is_of_packed, passable, passed_variable}
+use Rattle.typing.specs.Expressions.{file_named, input_test, input_value, read_variable}
+use Rattle.typing_rules.specs.Denotations.{as_file}
+use Rattle.typing_rules.specs.Targets.{read_as, readable_host}
 use Rattle.typing_rules.specs.Operators.{sign_operation}
-use Rattle.typing_laws.proofs.Reached.{Reached, IsFurther, further_still, Here}
+use Rattle.typing_laws.proofs.Reached.{Reached, IsFurther, further_still, whole_of, Here}
 use Rattle.typing_laws.proofs.Kept.{change_later}
 use Rattle.typing_laws.proofs.Covers.{Covers, Leads, leads_first}
 use Rattle.typing_laws.proofs.Grown.{both_true}
-use Rattle.typing_laws.proofs.Strings.{AreOfChar, fit_is, all_of_char, no_characters, char_whole, string_type_does}
+use Rattle.typing_laws.proofs.Strings.{AreOfChar, fit_is, all_of_char, no_characters, char_whole, string_type_does, there as is_there}
 use Rattle.typing_laws.proofs.Tables.{is_string_longer}
 use Rattle.typing_laws.proofs.Steps.{Does, Anything, Nothing, IsFound, joins, quietly, last, checks, sited, mark_does, change_does, text_at_does}
 use Rattle.typing_laws.proofs.Steps.{pass_does, pure_does, given_does, by_types_does, fail_does, find_does, enter_does, may_change_does, led, IsKnown}
-use Rattle.typing_laws.proofs.Steps.{behind_does}
-use Rattle.typing_laws.proofs.Leading.{IsLed, Types, led_alone, known_later, ordinal_types, IsFormalAt, formal_later, formal_is, LawfulWritten}
+use Rattle.typing_laws.proofs.Steps.{behind_does, point_does, split, wants_file_does}
+use Rattle.typing_laws.proofs.Leading.{IsLed, Types, led_alone, known_later, ordinal_types, IsFormalAt, formal_later, formal_is, lt_true, LawfulWritten}
 use Rattle.typing_laws.proofs.Leading.{no_variable_lawful, led_covers}
 use Rattle.typing_laws.proofs.Opened.{open_in, stands_there}
-use Rattle.typing_laws.proofs.Accesses.{AreLawfulRows, accessed_does, entire_denoted, leads_later, leads_formed, selected_does}
+use Rattle.typing_laws.proofs.Accesses.{AreLawfulRows, accessed_does, entire_denoted, leads_later, leads_formed, read_formed, selected_does}
 use Rattle.typing_laws.proofs.Accesses.{variable_does}
 use Rattle.typing_laws.proofs.Calls.{function_does}
 
@@ -101,6 +111,29 @@ module _ (here : Here) where
           quietly (given_does (string_characters place text)) λ cs next more is.
           spelled_does place id cs (known_later id now next more known) (all_of_char place text cs is)
 
+  -- what is asked of the input has its point
+  abbrev IsFormedTest : InputTest → Reached → Type 0
+  IsFormedTest asked now = (o : Outline) → IsFurther now (whole_of o) → is_well_formed_input o here.block asked ≡ true
+
+  input_test_does : {least : Reached} (function : InputFunction) (place : Place) → Does here least Nothing (input_test function place) IsFormedTest
+  unfolding input_test
+  input_test_does asks.Eof place = pure_does test.End (λ n h o more. refl)
+  input_test_does asks.Eoln place =
+      quietly (point_does place) λ id now _ known.
+      pure_does (test.LineEnd id) (λ n h o more. lt_true id o.points (omega (arith, known, h.points, more.points)))
+
+  pub input_does : {least : Reached} (function : InputFunction) (place : Place) (lead : Option SiteKind) → IsLed lead
+      → Does here least (Covers 2 (place ∷ [])) (input_value function place lead) Types
+  unfolding input_value
+  input_does function place lead is =
+      led_covers here 2 place [] (led lead) (led_alone lead is)
+      (quietly (pass_does place) λ _ _ _ _.
+      quietly (wants_file_does file.Input place) λ _ _ _ _.
+      joins (leads_first 2 place (led lead) []) (behind_does lead place) λ id now _ known.
+      quietly (input_test_does function place) λ asked _ one formed.
+      quietly (enter_does (λ n. Input n asked) (λ n. refl) (λ n. refl) (λ n. refl) (λ n. refl) (λ n o h. formed o h)) λ _ _ two _.
+      pure_does (typed boolean id) (λ n h. ordinal_types boolean id now n (further_still one (further_still two h)) known))
+
   denoted_does : (denotation : Denotation) (place : Place) {least : Reached} (lead : Option SiteKind) → IsLed lead → IsFound here denotation least
       → Does here least (Covers 2 (place ∷ [])) (denoted denotation place lead) Types
   unfolding denoted
@@ -132,7 +165,8 @@ module _ (here : Here) where
   denoted_does (denotes.Function function) place lead is sound = fail_does (fault.WrongParameters place)
   denoted_does (denotes.Routine block is_function) place lead is sound = function_does here block is_function place [] [] lead is sound.0 sound.1 tt
   denoted_does (denotes.TypeName type_id) place lead is sound = fail_does (fault.Mismatch place)
-  denoted_does denotes.Output place lead is sound = fail_does (fault.Mismatch place)
+  denoted_does (denotes.InputFunction function) place lead is sound = input_does function place lead is
+  denoted_does (denotes.File file) place lead is sound = fail_does (fault.Mismatch place)
 
   -- what is no variable isn't passed to a variable parameter, and what is one is of its type
   passable_is : (types : List Form) (wanted type_id : TypeId) (selectors : List TreeSelector) (part : TypeId) (place : Place)
@@ -171,12 +205,54 @@ module _ (here : Here) where
       (ap (of_one (takes_variable formal.type_id)) (formal_is next callee position formal o h formal_there)
       ∙ both_true _ _ is (eq-eqb formal.type_id.index formal.type_id.index refl))))
 
+  -- what is read is of an ordinal type with these values
+  read_values : (types : List Form) (place : Place) (id : TypeId) (read : Readable × OrdinalRange) → read_as types place id ≡ Ok read
+      → range_of types id ≡ Some read.1
+  read_values types place id read is =
+      let x = split (or_mismatch place (readable_host (host_of types id))) (λ reads. and_then (or_mismatch place (range_of types id)) (both reads)) read is in
+      let y = split (or_mismatch place (range_of types id)) (both x.0) read x.2 in
+      let same : ◌≡◌ {A = Readable × OrdinalRange} (x.0, y.0) read = cc in
+      subst (λ (r : Readable × OrdinalRange). range_of types id ≡ Some r.1) same (is_there place (range_of types id) y.0 y.1)
+    where
+      both : Readable → OrdinalRange → Checked (Readable × OrdinalRange)
+      both reads range = Ok (reads, range)
+
+  read_does : {least : Reached} (name : Name) (selectors : List Selector) (rows : List (List Place)) (ws : List Written) → AreLawfulRows here rows ws
+      → Does here least (Covers 2 (name.place ∷ selector_places selectors rows)) (read_variable name selectors ws) Anything
+  unfolding read_variable
+  read_does {least} name selectors rows ws laws =
+      sited (λ sites has. ([], sites, refl, tt, has))
+      (quietly (find_does name) λ d _ _ sound.
+      quietly (variable_does here name.place d sound) λ variable there _ found.
+      let origin = variable.origin in
+      quietly (may_change_does name.place (root_of origin) found.type_id found.of_root) λ _ changed two may.
+      quietly (point_does name.place) λ id _ three known.
+      quietly (enter_does Access (λ n. refl) (λ n. refl) (λ n. refl) (λ n. refl) (λ n o h. refl)) λ _ entered four _.
+      let before = further_still two (further_still three four) in
+      let start = leads_later here origin variable.selectors variable.type_id there entered before found.leads_to in
+      last (selected_does here origin variable.selectors variable.type_id selectors rows ws laws start) λ component met five l.
+      quietly (by_types_does (λ types. read_as types name.place component.1)) λ read next six reads.
+      let led = leads_later here origin component.0 component.1 met next six l in
+      let may_there = change_later here changed next (root_of origin) (further_still three (further_still four (further_still five six))) may in
+      let values = read_values next.types name.place component.1 read reads.1 in
+      change_does (Reads origin component.0 (index_count component.0) read.0 id read.1) (root_of origin)
+      refl refl refl refl (stands_there (open_in here) (open_in here) origin led.opens) may_there
+      (λ o h. read_formed here origin component.0 component.1 read.1 id next o led h
+      (omega (arith, known, four.points, five.points, six.points)) reads.0 values))
+
+  file_does : {least : Reached} (name : Name) (selectors : List Selector) → Does here least Nothing (file_named name selectors) Anything
+  unfolding file_named
+  file_does name [] = quietly (find_does name) λ d _ _ _. pure_does (as_file d) (λ n h. tt)
+  file_does name (selector ∷ selectors) = pure_does None (λ n h. tt)
+
   pub named_does : (name : Name) → LawfulWritten here (name.place ∷ []) (written_variable name [] [] (named name))
   unfolding named
   named_does name = record {
     begins = ([], refl);
     types = λ least lead is. quietly (find_does name) λ denotation _ _ found. denoted_does denotation name.place lead is found;
     passes = λ least callee position formal at is. passed_does name [] [] [] callee position formal tt at is;
+    reads = λ least. read_does name [] [] [] tt;
+    names = λ least. file_does name [];
   }
 
   pub component_does : (name : Name) (selectors : List Selector) (rows : List (List Place)) (ws : List Written) → AreLawfulRows here rows ws
@@ -189,6 +265,8 @@ module _ (here : Here) where
         quietly (variable_does here name.place d sound) λ variable _ _ found.
         accessed_does here variable selectors rows ws name.place lead is laws found;
     passes = λ least callee position formal at is. passed_does name selectors rows ws callee position formal laws at is;
+    reads = λ least. read_does name selectors rows ws laws;
+    names = λ least. file_does name selectors;
   }
 
   -- ---- one operand

@@ -1,4 +1,4 @@
--- What a form does to what is known: it adds sites, entries and perhaps types, and its marks are well formed, as they
+-- What a form does to what is known: it adds sites, points, entries and perhaps types, and its marks are well formed, as they
 -- are with more sites, types, variables and headings behind. All else stays.
 use Rattle.std.proofs.Common.{◌≡◌, ℕ, ◌<◌, Bool, true, false, nat_eq, refl, ◌&&◌, List, ◌++◌, length, map, Some, slice_get}
 use Rattle.std.proofs.Common.{append_assoc, length-append, sym, ap, subst, ◌∙◌, arith}
@@ -146,6 +146,7 @@ both_true a b x y = ap (λ c. c && b) x ∙ y
 pub grown_further : (old new : Passed) → Grows old new → new.controls ≡ old.controls → IsFurther (reached old) (reached new)
 grown_further old new g kept = record {
   sites = omega (arith, ap length g.sites.goes_on, length-append old.sites g.sites.more);
+  points = omega (arith, ap length g.points.goes_on, length-append old.points g.points.more);
   types = g.types;
   variables = g.variables;
   headings = mapped_longer signature_passed g.headings;

@@ -656,6 +656,7 @@ module _ (here : Here) (under : List Region) (number : ℕ) (name : Name) (group
           variables = variables;
           headings = longer;
           sites = longer_still (grows r.way).sites (grows p.way).sites;
+          points = longer_still (grows r.way).points (grows p.way).points;
           threats = λ root is. (grows p.way).threats root ((grows r.way).threats root is);
         };
         regions = regions;

@@ -1,5 +1,5 @@
 -- Steps among declarations: they add no site and no entry, and leave what is known of other blocks as it is.
-use Rattle.std.proofs.Common.{◌≡◌, ℕ, false, true, List, [], ◌∷◌, length, Ok, refl, sym, ap, subst, ◌∙◌}
+use Rattle.std.proofs.Common.{◌≡◌, ℕ, Bool, false, List, [], ◌∷◌, length, Ok, refl, sym, ap, subst, ◌∙◌}
 use Rattle.place.specs.declared.Place.{Place}
 use Rattle.types.specs.Forms.{Form}
 use Rattle.scopes.specs.Scopes.{Region, outer}
@@ -48,9 +48,10 @@ module _ {here : Here} {under : List Region} {counted : ℕ} {heads : List Head}
     cells = r.cells;
   }
 
-  pub ready_output : {bound : List Variable} {s : Passed} → Ready here under counted heads bound s
-      → Ready here under counted heads bound (record s { has_output = true })
-  ready_output r = record {
+  -- other files
+  pub ready_files : {bound : List Variable} {s : Passed} (input output : Bool) → Ready here under counted heads bound s
+      → Ready here under counted heads bound (record s { has_input = input; has_output = output })
+  ready_files input output r = record {
     sound = r.sound;
     under_it = r.under_it;
     base = r.base;

@@ -14,13 +14,13 @@ use Rattle.typed_tree.specs.Ids.{Stands}
 use Rattle.typed_tree.specs.Sites.{number_of}
 use Rattle.typing.specs.Passing.{Passing}
 use Rattle.typing_rules.specs.declared.typed.Typed.{Typed}
-use Rattle.typing.specs.Expressions.{Written, WrittenLink, no_variable, written}
+use Rattle.typing.specs.Expressions.{Written, WrittenLink, no_variable, not_readable, written}
 use Rattle.typing_rules.specs.Typed.{typed, typed_set}
 use Rattle.typing_laws.proofs.Copies.{HasSource, source_longer}
 use Rattle.typing_laws.proofs.Covers.{AreAbove, Covers, Leads, covers_ahead, covers_lower, leads_covers}
 use Rattle.typing_laws.proofs.Reached.{Signature, signature_of, Reached, whole_of, IsFurther, Here, get_longer, get_mapped}
 use Rattle.typing_laws.proofs.Tables.{stands_longer}
-use Rattle.typing_laws.proofs.Steps.{Does, Anything, fail_does, sited, led, IsKnown}
+use Rattle.typing_laws.proofs.Steps.{Does, Anything, Nothing, fail_does, pure_does, sited, led, IsKnown}
 
 -- ---- the leading site
 
@@ -103,16 +103,21 @@ module _ (here : Here) where
     pub passes :
         (least : Reached) (callee position : ℕ) (formal : Variable) → IsFormalAt least callee position formal → is_variable_kind formal.kind ≡ true
         → Does here least (Covers 2 places) (w.passing formal.type_id callee position) Anything
+    pub reads : (least : Reached) → Does here least (Covers 2 places) w.reading Anything
+    -- the file that it names
+    pub names : (least : Reached) → Does here least Nothing w.file Anything
 
   -- one that is no variable, by what it is as an expression
   pub no_variable_lawful : (places others : List Place) (first : Place) (typing : Option SiteKind → Passing Typed) → places ≡ first ∷ others
       → ((least : Reached) (lead : Option SiteKind) → IsLed lead → Does here least (Covers 2 places) (typing lead) Types)
       → LawfulWritten places (written first typing)
-  unfolding no_variable
+  unfolding no_variable not_readable
   no_variable_lawful places others first typing begins types = record {
     begins = (others, begins);
     types = types;
     passes = λ least callee position formal is_formal is. fail_does (fault.NotVariable first);
+    reads = λ least. fail_does (fault.NotVariable first);
+    names = λ least. pure_does None (λ n h. tt);
   }
 
   pub record LawfulLink (places : List Place) (l : WrittenLink) : Type 0 where

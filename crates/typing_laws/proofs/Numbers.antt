@@ -1,4 +1,4 @@
--- How ways count: entries, loops and sites.
+-- How ways count: entries, loops, sites and points.
 use Rattle.std.proofs.Common.{◌≡◌, ℕ, Bool, zero, suc, ◌+◌, ◌≤◌, List, [], ◌∷◌, ◌++◌, length, length-append, refl, sym, ap, subst, ◌∙◌, arith}
 use Rattle.std.specs.List.{range_with_len, flat_map}
 use Rattle.std.proofs.lemmas.Grind.{flat_map-append}
@@ -6,7 +6,7 @@ use Rattle.typed_tree.specs.WellFormed.{most_entries}
 use Rattle.typed_tree.specs.Look.{Mark, Look, ForEnds, mark_entries, mark_loops}
 use Rattle.typing.specs.Passing.{Passed}
 use Rattle.typing.specs.Steps.{most_sites}
-use Rattle.typing.proofs.Ways.{Owner, Step, Controlled, Assigned, Way, Stay, One, Then, Entry, Loop, Marked, Ended, Site}
+use Rattle.typing.proofs.Ways.{Owner, Step, Controlled, Assigned, Way, Stay, One, Then, Entry, Loop, Marked, Ended, Site, Point}
 
 -- marks have the next numbers, from one on to another
 pub record GoesOn (numbers : Mark → List ℕ) (look : Look) (from next : ℕ) : Type 0 where
@@ -117,3 +117,17 @@ few_sites (One step) h = sites_step step h
 few_sites (Then first second) h = few_sites second (few_sites first h)
 few_sites (Assigned root way told) h = few_sites way h
 few_sites (Controlled root way) h = few_sites way h
+
+points_step : {acts : Bool} {owner : Owner} {from to : ℕ} {look : Look} {old new : Passed} → Step acts owner from to look old new
+    → length old.points ≤ most_sites → length new.points ≤ most_sites
+points_step {old = old} (Point place few) h = let counted = length-append old.points (place ∷ []) in omega (arith, few, counted)
+points_step other h = h
+
+-- nor too many points
+pub few_points : {acts : Bool} {owner : Owner} {from to : ℕ} {look : Look} {old new : Passed} → Way acts owner from to look old new
+    → length old.points ≤ most_sites → length new.points ≤ most_sites
+few_points Stay h = h
+few_points (One step) h = points_step step h
+few_points (Then first second) h = few_points second (few_points first h)
+few_points (Assigned root way told) h = few_points way h
+few_points (Controlled root way) h = few_points way h

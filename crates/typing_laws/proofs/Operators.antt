@@ -18,6 +18,8 @@ use Rattle.types.specs.declared.form.OrdinalRange.{OrdinalRange}
 use Rattle.types.specs.Types.{are_compatible_sets, boolean, is_compatible, is_same, is_string, joined_base, range_of}
 use Rattle.std.specs.Prelude.{is_some}
 use Rattle.scopes.specs.declared.denotation.Denotation.{Denotation}
+use Rattle.scopes.specs.declared.denotation.Denotation.TheVariants as denotes
+use Rattle.scopes.specs.declared.denotation.InputFunction.{InputFunction}
 use Rattle.scopes.specs.declared.denotation.RequiredFunction.{RequiredFunction}
 use Rattle.scopes.specs.declared.denotation.FunctionOperation.{FunctionOperation}
 use Rattle.scopes.specs.declared.denotation.FunctionOperation.TheVariants.{Calculates, Tests}
@@ -53,12 +55,12 @@ use Rattle.typing.specs.Expressions.{call}
 use Rattle.typing_rules.specs.Operators.{set_operation_behind, set_relation_of}
 use Rattle.typing_rules.specs.Targets.{Copy, whole_copy}
 use Rattle.typing_rules.specs.Typed.{whole_type}
-use Rattle.typing_rules.specs.Denotations.{as_function, as_routine}
+use Rattle.typing_rules.specs.Denotations.{as_function}
 use Rattle.typing.specs.declared.functions.BegunFunction.{BegunFunction}
 use Rattle.typing.specs.declared.functions.BegunFunction.TheVariants as begun
 use Rattle.typing.specs.Functions.{is_taken, given_type, test_kind, shift_of, no_values, all_but_last, all_but_first, passing_values, calculation_of, begins_as}
 use Rattle.typing.specs.Functions.{operation_on, applied, applied_to}
-use Rattle.typing.specs.Expressions.{call_by, required_call, only}
+use Rattle.typing.specs.Expressions.{call_by, input_call, is_input, required_call, only}
 use Rattle.typing_laws.proofs.WholeRanges.{HaveWholeRanges, IsWholeRange, IfWhole, if_whole}
 use Rattle.typing_laws.proofs.Covers.{AreAbove, at_place, Covers, Leads, covers_any, covers_both, covers_more, covers_skip, leads_first}
 use Rattle.typing_laws.proofs.Covers.{leads_more}
@@ -73,7 +75,8 @@ use Rattle.typing_laws.proofs.Tables.{is_string_longer}
 use Rattle.typing_laws.proofs.Leading.{IsLed, Types, known_later, led_alone, led_behind, ordinal_types, set_types, types_later, lt_true, LawfulWritten}
 use Rattle.typing_laws.proofs.Leading.{LawfulLink}
 use Rattle.typing_laws.proofs.Leading.{no_variable_lawful, led_covers}
-use Rattle.typing_laws.proofs.Calls.{AreLawfulActuals, routine_is, function_does as function_does_call}
+use Rattle.typing_laws.proofs.Calls.{AreLawfulActuals, function_does as function_does_call}
+use Rattle.typing_laws.proofs.Expressions.{input_does}
 
 -- ---- the values that pass the test of a function, and what comes of them, are numbers of integer
 
@@ -581,13 +584,26 @@ module _ (here : Here) where
       let later = further_still one (further_still two (further_still three four)) in
       pure_does (typed does.1 id) (λ n h. ordinal_types does.1 id now n (further_still later h) known))
 
-  called_does : {least : Reached} (found : Option (ℕ × Bool)) (d : Denotation) → as_routine d ≡ found → (name : Name) (actuals : List WrittenActual)
-      (rows : List (List Place)) (lead : Option SiteKind) → IsLed lead → IsFound here d least
+  -- eof and eoln may name the input
+  input_call_does : {least : Reached} (function : InputFunction) (place : Place) (actuals : List WrittenActual) (places : List Place)
+      (lead : Option SiteKind) → IsLed lead → ((w : Written) → only place actuals ≡ Ok w → LawfulWritten here places w)
+      → Does here least (Covers 2 (place ∷ places)) (input_call function place actuals lead) Types
+  unfolding input_call
+  input_call_does function place actuals places lead is laws =
+      quietly (given_does (only place actuals)) λ actual met _ right.
+      quietly ((laws actual right).names met) λ named _ _ _.
+      quietly (given_does (is_input place named)) λ _ _ _ _.
+      sited (covers_more 2 (place ∷ []) places) (input_does here function place lead is)
+
+  called_does : {least : Reached} (d : Denotation) (name : Name) (actuals : List WrittenActual) (rows : List (List Place)) (lead : Option SiteKind)
+      → IsLed lead → IsFound here d least
       → ((w : Written) → only name.place actuals ≡ Ok w → LawfulWritten here (joined_places rows) w) → AreLawfulActuals here rows actuals
-      → Does here least (Covers 2 (name.place ∷ joined_places rows)) (call_by found d name actuals lead) Types
-  called_does None d same name actuals rows lead is sound laws all = required_does d name actuals (joined_places rows) lead is laws
-  called_does {least} (Some routine) d same name actuals rows lead is sound laws all =
-      function_does_call here routine.0 routine.1 name.place actuals rows lead is (routine_is here least d routine same sound.0) sound.1 all
+      → Does here least (Covers 2 (name.place ∷ joined_places rows)) (call_by d name actuals lead) Types
+  called_does (denotes.Routine block is_function) name actuals rows lead is sound laws all =
+      function_does_call here block is_function name.place actuals rows lead is sound.0 sound.1 all
+  called_does (denotes.InputFunction function) name actuals rows lead is sound laws all =
+      input_call_does function name.place actuals (joined_places rows) lead is laws
+  called_does d name actuals rows lead is sound laws all = required_does d name actuals (joined_places rows) lead is laws
 
   pub call_does : (name : Name) (actuals : List WrittenActual) (rows : List (List Place))
       → ((w : Written) → only name.place actuals ≡ Ok w → LawfulWritten here (joined_places rows) w) → AreLawfulActuals here rows actuals
@@ -595,4 +611,4 @@ module _ (here : Here) where
   unfolding call
   call_does name actuals rows laws all =
       no_variable_lawful here (name.place ∷ joined_places rows) (joined_places rows) name.place _ refl
-      (λ least lead is. quietly (find_does name) λ d _ _ sound. called_does (as_routine d) d refl name actuals rows lead is sound laws all)
+      (λ least lead is. quietly (find_does name) λ d _ _ sound. called_does d name actuals rows lead is sound laws all)

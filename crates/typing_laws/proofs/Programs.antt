@@ -39,7 +39,7 @@ use Rattle.typing_laws.proofs.Went.{grows, inner}
 use Rattle.typing_laws.proofs.Grown.{Grown, sited_then, both_true, fine_later, further, grown_then}
 use Rattle.typing_laws.proofs.Headings.{heads_count, parts_of}
 use Rattle.typing_laws.proofs.Keeping.{before, behind, each_keeps}
-use Rattle.typing_laws.proofs.Numbers.{entries_go, few_entries, few_sites, loops_go}
+use Rattle.typing_laws.proofs.Numbers.{entries_go, few_entries, few_points, few_sites, loops_go}
 use Rattle.typing_laws.proofs.Ordered.{covers_by_place}
 use Rattle.typing_laws.proofs.Outlines.{Agrees, agrees_in, headed_at, heading_formed, same_parts}
 use Rattle.typing_laws.proofs.Owned.{cells_of_block}
@@ -323,6 +323,7 @@ module _ (program : Program) (a : After (Unit {0})) (w : Whole program a) where
     as_far_as : IsFurther (reached a.passed) (whole_of o)
     as_far_as = record {
       sites = omega (arith, is.sites);
+      points = omega (arith, is.points);
       types = same_longer is.types;
       variables = same_longer is.variables;
       headings = same_longer same_headings;
@@ -379,6 +380,7 @@ module _ (program : Program) (a : After (Unit {0})) (w : Whole program a) where
     opened = are_opened;
     assigned = results_assigned way refl;
     few_sites = few_sites way (omega arith);
+    few_points = few_points way (omega arith);
     types = w.grown.lawful.begin;
     by_place = λ order. subst AreByPlace (sym w.sites) (covers_by_place (program_places program) w.added order w.covered);
   }

@@ -1,4 +1,4 @@
--- How far typing has come: how many sites there are, which types, which variables, and what the headings that were passed
+-- How far typing has come: how many sites and points there are, which types, which variables, and what the headings that were passed
 -- tell; and the block round a place. What a form is stays so as more of these come.
 use Rattle.std.proofs.Common.{◌≡◌, ℕ, zero, suc, ◌≤◌, ◌||◌, Bool, true, List, [], ◌∷◌, ◌++◌, length, map, nat_eq, slice_get, Option, Some, append_assoc}
 use Rattle.std.proofs.Common.{append-nil, refl, sym, ap, subst, ◌∙◌, arith, is_none, option_map, get_or, inl, inr, ◌⊎◌}
@@ -108,6 +108,7 @@ head_of signature = record { around = signature.around; is_function = not (is_no
 
 pub record Reached : Type 0 where
   pub sites : ℕ
+  pub points : ℕ
   pub types : List Form
   pub variables : List Variable
   pub headings : List Signature
@@ -119,6 +120,7 @@ pub record Reached : Type 0 where
 abbrev pub reached : Passed → Reached
 reached s = record {
   sites = length s.sites;
+  points = length s.points;
   types = s.types;
   variables = s.variables;
   headings = map signature_passed s.headings;
@@ -130,6 +132,7 @@ reached s = record {
 abbrev pub whole_of : Outline → Reached
 whole_of o = record {
   sites = o.sites;
+  points = o.points;
   types = o.types;
   variables = o.variables;
   headings = map signature_of o.headings;
@@ -140,6 +143,7 @@ whole_of o = record {
 -- at least as far
 pub record IsFurther (old new : Reached) : Type 0 where
   pub sites : old.sites ≤ new.sites
+  pub points : old.points ≤ new.points
   pub types : IsLonger old.types new.types
   pub variables : IsLonger old.variables new.variables
   pub headings : IsLonger old.headings new.headings
@@ -149,6 +153,7 @@ pub record IsFurther (old new : Reached) : Type 0 where
 pub as_far : {one : Reached} → IsFurther one one
 as_far = record {
   sites = omega arith;
+  points = omega arith;
   types = as_long;
   variables = as_long;
   headings = as_long;
@@ -159,6 +164,7 @@ as_far = record {
 pub further_still : {old now new : Reached} → IsFurther old now → IsFurther now new → IsFurther old new
 further_still f g = record {
   sites = omega (arith, f.sites, g.sites);
+  points = omega (arith, f.points, g.points);
   types = longer_still f.types g.types;
   variables = longer_still f.variables g.variables;
   headings = longer_still f.headings g.headings;

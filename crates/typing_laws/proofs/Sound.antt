@@ -156,7 +156,8 @@ IsSound here variables types heads (denotes.Procedure procedure) = Unit {0}
 IsSound here variables types heads (denotes.Function function) = Unit {0}
 IsSound here variables types heads (denotes.Routine block is_function) = IsRoutine here heads block is_function
 IsSound here variables types heads (denotes.TypeName type_id) = type_id.index < length types
-IsSound here variables types heads denotes.Output = Unit {0}
+IsSound here variables types heads (denotes.InputFunction function) = Unit {0}
+IsSound here variables types heads (denotes.File file) = Unit {0}
 
 abbrev pub AreSound : Here → List Variable → List Form → List Head → List Region → Type 0
 AreSound here variables types heads = HoldsOfAll (IsSound here variables types heads)
@@ -170,7 +171,7 @@ unfolding required_region
 required_sound here variables types heads there =
     let integers : 0 < length types = omega (arith, there) in
     let booleans : 1 < length types = omega (arith, there) in
-    (integers, (booleans, (there, (refl, (refl, (refl, (tt, (tt, (tt, (tt, (tt, (tt, (tt, (tt, (tt, tt)))))))))))))))
+    (integers, (booleans, (there, (refl, (refl, (refl, (tt, (tt, (tt, (tt, (tt, (tt, (tt, (tt, (tt, (tt, (tt, (tt, (tt, tt)))))))))))))))))))
 
 -- ---- in blocks inside
 
@@ -295,7 +296,8 @@ module _ {outer inner : Here} (inside : IsInside outer inner) {old_variables new
     of_kind = sound.of_kind;
   }
   sound_more (denotes.TypeName type_id) sound = stands_longer types type_id sound
-  sound_more denotes.Output sound = tt
+  sound_more (denotes.InputFunction function) sound = tt
+  sound_more (denotes.File file) sound = tt
 
   pub region_later : (region : Region) → IsSoundRegion outer old_variables old old_heads region
       → IsSoundRegion inner new_variables new new_heads region

@@ -15,17 +15,18 @@ use Rattle.typed_tree.specs.declared.tree.Expr.{Expr}
 use Rattle.typed_tree.specs.declared.tree.Link.{Link}
 use Rattle.typed_tree.specs.declared.tree.Passed.{Passed}
 use Rattle.typed_tree.specs.declared.tree.Expr.TheOpen.{Expr-F, Passed-F, Link-F}
-use Rattle.typed_tree.specs.declared.tree.Expr.TheOpen.Expr-F.{Constant, Variable, Monadic as MonadicOf, Chain, Compare, Call as CallOf, Set}
+use Rattle.typed_tree.specs.declared.tree.Expr.TheOpen.Expr-F.{Constant, Variable, Monadic as MonadicOf, Chain, Compare, Call as CallOf, Set, Input}
 use Rattle.typed_tree.specs.declared.tree.Expr.TheOpen.Passed-F.{Value as PassedValue, Whole as PassedWhole, Reference}
 use Rattle.typed_tree.specs.declared.tree.Expr.TheFolds.{map-Expr, map-Passed, map-Link, fold-roll-Expr, fold-roll-Passed, fold-roll-Link, ind-Expr, ind-Passed}
 use Rattle.typed_tree.specs.declared.tree.Expr.TheViews.{roll-Expr, roll-Passed, roll-Link}
 use Rattle.typed_tree.specs.declared.tree.Stmt.{Stmt}
 use Rattle.typed_tree.specs.declared.tree.Stmt.TheOpen.{Stmt-F}
 use Rattle.typed_tree.specs.declared.tree.Stmt.TheOpen.Stmt-F.{Empty, Assign, Write, Compound, If, While, Repeat, For, Case, Copy, Call as Calling}
-use Rattle.typed_tree.specs.declared.tree.Stmt.TheOpen.Stmt-F.{With}
+use Rattle.typed_tree.specs.declared.tree.Stmt.TheOpen.Stmt-F.{Read, With}
 use Rattle.typed_tree.specs.declared.tree.Access.{Access}
 use Rattle.typed_tree.specs.declared.tree.Base.{Base}
 use Rattle.typed_tree.specs.declared.tree.Base.TheVariants as base
+use Rattle.typed_tree.specs.declared.tree.ReadVariable.{ReadVariable}
 use Rattle.typed_tree.specs.declared.tree.WithRecord.{WithRecord}
 use Rattle.typed_tree.specs.Accesses.{AtVariable, origin_by, origin_of, root_of}
 use Rattle.typed_tree.specs.declared.tree.Stmt.TheFolds.{map-Stmt, fold-roll-Stmt, ind-Stmt}
@@ -33,12 +34,12 @@ use Rattle.typed_tree.specs.declared.tree.Stmt.TheViews.{roll-Stmt}
 use Rattle.typed_tree.specs.Entries.{joined}
 use Rattle.typed_tree.specs.WellFormed.{placed, source_of}
 use Rattle.typed_tree.specs.Look.{Look, Mark, Ends, Then, Else, Do, Until, Fits, Controls, ForEnds, Target, WholeTarget, Width, Written}
-use Rattle.typed_tree.specs.Look.{WithEnds, look_record}
+use Rattle.typed_tree.specs.Look.{WithEnds, look_read, look_record}
 use Rattle.typed_tree.specs.Look.{WrittenString, whole_look, passed_look, link_look, expression_look, look_expr, look_passed}
 use Rattle.typed_tree.specs.Look.{look_link, look_whole, look_width, look_written, look_parameter, arms_look, statement_look, look_stmt}
 use Rattle.typed_tree.specs.Threats.{Spares, all_so, all_spare, expr_spares, indexes_so, is_none_of, link_spares, passed_spares, spares, spares_in_expr}
 use Rattle.typed_tree.specs.Threats.{spares_in_indexes, spares_in_link, spares_in_parameter, spares_in_passed, spares_in_whole, spares_in_width}
-use Rattle.typed_tree.specs.Threats.{spares_in_record, spares_in_written, statement_spares}
+use Rattle.typed_tree.specs.Threats.{spares_in_read, spares_in_record, spares_in_written, statement_spares}
 use Rattle.typing_laws.specs.Controls.{mark_behind, spared_behind}
 use Rattle.typing_laws.proofs.Spared.{spared_append}
 
@@ -218,6 +219,7 @@ tells_layer (Compare number relation left left_indexes right right_indexes) =
 tells_layer (CallOf call actuals) =
     tells_before (joined (placed call.block 0 (map look_passed (map (λ p. p.0) actuals.items)))) _
     (λ roots. all_so (map (spares_in_passed roots) (map (λ p. p.0) actuals.items))) (λ roots. refl) (tells_placed actuals.items call.block 0)
+tells_layer (Input number asks) = nothing
 tells_layer (Set number designators members) =
     tells_before (joined (map look_expr (map (λ e. e.0) members.items))) _ (λ roots. spares_in_indexes roots (map (λ e. e.0) members.items)) (λ roots. refl)
     (tells_indexes members.items)
@@ -309,6 +311,18 @@ tells_parameters (parameter ∷ parameters) =
     (tells_then (look_written parameter.value) (look_width parameter.width) (λ roots. spares_in_written roots parameter.value)
     (λ roots. spares_in_width roots parameter.width) (tells_written parameter.value) (tells_width parameter.width))
     (tells_parameters parameters)
+
+-- a variable that is read is changed
+tells_read : (one : ReadVariable) → Tells (look_read one) (λ roots. spares_in_read roots one)
+tells_read one =
+    tells_change (joined (map look_expr one.indexes.items)) _ one.access.root (λ roots. spares_in_indexes roots one.indexes.items)
+    (spares_origin one.access) (tells_exprs one.indexes.items)
+
+tells_reads : (variables : List ReadVariable) → Tells (flat_map look_read variables) (λ roots. all_so (map (spares_in_read roots) variables))
+tells_reads [] = nothing
+tells_reads (one ∷ others) =
+    tells_then (look_read one) (flat_map look_read others) (λ roots. spares_in_read roots one) (λ roots. all_so (map (spares_in_read roots) others))
+    (tells_read one) (tells_reads others)
 
 -- ---- statements
 
@@ -406,6 +420,9 @@ tells_stmt_layer (Copy copying) =
 tells_stmt_layer (Write writing) =
     tells_before (flat_map look_parameter writing.parameters.items) Ends (λ roots. all_so (map (spares_in_parameter roots) writing.parameters.items))
     (λ roots. refl) (tells_parameters writing.parameters.items)
+tells_stmt_layer (Read reading) =
+    tells_before (flat_map look_read reading.variables.items) Ends (λ roots. all_so (map (spares_in_read roots) reading.variables.items)) (λ roots. refl)
+    (tells_reads reading.variables.items)
 tells_stmt_layer (Calling calling) =
     tells_before (joined (placed calling.call.block 0 (map look_passed calling.actuals.items))) _
     (λ roots. all_so (map (spares_in_passed roots) calling.actuals.items)) (λ roots. refl) (tells_actuals calling.actuals.items calling.call.block 0)

@@ -5,13 +5,9 @@ use Rattle.std.specs.List.{flat_map}
 use Rattle.std.specs.declared.alloc.Global.{Global}
 use Rattle.place.specs.declared.Place.{Place}
 use Rattle.syntax_tree.specs.declared.Name.{Name}
-use Rattle.syntax_tree.specs.declared.Expr.{Expr}
 use Rattle.syntax_tree.specs.declared.Actual.{Actual}
-use Rattle.syntax_tree.specs.declared.Link.{Link}
 use Rattle.syntax_tree.specs.declared.Constant.{Constant}
 use Rattle.syntax_tree.specs.declared.Direction.{Direction as SyntaxDirection}
-use Rattle.syntax_tree.specs.declared.Expr.TheOpen as expr_layer
-use Rattle.syntax_tree.specs.declared.Expr.TheViews.{out-Expr, out-Actual}
 use Rattle.syntax_tree.specs.declared.Stmt.{Stmt}
 use Rattle.syntax_tree.specs.declared.Stmt.TheOpen as layer
 use Rattle.syntax_tree.specs.declared.Stmt.TheViews.{roll-Stmt}
@@ -26,6 +22,8 @@ use Rattle.types.specs.declared.form.TypeKind.TheVariants as kind_of_type
 use Rattle.types.specs.Types.{integer, is_ordinal, is_string, is_structured, is_structured_kind, kind_of}
 use Rattle.scopes.specs.declared.denotation.Denotation.TheVariants as denotes
 use Rattle.scopes.specs.declared.denotation.Denotation.{Denotation}
+use Rattle.scopes.specs.declared.denotation.File.{File}
+use Rattle.scopes.specs.declared.denotation.File.TheVariants as file
 use Rattle.scopes.specs.declared.denotation.RequiredProcedure.{RequiredProcedure}
 use Rattle.typed_tree.specs.declared.fault.TypeFault.TheVariants as fault
 use Rattle.typed_tree.specs.declared.site.SiteKind.{SiteKind}
@@ -35,12 +33,12 @@ use Rattle.typed_tree.specs.Ids.{Stands}
 use Rattle.typed_tree.specs.Sites.{number_of}
 use Rattle.typed_tree.specs.declared.tree.Variable.{Variable}
 use Rattle.typed_tree.specs.Look.{Assign, Copied, Fits, Write, Written as WrittenMark, Width, Empty, Compound, If, Then, Else, While, Do, Repeat, Until, For}
-use Rattle.typed_tree.specs.Look.{Case, Arm, Ends, Mark, WrittenString, is_formed_mark}
+use Rattle.typed_tree.specs.Look.{Case, Arm, Ends, Mark, Read, WrittenString, is_formed_mark}
 use Rattle.typed_tree.specs.declared.tree.RangeTest.{RangeTest}
 use Rattle.typed_tree.specs.declared.tree.Scalar.{Scalar}
 use Rattle.typed_tree.specs.declared.tree.Scalar.TheVariants as scalar
 use Rattle.typed_tree.specs.Accesses.{AtVariable}
-use Rattle.typed_tree.specs.WellFormed.{Outline, holds, is_declared, is_held_by, is_local_kind, is_text, of_one}
+use Rattle.typed_tree.specs.WellFormed.{Outline, holds, is_declared, is_held_by, is_local_kind, is_text, is_well_formed_line, of_one}
 use Rattle.typing.specs.Passing.{Passing, each, ◌>>?◌}
 use Rattle.typing_rules.specs.Checked.{and_then}
 use Rattle.typing.proofs.Ways.{numbers_of}
@@ -49,15 +47,16 @@ use Rattle.typing_rules.specs.Checked.{fits, or_mismatch}
 use Rattle.typing_rules.specs.declared.typed.Typed.{Typed}
 use Rattle.typing_rules.specs.declared.typed.TypedValue.{TypedValue}
 use Rattle.typing_rules.specs.declared.typed.TypedValue.TheVariants as value
-use Rattle.typing.specs.Expressions.{Written, WrittenActual, expression, written_actual}
+use Rattle.typing.specs.Expressions.{Written, WrittenActual, expression, unless_width, written_actual}
 use Rattle.typing_rules.specs.Targets.{fitting, test_kind}
 use Rattle.typing_rules.specs.Typed.{is_of}
 use Rattle.typing_rules.specs.Denotations.{as_routine}
 use Rattle.typing.specs.Statements.{Accessed, assigned_by_kind, written_value}
 use Rattle.typing_rules.specs.Denotations.{as_control}
-use Rattle.typing.specs.Statements.{assigned, copied, assignment, names_file, unless_wide, is_file}
-use Rattle.typing_rules.specs.Denotations.{as_procedure, ends_line, is_output}
-use Rattle.typing.specs.Statements.{written_values, has_values, written_as, measured, width, parameter, write, required_call, declared_call}
+use Rattle.typing.specs.Statements.{assigned, copied, assignment, unless_wide, behind_file, without_file, has_parameters, parameters_of}
+use Rattle.typing_rules.specs.Denotations.{as_procedure}
+use Rattle.typing.specs.Statements.{written_as, measured, width, parameter, write, read_parameter, line_point, read, by_file, file_call}
+use Rattle.typing.specs.Statements.{required_call, declared_call}
 use Rattle.typing_rules.specs.Targets.{representation_of}
 use Rattle.typing.specs.Statements.{call_by, procedure_call, compound, condition, alternative, tested, choice, while_loop, repeat_loop, bound, for_head}
 use Rattle.typing_rules.specs.Targets.{way}
@@ -65,21 +64,22 @@ use Rattle.typing.specs.Statements.{for_loop, case_arms, case_head, case_body, c
 use Rattle.typing_laws.proofs.Opened.{open_in, stands_there}
 use Rattle.typing_laws.proofs.Tables.{has_kind, is_string_longer, is_structured_longer, kind_longer, ordinal_held}
 use Rattle.typing_laws.proofs.Copies.{IsCopyFor, copy_formed, copying_there}
-use Rattle.typing_laws.proofs.Covers.{Covers, covers_both, covers_none, covers_behind, covers_skip, covers_lower, leads_first}
+use Rattle.typing_laws.proofs.Covers.{Covers, covers_any, covers_both, covers_none, covers_behind, covers_more, covers_skip, covers_lower, leads_first}
 use Rattle.typing_laws.proofs.Grown.{heads_of, both_true}
 use Rattle.typing_laws.proofs.Reached.{Reached, whole_of, IsFurther, further_still, Here, StandsIn, get_longer}
 use Rattle.typing_laws.proofs.Sound.{IsRoutine, IsVariable, variable_later}
 use Rattle.typing_laws.proofs.Steps.{Does, Anything, Nothing, IsFound, IsSoundThen, joins, quietly, last, checks, checks_types, sited, pure_does, given_does}
 use Rattle.typing_laws.proofs.Steps.{by_types_does}
-use Rattle.typing_laws.proofs.Steps.{fail_does, find_does, pass_does, wants_output_does, mark_does, enter_does, enter_loop_does, may_change_does}
+use Rattle.typing_laws.proofs.Steps.{answered, fail_does, find_does, pass_does, point_does, wants_file_does, mark_does, enter_does, enter_loop_does}
+use Rattle.typing_laws.proofs.Steps.{may_change_does}
 use Rattle.typing_laws.specs.Controls.{is_bracket}
 use Rattle.typing_laws.proofs.Steps.{for_body_does, site_does, IsKnown, controlled_does}
 use Rattle.typing_laws.proofs.Leading.{IsLed, Types, lt_true, LawfulWritten, covers_test, led_covers}
 use Rattle.typing_laws.proofs.Accesses.{AreLawfulRows, LeadsTo, fits_formed, kind_now_does, leads_nowhere, leads_later, ordinal_formed}
-use Rattle.typing_laws.proofs.Calls.{IsLawfulWidth, IsRangeOf, LawfulActual, fitting_whole, routine_is, routine_call_does}
+use Rattle.typing_laws.proofs.Calls.{AreLawfulActuals, IsLawfulWidth, IsRangeOf, LawfulActual, fitting_whole, routine_is, routine_call_does}
 use Rattle.typing_laws.proofs.Constants.{row_does}
 use Rattle.typing_laws.proofs.Strings.{there, fit_is}
-use Rattle.typing_laws.proofs.EveryExpression.{expression_lawful, actual_lawful, indexes_lawful, every_actual_lawful}
+use Rattle.typing_laws.proofs.EveryExpression.{expression_lawful, indexes_lawful, every_actual_lawful}
 use Rattle.typed_tree.specs.Records.{OpenRecord}
 use Rattle.typing_laws.specs.Controls.{mark_changes}
 use Rattle.typing_laws.specs.Opened.{mark_opened}
@@ -199,32 +199,52 @@ module _ (here : Here) where
         value_does found to becomes places value (leads_later here to.origin to.selectors to.type_id now next one led) of_kind.1 law);
   }
 
-  -- ---- what is written
+  -- ---- what is written and read
 
-  names_file_does : {least : Reached} (e : expr_layer.Expr-F Expr Actual Link) → Does here least Nothing (names_file e) Anything
-  names_file_does (expr_layer.Name name) = quietly (find_does name) λ d _ _ _. pure_does (is_output d) (λ n h. tt)
-  names_file_does other = pure_does false (λ n h. tt)
+  unless_wide_does : {least : Reached} (places : List Place) (value : Written) (w : Option Written) → LawfulWritten here places value
+      → Does here least Nothing (unless_wide value w) Anything
+  unless_wide_does {least} places value None law = law.names least
+  unless_wide_does places value (Some w) law = pure_does None (λ n h. tt)
 
-  unless_wide_does : {least : Reached} (value : Expr) (w : Option Expr) → Does here least Nothing (unless_wide value w) Anything
-  unless_wide_does value None = names_file_does (out-Expr value)
-  unless_wide_does value (Some w) = pure_does false (λ n h. tt)
+  -- parameters of which sites stand at places of these
+  abbrev AreAmong : List (List Place) → List WrittenActual → Type 0
+  AreAmong all parameters =
+      (rows : List (List Place)) × AreLawfulActuals here rows parameters
+      × ((sites : List Stands) → Covers 0 (joined_places rows) sites → Covers 0 (joined_places all) sites)
 
-  is_file_does : {least : Reached} (actual : Actual) → Does here least Nothing (is_file actual) Anything
-  unfolding is_file
-  is_file_does actual = unless_wide_does (out-Actual actual).value (out-Actual actual).width
+  behind_file_among : (wanted : File) (place : Place) (row : List Place) (rows : List (List Place)) (first : WrittenActual) (rest : List WrittenActual)
+      (named : Option File) (found : List WrittenActual) → LawfulActual here row first → AreLawfulActuals here rows rest
+      → behind_file wanted place first rest named ≡ Ok found → AreAmong (row ∷ rows) found
+  behind_file_among wanted place row rows first rest None found law laws is =
+      let same : first ∷ rest ≡ found = cc in
+      subst (AreAmong (row ∷ rows)) same (row ∷ rows, (law, laws), λ sites has. has)
+  behind_file_among file.Input place row rows first rest (Some file.Input) found law laws is =
+      let same : rest ≡ found = cc in
+      subst (AreAmong (row ∷ rows)) same (rows, laws, covers_behind 0 row (joined_places rows))
+  behind_file_among file.Output place row rows first rest (Some file.Output) found law laws is =
+      let same : rest ≡ found = cc in
+      subst (AreAmong (row ∷ rows)) same (rows, laws, covers_behind 0 row (joined_places rows))
+  behind_file_among file.Input place row rows first rest (Some file.Output) found law laws is = absurd cc
+  behind_file_among file.Output place row rows first rest (Some file.Input) found law laws is = absurd cc
 
-  -- sites at the places of these are sites at the places of all
-  abbrev AreAmong : List Actual → List Actual → Type 0
-  AreAmong all values = (sites : List Stands) → Covers 0 (flat_map actual_places values) sites → Covers 0 (flat_map actual_places all) sites
+  without_file_does : {least : Reached} (wanted : File) (place : Place) (rows : List (List Place)) (actuals : List WrittenActual)
+      → AreLawfulActuals here rows actuals → Does here least Nothing (without_file wanted place actuals) (λ found now. AreAmong rows found)
+  unfolding without_file
+  without_file_does wanted place [] [] laws = pure_does [] (λ n h. ([], tt, λ sites has. has))
+  without_file_does wanted place [] (first ∷ rest) laws = absurd laws
+  without_file_does wanted place (row ∷ rows) [] laws = absurd laws
+  without_file_does wanted place (row ∷ rows) (first ∷ rest) laws =
+      quietly (unless_wide_does laws.0.of_value first.value first.width laws.0.value) λ named _ _ _.
+      answered (λ found now is. behind_file_among wanted place row rows first rest named found laws.0 laws.1 is)
+      (given_does (behind_file wanted place first rest named))
 
-  among : (file : Bool) (first : Actual) (rest : List Actual) → AreAmong (first ∷ rest) (if file then rest else first ∷ rest)
-  among true first rest = λ sites. covers_behind 0 (actual_places first) (flat_map actual_places rest) sites
-  among false first rest = λ sites has. has
-
-  written_values_do : {least : Reached} (actuals : List Actual) → Does here least Nothing (written_values actuals) (λ values now. AreAmong actuals values)
-  unfolding written_values
-  written_values_do [] = pure_does [] (λ n h sites has. has)
-  written_values_do (first ∷ rest) = quietly (is_file_does first) λ file _ _ _. pure_does (if file then rest else first ∷ rest) (λ n h. among file first rest)
+  parameters_are : {least : Reached} (place : Place) (procedure : RequiredProcedure) (rows : List (List Place)) (actuals : List WrittenActual)
+      → AreLawfulActuals here rows actuals → Does here least Nothing (parameters_of place procedure actuals) (λ found now. AreAmong rows found)
+  unfolding parameters_of
+  parameters_are place procedure rows actuals laws =
+      quietly (without_file_does procedure.file place rows actuals laws) λ found _ _ among.
+      quietly (given_does (has_parameters place procedure found)) λ _ _ _ _.
+      pure_does found (λ n h. among)
 
   width_does : (least : Reached) (places : List Place) (w : Option Written) → IsLawfulWidth here places w
       → Does here least (Covers 0 places) (width w) Anything
@@ -248,56 +268,109 @@ module _ (here : Here) where
       quietly (mark_does form is.0 is.1 is.2 (is.3 (open_in here)) (λ o h. is.4 o here.block h)) λ _ next _ _.
       width_does next law.of_width a.width law.width)
 
-  parameters_do : (least : Reached) (values : List Actual)
-      → Does here least (Covers 0 (flat_map actual_places values)) (each parameter (map written_actual values)) Anything
-  parameters_do least [] = pure_does tt (λ n h. tt)
-  parameters_do least (value ∷ values) =
-      joins (covers_both 0 (actual_places value) (flat_map actual_places values))
-      (parameter_does least (actual_places value) (written_actual value) (actual_lawful here value)) λ _ now _ _.
-      parameters_do now values
+  parameters_do : (least : Reached) (rows : List (List Place)) (values : List WrittenActual) → AreLawfulActuals here rows values
+      → Does here least (Covers 0 (joined_places rows)) (each parameter values) Anything
+  parameters_do least [] [] laws = pure_does tt (λ n h. tt)
+  parameters_do least [] (value ∷ values) laws = absurd laws
+  parameters_do least (row ∷ rows) [] laws = absurd laws
+  parameters_do least (row ∷ rows) (value ∷ values) laws =
+      joins (covers_both 0 row (joined_places rows)) (parameter_does least row value laws.0) λ _ now _ _.
+      parameters_do now rows values laws.1
 
-  write_does : (least : Reached) (name : Name) (actuals : List Actual) (procedure : RequiredProcedure)
-      → Does here least (Covers 0 (flat_map actual_places actuals)) (write name actuals procedure) Anything
+  write_does : (least : Reached) (name : Name) (rows : List (List Place)) (actuals : List WrittenActual) (procedure : RequiredProcedure)
+      → AreLawfulActuals here rows actuals → Does here least (Covers 0 (joined_places rows)) (write name actuals procedure) Anything
   unfolding write
-  write_does least name actuals procedure =
-      quietly (wants_output_does name.place) λ _ _ _ _.
-      quietly (enter_does (λ n. Write n name.place (ends_line procedure)) (λ n. refl) (λ n. refl) (λ n. refl) (λ n. refl)
+  write_does least name rows actuals procedure laws =
+      quietly (enter_does (λ n. Write n name.place procedure.ends_line) (λ n. refl) (λ n. refl) (λ n. refl) (λ n. refl)
       (λ n m h. refl)) λ _ _ _ _.
-      quietly (written_values_do actuals) λ values now _ among.
-      sited among
-      (quietly (given_does (has_values name.place procedure values)) λ _ there _ _.
-      last (parameters_do there values) λ _ m _ _.
+      quietly (parameters_are name.place procedure rows actuals laws) λ values now _ among.
+      sited among.2
+      (last (parameters_do now among.0 values among.1) λ _ m _ _.
       mark_does Ends refl refl refl refl (λ n h. refl))
+
+  read_parameter_does : (least : Reached) (places : List Place) (a : WrittenActual) → LawfulActual here places a
+      → Does here least (Covers 0 places) (read_parameter a) Anything
+  unfolding read_parameter
+  read_parameter_does least places a law =
+      sited (λ sites has.
+      subst (λ p. Covers 0 p sites) (sym law.places_are) (covers_more 0 law.of_value law.of_width sites (covers_any 2 law.of_value sites has)))
+      (quietly (given_does (unless_width a.value.first a.width)) λ _ now _ _.
+      law.value.reads now)
+
+  reads_do : (least : Reached) (rows : List (List Place)) (variables : List WrittenActual) → AreLawfulActuals here rows variables
+      → Does here least (Covers 0 (joined_places rows)) (each read_parameter variables) Anything
+  reads_do least [] [] laws = pure_does tt (λ n h. tt)
+  reads_do least [] (one ∷ others) laws = absurd laws
+  reads_do least (row ∷ rows) [] laws = absurd laws
+  reads_do least (row ∷ rows) (one ∷ others) laws =
+      joins (covers_both 0 row (joined_places rows)) (read_parameter_does least row one laws.0) λ _ now _ _.
+      reads_do now rows others laws.1
+
+  -- a readln has its point
+  abbrev IsFormedLine : Option ℕ → Reached → Type 0
+  IsFormedLine line now = (o : Outline) → IsFurther now (whole_of o) → is_well_formed_line o here.block line ≡ true
+
+  line_point_does : {least : Reached} (place : Place) (ends_line : Bool) → Does here least Nothing (line_point place ends_line) IsFormedLine
+  unfolding line_point
+  line_point_does place false = pure_does None (λ n h o more. refl)
+  line_point_does place true =
+      quietly (point_does place) λ id now _ known.
+      pure_does (Some id) (λ n h o more. lt_true id o.points (omega (arith, known, h.points, more.points)))
+
+  read_does : (least : Reached) (name : Name) (rows : List (List Place)) (actuals : List WrittenActual) (procedure : RequiredProcedure)
+      → AreLawfulActuals here rows actuals → Does here least (Covers 0 (joined_places rows)) (read name actuals procedure) Anything
+  unfolding read
+  read_does least name rows actuals procedure laws =
+      quietly (line_point_does name.place procedure.ends_line) λ line _ _ formed.
+      quietly (enter_does (λ n. Read n name.place line) (λ n. refl) (λ n. refl) (λ n. refl) (λ n. refl) (λ n o h. formed o h)) λ _ _ _ _.
+      quietly (parameters_are name.place procedure rows actuals laws) λ variables now _ among.
+      sited among.2
+      (last (reads_do now among.0 variables among.1) λ _ m _ _.
+      mark_does Ends refl refl refl refl (λ n h. refl))
+
+  by_file_does : (least : Reached) (one : File) (name : Name) (rows : List (List Place)) (actuals : List WrittenActual) (procedure : RequiredProcedure)
+      → AreLawfulActuals here rows actuals → Does here least (Covers 0 (joined_places rows)) (by_file one name actuals procedure) Anything
+  by_file_does least file.Input name rows actuals procedure laws = read_does least name rows actuals procedure laws
+  by_file_does least file.Output name rows actuals procedure laws = write_does least name rows actuals procedure laws
+
+  file_call_does : {least : Reached} (name : Name) (rows : List (List Place)) (actuals : List WrittenActual) (procedure : RequiredProcedure)
+      → AreLawfulActuals here rows actuals → Does here least (Covers 0 (joined_places rows)) (file_call name actuals procedure) Anything
+  unfolding file_call
+  file_call_does name rows actuals procedure laws =
+      quietly (wants_file_does procedure.file name.place) λ _ now _ _.
+      by_file_does now procedure.file name rows actuals procedure laws
 
   joined_mapped : (actuals : List Actual) → joined_places (map actual_places actuals) ≡ flat_map actual_places actuals
   joined_mapped [] = refl
   joined_mapped (one ∷ actuals) = ap (λ l. actual_places one ++ l) (joined_mapped actuals)
 
-  declared_does : {least : Reached} (callee : ℕ) (is_function : Bool) (name : Name) (actuals : List Actual)
-      → IsRoutine here (heads_of least) callee is_function → StandsIn here least
-      → Does here least (Covers 0 (flat_map actual_places actuals)) (declared_call callee is_function name (map written_actual actuals)) Anything
+  declared_does : {least : Reached} (callee : ℕ) (is_function : Bool) (name : Name) (rows : List (List Place)) (actuals : List WrittenActual)
+      → IsRoutine here (heads_of least) callee is_function → StandsIn here least → AreLawfulActuals here rows actuals
+      → Does here least (Covers 0 (joined_places rows)) (declared_call callee is_function name actuals) Anything
   unfolding declared_call
-  declared_does callee true name actuals routine stands = fail_does (fault.WrongParameters name.place)
-  declared_does callee false name actuals routine stands =
-      sited (λ sites. subst (λ p. Covers 0 p sites) (joined_mapped actuals))
-      (last (routine_call_does here false callee name.place (map written_actual actuals) (map actual_places actuals) routine stands
-      (every_actual_lawful here actuals)) λ _ _ _ _.
-      pure_does tt (λ n h. tt))
+  declared_does callee true name rows actuals routine stands laws = fail_does (fault.WrongParameters name.place)
+  declared_does callee false name rows actuals routine stands laws =
+      last (routine_call_does here false callee name.place actuals rows routine stands laws) λ _ _ _ _.
+      pure_does tt (λ n h. tt)
 
   called_does : {least : Reached} (found : Option (ℕ × Bool)) (d : Denotation) → as_routine d ≡ found → IsFound here d least → (name : Name)
-      (actuals : List Actual) → Does here least (Covers 0 (flat_map actual_places actuals)) (call_by found d name actuals) Anything
+      (rows : List (List Place)) (actuals : List WrittenActual) → AreLawfulActuals here rows actuals
+      → Does here least (Covers 0 (joined_places rows)) (call_by found d name actuals) Anything
   unfolding required_call
-  called_does None d same sound name actuals =
-      quietly (given_does (as_procedure name.place d)) λ procedure now _ _. write_does now name actuals procedure
-  called_does {least} (Some routine) d same sound name actuals =
-      declared_does routine.0 routine.1 name actuals (routine_is here least d routine same sound.0) sound.1
+  called_does None d same sound name rows actuals laws =
+      quietly (given_does (as_procedure name.place d)) λ procedure _ _ _. file_call_does name rows actuals procedure laws
+  called_does {least} (Some routine) d same sound name rows actuals laws =
+      declared_does routine.0 routine.1 name rows actuals (routine_is here least d routine same sound.0) sound.1 laws
 
-  call_does : (name : Name) (actuals : List Actual) → LawfulStatement (name.place ∷ flat_map actual_places actuals) (procedure_call name actuals)
+  call_does : (name : Name) (actuals : List Actual)
+      → LawfulStatement (name.place ∷ flat_map actual_places actuals) (procedure_call name (map written_actual actuals))
   unfolding procedure_call
   call_does name actuals = record {
     passes = λ least.
-        sited (λ sites. covers_skip 0 name.place (flat_map actual_places actuals) sites)
-        (quietly (find_does name) λ d _ _ sound. called_does (as_routine d) d refl sound name actuals);
+        sited (λ sites has.
+        covers_skip 0 name.place (flat_map actual_places actuals) sites (subst (λ p. Covers 0 p sites) (joined_mapped actuals) has))
+        (quietly (find_does name) λ d _ _ sound.
+        called_does (as_routine d) d refl sound name (map actual_places actuals) (map written_actual actuals) (every_actual_lawful here actuals));
   }
 
   -- ---- compound statements

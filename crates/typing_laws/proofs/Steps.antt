@@ -13,6 +13,7 @@ use Rattle.types.specs.declared.form.TypeId.{TypeId}
 use Rattle.types.specs.Types.{host_of}
 use Rattle.scopes.specs.Scopes.{found}
 use Rattle.scopes.specs.declared.denotation.Denotation.{Denotation}
+use Rattle.scopes.specs.declared.denotation.File.{File}
 use Rattle.scopes.specs.declared.fault.ScopeFault.{ScopeFault}
 use Rattle.typed_tree.specs.declared.tree.Variable.{Variable}
 use Rattle.typed_tree.specs.declared.fault.TypeFault.{TypeFault}
@@ -26,13 +27,13 @@ use Rattle.typing.specs.Passing.{Enclosing, Passed, After, Passing, after, pure,
 use Rattle.typing_rules.specs.Checked.{Checked, and_then}
 use Rattle.typing.specs.Steps.{most_sites, pass, enter, enter_as, number_loop, begin_loop, enter_loop, site, find, may_change}
 use Rattle.typing_rules.specs.Checked.{told}
-use Rattle.typing.specs.Steps.{begin_control, end_control, wants_output, host_type, text_at, keep_text, is_own, is_local, may_control, with_one}
+use Rattle.typing.specs.Steps.{begin_control, end_control, has_file, wants_file, point, host_type, text_at, keep_text, is_own, is_local, may_control, with_one}
 use Rattle.typing.specs.Steps.{with_threatened, enclosing_now, heading_at, variable_at, program_heading}
 use Rattle.typing.specs.Expressions.{behind}
 use Rattle.typing.specs.Statements.{for_body}
 use Rattle.typing.specs.Names.{folded}
 pub use Rattle.typing.proofs.Ways.{below}
-use Rattle.typing.proofs.Ways.{numbers_of, Nobody, Way, Stay, One, Controlled, Token, Entry, Loop, Marked, Site, Threat, Text, Assigned, with_result}
+use Rattle.typing.proofs.Ways.{numbers_of, Nobody, Way, Stay, One, Controlled, Token, Entry, Loop, Marked, Site, Point, Threat, Text, Assigned, with_result}
 use Rattle.typing_laws.proofs.Covers.{at_place}
 use Rattle.typing_laws.proofs.Grown.{heads_of, FitsHeading, Fine, Grown, Sited, sited_then, sited_more, further, fine_later, grown_then, both_true, IsFree}
 use Rattle.typing_laws.proofs.Reached.{get_longer, get_mapped, get_or_is, Signature, signature_passed, Reached, reached, whole_of, IsFurther}
@@ -257,11 +258,11 @@ find_does {here} name = record {
     by (Ok d) e is = let same : d ≡ e = cc in ap Ok same
     by (Err why) e is = absurd cc
 
-pub wants_output_does : {here : Here} {least : Reached} (place : Place) → Does here least Nothing (wants_output place) Anything
-unfolding wants_output
-wants_output_does {here} place = record {
+pub wants_file_does : {here : Here} {least : Reached} (one : File) (place : Place) → Does here least Nothing (wants_file one place) Anything
+unfolding wants_file
+wants_file_does {here} one place = record {
   does = λ s a is fine h.
-      let x = split_if s.has_output (fault.NotProgramParameter place) (after tt [] s) a is in
+      let x = split_if (has_file one s) (fault.NotProgramParameter place) (after tt [] s) a is in
       silent_leaves Anything x.1 Stay refl refl refl fine tt;
 }
 
@@ -600,6 +601,7 @@ module _ (root : ℕ) (look : Look) (s new : Passed) where
         list_all-append (is_formed_mark o here.block) look (ForEnds ∷ [])
         ∙ both_true _ _ (g.formed o (record {
           sites = h.sites;
+          points = h.points;
           types = h.types;
           variables = h.variables;
           headings = h.headings;
@@ -775,6 +777,24 @@ site_does {here} {least} kind place = record {
         omega (arith, counted),
       );
 }
+
+-- ---- points
+
+pub point_does : {here : Here} {least : Reached} (place : Place) → Does here least Nothing (point place) (λ id now. id < now.points)
+unfolding point
+point_does {here} {least} place = record {
+  does = λ s a is fine h.
+      let new : Passed = record s { points = s.points ++ place ∷ []; latest = place } in
+      let y = split_unless (nat_le most_sites (length s.points)) (fault.TooMany place) (after (length s.points) [] new) a is in
+      let counted = length-append s.points (place ∷ []) in
+      subst (Leaves here Nothing s (λ id now. id < now.points)) y.1 (
+        grown_plain (One (Point place (below most_sites (length s.points) y.0))) fine.lawful fine.texts,
+        no_sites refl,
+        omega (arith, counted),
+      );
+}
+
+-- ---- leading sites
 
 -- the kinds of the leading site
 abbrev pub led : Option SiteKind → List SiteKind

@@ -8,6 +8,7 @@ use Rattle.std.proofs.lemmas.List.{length-map}
 use Rattle.place.specs.Place.{ArePlacesInOrder}
 use Rattle.syntax_tree.specs.declared.Program.{Program}
 use Rattle.syntax_tree.specs.Places.{program_places}
+use Rattle.typed_tree.specs.declared.site.Point.{Point}
 use Rattle.typed_tree.specs.declared.tree.Block.{Block}
 use Rattle.typed_tree.specs.declared.tree.Heading.{Heading}
 use Rattle.typed_tree.specs.declared.tree.Tree.{Tree}
@@ -88,11 +89,15 @@ module _ (program : Program) (a : After (Unit {0})) (tree : Tree) (lawful : Lawf
   pub as_many_sites : length tree.sites.items ≡ length a.passed.sites
   as_many_sites = sym (length-map tree.sites.items stands) ∙ ap length left.sites
 
+  pub as_many_points : length tree.points.items ≡ length a.passed.points
+  as_many_points = sym (length-map tree.points.items (λ (p : Point). p.place)) ∙ ap length left.points
+
   is_outline : IsOutlineOf a (outline_of tree)
   is_outline = record {
     variables = left.variables;
     types = left.types;
     sites = as_many_sites;
+    points = as_many_points;
     count = length-map tree.blocks.items heading_of ∙ count;
     headings = subst (TellsHeadings (map heading_of tree.blocks.items)) looks (tree_tells tree);
   }

@@ -4,6 +4,7 @@ use Rattle.std.proofs.Common.{arith}
 use Rattle.std.proofs.Common.{length-append}
 use Rattle.std.specs.List.{list_any}
 use Rattle.std.proofs.lemmas.Grind.{flat_map-append}
+use Rattle.place.specs.declared.Place.{Place}
 use Rattle.types.specs.Forms.{Form}
 use Rattle.typed_tree.specs.Look.{Look, ForEnds, blocks_of_look, mark_blocks}
 use Rattle.typed_tree.specs.declared.tree.Variable.{Variable}
@@ -12,7 +13,7 @@ use Rattle.typed_tree.specs.WellFormed.{variables_of}
 use Rattle.scopes.specs.Scopes.{Region, outer}
 use Rattle.typing.specs.Passing.{Headed, OpenRecord, Passed}
 use Rattle.typing.specs.Steps.{with_one}
-use Rattle.typing.proofs.Ways.{Owner, Nobody, Of, Step, Entry, Loop, Marked, Site, Threat, Typed, Define, Declare, Heading, Token, Text, Output}
+use Rattle.typing.proofs.Ways.{Owner, Nobody, Of, Step, Entry, Loop, Marked, Site, Point, Threat, Typed, Define, Declare, Heading, Token, Text, Given}
 use Rattle.typing.proofs.Ways.{Record, RecordEnds}
 use Rattle.typing.proofs.Ways.{Way, Stay, One, Then, Controlled, Assigned}
 use Rattle.typing_laws.proofs.Owned.{Fails, others_kept}
@@ -43,6 +44,7 @@ pub record Heap : Type 0 where
   pub variables : List Variable
   pub headings : List Headed
   pub sites : List Stands
+  pub points : List Place
   pub threatened : List ℕ
 
 abbrev pub heap_of : Passed → Heap
@@ -51,15 +53,17 @@ heap_of s = record {
   variables = s.variables;
   headings = s.headings;
   sites = s.sites;
+  points = s.points;
   threatened = s.threatened;
 }
 
--- the types, the variables, the headings and the sites are those before and perhaps more; what is threatened stays so
+-- the types, the variables, the headings, the sites and the points are those before and perhaps more; what is threatened stays so
 pub record IsHigher (old new : Heap) : Type 0 where
   pub types : IsLonger old.types new.types
   pub variables : IsLonger old.variables new.variables
   pub headings : IsLonger old.headings new.headings
   pub sites : IsLonger old.sites new.sites
+  pub points : IsLonger old.points new.points
   pub threats : (root : ℕ) → list_any (nat_eq root) old.threatened ≡ true → list_any (nat_eq root) new.threatened ≡ true
 
 abbrev pub Grows : Passed → Passed → Type 0
@@ -71,6 +75,7 @@ as_high = record {
   variables = as_long;
   headings = as_long;
   sites = as_long;
+  points = as_long;
   threats = λ root is. is;
 }
 
@@ -80,6 +85,7 @@ grow_then f g = record {
   variables = longer_still f.variables g.variables;
   headings = longer_still f.headings g.headings;
   sites = longer_still f.sites g.sites;
+  points = longer_still f.points g.points;
   threats = λ root is. g.threats root (f.threats root is);
 }
 
@@ -101,6 +107,11 @@ sites_grow : {acts : Bool} {owner : Owner} {from to : ℕ} {look : Look} {old ne
 sites_grow {old = old} (Site kind place few) = one_longer old.sites (kind, place)
 sites_grow other = as_long
 
+points_grow : {acts : Bool} {owner : Owner} {from to : ℕ} {look : Look} {old new : Passed} → Step acts owner from to look old new
+    → IsLonger old.points new.points
+points_grow {old = old} (Point place few) = one_longer old.points place
+points_grow other = as_long
+
 threats_grow : {acts : Bool} {owner : Owner} {from to : ℕ} {look : Look} {old new : Passed} → Step acts owner from to look old new → (root : ℕ)
     → list_any (nat_eq root) old.threatened ≡ true → list_any (nat_eq root) new.threatened ≡ true
 threats_grow {old = old} (Threat one) root is = kept_with old.threatened one root is
@@ -113,6 +124,7 @@ grows (One step) = record {
   variables = variables_grow step;
   headings = headings_grow step;
   sites = sites_grow step;
+  points = points_grow step;
   threats = threats_grow step;
 }
 grows (Then first second) = grow_then (grows first) (grows second)
@@ -234,10 +246,11 @@ deeper_step (Entry one few is) = Entry one few is
 deeper_step (Loop one few is) = Loop one few is
 deeper_step (Marked one none) = Marked one none
 deeper_step (Site kind place few) = Site kind place few
+deeper_step (Point place few) = Point place few
 deeper_step (Threat root) = Threat root
 deeper_step (Typed form) = Typed form
 deeper_step (Text characters) = Text characters
-deeper_step Output = Output
+deeper_step (Given input output) = Given input output
 deeper_step (Define name denotation regions defines is) = absurd defines
 deeper_step (Declare variable cells owns) = absurd owns
 deeper_step (Record region opened) = Record region opened

@@ -1,11 +1,11 @@
 -- Control variables (ISO 7185:1990, 6.8.3.9): no other block than that whose for statement a variable controls assigns
--- it, passes it to a variable parameter, or uses it as a control variable; nor does the statement of the for. It says
--- nothing of what calls do.
+-- it, reads it, passes it to a variable parameter, or uses it as a control variable; nor does the statement of the for.
+-- It says nothing of what calls do.
 use Rattle.std.specs.Prelude.{◌≡◌, ℕ, ◌++◌, Bool, true, false, List, [], ◌∷◌, Option, Some, None, if◌then◌else◌, map}
 use Rattle.std.specs.List.{list_all}
 use Rattle.std.specs.Option.{option_and_then}
 use Rattle.typed_tree.specs.Accesses.{root_of}
-use Rattle.typed_tree.specs.Look.{Look, Mark, For, ForVariable, Target, WholeTarget, Controls, ForEnds}
+use Rattle.typed_tree.specs.Look.{Look, Mark, For, ForVariable, Reads, Target, WholeTarget, Controls, ForEnds}
 use Rattle.typed_tree.specs.Look.{blocks_of_look, next_of}
 use Rattle.typed_tree.specs.Threats.{is_none_of}
 
@@ -14,6 +14,7 @@ abbrev pub mark_changes : Mark → List ℕ
 mark_changes (Target origin selectors indexes) = root_of origin ∷ []
 mark_changes (WholeTarget origin selectors indexes type_id) = root_of origin ∷ []
 mark_changes (ForVariable type_id origin selectors indexes callee position) = root_of origin ∷ []
+mark_changes (Reads origin selectors indexes reads point range) = root_of origin ∷ []
 mark_changes (For number loop_number place control direction) = control ∷ []
 mark_changes other = []
 

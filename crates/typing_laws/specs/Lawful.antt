@@ -41,6 +41,7 @@ pub record IsOutlineOf (a : After (Unit {0})) (outline : Outline) : Type 0 where
   pub variables : outline.variables ≡ a.passed.variables
   pub types : outline.types ≡ a.passed.types
   pub sites : outline.sites ≡ length a.passed.sites
+  pub points : outline.points ≡ length a.passed.points
   pub count : length outline.headings ≡ length a.passed.headings
   pub headings : TellsHeadings outline.headings a.look
 
@@ -75,6 +76,7 @@ pub record Lawful (program : Program) (a : After (Unit {0})) : Type 0 where
   -- each variable is one that a block declares
   pub declared : list_all (λ variable. nat_lt variable.block (length a.passed.headings)) a.passed.variables ≡ true
   pub few_sites : length a.passed.sites ≤ most_sites
+  pub few_points : length a.passed.points ≤ most_sites
   pub types : BeginWithRequired a.passed.types
   -- its sites stand by place and then by kind, if its places stand in order
   pub by_place : ArePlacesInOrder (program_places program) → AreByPlace a.passed.sites

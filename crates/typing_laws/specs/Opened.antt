@@ -7,7 +7,7 @@ use Rattle.std.specs.Option.{option_and_then}
 use Rattle.typed_tree.specs.declared.tree.Selector.{Selector}
 use Rattle.typed_tree.specs.Accesses.{Origin, root_of, step_of, steps_of}
 use Rattle.typed_tree.specs.Look.{Look, Mark, Value, WholeValue, ForVariable, Target, WholeTarget, Fits}
-use Rattle.typed_tree.specs.Look.{With, Opens, WithEnds}
+use Rattle.typed_tree.specs.Look.{With, Opens, Reads, WithEnds}
 use Rattle.typed_tree.specs.Records.{OpenRecord, is_there}
 
 -- where an access of a form begins
@@ -17,6 +17,7 @@ mark_origins (WholeValue origin selectors indexes type_id cells defined) = origi
 mark_origins (ForVariable type_id origin selectors indexes callee position) = origin ∷ []
 mark_origins (Target origin selectors indexes) = origin ∷ []
 mark_origins (WholeTarget origin selectors indexes type_id) = origin ∷ []
+mark_origins (Reads origin selectors indexes reads point range) = origin ∷ []
 mark_origins (Fits origin selectors fits) = origin ∷ []
 mark_origins (Opens origin selectors indexes) = origin ∷ []
 mark_origins other = []

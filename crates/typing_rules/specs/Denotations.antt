@@ -3,10 +3,10 @@ use Rattle.std.specs.Prelude.{Ok, Err, ℕ, Bool, Option, Some, None, true, fals
 use Rattle.place.specs.declared.Place.{Place}
 use Rattle.types.specs.declared.form.TypeId.{TypeId}
 use Rattle.scopes.specs.declared.denotation.Denotation.{Denotation}
+use Rattle.scopes.specs.declared.denotation.File.{File}
 use Rattle.scopes.specs.declared.denotation.RequiredFunction.{RequiredFunction}
 use Rattle.scopes.specs.declared.denotation.RequiredProcedure.{RequiredProcedure}
 use Rattle.scopes.specs.declared.denotation.Denotation.TheVariants as denotes
-use Rattle.scopes.specs.declared.denotation.RequiredProcedure.TheVariants as procedure
 use Rattle.typed_tree.specs.declared.fault.TypeFault.TheVariants as fault
 use Rattle.typing_rules.specs.Checked.{Checked}
 
@@ -20,7 +20,8 @@ as_function place (denotes.Text number type_id) = Err (fault.Mismatch place)
 as_function place (denotes.Variable root type_id) = Err (fault.Mismatch place)
 as_function place (denotes.Field slot position offset type_id) = Err (fault.Mismatch place)
 as_function place (denotes.TypeName type_id) = Err (fault.Mismatch place)
-as_function place denotes.Output = Err (fault.Mismatch place)
+as_function place (denotes.InputFunction function) = Err (fault.Mismatch place)
+as_function place (denotes.File file) = Err (fault.Mismatch place)
 
 -- the routine that a name denotes, if a program declares it: its block, and whether it is a function
 abbrev pub as_routine : Denotation → Option (ℕ × Bool)
@@ -37,22 +38,13 @@ as_procedure place (denotes.Text number type_id) = Err (fault.Mismatch place)
 as_procedure place (denotes.Variable root type_id) = Err (fault.Mismatch place)
 as_procedure place (denotes.Field slot position offset type_id) = Err (fault.Mismatch place)
 as_procedure place (denotes.TypeName type_id) = Err (fault.Mismatch place)
-as_procedure place denotes.Output = Err (fault.Mismatch place)
+as_procedure place (denotes.InputFunction function) = Err (fault.WrongParameters place)
+as_procedure place (denotes.File file) = Err (fault.Mismatch place)
 
-abbrev pub ends_line : RequiredProcedure → Bool
-ends_line procedure.Write = false
-ends_line procedure.Writeln = true
-
-abbrev pub is_output : Denotation → Bool
-is_output denotes.Output = true
-is_output (denotes.TypeName type_id) = false
-is_output (denotes.Constant value type_id) = false
-is_output (denotes.Text number type_id) = false
-is_output (denotes.Variable root type_id) = false
-is_output (denotes.Field slot position offset type_id) = false
-is_output (denotes.Procedure procedure) = false
-is_output (denotes.Function function) = false
-is_output (denotes.Routine block is_function) = false
+-- the file that a name denotes, if it denotes one
+abbrev pub as_file : Denotation → Option File
+as_file (denotes.File file) = Some file
+as_file other = None
 
 -- the variable that a name denotes as a control variable, by its root and its type; K5 at a field, which is none that a
 -- block declares, and K2 where it denotes no variable
@@ -65,4 +57,5 @@ as_control place (denotes.TypeName type_id) = Err (fault.NotVariable place)
 as_control place (denotes.Procedure procedure) = Err (fault.NotVariable place)
 as_control place (denotes.Function function) = Err (fault.NotVariable place)
 as_control place (denotes.Routine block is_function) = Err (fault.NotVariable place)
-as_control place denotes.Output = Err (fault.NotVariable place)
+as_control place (denotes.InputFunction function) = Err (fault.NotVariable place)
+as_control place (denotes.File file) = Err (fault.NotVariable place)

@@ -7,6 +7,7 @@ use Rattle.syntax_tree.specs.declared.Direction.TheVariants as written
 use Rattle.types.specs.declared.form.TypeKind.{TypeKind}
 use Rattle.types.specs.declared.form.OrdinalRange.{OrdinalRange}
 use Rattle.types.specs.declared.sets.SetBase.{SetBase}
+use Rattle.types.specs.Types.{char, host_of, integer, is_same}
 use Rattle.types.specs.Types.{are_compatible_sets, is_assignable, kind_of, range_of, cells_of, form_at, is_ordinal}
 use Rattle.types.specs.Forms.{Form}
 use Rattle.types.specs.declared.form.TypeId.{TypeId}
@@ -16,6 +17,8 @@ use Rattle.typed_tree.specs.declared.tree.Direction.{Direction}
 use Rattle.typed_tree.specs.declared.site.SiteKind.{SiteKind}
 use Rattle.typed_tree.specs.declared.tree.Scalar.{Scalar}
 use Rattle.typed_tree.specs.declared.tree.RangeTest.{RangeTest}
+use Rattle.typed_tree.specs.declared.tree.Readable.{Readable}
+use Rattle.typed_tree.specs.declared.tree.Readable.TheVariants as readable
 use Rattle.typed_tree.specs.declared.tree.Representation.{Representation}
 use Rattle.typed_tree.specs.declared.tree.Direction.TheVariants as direction
 use Rattle.typed_tree.specs.declared.site.SiteKind.TheVariants as kind
@@ -105,3 +108,17 @@ representation_of types id = form_representation (form_at types id)
 abbrev pub ordinal_of : List Form → Place → Option TypeId → Checked TypeId
 ordinal_of types place None = Err (fault.Mismatch place)
 ordinal_of types place (Some type_id) = fits (is_ordinal types type_id) place type_id
+
+-- what is read into a variable of a type: an integer or a character, and the values that it may have; K1 at the place
+-- where the host type is neither integer nor char (6.9.1)
+abbrev pub readable_host : TypeId → Option Readable
+readable_host host =
+    if is_same host integer then Some readable.Integer
+    else if is_same host char then Some readable.Char
+    else None
+
+abbrev pub read_as : List Form → Place → TypeId → Checked (Readable × OrdinalRange)
+read_as types place type_id =
+    and_then (or_mismatch place (readable_host (host_of types type_id))) λ reads.
+    and_then (or_mismatch place (range_of types type_id)) λ range.
+    Ok (reads, range)

@@ -1,11 +1,11 @@
 //! What a name denotes, where a certain thing is needed (ISO 7185:1990, 6.2.2).
 ghost use Rattle.std.specs.Prelude.{◌≡◌};
 ghost use Rattle.typing_rules.specs.Checked.{told};
-ghost use Rattle.typing_rules.specs.Denotations.{as_function, as_routine, as_procedure, ends_line, is_output};
+ghost use Rattle.typing_rules.specs.Denotations.{as_function, as_routine, as_procedure, as_file};
 ghost use Rattle.typing_rules.specs.Denotations.{as_control};
 
 use place::Place;
-use scopes::{Denotation, RequiredFunction, RequiredProcedure, ScopeFault};
+use scopes::{Denotation, File, RequiredFunction, RequiredProcedure, ScopeFault};
 use typed_tree::fault::TypeFault;
 use types::TypeId;
 
@@ -41,7 +41,7 @@ pub fn as_procedure(place: Place, denotation: Denotation) -> Result<RequiredProc
 {
     match denotation {
         Denotation::Procedure(procedure) => Ok(procedure),
-        Denotation::Function(_) | Denotation::Routine { .. } => {
+        Denotation::Function(_) | Denotation::InputFunction(_) | Denotation::Routine { .. } => {
             Err(TypeFault::WrongParameters(place))
         }
         _ => Err(TypeFault::Mismatch(place)),
@@ -70,19 +70,12 @@ pub fn as_routine(denotation: Denotation) -> Option<(u32, bool)>
     }
 }
 
-/// Whether a name denotes the file output.
-pub fn is_output(denotation: Denotation) -> bool
-    ensures { result ≡ is_output denotation }
+/// The file that a name denotes, if it denotes one.
+pub fn as_file(denotation: Denotation) -> Option<File>
+    ensures { result ≡ as_file denotation }
 {
-    matches!(denotation, Denotation::Output)
-}
-
-/// Whether a call ends the line.
-pub fn ends_line(procedure: RequiredProcedure) -> bool
-    ensures { result ≡ ends_line procedure }
-{
-    match procedure {
-        RequiredProcedure::Write => false,
-        RequiredProcedure::Writeln => true,
+    match denotation {
+        Denotation::File(file) => Some(file),
+        _ => None,
     }
 }

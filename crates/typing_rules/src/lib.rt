@@ -7,12 +7,12 @@ mod operators;
 mod targets;
 mod typed;
 
-pub use denotations::{
-    as_control, as_function, as_procedure, as_routine, ends_line, is_output, placed,
-};
+pub use denotations::{as_control, as_file, as_function, as_procedure, as_routine, placed};
 pub use operators::{
     may_index, may_relate, member_of, member_with_site, relation_behind, result_of,
     set_operation_behind, sign_operation,
 };
-pub use targets::{copying, fitting, members_test, ordinal_of, representation, test_kind, way};
+pub use targets::{
+    copying, fitting, members_test, ordinal_of, read_as, representation, test_kind, way,
+};
 pub use typed::{Typed, TypedValue};

@@ -2,14 +2,15 @@
 ghost use Rattle.std.specs.Prelude.{◌≡◌, ◌&&◌, nat_eq, option_map};
 ghost use Rattle.types.specs.Types.{cells_of, is_assignable};
 ghost use Rattle.typing_rules.specs.Typed.{ordinal_type};
-ghost use Rattle.typing_rules.specs.Targets.{way, test_kind, fitting_members, fitting, copying, members_test};
+ghost use Rattle.typing_rules.specs.Targets.{way, test_kind, fitting_members, fitting, copying, members_test, read_as};
+ghost use Rattle.typing_rules.specs.Targets.{readable_host};
 ghost use Rattle.typing_rules.specs.Targets.{representation_of, ordinal_of};
 
 use crate::typed::{Typed, TypedValue};
 use place::Place;
 use typed_tree::fault::TypeFault;
 use typed_tree::site::SiteKind;
-use typed_tree::tree::{Direction, RangeTest, Representation, Scalar};
+use typed_tree::tree::{Direction, RangeTest, Readable, Representation, Scalar};
 use types::{OrdinalRange, SetBase, TypeForm, TypeId, TypeKind, TypeTable};
 
 /// The kind of the site of a test, by what is tested.
@@ -112,6 +113,34 @@ pub fn way(direction: syntax_tree::Direction) -> Direction
     match direction {
         syntax_tree::Direction::To => Direction::To,
         syntax_tree::Direction::DownTo => Direction::DownTo,
+    }
+}
+
+/// What is read into a variable of a type, and the values that it may have (6.9.1): K1 at the place where the host type
+/// is neither integer nor char.
+pub fn read_as(
+    types: &TypeTable,
+    place: Place,
+    id: TypeId,
+) -> Result<(Readable, OrdinalRange), TypeFault>
+    ensures { result ≡ read_as types.now place id }
+{
+    match (readable_host(types.host(id)), types.range(id)) {
+        (Some(reads), Some(range)) => Ok((reads, range)),
+        _ => Err(TypeFault::Mismatch(place)),
+    }
+}
+
+// What is read of a host type.
+fn readable_host(host: TypeId) -> Option<Readable>
+    ensures { result ≡ readable_host host }
+{
+    if host.same(TypeTable::INTEGER) {
+        Some(Readable::Integer)
+    } else if host.same(TypeTable::CHAR) {
+        Some(Readable::Char)
+    } else {
+        None
     }
 }
 

@@ -25,5 +25,6 @@ pub returns-clause-follows : goal.returns-clause-follows
 returns-clause-follows c =
     let whole : c.in_ok-instructions.instructions.items ≡ program_code c.args.tree.now = search rules in
     let sites : c.in_ok-sites_of.field-0.items ≡ site_table c.args.tree.now.sites.items = search rules in
+    let points : c.in_ok-points_of.field-0.items ≡ point_table c.args.tree.now.points.items = search rules in
     let short : is_too_large c.args.tree.now ≡ false = search rules in
-    follows c.known.ensures _ c.args.tree.now whole sites short
+    follows c.known.ensures _ c.args.tree.now whole sites points short

@@ -19,6 +19,7 @@ returns c = λ source text certificate sound judged.
     let keeps = subst (λ sites. KeepsInstructions sites (program_code tree) stripped.instructions.items) listed
     (subst (λ code. KeepsInstructions c.deref.result.now code stripped.instructions.items) c.in_ok-full.ensures.instructions c.in_ok-stripped.ensures.kept) in
     let sites = c.in_ok-stripped.ensures.sites ∙ c.in_ok-full.ensures.sites in
+    let points = c.in_ok-stripped.ensures.points ∙ c.in_ok-full.ensures.points in
     record {
       instructions = c.in_ok-full.ensures.instructions;
       sites = c.in_ok-full.ensures.sites;
@@ -28,11 +29,11 @@ returns c = λ source text certificate sound judged.
         instructions = c.in_ok-stripped.ensures.instructions ∙ ap (λ sites. strip sites full.instructions.items) listed
             ∙ ap (strip _) c.in_ok-full.ensures.instructions;
         sites = sites;
-        points = c.in_ok-stripped.ensures.points ∙ c.in_ok-full.ensures.points;
+        points = points;
       };
       headline = record {
         closed_never_err = judged.closed_never_err;
-        follows = c.stripped_follows.ensures tree (site_table open_sites) stripped sound.well_formed few sites keeps
+        follows = c.stripped_follows.ensures tree (site_table open_sites) stripped sound.well_formed few sites points keeps
             (errs_at_open tree open_sites judged.closed_never_err);
       };
     }

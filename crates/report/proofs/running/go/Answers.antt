@@ -1,24 +1,27 @@
 use Rattle.std.proofs.Common.{refl, subst}
-use Rattle.report.specs.Whole.{RunsStripped}
+use Rattle.report.specs.Whole.{RunsStripped, streams}
 use Rattle.report.proofs.running.go.Goals as goal
 
-pub returns-clause-runs : goal.returns-clause-runs
-returns-clause-runs g c =
+pub returns : goal.returns
+returns g c =
     let compiled = c.in_ok-compiled.compiled in
     let of_layers = c.in_ok-compiled.ensures in
-    let before = g.W.Sink.contents c.args.writer.now in
-    let after = g.W.Sink.contents c.run-stop.new.writer in
+    let of = λ (r : g.row.R.Denot) (w : g.row.W.Denot). streams (g.R.Feed.remaining r) (g.R.Feed.asked r) (g.R.Feed.failures r)
+    (g.W.Sink.contents w) (g.W.Sink.offered w) (g.W.Sink.failures w) in
+    let before = of c.args.reader.now c.args.writer.now in
+    let after = of c.run-stop.new.reader c.run-stop.new.writer in
     record {
-      compiled = compiled;
-      is_compiled = record {
-        typed = of_layers.typed;
-        spelled = of_layers.certificate;
-        valid = of_layers.checked;
-        entered = of_layers.visits;
-        stripped = of_layers.stripped;
-        headline = of_layers.headline;
+      runs = record {
+        compiled = compiled;
+        is_compiled = record {
+          typed = of_layers.typed;
+          spelled = of_layers.certificate;
+          valid = of_layers.checked;
+          entered = of_layers.visits;
+          stripped = of_layers.stripped;
+          headline = of_layers.headline;
+        };
+        verdict_is = refl;
+        ran = subst (λ n. RunsStripped compiled c.run-stop.result n c.args.budget before after) c.in_ok-machine.ensures c.run-stop.ensures.runs;
       };
-      verdict_is = refl;
-      ran = subst (λ n. RunsStripped compiled c.run-stop.result n c.args.budget before after) c.in_ok-machine.ensures c.run-stop.ensures.ran;
-      failed = c.run-stop.ensures.write_failed;
     }

@@ -17,6 +17,7 @@ returns c =
       by_place = λ order. resolved_has program _ (λ tree is. Programs.sites_by_place program tree is order) answer resolved;
       few_sites = resolved_has program _ (Programs.has_few_sites program) answer resolved;
       well_formed = resolved_has program _ (Programs.is_well_formed program) answer resolved;
-      points = resolved_has program _ (Programs.has_no_points program) answer resolved;
+      points_in_order = resolved_has program _ (Programs.points_in_order program) answer resolved;
+      few_points = resolved_has program _ (Programs.has_few_points program) answer resolved;
       types = resolved_has program _ (Programs.has_types program) answer resolved;
     }

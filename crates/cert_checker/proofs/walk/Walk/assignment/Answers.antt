@@ -14,7 +14,7 @@ returns-clause-goes c =
     assignment-goes c.args.assignment.now c.deref.result.now c.deref-2.result.now reach (said_reach c.reach_stored-reach.result) c.expression-known.result
     c.fitting-passed.result c.deref.ensures.value c.access-reach.ensures.goes c.expression-known.ensures.goes (lifted c.fitting-passed.ensures)
     c.deref-2.ensures.value
-    (c.reach_stored-reach.ensures ∙ ap (λ (hold : Bool). reach_stored c.deref-2.result.now hold reach) c.holds_call.ensures) c.assign_to.ensures
+    (c.reach_stored-reach.ensures ∙ ap (λ (hold : Bool). reach_stored c.deref-2.result.now hold reach) c.holds_call.ensures) c.assign_value.ensures
 
 pub returns-clause-counts : goal.returns-clause-counts
 returns-clause-counts c =

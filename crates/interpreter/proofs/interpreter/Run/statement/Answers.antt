@@ -1,5 +1,6 @@
 use Rattle.std.proofs.Common.{reverse, refl}
 use Rattle.interpreter.specs.Pending.{operands_of}
+use Rattle.interpreter.proofs.Inputs.{does-Read}
 use Rattle.interpreter.proofs.Resuming.{continues_as, goes_on_to}
 use Rattle.interpreter.proofs.Unrolling.{entered, does-Empty, does-Assign, does-Copy, does-Write, does-Compound}
 use Rattle.interpreter.proofs.Unrolling.{does-If, does-While, does-Repeat, does-For, does-Case, does-With, does-procedure}
@@ -37,6 +38,15 @@ returns-in-Write-clause-does c = λ env outer s agrees.
     (operands_of old) s)
     (c.parameters.ensures.does env outer (entered given.number env s) agrees)
 
+pub returns-in-Read-clause-does : goal.returns-in-Read-clause-does
+returns-in-Read-clause-does c = λ env outer s agrees.
+    let old = c.args.self.now in
+    let given = c.in-Read.reading in
+    continues_as env outer old c.variables.new.self _ _ c.variables.result
+    (does-Read given c.args.statement.now c.in-Read.is c.deref-in-Read.result c.deref-in-Read.ensures.value env outer (reverse old.pending.items)
+    (operands_of old) s)
+    (c.variables.ensures.does env outer (entered given.number env s) agrees)
+
 pub returns-in-Compound-clause-does : goal.returns-in-Compound-clause-does
 returns-in-Compound-clause-does c = λ env outer s agrees.
     let old = c.args.self.now in
@@ -50,8 +60,8 @@ returns-in-If-clause-does c = λ env outer s agrees.
     let old = c.args.self.now in
     let branches = c.in-If in
     continues_as env outer old c.plan.new.self _ _ c.plan.result
-    (does-If branches.number branches.condition branches.consequence branches.alternative c.args.statement.now branches.is c.deref-in-If.result.now
-    c.deref-in-If.ensures env outer (reverse old.pending.items) (operands_of old) s)
+    (does-If branches.number branches.condition branches.consequence branches.alternative c.args.statement.now branches.is branches.consequence.value
+    refl env outer (reverse old.pending.items) (operands_of old) s)
     (c.plan.ensures.does env outer (entered branches.number env s) agrees)
 
 pub returns-in-While-clause-does : goal.returns-in-While-clause-does

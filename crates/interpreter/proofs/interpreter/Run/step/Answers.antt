@@ -27,6 +27,13 @@ pub returns-in-Parameters-clause-does : goal.returns-in-Parameters-clause-does
 returns-in-Parameters-clause-does c =
     does_as c.args.self.now c.parameters.new.self c.args.work _ c.parameters.result c.in-Parameters.is c.parameters.ensures.does
 
+pub returns-in-Variables-clause-does : goal.returns-in-Variables-clause-does
+returns-in-Variables-clause-does c =
+    does_as c.args.self.now c.variables.new.self c.args.work _ c.variables.result c.in-Variables.is c.variables.ensures.does
+
+pub returns-in-Read-clause-does : goal.returns-in-Read-clause-does
+returns-in-Read-clause-does c = does_as c.args.self.now c.read.new.self c.args.work _ c.read.result c.in-Read.is c.read.ensures.does
+
 pub returns-in-Width-clause-does : goal.returns-in-Width-clause-does
 returns-in-Width-clause-does c = does_as c.args.self.now c.width.new.self c.args.work _ c.width.result c.in-Width.is c.width.ensures.does
 

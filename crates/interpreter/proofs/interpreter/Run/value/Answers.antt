@@ -1,5 +1,6 @@
 use Rattle.std.proofs.Common.{reverse, refl}
 use Rattle.interpreter.specs.Pending.{operands_of}
+use Rattle.interpreter.proofs.Inputs.{does-Input}
 use Rattle.interpreter.proofs.Resuming.{continues_as}
 use Rattle.interpreter.proofs.Unrolling.{entered, does-Variable, does-Monadic, does-Chain, does-Compare, does-Call, does-Set}
 use Rattle.interpreter.proofs.interpreter.Run.value.Goals as goal
@@ -12,6 +13,14 @@ returns-in-Variable-clause-does c = λ env outer s agrees.
     (does-Variable given.access given.indexes given.holds given.defined c.args.expression.now given.is c.deref.result.now c.deref.ensures.value env outer
     (reverse old.pending.items) (operands_of old) s)
     (c.access.ensures.does env outer (entered given.access.number env s) agrees)
+
+pub returns-in-Input-clause-does : goal.returns-in-Input-clause-does
+returns-in-Input-clause-does c = λ env outer s agrees.
+    let old = c.args.self.now in
+    let given = c.in-Input in
+    continues_as env outer old c.asked.new.self _ _ c.asked.result
+    (does-Input given.number given.asks c.args.expression.now given.is env outer (reverse old.pending.items) (operands_of old) s)
+    (c.asked.ensures.does env outer (entered given.number env s) agrees)
 
 pub returns-in-Monadic-clause-does : goal.returns-in-Monadic-clause-does
 returns-in-Monadic-clause-does c = λ env outer s agrees.

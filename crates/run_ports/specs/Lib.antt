@@ -1,0 +1,5 @@
+pub mod Feeding
+pub mod Output
+pub mod Ports
+pub mod Reads
+pub mod Steps

@@ -1,0 +1,12 @@
+use Rattle.std.proofs.Common.{◌≡◌, take}
+use Rattle.run_ports.specs.Output.{ports}
+use Rattle.run_ports.specs.Ports.{Passes}
+use Rattle.stack_machine.specs.Texts.{characters}
+use Rattle.stack_machine.proofs.writing.put_string.Given as goal
+
+abbrev pub invariant-loop-word : goal.invariant-loop-word
+invariant-loop-word g l =
+    (g.W.Sink.failures l.writer ≡ g.W.Sink.failures l.initial.writer) × Passes
+    (ports (g.W.Sink.contents l.initial.writer) (g.W.Sink.offered l.initial.writer) l.initial.to.output)
+    (ports (g.W.Sink.contents l.writer) (g.W.Sink.offered l.writer) l.to.output) (take l.word-index (characters l.word-items))
+    × (l.to.input ≡ l.initial.to.input)
