@@ -56,7 +56,7 @@ static SENTENCES: [(&str, &str); 16] = [
         "program p; var a: t; t: integer; begin end.",
         "1:19: used before its declaration",
     ),
-    ("program p; begin read end.", "1:18: not declared"),
+    ("program p; begin reed end.", "1:18: not declared"),
     (
         "program p; var a: integer; begin a := integer end.",
         "1:39: types that don't fit",
