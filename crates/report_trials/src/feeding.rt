@@ -47,29 +47,29 @@ impl io::Read for Cut<'_> {
     }
 }
 
-// What a source with a certificate writes, and behind that the line and the status of its stop.
-fn run_over(
-    alloc: Global,
-    program: (&str, &str),
-    reader: &mut Counted<Cut>,
-) -> Result<String, Fault> {
+// What a source with a certificate writes, and behind that the line and the status of its stop; and how often the
+// reader was called.
+fn run_over(alloc: Global, program: (&str, &str), reader: Cut) -> Result<(String, u32), Fault> {
     let (source, claims) = program;
+    let mut reader = Counted::new(reader);
     let mut writer = Counted::new(Vec::new(alloc));
     let (_, stop) = go(
         alloc,
         source.as_bytes(),
         Some(claims.as_bytes()),
-        reader,
+        &mut reader,
         &mut writer,
         4_000,
         u64::MAX,
     )?;
     let told = stop_told(alloc, &stop)?;
-    Ok(format!(in alloc; "{}|{told}", text_of(&writer.into_inner()))?)
+    let shown = format!(in alloc; "{}|{told}", text_of(&writer.into_inner()))?;
+    Ok((shown, reader.inner().calls))
 }
 
 fn told_over(alloc: Global, program: (&str, &str), reader: Cut) -> Result<String, Fault> {
-    run_over(alloc, program, &mut Counted::new(reader))
+    let (told, _) = run_over(alloc, program, reader)?;
+    Ok(told)
 }
 
 // Whether a reader that cuts its bytes into pieces of 1 to 10 lets a program write and stop so.
@@ -187,13 +187,13 @@ fn a_failure_behind_all_that_is_read_is_never_met(rt: HostRuntime) -> Result<(),
 fn the_input_is_asked_for_in_pieces(rt: HostRuntime) -> Result<(), Fail> {
     let alloc = rt.alloc();
     let input = vec![in alloc; b'a'; 8_000]?;
-    let mut reader = Counted::new(Cut {
+    let reader = Cut {
         rest: &input,
         length: 10_000,
         failing: 0,
         calls: 0,
-    });
-    run_over(alloc, COPY, &mut reader)?;
-    assert!(rt; reader.inner().calls == 3);
+    };
+    let (_, calls) = run_over(alloc, COPY, reader)?;
+    assert!(rt; calls == 3);
     Ok(())
 }
