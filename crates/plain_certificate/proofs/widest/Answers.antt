@@ -1,0 +1,11 @@
+use Rattle.certificate.specs.declared.Certificate.{Certificate}
+use Rattle.certificate.specs.declared.Version.TheVariants.{One}
+use Rattle.plain_certificate.proofs.Listed.{lists-all, names-known, no-facts}
+use Rattle.plain_certificate.proofs.widest.Goals as goal
+
+pub returns : goal.returns
+returns c =
+    let tree = c.args.tree.now in
+    let certificate : Certificate = record { version = One; sections = c.in_ok-sections.field-0 } in
+    let is = c.in_ok-sections.ensures in
+    (names-known tree certificate is, no-facts tree certificate is, lists-all tree certificate is)
