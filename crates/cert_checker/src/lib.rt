@@ -9,17 +9,17 @@ ghost use Rattle.cert_checker.specs.Promise.{CallsChangeWhatTheyList, ClosedNeve
 ghost use Rattle.cert_checker.specs.Promise.{StatesHold, Valid};
 
 mod assignments;
-pub mod blocks;
+mod blocks;
 pub mod laws;
-pub mod loops;
+mod loops;
 mod names;
 mod open_sites;
-pub mod program;
+mod program;
 mod reached;
 mod reads;
 mod stores;
-pub mod visible;
-pub mod walk;
+mod visible;
+mod walk;
 
 use certificate::Certificate;
 use checker_expressions::fault::CheckFault;

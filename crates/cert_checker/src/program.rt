@@ -55,7 +55,7 @@ pub(crate) fn program(
 }
 
 /// What a walk goes by before the first block.
-pub fn grounds<'a>(
+fn grounds<'a>(
     alloc: Global,
     tree: &'a Tree,
     certificate: &'a Certificate,
@@ -73,7 +73,7 @@ pub fn grounds<'a>(
 
 impl<'a> Walk<'a> {
     /// Before the first block.
-    pub fn new(
+    fn new(
         state: State<'a>,
         grounds: Grounds<'a>,
         claims: &'a [Claims<'a>],

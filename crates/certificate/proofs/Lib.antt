@@ -15,4 +15,3 @@ pub mod Spelled
 pub mod TextLines
 pub mod Whole
 pub mod WordLaws
-pub mod Written

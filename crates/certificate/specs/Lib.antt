@@ -6,4 +6,3 @@ pub mod Lines
 pub mod Contents
 pub mod Text
 pub mod Building
-pub mod Writing

@@ -7,8 +7,6 @@
 #[cfg(test)]
 mod calling;
 #[cfg(test)]
-mod certificates;
-#[cfg(test)]
 mod checking;
 #[cfg(test)]
 mod declared_types;

@@ -2,7 +2,6 @@
 #![tactic(auto)]
 
 pub mod compile;
-pub mod files;
 pub mod prepared;
 pub mod program;
 mod running;
