@@ -15,7 +15,7 @@ TROUBLE = 3
 PLACED = re.compile(rb"(\d{1,18}):(\d{1,18}): (possible error:|error:|input:|refused|certificate refused) (.+)")
 CLAIMED = re.compile(rb"certificate:(\d{1,18}): refused (\S+)")
 PLAIN = re.compile(rb"(refused|certificate refused|machine fault) (\S+)")
-PATH = re.compile(rb"(cannot read) .*")
+PATH = re.compile(rb"(cannot read|cannot write) .*")
 TROUBLES = (b"no memory",)
 STOPS = (b"store full", b"write failed", b"read failed", b"budget used up")
 
@@ -73,6 +73,8 @@ def files_of(words):
             certificate = rest.pop(0) if rest else None
         elif word.startswith("--cert="):
             certificate = word[len("--cert=") :]
+        elif word == "--write-cert":
+            del rest[:1]
         elif word == "-" or not word.startswith("-"):
             values.append(word)
     return Files(values[0] if values else None, certificate)

@@ -22,14 +22,15 @@ r"""Reads the cases of tests/cases, for `tests/run` and `tests/refuse_memory`. A
     input folder   standard input is a folder, so that each call that reads it fails
     writes         what is written to standard output
     tells          what is written to standard error
+    saves          what the file saved.cert then holds; without this no file of that name is there
     writes nowhere, tells nowhere    the stream takes no byte: each call that writes to it fails
     status N       the status, 0 where none is given
 
-Behind `source`, `certificate`, `input`, `writes` and `tells` stand the lines of the text. `|TEXT` is a line with its
-end, and without its end where the last character is `\`. `N|TEXT` is TEXT N times, without a line end, and `\#` in it
-is the number of the copy: `3|x\#+` is `x1+x2+x3+`. `\xHH` is a byte, `\\` is a backslash, and a blank at the end of a
-line is `\x20`. An empty line or a comment ends a text. Comments begin with `#` and may stand between all lines. In a
-word too `\xHH` is a byte and `\\` is a backslash."""
+Behind `source`, `certificate`, `input`, `writes`, `tells` and `saves` stand the lines of the text. `|TEXT` is a line
+with its end, and without its end where the last character is `\`. `N|TEXT` is TEXT N times, without a line end, and
+`\#` in it is the number of the copy: `3|x\#+` is `x1+x2+x3+`. `\xHH` is a byte, `\\` is a backslash, and a blank at the
+end of a line is `\x20`. An empty line or a comment ends a text. Comments begin with `#` and may stand between all
+lines. In a word too `\xHH` is a byte and `\\` is a backslash."""
 
 import os
 import re
@@ -38,8 +39,9 @@ from dataclasses import dataclass
 FOLDER = os.path.join(os.path.dirname(os.path.abspath(__file__)), "cases")
 SOURCE = "source.pas"
 CERTIFICATE = "source.cert"
+SAVED = "saved.cert"
 ENDING = ".cases"
-TEXTS = ("source", "certificate", "input", "writes", "tells")
+TEXTS = ("source", "certificate", "input", "writes", "tells", "saves")
 STREAMS = ("writes", "tells")
 # What a stream holds that takes no byte, and one that gives none.
 NOWHERE = None
@@ -70,6 +72,7 @@ class Case:
     input: bytes = b""
     writes: bytes = b""
     tells: bytes = b""
+    saves: bytes = None
     status: int = 0
 
 
@@ -215,7 +218,7 @@ def unescaped(place, text):
 def checked(place, case, parts):
     if "source" not in parts and "words" not in parts:
         raise Fault(place, f"{case.name} has neither words nor a source")
-    for part in ("input", "writes", "tells"):
+    for part in ("input", "writes", "tells", "saves"):
         if parts.get(part) == b"":
             raise Fault(place, f"{case.name} has `{part}` without a text")
     return case
@@ -236,6 +239,15 @@ def put(text, folder, name):
     with open(os.path.join(folder, name), "wb") as it:
         it.write(text)
     return name
+
+
+def saved_in(folder):
+    """What a run in a folder wrote to the file of a certificate; None where it wrote none."""
+    path = os.path.join(folder, SAVED)
+    if not os.path.exists(path):
+        return None
+    with open(path, "rb") as it:
+        return it.read()
 
 
 def lines_of(text):

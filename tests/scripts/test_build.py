@@ -428,6 +428,7 @@ class Look(Repository):
             (["--cert", "x/../c.cert", "--go", "a b.pas"], ["--cert", "{}/c.cert", "--go", "{}/a b.pas"]),
             (["--cert=c.cert", "/else/a.pas"], ["--cert={}/c.cert", "/else/a.pas"]),
             (["--cert", "--go", "a"], ["--cert", "{}/--go", "{}/a"]),
+            (["--write-cert", "w", "--cert=c", "a"], ["--write-cert", "{}/w", "--cert={}/c", "{}/a"]),
             (["--go", "--", "--cert"], ["--go", "--", "{}/--cert"]),
             (["--version"], ["--version"]),
         ):

@@ -117,7 +117,8 @@ class OverTheProgram(ExplainCase):
 
     def test_claim(self):
         put(self.folder, "a.pas", b"program p;\nvar x: integer;\nbegin\n  while x > 0 do x := 1\nend.\n")
-        self.assertEqual(self.explain("a.pas"), 2)
+        put(self.folder, "a.cert", b"pcert 1\n")
+        self.assertEqual(self.explain("--cert", "a.cert", "a.pas"), 2)
         self.assert_shown("    4 |   while x > 0 do x := 1\n      |                    ^\n    ")
         self.assert_told("4:20: certificate refused C7 4 | while x > 0 do x := 1 | ^ <>", "C7")
 
@@ -126,6 +127,12 @@ class OverTheProgram(ExplainCase):
         put(self.folder, "a.cert", b"pcert 1\nproc 9\nchange v0\n")
         self.assertEqual(self.explain("--cert", "a.cert", "a.pas"), 2)
         self.assert_told("certificate refused C1 <>", "C1")
+
+    def test_cannot_write(self):
+        put(self.folder, "a.pas", OPEN)
+        self.assertEqual(self.explain("--write-cert", "none/a.cert", "--go", "a.pas"), 3)
+        self.assertEqual(self.output, b"")
+        self.assert_told("cannot write none/a.cert <>", "cannot write")
 
     def test_good_program(self):
         words = ["--go", os.path.join(TOP, "examples", "sum.pas")]
@@ -308,9 +315,9 @@ class OverTheStandIn(ExplainCase):
 
     def test_usage(self):
         self.assertEqual(self.explain("--help"), 0)
-        self.assertIn("bin/explain [--cert FILE] [--go] SOURCE", self.output.decode())
+        self.assertIn("bin/explain [--cert FILE] [--write-cert FILE] [--go] SOURCE", self.output.decode())
         self.assertEqual(self.explain(), 3)
-        self.assertIn("bin/explain [--cert FILE] [--go] SOURCE", self.errors)
+        self.assertIn("bin/explain [--cert FILE] [--write-cert FILE] [--go] SOURCE", self.errors)
 
     def test_closed_pipe(self):
         self.program = make_stand_in(self.folder, b"1:1: error: index\n" * 100000, output=b"7" * 1000000)

@@ -35,7 +35,7 @@ use Rattle.cert_checker.specs.Names.{is_known, is_lasting, is_of_loops, is_outwa
 use Rattle.checker_expressions.proofs.Sound.{World}
 use Rattle.checker_expressions.proofs.CallLaws.{AreClaims}
 
-nothing-in : {A : Type 0} (items : List A) (item : A) → is_empty items ≡ true → Contains items item → ⊥
+pub nothing-in : {A : Type 0} (items : List A) (item : A) → is_empty items ≡ true → Contains items item → ⊥
 nothing-in [] item none inside = omega (arith, inside.1)
 nothing-in (first ∷ items) item none inside = false≢true none
 
@@ -146,7 +146,7 @@ comes-in (section ∷ sections) number = by (nat_eq section.block number) refl (
     by true own later = From section (0, omega arith, refl) (eqb-true section.block number own) refl
     by false own later = comes-later section sections number (block_claims_in number (map section_of sections)) later
 
-comes-from : (tree : Tree) (certificate : Certificate) (number : ℕ)
+pub comes-from : (tree : Tree) (certificate : Certificate) (number : ℕ)
     → ComesFrom certificate.sections.items number (block_claims_at (all_block_claims tree certificate) number)
 comes-from tree certificate number =
     ⊎_elim
@@ -163,13 +163,13 @@ comes-from tree certificate number =
     (cases_lt number (length tree.blocks.items))
 
 -- a section that is known claims nothing of a block but what that may
-record IsKnownSection (tree : Tree) (section : KeptSection) : Type 0 where
-  changes : (root : ℕ) → Contains section.changes.items root → is_outward tree section.block root ≡ true
-  entry : (one : KeptFact) → Contains section.entry.items one → fact_is_on tree (is_outward tree section.block) one ≡ true
-  exit : (one : KeptFact) → Contains section.exit.items one → exit_is_known tree section one ≡ true
-  aliases : (pair : AliasPair) → Contains section.aliases.items pair → pair_is_known tree section.block pair ≡ true
+pub record IsKnownSection (tree : Tree) (section : KeptSection) : Type 0 where
+  pub changes : (root : ℕ) → Contains section.changes.items root → is_outward tree section.block root ≡ true
+  pub entry : (one : KeptFact) → Contains section.entry.items one → fact_is_on tree (is_outward tree section.block) one ≡ true
+  pub exit : (one : KeptFact) → Contains section.exit.items one → exit_is_known tree section one ≡ true
+  pub aliases : (pair : AliasPair) → Contains section.aliases.items pair → pair_is_known tree section.block pair ≡ true
 
-known-section : (tree : Tree) (section : KeptSection) → section_is_known tree section ≡ true → IsKnownSection tree section
+pub known-section : (tree : Tree) (section : KeptSection) → section_is_known tree section ≡ true → IsKnownSection tree section
 known-section tree section is =
     let one = and_parts (nat_lt section.block (length tree.blocks.items)) _ is in
     let two = and_parts (cond (nat_eq section.block 0) (is_of_loops section) (block_is_known tree section)) _ one.1 in

@@ -26,6 +26,9 @@ pub mod SoundForms
 pub mod SoundBlocks
 pub mod ClaimsKnown
 pub mod SoundProgram
+pub mod PlainLists
+pub mod PlainExpressions
+pub mod PlainStatements
 pub mod Steps
 pub mod Among
 pub mod StepsWays

@@ -1,10 +1,8 @@
 -- What is read is sound: each variable is accessed, then it is read and tested by its type, and then it is stored.
-use Rattle.std.proofs.Common.{arith, ◌≡◌, ◌∙◌, refl, sym, subst, ℕ, ℤ, Bool, true, false, nat_lt, ◌&&◌, length, List, [], ◌∷◌, map, Option, None}
+use Rattle.std.proofs.Common.{arith, ◌≡◌, ◌∙◌, refl, sym, subst, ℕ, ℤ, true, false, nat_lt, ◌&&◌, length, List, [], ◌∷◌, map, Option, None}
 use Rattle.std.proofs.lemmas.Bool.{and_parts}
-use Rattle.types.specs.declared.form.TypeId.{TypeId}
 use Rattle.place.specs.declared.Place.{Place}
-use Rattle.typed_tree.specs.Accesses as accesses
-use Rattle.typed_tree.specs.Accesses.{Origin, is_type, origin_of, root_of}
+use Rattle.typed_tree.specs.Accesses.{Origin, origin_of, root_of}
 use Rattle.typed_tree.specs.Kinds.{is_held_read}
 use Rattle.typed_tree.specs.Records.{OpenRecord, all_begin, read_begins}
 use Rattle.typed_tree.specs.WellFormed.{Outline, all_hold, are_well_formed, has_values, is_well_formed_read, is_whole, leads_to, leads_to_read, outline_of}
@@ -26,7 +24,7 @@ use Rattle.checker_state.specs.Stores.{Reach}
 use Rattle.checker_expressions.proofs.Inputs.{line-sound, outside-leaves, outside-sound, read-leaves, read-sound}
 use Rattle.checker_expressions.proofs.Keeping.{keeps-then}
 use Rattle.checker_expressions.proofs.Opened.{AreOpen}
-use Rattle.checker_expressions.proofs.Sound.{Any_value, IsForetold, IsSo, Sound, SoundCalls, SoundFrom, World, declared_in, from-then, good-then, good-weaker}
+use Rattle.checker_expressions.proofs.Sound.{Any_value, IsSo, SoundCalls, SoundFrom, World, from-then, good-then, good-weaker}
 use Rattle.checker_expressions.proofs.Sound.{here-behind, is_seen, sound-anywhere, sound-by_tree, sound-give, sound-here, sound-then, types_in}
 use Rattle.checker_expressions.proofs.SoundAccesses.{LeadsTo, leads-seen, leads-type}
 use Rattle.checker_expressions.proofs.SoundCalls.{CallLaws}

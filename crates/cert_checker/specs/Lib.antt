@@ -3,5 +3,6 @@ pub mod Names
 pub mod NamesView
 pub mod Promise
 pub mod Laws
+pub mod Plain
 pub mod View
 pub mod StoresView

@@ -31,6 +31,11 @@ use Rattle.checker_calls.specs.Environments.{IsListed}
 abbrev pub open_in : List ℕ → List Site → List Site
 open_in ids sites = filter (λ site. list_any (λ id. id == site.id) ids) sites
 
+-- a certificate is accepted: it names what the program has, and the walk by it breaks no rule; which sites that leaves
+-- open is another matter
+abbrev pub IsAccepted : Tree → Certificate → Type 0
+IsAccepted tree certificate = (is_known tree certificate ≡ true) × ((program_walk tree certificate).broken ≡ [])
+
 -- a certificate is valid for a program, and these sites are open: it names what the program has, and the walk by it
 -- breaks no rule
 pub record Valid (tree : Tree) (certificate : Certificate) (open_sites : List Site) : Type 0 where

@@ -73,7 +73,7 @@ impl<'a> Walk<'a> {
     }
 
     /// Where a function ends, it has a result.
-    fn use_result(&mut self, function: Option<FunctionResult>)
+    pub fn use_result(&mut self, function: Option<FunctionResult>)
         ensures { Goes (result_use function) self.old self.new tt }
     {
         if let Some(own) = function {
@@ -86,7 +86,7 @@ impl<'a> Walk<'a> {
 }
 
 /// Goes on where a block of a number begins, by what is claimed of it.
-fn begin(flow: &mut Flow, number: u32, declared: &[Vec<u32>])
+pub fn begin(flow: &mut Flow, number: u32, declared: &[Vec<u32>])
     ensures only { flow.new ≡ record (flow.old) { state = flow.new.state } }
     ensures long { flow.new.state.is_short ≡ false → flow.old.state.is_short ≡ false }
     ensures begins { map (λ row. row.items) declared.now ≡ all_declared flow.old.state.table.now

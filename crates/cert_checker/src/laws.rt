@@ -1,5 +1,7 @@
-//! What a verdict by the walk promises of each run. Each law is the contract of a function that does nothing.
+//! What a verdict by the walk promises of each run, and a certificate that the walk accepts. Each law is the contract
+//! of a function that does nothing.
 ghost use Rattle.cert_checker.specs.Laws.{CallsKeepToLists, EntriesAreLinked, ErrorsAreOpen, LinkedStatesHold};
+ghost use Rattle.cert_checker.specs.Plain.{PlainIsAccepted};
 
 /// Each error of a run is at an open site, if the certificate is valid.
 pub fn errors_are_open()
@@ -19,4 +21,9 @@ pub fn calls_keep_to_lists()
 /// Each entry of a block and of the program has its state, once and in their order.
 pub fn entries_are_linked()
     ensures { EntriesAreLinked }
+{}
+
+/// A certificate without facts breaks no rule, if it lists each pair and each change that it may.
+pub fn plain_is_accepted()
+    ensures { PlainIsAccepted }
 {}

@@ -9,17 +9,17 @@ ghost use Rattle.cert_checker.specs.Promise.{CallsChangeWhatTheyList, ClosedNeve
 ghost use Rattle.cert_checker.specs.Promise.{StatesHold, Valid};
 
 mod assignments;
-mod blocks;
+pub mod blocks;
 pub mod laws;
-mod loops;
+pub mod loops;
 mod names;
 mod open_sites;
-mod program;
+pub mod program;
 mod reached;
 mod reads;
 mod stores;
-mod visible;
-mod walk;
+pub mod visible;
+pub mod walk;
 
 use certificate::Certificate;
 use checker_expressions::fault::CheckFault;

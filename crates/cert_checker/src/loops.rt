@@ -41,7 +41,7 @@ impl<'a> Walk<'a> {
     }
 
     /// The loop of a number, perhaps of a for statement with a control variable.
-    fn round(&self, number: u32, control: Option<u32>) -> Round<'a>
+    pub fn round(&self, number: u32, control: Option<u32>) -> Round<'a>
         ensures { AreLoops (context_of self.now) self.now.aliases.now → IsLoop number control self.now result }
     {
         Round::of(
@@ -57,7 +57,7 @@ impl<'a> Walk<'a> {
 // What a for does with its control variable.
 impl<'a> Walk<'a> {
     /// The way behind the tests of both bounds.
-    pub(crate) fn tested_way(&mut self, way: &Way) -> Way
+    pub fn tested_way(&mut self, way: &Way) -> Way
         ensures { Goes (tested_way (said_way way.now)) self.old self.new (said_way result) }
     {
         let first = way.first.met(&self.flow.state);
@@ -75,7 +75,7 @@ impl<'a> Walk<'a> {
     }
 
     /// The control variable is the first bound, where a first turn may begin.
-    pub(crate) fn begin_way(&mut self, way: &Way)
+    pub fn begin_way(&mut self, way: &Way)
         ensures { Goes (begin_way (said_way way.now)) self.old self.new tt }
     {
         self.enter_way(way);
@@ -90,7 +90,7 @@ impl<'a> Walk<'a> {
     }
 
     /// The way with the forms of its bounds that the turns of its loop leave as they are.
-    pub(crate) fn steady_in(&self, number: u32, way: &Way) -> Way
+    pub fn steady_in(&self, number: u32, way: &Way) -> Way
         ensures { AreLoops (context_of self.now) self.now.aliases.now
             → said_way result ≡ steady_in (context_of self.now) number (said_way way.now) }
     {

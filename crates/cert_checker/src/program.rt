@@ -55,7 +55,7 @@ pub(crate) fn program(
 }
 
 /// What a walk goes by before the first block.
-fn grounds<'a>(
+pub fn grounds<'a>(
     alloc: Global,
     tree: &'a Tree,
     certificate: &'a Certificate,
@@ -73,7 +73,7 @@ fn grounds<'a>(
 
 impl<'a> Walk<'a> {
     /// Before the first block.
-    fn new(
+    pub fn new(
         state: State<'a>,
         grounds: Grounds<'a>,
         claims: &'a [Claims<'a>],

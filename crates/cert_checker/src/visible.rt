@@ -8,7 +8,7 @@ ghost use Rattle.cert_checker.specs.Names.{is_outward, is_variable_parameter};
 use typed_tree::tree::{Tree, VariableKind};
 
 /// Whether a variable is declared in a block or round it.
-pub(crate) fn is_visible(tree: &Tree, block: u32, root: u32) -> bool
+pub fn is_visible(tree: &Tree, block: u32, root: u32) -> bool
     ensures { result ≡ is_visible (outline_of tree.now) block root }
 {
     match tree.variables.get(root as usize) {
@@ -40,7 +40,7 @@ fn declared_as(tree: &Tree, block: u32, root: u32) -> Option<VariableKind>
 
 /// Whether a variable is visible in a block, and the caller may know it: it is no variable of the block's own, nor its
 /// result.
-pub(crate) fn is_outward(tree: &Tree, block: u32, root: u32) -> bool
+pub fn is_outward(tree: &Tree, block: u32, root: u32) -> bool
     ensures { result ≡ is_outward tree.now block root }
 {
     is_visible(tree, block, root)
@@ -52,7 +52,7 @@ pub(crate) fn is_outward(tree: &Tree, block: u32, root: u32) -> bool
 }
 
 /// Whether it is a variable parameter of the block.
-pub(crate) fn is_variable_parameter(tree: &Tree, block: u32, root: u32) -> bool
+pub fn is_variable_parameter(tree: &Tree, block: u32, root: u32) -> bool
     ensures { result ≡ is_variable_parameter tree.now block root }
 {
     match declared_as(tree, block, root) {
@@ -62,7 +62,7 @@ pub(crate) fn is_variable_parameter(tree: &Tree, block: u32, root: u32) -> bool
 }
 
 /// Whether it is a value parameter of the block.
-pub(crate) fn is_value_parameter(tree: &Tree, block: u32, root: u32) -> bool
+pub fn is_value_parameter(tree: &Tree, block: u32, root: u32) -> bool
     ensures { result ≡ is_declared (outline_of tree.now) block is_value_kind root }
 {
     match declared_as(tree, block, root) {
@@ -72,7 +72,7 @@ pub(crate) fn is_value_parameter(tree: &Tree, block: u32, root: u32) -> bool
 }
 
 /// Whether it is the block's result.
-pub(crate) fn is_result(tree: &Tree, block: u32, root: u32) -> bool
+pub fn is_result(tree: &Tree, block: u32, root: u32) -> bool
     ensures { result ≡ is_declared (outline_of tree.now) block is_result_kind root }
 {
     match declared_as(tree, block, root) {

@@ -31,19 +31,19 @@ use typed_tree::tree::{
 
 /// A walk over the statements of a program, in the order in which they stand. The counter of entries is lent to it.
 #[derive(Drop)]
-pub(crate) struct Walk<'a> {
+pub struct Walk<'a> {
     /// What the certificate claims of the loops, by their numbers.
-    pub(crate) claims: &'a [Claims<'a>],
+    pub claims: &'a [Claims<'a>],
     /// The aliases of what each loop changes, by the numbers of the loops.
-    pub(crate) aliases: &'a [Vec<u32>],
+    pub aliases: &'a [Vec<u32>],
     /// What it goes by, what is known where the walk is, which sites it left open, and the first rule that is broken.
-    pub(crate) flow: Flow<'a>,
+    pub flow: Flow<'a>,
 }
 
 impl<'a> Walk<'a> {
     /// A statement (ISO 7185:1990, 6.8).
     #[cycle(statement)]
-    pub(crate) fn statement(&mut self, statement: &Stmt, visits: &mut Visits)
+    pub fn statement(&mut self, statement: &Stmt, visits: &mut Visits)
         ensures goes { Goes (statement_walk statement.now) self.old self.new tt }
         ensures counts { visits.new ≡ all_counted (entries_of_statement statement.now) visits.old }
     {
@@ -264,7 +264,7 @@ impl<'a> Walk<'a> {
     }
 
     /// A record of a with.
-    fn record_of(&mut self, one: &WithRecord, visits: &mut Visits)
+    pub fn record_of(&mut self, one: &WithRecord, visits: &mut Visits)
         ensures goes { Goes (record_walk one.now) self.old self.new tt }
         ensures counts { visits.new ≡ all_counted (entries_of_record one.now) visits.old }
     {
@@ -295,7 +295,7 @@ impl<'a> Walk<'a> {
     }
 
     /// What is known of an expression's value.
-    pub(crate) fn expression(&mut self, expression: &Expr, visits: &mut Visits) -> Known
+    pub fn expression(&mut self, expression: &Expr, visits: &mut Visits) -> Known
         ensures goes { Goes (value_walk expression.now) self.old self.new result }
         ensures counts { visits.new ≡ all_counted (entries_of_expression expression.now) visits.old }
     {
@@ -325,7 +325,7 @@ impl<'a> Walk<'a> {
     }
 
     /// Goes on where a condition has a truth value.
-    fn go_where(&mut self, condition: &Expr, known: &Known, truth: bool)
+    pub fn go_where(&mut self, condition: &Expr, known: &Known, truth: bool)
         ensures { Goes (changed_by (where_so self.old.flow.state.table.now truth condition.now known.now))
             self.old self.new tt }
     {
@@ -336,7 +336,7 @@ impl<'a> Walk<'a> {
 // What a case does with its index.
 impl<'a> Walk<'a> {
     /// The test of an index, of a case with so many arms: it is one of the constants.
-    fn test_index(&mut self, head: &CaseHead, arms: usize, range: Interval)
+    pub fn test_index(&mut self, head: &CaseHead, arms: usize, range: Interval)
         ensures { Goes (tested (is_covered range (constants_before arms head.now.constants.items)) head.now.site
             (common range (hull (constants_before arms head.now.constants.items)))) self.old self.new
             (common range (hull (constants_before arms head.now.constants.items))) }

@@ -15,3 +15,4 @@ pub mod Spelled
 pub mod TextLines
 pub mod Whole
 pub mod WordLaws
+pub mod Written

@@ -6,3 +6,4 @@ pub mod Lines
 pub mod Contents
 pub mod Text
 pub mod Building
+pub mod Writing

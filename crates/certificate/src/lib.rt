@@ -11,9 +11,11 @@ mod order;
 mod paths;
 pub mod reader;
 mod words;
+pub mod writer;
 
 pub use facts::{Fact, Path, Step};
 pub use reader::read;
+pub use writer::write;
 
 /// The version that the first line of a certificate names.
 #[derive(Clone, Copy)]

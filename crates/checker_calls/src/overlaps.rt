@@ -99,8 +99,8 @@ fn is_listed_round(pairs: &Pairs, around: &[u32], formal: u32, root: u32) -> boo
     !is_declared_in(pairs.tree(), around, root) || pairs.has(formal, root)
 }
 
-// Whether a variable is declared in one of some blocks.
-fn is_declared_in(tree: &Tree, blocks: &[u32], root: u32) -> bool
+/// Whether a variable is declared in one of some blocks.
+pub fn is_declared_in(tree: &Tree, blocks: &[u32], root: u32) -> bool
     ensures { (pairs : List (ℕ × ℕ))
         → result ≡ is_declared_in pairs blocks.now (slice_get tree.now.variables.items root) }
 {
@@ -141,9 +141,9 @@ fn is_listed_with(pairs: &Pairs, formal: u32, access: &Access, other: u32, actua
     }
 }
 
-// Whether two variables that are accessed may share a place.
+/// Whether two variables that are accessed may share a place.
 #[tactic(auto, using(crate::proofs::Origins::root_is))]
-fn may_overlap(pairs: &Pairs, one: &Access, other: &Access) -> bool
+pub fn may_overlap(pairs: &Pairs, one: &Access, other: &Access) -> bool
     ensures { result ≡ may_overlap pairs.now.pairs (origin_of one.now) one.now.selectors.items (origin_of other.now)
         other.now.selectors.items }
 {

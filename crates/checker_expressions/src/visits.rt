@@ -9,7 +9,8 @@ use typed_tree::tree::Tree;
 
 /// A count of the entries into the statements and expressions of a program.
 ///
-/// It can't be thrown away: only `finish` takes it, which asks for a walk over the whole program.
+/// It can't be thrown away: `finish` takes it, which asks for a walk over the whole program in order, or `entries`,
+/// where a walk was none of these.
 pub struct Visits {
     // As far as 64 bits count.
     entries: u64,
@@ -40,6 +41,17 @@ impl Visits {
     {
         self.are_in_order = self.are_in_order && u64::from(number) == self.entries;
         self.entries = self.entries.saturating_add(1);
+    }
+
+    /// The entries that were counted, in whatever order.
+    pub fn entries(self) -> u64
+        ensures { result ≡ self.entries }
+    {
+        let Visits {
+            entries,
+            are_in_order: _,
+        } = self;
+        entries
     }
 
     /// The entries that were counted, once the walk over the program ended: those of the program, each once and in

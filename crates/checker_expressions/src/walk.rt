@@ -255,7 +255,7 @@ impl<'a> Flow<'a> {
 
     /// Actual parameters, from left to right.
     #[cycle(expression)]
-    fn actuals<'b>(&mut self, actuals: &'b [Passed], visits: &mut Visits) -> Vec<Actual<'b>>
+    pub fn actuals<'b>(&mut self, actuals: &'b [Passed], visits: &mut Visits) -> Vec<Actual<'b>>
         ensures goes { Goes (actuals_walk (map passed_piece_of actuals.now))
             self.old self.new (map said_actual result.items) }
         ensures counts { visits.new ≡ all_counted (joined (map entries_of_passed actuals.now)) visits.old }

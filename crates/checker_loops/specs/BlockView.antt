@@ -3,6 +3,7 @@
 use Rattle.std.specs.Prelude.{ℕ, suc, ◌≡◌, ◌<◌, ◌++◌, List, [], ◌∷◌, Option, Some, None, get_or, if◌then◌else◌, length}
 use Rattle.std.specs.Prelude.{map, min, nat_eq, slice_get, slice_set}
 use denote.Ref.{Bor}
+use Rattle.domain.specs.Facts.{Fact}
 use Rattle.domain.specs.Interval.{vacant}
 use Rattle.typed_tree.specs.declared.tree.Tree.{Tree}
 use Rattle.typed_tree.specs.declared.tree.Variable.{Variable}
@@ -13,6 +14,8 @@ use Rattle.checker_state.specs.State.{State, with_defined, with_range}
 use Rattle.checker_loops.specs.declared.aliases.Stored.{Stored as KeptStored}
 use Rattle.checker_loops.specs.declared.sections.BlockClaims.{BlockClaims as KeptClaims}
 use Rattle.checker_loops.specs.declared.sections.BlockSection.{BlockSection}
+use Rattle.checker_loops.specs.declared.sections.Facts.{Facts}
+use Rattle.checker_loops.specs.declared.sections.Facts.TheVariants.{Listed, Kept}
 use Rattle.checker_loops.specs.Sections.{BlockClaims, no_block_claims}
 use Rattle.checker_loops.specs.Starts.{is_own, is_passed_value}
 use Rattle.checker_loops.specs.Aliases.{Stored}
@@ -46,12 +49,13 @@ said_claims claims = record {
   exit = map said_fact claims.end.now;
 }
 
+abbrev pub said_facts : Facts → List Fact
+said_facts (Listed facts) = map said_fact facts.now
+said_facts (Kept facts) = map said_fact facts.items
+
 abbrev pub said_section : BlockSection → BlockClaims
-said_section section = record {
-  changes = section.changes;
-  entry = map said_fact section.start.now;
-  exit = map said_fact section.end.now;
-}
+said_section section =
+    record { changes = section.changes; entry = said_facts section.start; exit = said_facts section.end }
 
 -- the first section on the block of a number
 abbrev pub first_on : ℕ → List KeptSection → Option KeptSection

@@ -2,7 +2,7 @@ ghost use Rattle.std.specs.Prelude.{◌≡◌, ◌++◌, ◌∷◌, ◌<◌, [],
 ghost use Rattle.checker_state.specs.Loops.{is_among};
 ghost use Rattle.checker_loops.specs.Pairs.{aliases_in, aliases_of, all_aliases_in, declared_aliases};
 ghost use Rattle.checker_loops.specs.View.{AreWidened, HasAt, HasPartner, HaveEntered, HaveEnteredByBlock};
-ghost use Rattle.checker_loops.specs.View.{kept_row, listed_of, row_at};
+ghost use Rattle.checker_loops.specs.View.{kept_row, listed_of, row_at, said_pair};
 
 use certificate::AliasPair;
 use std::alloc::{AllocError, Global};
@@ -48,6 +48,27 @@ impl<'a> Pairs<'a> {
             enter(alloc, &mut partners, *pair)?;
             enter_by_block(alloc, tree, &mut by_block, *pair)?;
         }
+        Ok(Pairs {
+            tree,
+            pairs,
+            partners,
+            by_block,
+        })
+    }
+
+    /// These and one more.
+    pub fn with(self, alloc: Global, pair: AliasPair) -> Result<Pairs<'a>, AllocError>
+        ensures { IfOk result (λ kept. kept ≡ record self.entry { pairs = self.entry.pairs ++ said_pair pair ∷ [] }) }
+    {
+        let Pairs {
+            tree,
+            mut pairs,
+            mut partners,
+            mut by_block,
+        } = self;
+        enter(alloc, &mut partners, pair)?;
+        enter_by_block(alloc, tree, &mut by_block, pair)?;
+        pairs.push(pair)?;
         Ok(Pairs {
             tree,
             pairs,

@@ -1,6 +1,8 @@
 ghost use Rattle.std.specs.Prelude.{◌≡◌, ◌∷◌, [], IfOk, map};
+ghost use Rattle.certificate.specs.Contents.{said_fact};
 ghost use Rattle.checker_loops.specs.Sections.{all_block_claims, all_pairs, block_claims_at, pair_of};
-ghost use Rattle.checker_loops.specs.BlockView.{AreFound, first_on, found_claims, said_claims, said_section};
+ghost use Rattle.checker_loops.specs.BlockView.{AreFound, first_on, found_claims, said_claims, said_facts};
+ghost use Rattle.checker_loops.specs.BlockView.{said_section};
 
 use crate::listed::{Changes, Roots};
 use certificate::{AliasPair, Certificate, Fact, Section};
@@ -18,12 +20,35 @@ pub struct BlockClaims<'a> {
     pub end: &'a [Fact],
 }
 
-/// The same, as it is kept for each block.
+/// Facts of a block.
+#[derive(Drop)]
+pub enum Facts<'a> {
+    /// Those that a certificate lists.
+    Listed(&'a [Fact]),
+    /// Others, which stand in no certificate yet.
+    Kept(Vec<Fact>),
+}
+
+impl<'a> Facts<'a> {
+    /// The facts.
+    pub fn as_slice(&self) -> &[Fact]
+        ensures { map said_fact result.now ≡ said_facts self.now }
+    {
+        match self {
+            Facts::Listed(facts) => facts,
+            Facts::Kept(facts) => facts.as_slice(),
+        }
+    }
+}
+
+/// What is claimed of a block, as it is kept for each.
 #[derive(Drop)]
 pub struct BlockSection<'a> {
     changes: Changes<'a>,
-    start: &'a [Fact],
-    end: &'a [Fact],
+    /// What holds where it begins.
+    pub start: Facts<'a>,
+    /// What holds where it ends.
+    pub end: Facts<'a>,
 }
 
 impl<'a> BlockSection<'a> {
@@ -37,8 +62,8 @@ impl<'a> BlockSection<'a> {
         };
         Ok(BlockSection {
             changes: Changes::of(alloc, listed)?,
-            start,
-            end,
+            start: Facts::Listed(start),
+            end: Facts::Listed(end),
         })
     }
 
@@ -48,8 +73,8 @@ impl<'a> BlockSection<'a> {
     {
         BlockClaims {
             changes: self.changes.roots(),
-            start: self.start,
-            end: self.end,
+            start: self.start.as_slice(),
+            end: self.end.as_slice(),
         }
     }
 }

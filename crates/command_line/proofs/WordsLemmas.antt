@@ -18,7 +18,8 @@ use Rattle.clap.specs.declared.error.Error.{Error}
 use Rattle.clap.specs.declared.error.kind.ErrorKind.{ErrorKind}
 use Rattle.clap.specs.declared.error.kind.ErrorKind.TheVariants as kind
 use Rattle.clap.proofs.OnLiterals.{clap_on_literals}
-use Rattle.command_line.specs.Words.{IsWordsFault, cert, certificate_in, go, go_in, pcom, source, source_in, words_fault}
+use Rattle.command_line.specs.Words.{IsWordsFault, cert, certificate_in, go, go_in, pcom, source, source_in, words_fault, write_cert}
+use Rattle.command_line.specs.Words.{write_in}
 
 -- worked rows
 abbrev run : List Text
@@ -38,6 +39,14 @@ go_run = refl
 certificate_run : certificate_in run ≡ Some (codes "hello.cert")
 unfolding clap_on_literals
 certificate_run = refl
+
+write_run : write_in run ≡ None
+unfolding clap_on_literals
+write_run = refl
+
+write_saved : write_in (codes "pcom" ∷ codes "--write-cert" ∷ codes "new.cert" ∷ codes "hello.pas" ∷ []) ≡ Some (codes "new.cert")
+unfolding clap_on_literals
+write_saved = refl
 
 certificate_listed : certificate_in listed ≡ None
 unfolding clap_on_literals
@@ -72,11 +81,12 @@ unfolding clap_on_literals
 pcom_is_free = refl
 
 -- the command that the builder's calls make
-pub is_pcom : (empty named one two whole : App) (option flag value : Rule) → empty ≡ new_app (codes "pcom")
-    → named ≡ on_top (λ s. record s { has_version = true }) empty → one ≡ with_rule named option → two ≡ with_rule one flag
-    → whole ≡ with_rule two value → option ≡ cert → flag ≡ go → value ≡ source → whole ≡ pcom
-is_pcom empty named one two whole option flag value is_empty is_named is_one is_two is_whole is_cert is_go is_source =
-    rw (is_whole, is_two, is_one, is_named, is_empty, is_cert, is_go, is_source) refl
+pub is_pcom : (empty named one two three whole : App) (option saving flag value : Rule) → empty ≡ new_app (codes "pcom")
+    → named ≡ on_top (λ s. record s { has_version = true }) empty → one ≡ with_rule named option → two ≡ with_rule one saving
+    → three ≡ with_rule two flag → whole ≡ with_rule three value → option ≡ cert → saving ≡ write_cert → flag ≡ go → value ≡ source
+    → whole ≡ pcom
+is_pcom empty named one two three whole option saving flag value is_empty is_named is_one is_two is_three is_whole is_cert is_saving is_go is_source =
+    rw (is_whole, is_three, is_two, is_one, is_named, is_empty, is_cert, is_saving, is_go, is_source) refl
 
 pub told : (words : List Text) (e : Error) → HasKind (fault_of pcom words) e → IsWordsFault words (words_fault (kind_of e) e)
 told words e (inl no_memory) = rw no_memory tt
@@ -108,12 +118,18 @@ pub one_of_matches : (built app : App) (words : List Text) (m : ArgMatches) → 
 one_of_matches built app words m same simple has id =
     one_text-rows (found_of m) id ∙ ap (one_of id) (rows_of_matches built app words m same simple has)
 
--- of three arguments
-pub all_three : (P : Arg → Type 0) (x y z : Arg) → P x → P y → P z → All P (x ∷ y ∷ z ∷ [])
-all_three P x y z p q r zero d lt = p
-all_three P x y z p q r (suc zero) d lt = q
-all_three P x y z p q r (suc (suc zero)) d lt = r
-all_three P x y z p q r (suc (suc (suc k))) d lt = absurd (omega arith)
+-- of one more argument
+all_more : (P : Arg → Type 0) (x : Arg) (xs : List Arg) → P x → All P xs → All P (x ∷ xs)
+all_more P x xs p rest zero d lt = p
+all_more P x xs p rest (suc k) d lt = rest k d (omega arith)
+
+all_none : (P : Arg → Type 0) → All P []
+all_none P k d lt = absurd (omega arith)
+
+-- of four arguments
+pub all_four : (P : Arg → Type 0) (x y z w : Arg) → P x → P y → P z → P w → All P (x ∷ y ∷ z ∷ w ∷ [])
+all_four P x y z w p q r s =
+    all_more P x (y ∷ z ∷ w ∷ []) p (all_more P y (z ∷ w ∷ []) q (all_more P z (w ∷ []) r (all_more P w [] s (all_none P))))
 
 -- two arguments have different names
 abbrev pub AreApart : Arg → Arg → Type 0
@@ -122,20 +138,24 @@ AreApart x y = (bytes_eq x.id.now y.id.now ≡ false) × (bytes_eq y.id.now x.id
 never : {t : Bool} → t ≡ false → t ≡ true → ⊥
 never f t = absurd cc
 
-pub three_ids : (x y z : Arg) → AreApart x y → AreApart x z → AreApart y z → HasDistinctIds (x ∷ y ∷ z ∷ [])
-three_ids x y z p q r zero zero d e j k same = refl
-three_ids x y z p q r zero (suc zero) d e j k same = absurd (never (p.0) same)
-three_ids x y z p q r zero (suc (suc zero)) d e j k same = absurd (never (q.0) same)
-three_ids x y z p q r (suc zero) zero d e j k same = absurd (never (p.1) same)
-three_ids x y z p q r (suc zero) (suc zero) d e j k same = refl
-three_ids x y z p q r (suc zero) (suc (suc zero)) d e j k same = absurd (never (r.0) same)
-three_ids x y z p q r (suc (suc zero)) zero d e j k same = absurd (never (q.1) same)
-three_ids x y z p q r (suc (suc zero)) (suc zero) d e j k same = absurd (never (r.1) same)
-three_ids x y z p q r (suc (suc zero)) (suc (suc zero)) d e j k same = refl
-three_ids x y z p q r (suc (suc (suc n))) k d e below other same = absurd (omega arith)
-three_ids x y z p q r zero (suc (suc (suc n))) d e below other same = absurd (omega arith)
-three_ids x y z p q r (suc zero) (suc (suc (suc n))) d e below other same = absurd (omega arith)
-three_ids x y z p q r (suc (suc zero)) (suc (suc (suc n))) d e below other same = absurd (omega arith)
+-- one more argument, whose name is another than those of all others
+more_ids : (x : Arg) (xs : List Arg) → All (AreApart x) xs → HasDistinctIds xs → HasDistinctIds (x ∷ xs)
+more_ids x xs apart rest zero zero d e j k same = refl
+more_ids x xs apart rest zero (suc n) d e j k same = absurd (never ((apart n d (omega arith)).0) same)
+more_ids x xs apart rest (suc m) zero d e j k same = absurd (never ((apart m e (omega arith)).1) same)
+more_ids x xs apart rest (suc m) (suc n) d e j k same = ap suc (rest m n d e (omega arith) (omega arith) same)
+
+no_ids : HasDistinctIds []
+no_ids m n d e j k same = absurd (omega arith)
+
+pub four_ids : (x y z w : Arg) → AreApart x y → AreApart x z → AreApart x w → AreApart y z → AreApart y w → AreApart z w
+    → HasDistinctIds (x ∷ y ∷ z ∷ w ∷ [])
+four_ids x y z w p q r s t u =
+    more_ids x (y ∷ z ∷ w ∷ [])
+    (all_more (AreApart x) y (z ∷ w ∷ []) p (all_more (AreApart x) z (w ∷ []) q (all_more (AreApart x) w [] r (all_none (AreApart x)))))
+    (more_ids y (z ∷ w ∷ []) (all_more (AreApart y) z (w ∷ []) s (all_more (AreApart y) w [] t (all_none (AreApart y))))
+    (more_ids z (w ∷ []) (all_more (AreApart z) w [] u (all_none (AreApart z)))
+    (more_ids w [] (all_none (AreApart w)) no_ids)))
 
 -- an argument whose name begins with another letter than those of `help` (104) and `version` (118)
 pub fits : (a : Arg) (letter : ℕ) (rest : Text) → a.id.now ≡ letter ∷ rest → (letter ≡ 104 → ⊥) → (letter ≡ 118 → ⊥)

@@ -1,5 +1,5 @@
--- What the words `pcom [--cert FILE] [--go] SOURCE` say: the matches that a command of these three arguments has on
--- them, by clap's own definitions.
+-- What the words `pcom [--cert FILE] [--write-cert FILE] [--go] SOURCE` say: the matches that a command of these four
+-- arguments has on them, by clap's own definitions.
 use Rattle.std.specs.Prelude.{◌≡◌, ⊤, Bool, true, false, codes, List, [], Option, Some, None, is_some, option_map}
 use Rattle.clap.specs.Words.{App, IsAmong, Rule, Text, first_of, first_value, found_of, kind_of, matches_of, new_app}
 use Rattle.clap.specs.Words.{new_rule, one_of}
@@ -27,6 +27,11 @@ words_fault _ error = Words error
 abbrev pub cert : Rule
 cert = record (new_rule (codes "cert")) { long = Some (codes "cert"); value_names = 1; action = Some Set }
 
+-- the option `--write-cert FILE`
+abbrev pub write_cert : Rule
+write_cert =
+    record (new_rule (codes "write-cert")) { long = Some (codes "write-cert"); value_names = 1; action = Some Set }
+
 -- the flag `--go`
 abbrev pub go : Rule
 go = record (new_rule (codes "go")) { long = Some (codes "go"); action = Some SetTrue }
@@ -44,8 +49,8 @@ pub record IsArgument (wanted : Rule) (arg : Arg) : Type 0 where
 -- the command, which also knows `--help` and `--version`
 abbrev pub pcom : App
 pcom =
-    with_rule (with_rule (with_rule (on_top (λ s. record s { has_version = true }) (new_app (codes "pcom"))) cert) go)
-    source
+    let named = on_top (λ s. record s { has_version = true }) (new_app (codes "pcom")) in
+    with_rule (with_rule (with_rule (with_rule named cert) write_cert) go) source
 
 -- what a command of clap's parses has a source
 abbrev pub WantsSource : Command → Type 0
@@ -60,6 +65,10 @@ source_in words = first_of (codes "source") (matches_of pcom words)
 -- the path of the certificate, if the words give one
 abbrev pub certificate_in : List Text → Option Text
 certificate_in words = first_of (codes "cert") (matches_of pcom words)
+
+-- the path to which the certificate is to be written, if the words give one
+abbrev pub write_in : List Text → Option Text
+write_in words = first_of (codes "write-cert") (matches_of pcom words)
 
 -- "true" where the words have `--go`, and else "false"
 abbrev pub go_in : List Text → Option Text
@@ -76,6 +85,7 @@ pub record AreSaid (words : List Text) (said : PcomWords) : Type 0 where
   pub faultless : fault_of pcom words ≡ []
   pub source : source_in words ≡ Some said.source.now
   pub cert : certificate_in words ≡ option_map (λ path. path.now) said.cert
+  pub write_cert : write_in words ≡ option_map (λ path. path.now) said.write_cert
   pub go : IsFlag (go_in words) said.go
 
 -- words that are not: there is no memory, or they have a fault, of a kind that is told

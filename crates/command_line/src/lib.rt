@@ -6,7 +6,7 @@ ghost use Rattle.clap.specs.Words.{app_of, kind_of};
 ghost use Rattle.clap.specs.Built.{TakesValue};
 ghost use Rattle.clap.specs.declared.error.kind.ErrorKind.TheVariants as ErrorKind;
 ghost use Rattle.command_line.specs.Words.{AreSaid, IsArgument, IsWordsFault, WantsSource, cert, go, pcom, source};
-ghost use Rattle.command_line.specs.Words.{words_fault};
+ghost use Rattle.command_line.specs.Words.{words_fault, write_cert};
 ghost use Rattle.command_line.specs.declared.WordsFault.TheVariants.{Memory};
 
 use clap::{Arg, ArgAction, Command};
@@ -19,6 +19,8 @@ pub struct PcomWords<'a> {
     pub source: &'a str,
     /// The path of the certificate, if one is given.
     pub cert: Option<&'a str>,
+    /// The path to which the certificate that is used is to be written, if one is given.
+    pub write_cert: Option<&'a str>,
     /// Whether the code is to be run.
     pub go: bool,
 }
@@ -61,8 +63,10 @@ No line means that it cannot fail. With --go it then runs, with the checks of
 these places alone, over standard input. Standard output has its output and
 nothing else.
 
-A certificate says which variables each loop assigns, and what holds whenever a
-turn of it begins. Each claim is checked. Without one no loop may assign any.
+A certificate says which variables each loop and each routine changes, and what
+holds whenever a turn or a call begins. Each claim is checked. Without --cert
+one is found for the source. With --write-cert the one that is used is written
+to a file, before anything is told; where the source is refused, none is.
 
 Status, and what else is written to standard error:
   0  nothing, and with --go the program finished
@@ -70,8 +74,8 @@ Status, and what else is written to standard error:
   2  the source or the certificate is refused, and nothing is run:
      LINE:COLUMN: refused CODE; refused G1; certificate:LINE: refused CODE;
      certificate refused C1; LINE:COLUMN: certificate refused CODE
-  3  wrong words; cannot read PATH; no memory; read failed; write failed;
-     budget used up
+  3  wrong words; cannot read PATH; cannot write PATH; no memory; read failed;
+     write failed; budget used up
   4  LINE:COLUMN: error: NAME, where the program failed
   5  LINE:COLUMN: input: NAME, where the program stopped for its input
   6  store full
@@ -80,7 +84,7 @@ Status, and what else is written to standard error:
 Example:
   pcom --cert sum.cert --go sum.pas";
 
-/// Reads the words of `pcom [--cert FILE] [--go] SOURCE`, the program's name first.
+/// Reads the words of `pcom [--cert FILE] [--write-cert FILE] [--go] SOURCE`, the program's name first.
 pub fn pcom_words<'a>(alloc: Global, words: &'a [&'a str]) -> Result<PcomWords<'a>, WordsFault>
     ensures { MatchResult result
         (AreSaid (map (λ w. w.now) words.entry.now)) (IsWordsFault (map (λ w. w.now) words.entry.now)) }
@@ -89,6 +93,7 @@ pub fn pcom_words<'a>(alloc: Global, words: &'a [&'a str]) -> Result<PcomWords<'
     Ok(PcomWords {
         source: matches.get_str("source").unwrap_or(""),
         cert: matches.get_str("cert"),
+        write_cert: matches.get_str("write-cert"),
         go: matches.get_flag("go"),
     })
 }
@@ -122,6 +127,7 @@ fn command<'a>(alloc: Global) -> Result<Command<'a>, AllocError>
         .about(ABOUT)
         .after_help(AFTER_HELP)
         .arg(cert_argument(alloc))?
+        .arg(write_cert_argument(alloc))?
         .arg(go_argument(alloc))?
         .arg(source_argument(alloc))
 }
@@ -134,6 +140,17 @@ fn cert_argument(alloc: Global) -> Arg<'static>
         .long("cert")
         .value_name("FILE")
         .help("The certificate of the source")
+        .action(ArgAction::Set)
+}
+
+// The option `--write-cert FILE`.
+fn write_cert_argument(alloc: Global) -> Arg<'static>
+    ensures { IsArgument write_cert result }
+{
+    Arg::new(alloc, "write-cert")
+        .long("write-cert")
+        .value_name("FILE")
+        .help("Where the certificate that is used is written")
         .action(ArgAction::Set)
 }
 

@@ -7,6 +7,8 @@
 #[cfg(test)]
 mod calling;
 #[cfg(test)]
+mod certificates;
+#[cfg(test)]
 mod checking;
 #[cfg(test)]
 mod declared_types;

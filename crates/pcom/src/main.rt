@@ -1,8 +1,12 @@
-//! `pcom [--cert FILE] [--go] SOURCE` compiles a Pascal program, names each place at which it can fail, and runs it.
+//! `pcom [--cert FILE] [--write-cert FILE] [--go] SOURCE` compiles a Pascal program, names each place at which it can
+//! fail, and runs it.
 #![tactic(auto)]
 
+ghost use Rattle.std.specs.Prelude.{None};
+
 use report::fault::Fault;
-use report::prepared::{cannot_read, refuse};
+use report::files::Save;
+use report::prepared::{Job, cannot_read, refuse};
 use report::program::run_program;
 use report::{PcomWords, WordsFault, not_utf8, pcom_words, tell};
 use stack_machine::bytes::Counted;
@@ -12,6 +16,21 @@ use std::{env, fs};
 
 /// The status where something outside the source stops the program: words, files, memory.
 const TROUBLE: u8 = 3;
+
+/// The files of the system.
+#[derive(Clone, Copy)]
+struct Files<'a> {
+    rt: &'a HostRuntime,
+}
+
+impl Save for Files<'_> {
+    // What a file holds is beyond what can be said.
+    ghost saved = { λ _. None };
+
+    fn save(&mut self, path: &str, text: &[u8]) -> bool {
+        fs::write(self.rt, path, text).is_ok()
+    }
+}
 
 fn main(rt: HostRuntime) -> ExitCode {
     match by_words(&rt) {
@@ -63,11 +82,16 @@ fn compiled(rt: &HostRuntime, words: PcomWords<'_>) -> u8 {
             Err(_) => return unreadable(rt, path),
         },
     };
+    let job = Job {
+        source: &source,
+        certificate: certificate.as_deref(),
+        write_cert: words.write_cert,
+        go: words.go,
+    };
     run_program(
         rt.alloc(),
-        &source,
-        certificate.as_deref(),
-        words.go,
+        job,
+        &mut Files { rt },
         &mut Counted::new(rt.stdin()),
         &mut Counted::new(rt.stdout()),
         &mut Counted::new(rt.stderr()),

@@ -1,5 +1,5 @@
 -- The fault of a layer, as the whole compiler tells it, is a refusal of the source.
-use Rattle.std.proofs.Common.{◌≡◌, ◌≢◌, ⊎_elim, ℕ, List, [], Some, Result, Err, map, true, refl, sym, subst}
+use Rattle.std.proofs.Common.{◌≡◌, ◌≢◌, ⊎_elim, ℕ, List, [], Option, None, Some, Result, Err, map, true, false, refl, sym, subst, ap, ◌∙◌}
 use Rattle.std.specs.Prelude.{MatchResult}
 use Rattle.lexer.specs.declared.token.Token.{Token}
 use Rattle.lexer.specs.declared.fault.LexFault.{LexFault}
@@ -21,55 +21,63 @@ use Rattle.code_generator.specs.declared.fault.GenFault.{GenFault}
 use Rattle.code_generator.specs.declared.fault.GenFault.TheVariants as generate
 use Rattle.code_scheme.specs.Large.{is_too_large}
 use Rattle.report_text.specs.declared.fault.Fault.{Fault}
+use Rattle.report_text.specs.declared.fault.Fault.TheVariants.{Memory, Lex, Parse, Typing, Certificate, Check, Generate}
 use Rattle.report_text.specs.Faults.{lexer_fault, parser_fault, typing_fault, certificate_fault, checker_fault, generator_fault}
 use Rattle.certificate.specs.declared.Certificate.{Certificate as CertificateRead}
 use Rattle.checker_expressions.specs.declared.fault.CheckFault.{CheckFault}
 use Rattle.checker_expressions.specs.declared.fault.CheckFault.TheVariants as check
-use Rattle.cert_checker.specs.Promise.{IsRefusedFor}
+use Rattle.checker_expressions.specs.Walk.{first_breach}
+use Rattle.cert_checker.specs.Promise.{IsAccepted, IsRefusedFor}
 use Rattle.cert_checker.specs.Walk.{program_walk}
 use Rattle.report.specs.Headline.{IsWrittenAs, IsTypedTreeOf}
 use Rattle.report.specs.Steps.{IsSoundTreeOf}
-use Rattle.report.specs.Refusals.{AreOf, IsRefusal}
+use Rattle.report.specs.Refusals.{AreOf, IsRefusal, is_of_certificate}
 
 -- an answer that is this fault
-pub refused_by : {A : Type 0} (P : A → Type 0) (source text : List ℕ) (answer : Result A Fault) (y fault : Fault) → answer ≡ Err y → y ≡ fault
-    → IsRefusal source text fault → MatchResult answer P (IsRefusal source text)
+pub refused_by : {A : Type 0} (P : A → Type 0) (source : List ℕ) (text : Option (List ℕ)) (answer : Result A Fault)
+    (y fault : Fault) → answer ≡ Err y → y ≡ fault → IsRefusal source text fault → MatchResult answer P (IsRefusal source text)
 refused_by P source text answer y fault is same h =
     subst (λ r. MatchResult r P (IsRefusal source text)) (sym is) (subst (IsRefusal source text) (sym same) h)
 
 -- and one of the typed tree, whatever the certificate
 pub untyped_by : (source : List ℕ) (answer : Result Tree Fault) (y fault : Fault) → answer ≡ Err y → y ≡ fault
-    → ((text : List ℕ) → IsRefusal source text fault) → MatchResult answer (IsSoundTreeOf source) (λ fault. (text : List ℕ) → IsRefusal source text fault)
+    → ((text : Option (List ℕ)) → IsRefusal source text fault)
+    → MatchResult answer (IsSoundTreeOf source) (λ fault. (text : Option (List ℕ)) → IsRefusal source text fault)
 untyped_by source answer y fault is same h =
-    subst (λ r. MatchResult r (IsSoundTreeOf source) (λ fault. (text : List ℕ) → IsRefusal source text fault)) (sym is)
+    subst (λ r. MatchResult r (IsSoundTreeOf source) (λ fault. (text : Option (List ℕ)) → IsRefusal source text fault)) (sym is)
     (λ text. subst (IsRefusal source text) (sym same) (h text))
 
 -- tokens are refused of a source for its first fault
-pub lexing-refusal : (source text : List ℕ) (fault : LexFault) → (fault ≢ lex.Memory → IsFirstFault source fault) → IsRefusal source text (lexer_fault fault)
+pub lexing-refusal : (source : List ℕ) (text : Option (List ℕ)) (fault : LexFault) → (fault ≢ lex.Memory → IsFirstFault source fault)
+    → IsRefusal source text (lexer_fault fault)
 lexing-refusal source text lex.Memory h = tt
 lexing-refusal source text fault h = h (λ same. cc)
 
 -- syntax is refused of a source whose tokens have that fault
-pub parsing-refusal : (source text : List ℕ) (fault : ParseFault) (tokens : List Token) → IsTokenList source (map lexeme_of tokens) → IsFaultOf fault tokens
+pub parsing-refusal : (source : List ℕ) (text : Option (List ℕ)) (fault : ParseFault) (tokens : List Token)
+    → IsTokenList source (map lexeme_of tokens) → IsFaultOf fault tokens
     → IsReadAs (Err fault) tokens → IsRefusal source text (parser_fault fault)
 parsing-refusal source text parse.Memory tokens list h read = tt
 parsing-refusal source text fault tokens list h read = (tokens, list, h, read)
 
 -- names and types are refused of a source that is written as a program, whose typing tells just that
-pub typing-refusal : (source text : List ℕ) (fault : TypeFault) (program : Program) → IsWrittenAs source program → IsFault (typing program) fault
+pub typing-refusal : (source : List ℕ) (text : Option (List ℕ)) (fault : TypeFault) (program : Program)
+    → IsWrittenAs source program → IsFault (typing program) fault
     → IsRefusal source text (typing_fault fault)
 typing-refusal source text untyped.Memory program written h = tt
 typing-refusal source text fault program written h = (program, written, ⊎_elim (λ e. cc) (λ told. told) h)
 
 -- a certificate is refused for what it names, or for the first rule that it breaks
-pub checking-refusal : (source text : List ℕ) (tree : Tree) (certificate : CertificateRead) (fault : CheckFault) → AreOf source text tree certificate
+pub checking-refusal : (source : List ℕ) (text : Option (List ℕ)) (tree : Tree) (certificate : CertificateRead) (fault : CheckFault)
+    → AreOf source text tree certificate
     → IsRefusedFor tree certificate fault → IsRefusal source text (checker_fault fault)
 checking-refusal source text tree certificate check.Memory are h = tt
 checking-refusal source text tree certificate check.Foreign are h = (tree, certificate, are, h)
 checking-refusal source text tree certificate (check.Broken rule place) are h = (tree, certificate, are, h)
 
 -- code is refused where there is too much of it
-pub generation-refusal : (source text : List ℕ) (tree : Tree) (certificate : CertificateRead) (fault : GenFault) → AreOf source text tree certificate
+pub generation-refusal : (source : List ℕ) (text : Option (List ℕ)) (tree : Tree) (certificate : CertificateRead) (fault : GenFault)
+    → AreOf source text tree certificate
     → (program_walk tree certificate).broken ≡ [] → (fault ≡ generate.TooLarge → is_too_large tree ≡ true)
     → IsRefusal source text (generator_fault fault)
 generation-refusal source text tree certificate generate.Memory are unbroken h = tt
@@ -78,10 +86,34 @@ generation-refusal source text tree certificate generate.TooLarge are unbroken h
 -- a certificate is refused for its first faulty line
 pub certificate-refusal : (source text : List ℕ) (tree : Tree) (fault : ReadFault) → IsTypedTreeOf tree source
     → (fault ≢ read.Memory → first_fault text ≡ Some fault)
-    → IsRefusal source text (certificate_fault fault)
+    → IsRefusal source (Some text) (certificate_fault fault)
 certificate-refusal source text tree read.Memory typed h = tt
 certificate-refusal source text tree (read.FirstLine line) typed h = (tree, typed, h (λ same. cc))
 certificate-refusal source text tree (read.NotInGrammar line) typed h = (tree, typed, h (λ same. cc))
 certificate-refusal source text tree (read.OutOfOrder line) typed h = (tree, typed, h (λ same. cc))
 certificate-refusal source text tree (read.OutOfRange line) typed h = (tree, typed, h (λ same. cc))
 certificate-refusal source text tree (read.Unended line) typed h = (tree, typed, h (λ same. cc))
+
+-- an accepted certificate isn't refused
+never_refused : (tree : Tree) (certificate : CertificateRead) (fault : CheckFault) → IsAccepted tree certificate
+    → IsRefusedFor tree certificate fault → fault ≡ check.Memory
+never_refused tree certificate check.Memory accepted h = refl
+never_refused tree certificate check.Foreign accepted h = absurd (let both : true ≡ false = sym accepted.0 ∙ h in cc)
+never_refused tree certificate (check.Broken rule place) accepted h =
+    absurd (let none : None ≡ Some (record { rule = rule; place = place }) = sym (ap first_breach accepted.1) ∙ h.1 in cc)
+
+-- without a certificate's text a source isn't refused for a certificate
+pub not_of_certificate : (source : List ℕ) (text : Option (List ℕ)) (fault : Fault) → text ≡ None → IsRefusal source text fault
+    → is_of_certificate fault ≡ false
+not_of_certificate source None Memory is h = refl
+not_of_certificate source None (Lex fault) is h = refl
+not_of_certificate source None (Parse fault) is h = refl
+not_of_certificate source None (Typing fault) is h = refl
+not_of_certificate source None (Certificate fault) is h = absurd h.2
+not_of_certificate source None (Check check.Memory) is h = absurd h
+not_of_certificate source None (Check check.Foreign) is h =
+    absurd (let never : check.Foreign ≡ check.Memory = never_refused h.0 h.1 check.Foreign h.2.serves.0 h.3 in cc)
+not_of_certificate source None (Check (check.Broken rule place)) is h =
+    absurd (let never : check.Broken rule place ≡ check.Memory = never_refused h.0 h.1 (check.Broken rule place) h.2.serves.0 h.3 in cc)
+not_of_certificate source None (Generate fault) is h = refl
+not_of_certificate source (Some text) fault is h = absurd cc

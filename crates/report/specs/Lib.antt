@@ -2,6 +2,7 @@ pub mod Headline
 pub mod Whole
 pub mod Refusals
 pub mod Steps
+pub mod Files
 pub mod Program
 pub use Rattle.report_text.specs.Faults
 pub use Rattle.report_text.specs.Text

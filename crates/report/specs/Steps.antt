@@ -1,6 +1,6 @@
 -- What the steps of compiling give: the typed tree of a source, its certificate with the verdict, its codes, and all of
 -- them together. Only private functions promise it in these words.
-use Rattle.std.specs.Prelude.{◌≡◌, ℕ, List, length, map}
+use Rattle.std.specs.Prelude.{◌≡◌, ℕ, List, Option, length, map}
 use Rattle.typed_tree.specs.declared.tree.Tree.{Tree}
 use Rattle.typed_tree.specs.declared.site.Site.{Site}
 use Rattle.typed_tree.specs.Entries.{AreNumbered, entries_of}
@@ -8,7 +8,6 @@ use Rattle.typed_tree.specs.WellFormed.{IsWellFormed}
 use Rattle.typed_tree.specs.Ids.{AreInOrder, AreByPlace}
 use Rattle.typing.specs.Sound.{stands}
 use Rattle.certificate.specs.declared.Certificate.{Certificate}
-use Rattle.certificate.specs.Contents.{Spells}
 use Rattle.cert_checker.specs.declared.Verdict.{Verdict}
 use Rattle.cert_checker.specs.Promise.{CallsChangeWhatTheyList, ClosedNeverErr, StatesHold, Valid}
 use Rattle.pcode_assembler.specs.declared.code.Code.{Code}
@@ -17,6 +16,7 @@ use Rattle.code_generator.specs.Follows.{Follows}
 use Rattle.code_generator.specs.Tables.{site_table, point_table}
 use Rattle.report.specs.declared.compile.Compiled.{Compiled}
 use Rattle.report.specs.Headline.{Headline, IsTypedTreeOf}
+use Rattle.report.specs.Refusals.{Serves}
 use Rattle.report.specs.Whole.{IsStripped}
 
 -- a typed tree of a source: its names are in its tables, its sites in order, by place and then by kind, its entries
@@ -28,9 +28,10 @@ pub record IsSoundTreeOf (source : List ℕ) (tree : Tree) : Type 0 where
   pub by_place : AreByPlace (map stands tree.sites.items)
   pub typed : IsTypedTreeOf tree source
 
--- the certificate that a text spells, and the checker's verdict on a tree by it
-pub record IsJudgement (tree : Tree) (text : List ℕ) (certificate : Certificate) (verdict : Verdict) : Type 0 where
-  pub spelled : Spells text certificate
+-- the certificate that serves for a tree, and the checker's verdict by it
+pub record IsJudgement (tree : Tree) (text : Option (List ℕ)) (certificate : Certificate) (verdict : Verdict)
+    : Type 0 where
+  pub serves : Serves text tree certificate
   pub valid : Valid tree certificate verdict.open_sites.items
   pub entered : verdict.visits ≡ length (entries_of tree)
   pub closed_never_err : ClosedNeverErr tree verdict.open_sites.items
@@ -46,8 +47,8 @@ pub record AreCodes (tree : Tree) (open_sites : List Site) (full stripped : Code
   pub less : IsStripped tree open_sites stripped
   pub headline : Headline tree open_sites stripped
 
--- a source with a certificate's text goes through all steps
-pub record IsWhole (source text : List ℕ) (compiled : Compiled) : Type 0 where
+-- a source goes through all steps, with a certificate's text or without one
+pub record IsWhole (source : List ℕ) (text : Option (List ℕ)) (compiled : Compiled) : Type 0 where
   pub tree : IsSoundTreeOf source compiled.tree
   pub judgement : IsJudgement compiled.tree text compiled.certificate compiled.verdict
   pub codes : AreCodes compiled.tree compiled.verdict.open_sites.items compiled.full compiled.stripped

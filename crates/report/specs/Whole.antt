@@ -4,7 +4,6 @@ use Rattle.std.specs.Prelude.{◌≡◌, ℕ, ◌+◌, List, Option, length}
 use Rattle.typed_tree.specs.declared.tree.Tree.{Tree}
 use Rattle.typed_tree.specs.declared.site.Site.{Site}
 use Rattle.typed_tree.specs.Entries.{entries_of}
-use Rattle.certificate.specs.Contents.{Spells}
 use Rattle.cert_checker.specs.Promise.{Valid}
 use Rattle.pcode_assembler.specs.declared.code.Code.{Code}
 use Rattle.check_remover.specs.Strip.{strip}
@@ -16,6 +15,7 @@ use Rattle.stack_machine.specs.Failures.{write_failures_of}
 use Rattle.stack_machine.specs.Ran.{Ran}
 use Rattle.report.specs.declared.compile.Compiled.{Compiled}
 use Rattle.report.specs.Headline.{Headline, IsTypedTreeOf}
+use Rattle.report.specs.Refusals.{Serves}
 
 -- the code of a tree, without the checks of the sites that aren't open
 pub record IsStripped (tree : Tree) (open_sites : List Site) (code : Code) : Type 0 where
@@ -23,11 +23,11 @@ pub record IsStripped (tree : Tree) (open_sites : List Site) (code : Code) : Typ
   pub sites : code.sites.items ≡ site_table tree.sites.items
   pub points : code.points.items ≡ point_table tree.points.items
 
--- a source with a certificate's text was compiled: the typed tree is checked by the certificate, with this verdict, for
--- whose open sites the headline holds of the code without the other checks
-pub record IsCompiled (source text : List ℕ) (compiled : Compiled) : Type 0 where
+-- a source was compiled, with a certificate's text or without one: the typed tree is checked by the certificate that
+-- serves, with this verdict, for whose open sites the headline holds of the code without the other checks
+pub record IsCompiled (source : List ℕ) (text : Option (List ℕ)) (compiled : Compiled) : Type 0 where
   pub typed : IsTypedTreeOf compiled.tree source
-  pub spelled : Spells text compiled.certificate
+  pub serves : Serves text compiled.tree compiled.certificate
   pub valid : Valid compiled.tree compiled.certificate compiled.verdict.open_sites.items
   pub entered : compiled.verdict.visits ≡ length (entries_of compiled.tree)
   pub stripped : IsStripped compiled.tree compiled.verdict.open_sites.items compiled.stripped

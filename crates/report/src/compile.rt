@@ -1,18 +1,18 @@
-ghost use Rattle.std.specs.Prelude.{◌≡◌, ℕ, List, length, map, IfOk, IfErr, MatchResult};
-ghost use Rattle.certificate.specs.Contents.{Spells};
+ghost use Rattle.std.specs.Prelude.{◌≡◌, ℕ, List, Option, None, false, length, map, IfOk, IfErr, MatchResult};
 ghost use Rattle.certificate.specs.declared.Certificate.{Certificate as CertificateRead};
 ghost use Rattle.cert_checker.specs.Promise.{CallsChangeWhatTheyList, StatesHold, Valid};
 ghost use Rattle.code_scheme.specs.Code.{program_code};
 ghost use Rattle.code_generator.specs.Follows.{Follows};
 ghost use Rattle.code_generator.specs.Tables.{site_table, point_table};
 ghost use Rattle.report.specs.Headline.{Headline, IsTypedTreeOf};
-ghost use Rattle.report.specs.Refusals.{IsRefusal, text_of};
+ghost use Rattle.report.specs.Refusals.{IsRefusal, Serves, given, is_of_certificate};
 ghost use Rattle.report.specs.Steps.{AreCodes, IsJudgement, IsSoundTreeOf, IsWhole};
 ghost use Rattle.typed_tree.specs.Entries.{entries_of};
 ghost use Rattle.typed_tree.specs.Ids.{AreByPlace};
 ghost use Rattle.typing.specs.Sound.{stands};
 ghost use Rattle.report.specs.Whole.{IsStripped};
 
+use analyser::guess;
 use cert_checker::{Verdict, check};
 use certificate::Certificate;
 use check_remover::remove::remove;
@@ -27,9 +27,6 @@ use std::alloc::{AllocError, Global};
 use syntax_release::release;
 use typed_tree::tree::Tree;
 
-/// The certificate that serves where none is given: it says nothing.
-pub const PLAIN_CERTIFICATE: &[u8] = b"pcert 1\n";
-
 /// What compiling a source gives.
 #[derive(Drop)]
 pub struct Compiled {
@@ -43,20 +40,25 @@ pub struct Compiled {
     pub stripped: Code,
 }
 
-/// Compiles a source, with the text of a certificate or with the plain one.
+/// Compiles a source, with the text of a certificate, or with one that the analyser finds.
 ///
 /// # Errors
-/// The fault of the first layer that refuses: tokens, syntax, names and types, certificate, its rules, code.
+/// The fault of the first layer that refuses: tokens, syntax, names and types, certificate, its rules, code. A
+/// certificate that was found is never refused.
 pub fn compile(alloc: Global, source: &[u8], certificate: Option<&[u8]>) -> Result<Compiled, Fault>
-    // The tree is the typed tree of the source, and the certificate is the one that the text spells.
+    // The tree is the typed tree of the source, and the certificate is the one that the text spells, or without a
+    // text one that the checker accepts.
     ensures typed { IfOk result (λ c. IsTypedTreeOf c.tree source.now) }
-    ensures certificate { IfOk result (λ c. Spells (text_of certificate.entry) c.certificate) }
+    ensures certificate { IfOk result (λ c. Serves (given certificate.entry) c.tree c.certificate) }
 
     // Its sites stand in the table by place and then by kind.
     ensures by_place { IfOk result (λ c. AreByPlace (map stands c.tree.sites.items)) }
 
     // A source is refused for what the first layer that refuses it says, and for nothing else but memory.
-    ensures refused { IfErr result (IsRefusal source.now (text_of certificate.entry)) }
+    ensures refused { IfErr result (IsRefusal source.now (given certificate.entry)) }
+
+    // Without a text it is never refused for a certificate.
+    ensures guessed { certificate.entry ≡ None → IfErr result (λ fault. is_of_certificate fault ≡ false) }
 
     // The list of open sites is the checker's, and it counted as many entries as the program has statements and
     // expressions.
@@ -83,8 +85,8 @@ pub fn compile(alloc: Global, source: &[u8], certificate: Option<&[u8]>) -> Resu
 
 // All steps, one behind the other, with one clause over what they give.
 fn whole(alloc: Global, source: &[u8], certificate: Option<&[u8]>) -> Result<Compiled, Fault>
-    ensures { MatchResult result (IsWhole source.now (text_of certificate.entry))
-        (IsRefusal source.now (text_of certificate.entry)) }
+    ensures { MatchResult result (IsWhole source.now (given certificate.entry))
+        (IsRefusal source.now (given certificate.entry)) }
 {
     let tree = typed(alloc, source)?;
     let (certificate, verdict) = judged(alloc, &tree, certificate)?;
@@ -101,7 +103,7 @@ fn whole(alloc: Global, source: &[u8], certificate: Option<&[u8]>) -> Result<Com
 // The typed tree of a source, whatever its certificate.
 fn typed(alloc: Global, source: &[u8]) -> Result<Tree, Fault>
     ensures { MatchResult result (IsSoundTreeOf source.now)
-        (λ fault. (text : List ℕ) → IsRefusal source.now text fault) }
+        (λ fault. (text : Option (List ℕ)) → IsRefusal source.now text fault) }
 {
     let tokens = tokens(alloc, source)?;
     let program = parse(alloc, &tokens)?;
@@ -118,19 +120,29 @@ fn judged(
     certificate: Option<&[u8]>,
 ) -> Result<(Certificate, Verdict), Fault>
     ensures { (source : List ℕ) → IsSoundTreeOf source tree.now
-        → MatchResult result (λ judged. IsJudgement tree.now (text_of certificate.entry) judged.0 judged.1)
-        (IsRefusal source (text_of certificate.entry)) }
+        → MatchResult result (λ judged. IsJudgement tree.now (given certificate.entry) judged.0 judged.1)
+        (IsRefusal source (given certificate.entry)) }
 {
-    let text = certificate.unwrap_or(PLAIN_CERTIFICATE);
-    let certificate = certificate::read(alloc, text)?;
+    let certificate = serving(alloc, tree, certificate)?;
     let verdict = check(alloc, tree, &certificate)?;
     Ok((certificate, verdict))
 }
 
+// The certificate that a text spells, or without one a certificate that is found for the tree.
+fn serving(alloc: Global, tree: &Tree, text: Option<&[u8]>) -> Result<Certificate, Fault>
+    ensures { (source : List ℕ) → IsSoundTreeOf source tree.now
+        → MatchResult result (Serves (given text.entry) tree.now) (IsRefusal source (given text.entry)) }
+{
+    match text {
+        Some(text) => Ok(certificate::read(alloc, text)?),
+        None => Ok(guess(alloc, tree)?),
+    }
+}
+
 // The code with all its checks, and the code without those of the sites that aren't open.
 fn coded(alloc: Global, tree: &Tree, verdict: &Verdict) -> Result<(Code, Code), Fault>
-    ensures { (source text : List ℕ) (certificate : CertificateRead) → IsSoundTreeOf source tree.now
-        → IsJudgement tree.now text certificate verdict.now
+    ensures { (source : List ℕ) (text : Option (List ℕ)) (certificate : CertificateRead)
+        → IsSoundTreeOf source tree.now → IsJudgement tree.now text certificate verdict.now
         → MatchResult result (λ codes. AreCodes tree.now verdict.now.open_sites.items codes.0 codes.1)
         (IsRefusal source text) }
 {

@@ -2,6 +2,7 @@
 #![tactic(auto)]
 
 pub mod compile;
+pub mod files;
 pub mod prepared;
 pub mod program;
 mod running;

@@ -1,9 +1,10 @@
-ghost use Rattle.std.specs.Prelude.{◌≡◌, ◌<◌, ◌+◌, ◌-◌, ◌^◌, ◌==◌, ℕ, if◌then◌else◌, true, IfOk, IfErr, MatchBool};
+ghost use Rattle.std.specs.Prelude.{◌≡◌, ◌<◌, ◌+◌, ◌-◌, ◌^◌, ◌==◌, ℕ, ◌++◌, if◌then◌else◌, true, codes};
+ghost use Rattle.std.specs.Prelude.{IfOk, IfErr, MatchBool};
 ghost use Rattle.report_text.specs.Messages.{Gets, page};
-ghost use Rattle.report.specs.Program.{End, Finishes, IsPrepared, last_line, report_status, status_of, unreadable_line};
-ghost use Rattle.report.specs.Program.{unreadable_status};
+ghost use Rattle.report.specs.Program.{End, Finishes, HasSpelling, IsPrepared, file_status, last_line, report_status};
+ghost use Rattle.report.specs.Program.{status_of, unreadable_line, unwritable_line};
 ghost use Rattle.report.specs.Whole.{of_both, streams};
-ghost use Rattle.report.specs.Refusals.{IsRefusal, text_of};
+ghost use Rattle.report.specs.Refusals.{IsRefusal, given};
 ghost use Rattle.report_text.specs.Text.{refusal_line, refusal_of, refusal_status, stop_line, stop_status};
 
 use crate::compile::{Compiled, compile};
@@ -13,14 +14,26 @@ use report_text::messages::put;
 use stack_machine::bytes::{Feed, Sink};
 use stack_machine::machine::Machine;
 use stack_machine::stop::Stop;
-use std::alloc::Global;
+use std::alloc::{AllocError, Global};
 use typed_tree::site::Site;
 
 /// How many cells a run has.
 const CELLS: u32 = 1_000_000;
 
-/// The status where a file can't be read.
-const UNREADABLE: u8 = 3;
+/// The status where a file can't be read or written.
+const FILE_STATUS: u8 = 3;
+
+/// What is to be done with a source.
+#[derive(Clone, Copy)]
+pub struct Job<'a> {
+    pub source: &'a [u8],
+    /// The text of the certificate. None where one is to be found.
+    pub certificate: Option<&'a [u8]>,
+    /// The path to which the certificate that is used is to be written.
+    pub write_cert: Option<&'a str>,
+    /// Whether the code is to be run.
+    pub go: bool,
+}
 
 /// A source that is compiled, its report not yet told.
 #[derive(Drop)]
@@ -28,6 +41,8 @@ pub struct Prepared {
     compiled: Compiled,
     /// The lines of the open sites.
     report: Vec<u8>,
+    /// The spelling of the certificate that was used, empty where it isn't to be written.
+    pub(crate) certificate: Vec<u8>,
     /// None where the code isn't to be run.
     machine: Option<Machine>,
 }
@@ -40,22 +55,18 @@ pub struct Reported {
     told: bool,
 }
 
-/// Compiles a source, with the text of a certificate or with the plain one, and makes all that takes memory.
+/// Compiles a source, with the text of a certificate or with one that is found, and makes all that takes memory.
 ///
 /// # Errors
 /// Those of `compile`, and want of memory.
-pub fn prepare(
-    alloc: Global,
-    source: &[u8],
-    certificate: Option<&[u8]>,
-    go: bool,
-) -> Result<Prepared, Fault>
-    ensures prepared { IfOk result (IsPrepared source.now (text_of certificate.entry) go) }
-    ensures refused { IfErr result (IsRefusal source.now (text_of certificate.entry)) }
+pub fn prepare(alloc: Global, job: Job<'_>) -> Result<Prepared, Fault>
+    ensures prepared { IfOk result (IsPrepared job.entry) }
+    ensures refused { IfErr result (IsRefusal job.entry.source.now (given job.entry.certificate)) }
 {
-    let compiled = compile(alloc, source, certificate)?;
+    let compiled = compile(alloc, job.source, job.certificate)?;
     let report = lines(alloc, &compiled.verdict)?;
-    let machine = if go {
+    let certificate = spelling_for(alloc, job.write_cert, &compiled)?;
+    let machine = if job.go {
         Some(Machine::new(alloc, CELLS)?)
     } else {
         None
@@ -63,8 +74,23 @@ pub fn prepare(
     Ok(Prepared {
         compiled,
         report,
+        certificate,
         machine,
     })
+}
+
+// The spelling of the certificate that was used, where it is to be written to a path.
+fn spelling_for(
+    alloc: Global,
+    path: Option<&str>,
+    compiled: &Compiled,
+) -> Result<Vec<u8>, AllocError>
+    ensures { IfOk result (λ text. HasSpelling (given path.entry) compiled.now text.items) }
+{
+    match path {
+        Some(_) => certificate::write(alloc, &compiled.certificate),
+        None => Ok(Vec::new(alloc)),
+    }
 }
 
 /// Tells that the file of a path can't be read, and answers the status.
@@ -72,12 +98,32 @@ pub fn cannot_read<E: Sink>(path: &str, errors: &mut E) -> u8
     requires { E.failures errors.old < 2 ^ 64 - 1 }
     ensures told { Gets (page (E.contents errors.old) (E.failures errors.old))
         (page (E.contents errors.new) (E.failures errors.new)) (unreadable_line path.now) }
-    ensures status { result ≡ unreadable_status }
+    ensures status { result ≡ file_status }
 {
-    if put("cannot read ".as_bytes(), errors) && put(path.as_bytes(), errors) {
+    file_line("cannot read ", path, errors);
+    FILE_STATUS
+}
+
+/// Tells that the file of a path can't be written, and answers the status.
+pub fn cannot_write<E: Sink>(path: &str, errors: &mut E) -> u8
+    requires { E.failures errors.old < 2 ^ 64 - 1 }
+    ensures told { Gets (page (E.contents errors.old) (E.failures errors.old))
+        (page (E.contents errors.new) (E.failures errors.new)) (unwritable_line path.now) }
+    ensures status { result ≡ file_status }
+{
+    file_line("cannot write ", path, errors);
+    FILE_STATUS
+}
+
+/// Tells what can't be done with the file of a path.
+fn file_line<E: Sink>(words: &str, path: &str, errors: &mut E)
+    requires { E.failures errors.old < 2 ^ 64 - 1 }
+    ensures { Gets (page (E.contents errors.old) (E.failures errors.old))
+        (page (E.contents errors.new) (E.failures errors.new)) (words.now ++ (path.now ++ codes "\n")) }
+{
+    if put(words.as_bytes(), errors) && put(path.as_bytes(), errors) {
         put("\n".as_bytes(), errors);
     }
-    UNREADABLE
 }
 
 /// Tells why a source is refused, and answers the status.
@@ -134,6 +180,7 @@ impl Reported {
         let Prepared {
             compiled,
             report: _,
+            certificate: _,
             machine,
         } = prepared;
         let report_status = report_status(&compiled.verdict.open_sites);

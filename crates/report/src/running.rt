@@ -1,6 +1,6 @@
 ghost use Rattle.std.specs.Prelude.{◌≡◌, ◌≤◌, ◌<◌, ◌-◌, ◌^◌, MatchResult};
 ghost use Rattle.report.specs.Program.{IsRunOf};
-ghost use Rattle.report.specs.Refusals.{IsRefusal, text_of};
+ghost use Rattle.report.specs.Refusals.{IsRefusal, given};
 ghost use Rattle.report.specs.Whole.{RunsStripped, streams};
 ghost use Rattle.stack_machine.specs.Does.{cell_count};
 
@@ -34,7 +34,7 @@ impl Compiled {
     }
 }
 
-/// Compiles a source, with the text of a certificate or with the plain one, and runs the code without the checks of
+/// Compiles a source, with the text of a certificate or with one that is found, and runs the code without the checks of
 /// the sites that aren't open, on 1 to 16,777,216 cells and for at most `budget` instructions. Answers the checker's
 /// verdict and how the run stopped.
 ///
@@ -53,12 +53,12 @@ pub fn go<R: Feed, W: Sink>(
     requires reader_counts { R.failures reader.old < 2 ^ 64 - 1 }
     requires writer_counts { W.failures writer.old < 2 ^ 64 - 1 }
     ensures runs { MatchResult result
-        (λ done. IsRunOf source.now (text_of certificate.entry) cells budget done.0 done.1
+        (λ done. IsRunOf source.now (given certificate.entry) cells budget done.0 done.1
         (streams (R.remaining reader.old) (R.asked reader.old) (R.failures reader.old) (W.contents writer.old)
         (W.offered writer.old) (W.failures writer.old))
         (streams (R.remaining reader.new) (R.asked reader.new) (R.failures reader.new) (W.contents writer.new)
         (W.offered writer.new) (W.failures writer.new)))
-        (λ fault. IsRefusal source.now (text_of certificate.entry) fault
+        (λ fault. IsRefusal source.now (given certificate.entry) fault
         × (reader.new ≡ reader.old) × (writer.new ≡ writer.old)) }
 {
     let compiled = compile(alloc, source, certificate)?;

@@ -4,6 +4,7 @@
 use crate::generated::{certificate, input, program};
 use crate::numbers::Numbers;
 use crate::shown::{Ran, is_same_end, run};
+use analyser::find;
 use interpreter::interpret;
 use meaning::outcome::{Ending, Outcome};
 use report::compile::{Compiled, compile};
@@ -83,6 +84,26 @@ fn count(
         Ending::More => &mut counts.unended,
     };
     *counter = counter.saturating_add(1);
+    Ok(())
+}
+
+// Whether a certificate that is found is accepted as it was found. Fails where the machine and the interpreter differ,
+// or a closed site errs.
+fn is_found_at_once(alloc: Global, source: &[u8], input: &[u8]) -> Result<bool, Fail> {
+    let compiled = compile(alloc, source, None)?;
+    agreed(alloc, &compiled, input)?;
+    Ok(find(alloc, &compiled.tree)?.refusals == 0)
+}
+
+#[test]
+fn certificates_of_generated_programs_are_found_at_once(rt: HostRuntime) -> Result<(), Fail> {
+    let alloc = rt.alloc();
+    let mut numbers = Numbers { state: 1990 };
+    for _ in 0..200 {
+        let source = program(alloc, &mut numbers)?;
+        let input = input(alloc, &mut numbers)?;
+        assert!(rt; is_found_at_once(alloc, &source, &input)?);
+    }
     Ok(())
 }
 

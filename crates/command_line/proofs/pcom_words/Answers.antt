@@ -26,12 +26,14 @@ returns c =
     let flag = one_of_matches built pcom words m app_is pcom_is_simple c.in_ok-matches.ensures.matches (codes "go") in
     let path = first_of_matches built pcom words m app_is pcom_is_simple c.in_ok-matches.ensures.matches (codes "source") in
     let cert = first_of_matches built pcom words m app_is pcom_is_simple c.in_ok-matches.ensures.matches (codes "cert") in
+    let saved = first_of_matches built pcom words m app_is pcom_is_simple c.in_ok-matches.ensures.matches (codes "write-cert") in
     let has : is_some (first_value (found_of m) (codes "source")) ≡ true = c.in_ok-command.ensures.source m c.in_ok-matches.ensures.parsed in
     record {
       faultless = subst (λ a. fault_of a words ≡ []) app_is (c.in_ok-matches.ensures.kinds (ap is_simple_and_free app_is ∙ pcom_is_free));
       source = sym path ∙ (sym c.get_str.ensures ∙ there c.unwrap_or.result c.get_str.result _ c.unwrap_or.ensures
           (rw c.get_str.ensures has));
       cert = sym cert ∙ sym c.get_str-2.ensures;
+      write_cert = sym saved ∙ sym c.get_str-3.ensures;
       go = record {
         given = λ h. c.get_flag.ensures.value (flag ∙ h);
         left_out = λ h. c.get_flag.ensures.other (flag ∙ h);

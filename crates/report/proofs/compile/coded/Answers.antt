@@ -43,7 +43,7 @@ returns-in_err-full c = λ source text certificate sound judged.
     let told = err_from_is_err_and c.from_residual.result c.from_residual.ensures.1 in
     refused_by _ source text c.from_residual.result told.0 _ told.1 told.2
     (generation-refusal source text c.args.tree.now certificate c.in_err-full.field-0.0
-    (record { typed = sound.typed; spelled = judged.spelled }) judged.valid.unbroken
+    (record { typed = sound.typed; serves = judged.serves }) judged.valid.unbroken
     (λ same. c.generate.ensures.too_large (c.in_err-full.was ∙ ap Err same)))
 
 pub returns-in_err-open_sites : goal.returns-in_err-open_sites

@@ -1,0 +1,96 @@
+//! Facts that others say as well.
+
+use certificate::{Fact, Path, Step};
+use checker_loops::claims::rows_named;
+use checker_rows::Rows;
+use domain::facts::Bound;
+
+// How far a fact may stand from one that says it, in the order of facts.
+const NEAR: usize = 64;
+
+/// Drops of facts, which stand in their order, those that another one says near them.
+pub(crate) fn drop_implied(rows: &Rows, facts: &mut Vec<Fact>) {
+    for place in (0..facts.len()).rev() {
+        if place < facts.len() && is_implied(rows, facts, place) {
+            let _implied = facts.remove(place);
+        }
+    }
+}
+
+fn is_implied(rows: &Rows, facts: &[Fact], place: usize) -> bool {
+    let Some(fact) = facts.get(place) else {
+        return false;
+    };
+    let first = place.saturating_sub(NEAR);
+    let last = place.saturating_add(NEAR);
+    let near = facts.iter().enumerate().take(last).skip(first);
+    for (other_place, other) in near {
+        if other_place != place && says(rows, other, fact) {
+            return true;
+        }
+    }
+    false
+}
+
+// Whether a fact says another one, which isn't the same.
+fn says(rows: &Rows, fact: &Fact, other: &Fact) -> bool {
+    match (fact, other) {
+        (Fact::Defined { path }, Fact::Defined { path: inner }) => leads_to(path, inner),
+        (Fact::Defined { path }, Fact::Stretch { path: inner, .. }) => leads_to(path, inner),
+        (
+            Fact::Stretch { path, first, last },
+            Fact::Stretch {
+                path: inner,
+                first: from,
+                last: to,
+            },
+        ) => {
+            let is_wide = is_at_most(*first, *from) && is_at_most(*to, *last);
+            leads_to(path, inner)
+                && leads_to(inner, path)
+                && (is_wide || is_all(rows, path, *first, *last))
+        }
+        _ => false,
+    }
+}
+
+// Whether a path leads to a part, or to what that lies in.
+fn leads_to(path: &Path, part: &Path) -> bool {
+    let mut both = path.steps.iter().zip(part.steps.iter());
+    path.root == part.root
+        && path.steps.len() <= part.steps.len()
+        && both.all(|(step, other)| is_same(step, other))
+}
+
+fn is_same(step: &Step, other: &Step) -> bool {
+    match (step, other) {
+        (Step::Element, Step::Element) => true,
+        (Step::Field { name }, Step::Field { name: other }) => name.as_slice() == other.as_slice(),
+        _ => false,
+    }
+}
+
+// Whether the one bound is at most the other, whatever variables hold.
+fn is_at_most(bound: Bound, other: Bound) -> bool {
+    match (bound, other) {
+        (Bound::Number(number), Bound::Number(other)) => number <= other,
+        (
+            Bound::Plus { root, number },
+            Bound::Plus {
+                root: other_root,
+                number: other,
+            },
+        ) => root == other_root && number <= other,
+        _ => false,
+    }
+}
+
+// Whether all indexes of an array lie between two bounds.
+fn is_all(rows: &Rows, path: &Path, first: Bound, last: Bound) -> bool {
+    match (first, last, rows.index(rows_named(rows, path).first)) {
+        (Bound::Number(first), Bound::Number(last), Some(range)) => {
+            first <= range.first && range.last <= last
+        }
+        _ => false,
+    }
+}

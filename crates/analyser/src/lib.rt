@@ -1,0 +1,117 @@
+//! The analyser: it finds a certificate of a program by walking over it until nothing new comes to where facts stand.
+#![tactic(auto)]
+
+ghost use Rattle.std.specs.Prelude.{◌≡◌, IfOk, true};
+ghost use Rattle.certificate.specs.Contents.{are_in_order, contents};
+ghost use Rattle.cert_checker.specs.Promise.{IsAccepted};
+ghost use Rattle.typed_tree.specs.WellFormed.{IsWellFormed};
+
+mod accepting;
+mod analysis;
+mod calls;
+mod implied;
+mod loops;
+mod outcome;
+mod rounds;
+mod statements;
+
+use crate::accepting::accepted;
+use crate::analysis::{Analysis, Course, Proposed};
+use crate::outcome::filled;
+use analyser_plan::Plan;
+use cert_checker::program::grounds;
+use cert_checker::walk::Walk;
+use certificate::Certificate;
+use checker_expressions::visits::Visits;
+use checker_loops::loops::{all_claims, all_loop_aliases};
+use checker_loops::starts::all_declared;
+use checker_rows::Rows;
+use checker_trail::State;
+use std::alloc::{AllocError, Global};
+use typed_tree::tree::Tree;
+
+/// A certificate that was found, and what that took.
+#[derive(Drop)]
+pub struct Found {
+    pub certificate: Certificate,
+    /// How often a statement or an expression was entered on the way.
+    pub visits: u64,
+    /// How often the checker refused what was found, before more of it was let go.
+    pub refusals: u32,
+}
+
+/// Finds a certificate of a program that the checker accepts, and by which it closes as many sites as this can. It is
+/// in order, so what `certificate::write` writes of it is read again as the same.
+///
+/// # Errors
+/// No memory.
+pub fn guess(alloc: Global, tree: &Tree) -> Result<Certificate, AllocError>
+    ensures accepted { IsWellFormed tree.now → IfOk result (λ certificate. IsAccepted tree.now certificate) }
+    ensures in_order { IfOk result (λ certificate. are_in_order (contents certificate) ≡ true) }
+{
+    let found = find(alloc, tree)?;
+    Ok(found.certificate)
+}
+
+/// The same, which tells what it took.
+///
+/// # Errors
+/// No memory.
+pub fn find(alloc: Global, tree: &Tree) -> Result<Found, AllocError>
+    ensures accepted { IsWellFormed tree.now → IfOk result (λ found. IsAccepted tree.now found.certificate) }
+    ensures in_order { IfOk result (λ found. are_in_order (contents found.certificate) ≡ true) }
+{
+    let rows = Rows::of(alloc, tree)?;
+    let Plan {
+        frame,
+        entries,
+        exits,
+        loops,
+        ladders,
+        callers,
+        is_recursive,
+    } = Plan::of(alloc, &rows)?;
+    let course = Course {
+        ladders,
+        callers,
+        is_recursive,
+        declared: all_declared(alloc, tree)?,
+    };
+    let proposed = Proposed {
+        entries,
+        exits,
+        loops,
+    };
+    let mut visits = Visits::new();
+    let given = given_facts(alloc, &rows, &frame, &course, proposed, &mut visits);
+    let visits = visits.entries();
+    let mut refusals = 0;
+    let certificate = accepted(alloc, tree, filled(&rows, frame, given?), &mut refusals)?;
+    Ok(Found {
+        certificate,
+        visits,
+        refusals,
+    })
+}
+
+// The facts of those that are proposed which are given wherever they have to be.
+fn given_facts(
+    alloc: Global,
+    rows: &Rows,
+    frame: &Certificate,
+    course: &Course,
+    proposed: Proposed,
+    visits: &mut Visits,
+) -> Result<Proposed, AllocError> {
+    let tree = rows.tree();
+    let grounds = grounds(alloc, tree, frame)?;
+    let claims = all_claims(alloc, tree, frame)?;
+    let aliases = all_loop_aliases(alloc, tree, &grounds.pairs, &claims)?;
+    let walk = Walk::new(State::of_types(alloc, rows), grounds, &claims, &aliases);
+    let mut analysis = Analysis::new(alloc, walk, course, proposed)?;
+    analysis.run(visits);
+    if analysis.is_short() {
+        return Err(AllocError);
+    }
+    analysis.take(alloc)
+}

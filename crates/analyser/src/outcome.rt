@@ -1,0 +1,63 @@
+//! The certificate that facts make which stand at the end.
+
+use crate::analysis::Proposed;
+use crate::implied::drop_implied;
+use certificate::{Certificate, Fact, LoopClaims, Section};
+use checker_rows::Rows;
+use std::mem;
+
+/// Puts facts into a certificate without facts, in their order, without those that others say as well.
+pub(crate) fn filled(rows: &Rows, frame: Certificate, facts: Proposed) -> Certificate {
+    let Certificate {
+        version,
+        mut sections,
+    } = frame;
+    let mut facts = facts;
+    for section in sections.iter_mut() {
+        fill(rows, section, &mut facts);
+    }
+    Certificate { version, sections }
+}
+
+/// Leaves out of a certificate what says nothing.
+pub(crate) fn drop_vacant(certificate: &mut Certificate) {
+    for section in certificate.sections.iter_mut() {
+        section.loops.retain(loop_says_something);
+    }
+    certificate.sections.retain(says_something);
+}
+
+fn fill(rows: &Rows, section: &mut Section, facts: &mut Proposed) {
+    let number = section.block as usize;
+    take(rows, &mut section.entry, facts.entries.get_mut(number));
+    take(rows, &mut section.exit, facts.exits.get_mut(number));
+    for claims in section.loops.iter_mut() {
+        take(
+            rows,
+            &mut claims.facts,
+            facts.loops.get_mut(claims.number as usize),
+        );
+    }
+}
+
+// Takes facts over, in their order.
+fn take(rows: &Rows, to: &mut Vec<Fact>, from: Option<&mut Vec<Fact>>) {
+    if let Some(facts) = from {
+        mem::swap(to, facts);
+        to.sort_unstable_by(|one, other| one.compare(other));
+        to.dedup_by(|one, other| other.compare(one).is_eq());
+        drop_implied(rows, to);
+    }
+}
+
+fn says_something(section: &Section) -> bool {
+    !(section.aliases.is_empty()
+        && section.changes.is_empty()
+        && section.entry.is_empty()
+        && section.exit.is_empty()
+        && section.loops.is_empty())
+}
+
+fn loop_says_something(claims: &LoopClaims) -> bool {
+    !(claims.changes.is_empty() && claims.facts.is_empty())
+}

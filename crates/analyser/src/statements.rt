@@ -1,0 +1,153 @@
+use crate::analysis::Analysis;
+use analyser_plan::events::{events_of, expression_events};
+use checker_expressions::visits::Visits;
+use checker_loops::cases::begin_arm;
+use checker_state::{Known, entire};
+use typed_tree::calls::{hold_call, holds_call, passed_holds_call, whole_holds_call};
+use typed_tree::tree::{CaseHead, Expr, Stmt, WithHead, WriteParameter, Written};
+
+// Statements, of which so many more may stand in one another.
+impl<'a> Analysis<'a> {
+    /// A statement. One that stands too deep is taken as one that never ends.
+    #[cycle(statement)]
+    pub(crate) fn statement(&mut self, statement: &Stmt, left: u32, visits: &mut Visits) {
+        let Some(left) = left.checked_sub(1) else {
+            return self.walk.flow.state.die();
+        };
+        match statement {
+            Stmt::Empty { number } => visits.tick(*number),
+            Stmt::Compound { number, statements } => {
+                visits.tick(*number);
+                self.statements(statements, left, visits)
+            }
+            Stmt::If {
+                number,
+                condition,
+                consequence,
+                alternative,
+            } => {
+                visits.tick(*number);
+                let known = self.value(condition, left, visits);
+                let mark = self.walk.flow.state.mark();
+                self.walk.go_where(condition, &known, true);
+                self.statement(consequence, left, visits);
+                let first = self.walk.flow.state.leave(mark);
+                self.walk.go_where(condition, &known, false);
+                if let Some(other) = alternative {
+                    self.statement(other, left, visits);
+                }
+                self.walk.flow.state.join_behind(mark, &first);
+            }
+            Stmt::While { head, body } => self.while_loop(head, body, left, visits),
+            Stmt::Repeat { head, statements } => self.repeat_loop(head, statements, left, visits),
+            Stmt::For { head, body } => self.for_loop(head, body, left, visits),
+            Stmt::Case { head, arms } => self.case(head, arms, left, visits),
+            Stmt::With { head, body } => {
+                self.records(head, left, visits);
+                self.statement(body, left, visits);
+            }
+            Stmt::Assign(_) | Stmt::Copy(_) | Stmt::Write(_) | Stmt::Read(_) | Stmt::Call(_) => {
+                self.simple(statement, left, visits)
+            }
+        }
+    }
+
+    /// Statements, one after another.
+    #[cycle(statement)]
+    pub(crate) fn statements(&mut self, statements: &[Stmt], left: u32, visits: &mut Visits) {
+        for statement in statements {
+            self.statement(statement, left, visits);
+        }
+    }
+
+    // A case.
+    #[cycle(statement)]
+    fn case(&mut self, head: &CaseHead, arms: &[Stmt], left: u32, visits: &mut Visits) {
+        visits.tick(head.number);
+        let known = self.value(&head.index, left, visits);
+        self.walk.test_index(head, arms.len(), known.range());
+        let index = entire(self.walk.flow.state.table(), &head.index);
+        let mark = self.walk.flow.state.mark();
+        self.walk.flow.state.die();
+        let mut behind = self.walk.flow.state.leave(mark);
+        for number in 0..arms.len() {
+            begin_arm(&mut self.walk.flow.state, index, &head.constants, number);
+            self.statement(&arms[number], left, visits);
+            self.walk.flow.state.join_behind(mark, &behind);
+            behind = self.walk.flow.state.leave(mark);
+        }
+        self.walk.flow.state.go(&behind);
+    }
+
+    // The records of a with.
+    #[cycle(statement)]
+    fn records(&mut self, head: &WithHead, left: u32, visits: &mut Visits) {
+        visits.tick(head.number);
+        for record in &head.records {
+            for index in &record.indexes {
+                if holds_call(index) {
+                    self.value(index, left, visits);
+                }
+            }
+            self.walk.record_of(record, visits);
+        }
+    }
+
+    // A statement that holds no others.
+    #[cycle(statement)]
+    fn simple(&mut self, statement: &Stmt, left: u32, visits: &mut Visits) {
+        let mut comes_back = true;
+        if statement_holds_call(statement) {
+            match events_of(self.walk.flow.state.alloc(), statement) {
+                Ok(events) => comes_back = self.calls(&events, left, visits),
+                Err(_) => self.walk.flow.state.run_short(),
+            }
+        }
+        self.walk.statement(statement, visits);
+        if !comes_back {
+            self.walk.flow.state.die();
+        }
+    }
+
+    /// What is known of the value of an expression.
+    #[cycle(statement)]
+    pub(crate) fn value(&mut self, expression: &Expr, left: u32, visits: &mut Visits) -> Known {
+        let mut comes_back = true;
+        if holds_call(expression) {
+            match expression_events(self.walk.flow.state.alloc(), expression) {
+                Ok(events) => comes_back = self.calls(&events, left, visits),
+                Err(_) => self.walk.flow.state.run_short(),
+            }
+        }
+        let known = self.walk.expression(expression, visits);
+        if !comes_back {
+            self.walk.flow.state.die();
+        }
+        known
+    }
+}
+
+// Whether a statement that holds no others holds a call.
+fn statement_holds_call(statement: &Stmt) -> bool {
+    match statement {
+        Stmt::Assign(assignment) => hold_call(&assignment.indexes) || holds_call(&assignment.value),
+        Stmt::Copy(copying) => {
+            hold_call(&copying.indexes) || whole_holds_call(&copying.value, &copying.value_indexes)
+        }
+        Stmt::Write(writing) => writing.parameters.iter().any(parameter_holds_call),
+        Stmt::Read(reading) => reading.variables.iter().any(|one| hold_call(&one.indexes)),
+        _ => true,
+    }
+}
+
+fn parameter_holds_call(parameter: &WriteParameter) -> bool {
+    let value = match &parameter.value {
+        Written::Ordinal { value, .. } => holds_call(value),
+        Written::String { value, indexes } => whole_holds_call(value, indexes),
+    };
+    value
+        || match &parameter.width {
+            None => false,
+            Some(width) => holds_call(&width.value),
+        }
+}

@@ -1,0 +1,17 @@
+//! What the analyser proposes before it walks: what each block and loop of a program changes, which variables may share
+//! a place, and the facts that may hold where blocks begin and end and in loops.
+#![tactic(auto)]
+
+mod carried;
+mod claim;
+mod claims;
+pub mod events;
+mod frame;
+mod memory;
+mod parts;
+mod places;
+mod plan;
+mod program;
+mod steps;
+
+pub use plan::Plan;

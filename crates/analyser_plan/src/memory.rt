@@ -1,0 +1,84 @@
+use std::alloc::{AllocError, Global};
+use std::cell::Cell;
+
+/// Where lists take their memory. It keeps whether that ran out, so that this is asked once.
+#[derive(Drop)]
+pub(crate) struct Memory {
+    pub(crate) alloc: Global,
+    is_short: Cell<bool>,
+}
+
+impl Memory {
+    pub(crate) fn of(alloc: Global) -> Memory {
+        Memory {
+            alloc,
+            is_short: Cell::new(false),
+        }
+    }
+
+    /// An empty list.
+    pub(crate) fn none<T>(&self) -> Vec<T> {
+        Vec::new(self.alloc)
+    }
+
+    /// So many empty lists.
+    pub(crate) fn rows<T: Drop>(&self, count: usize) -> Vec<Vec<T>> {
+        let mut rows = self.none();
+        for _ in 0..count {
+            self.push(&mut rows, self.none());
+        }
+        rows
+    }
+
+    /// Puts an item behind a list.
+    pub(crate) fn push<T: Drop>(&self, list: &mut Vec<T>, item: T) {
+        if list.push(item).is_err() {
+            self.is_short.set(true);
+        }
+    }
+
+    /// Puts an item into a list, at a place that is there.
+    pub(crate) fn insert<T: Drop>(&self, list: &mut Vec<T>, place: usize, item: T) {
+        if place <= list.len() && list.insert(place, item).is_err() {
+            self.is_short.set(true);
+        }
+    }
+
+    /// A list that was made, if there was memory for it.
+    pub(crate) fn list<T: Drop>(&self, made: Result<Vec<T>, AllocError>) -> Vec<T> {
+        match made {
+            Ok(list) => list,
+            Err(_) => {
+                self.is_short.set(true);
+                self.none()
+            }
+        }
+    }
+
+    /// Whether there was memory for all.
+    pub(crate) fn finish(&self) -> Result<(), AllocError> {
+        if self.is_short.get() {
+            return Err(AllocError);
+        }
+        Ok(())
+    }
+}
+
+/// The list of a number; an empty one where there is none.
+pub(crate) fn row<T>(rows: &[Vec<T>], number: u32) -> &[T] {
+    match rows.get(number as usize) {
+        None => &[],
+        Some(row) => row.as_slice(),
+    }
+}
+
+/// The number of a place in a list. More than 32 bits hold fit no memory.
+pub(crate) fn number_of(place: usize) -> u32 {
+    u32::try_from(place).unwrap_or(u32::MAX)
+}
+
+/// Makes root numbers or block numbers ascend, each once.
+pub(crate) fn settle(numbers: &mut Vec<u32>) {
+    numbers.sort_unstable();
+    numbers.dedup();
+}

@@ -1,0 +1,168 @@
+//! What is proposed where blocks begin and end, and in loops.
+
+use crate::claim::Claim;
+use crate::events::Event;
+use crate::memory::{row, settle};
+use crate::program::Program;
+use cert_checker::visible::{is_outward, is_value_parameter};
+use certificate::Fact;
+use checker_loops::pairs::Pairs;
+use domain::interval::Interval;
+
+/// What proposals are made of, by block number, and what turns change by loop number.
+#[derive(Clone, Copy)]
+pub(crate) struct Grounds<'g, 'p, 't> {
+    pub(crate) program: &'g Program<'p, 't>,
+    pub(crate) pairs: &'g Pairs<'t>,
+    pub(crate) claims: &'g [Vec<Claim>],
+    pub(crate) mentions: &'g [Vec<u32>],
+    pub(crate) changes: &'g [Vec<u32>],
+    pub(crate) turns: &'g [Vec<u32>],
+}
+
+impl<'g, 'p, 't> Grounds<'g, 'p, 't> {
+    /// What may hold where a block begins.
+    pub(crate) fn entry(&self, block: u32) -> Vec<Fact> {
+        let mut facts = self.program.memory.none();
+        let mentions = row(self.mentions, block);
+        self.add_ranges(mentions, &mut facts);
+        self.add_defined(&self.lasting(block, mentions), &mut facts);
+        for claim in row(self.claims, block) {
+            if claim.is_of_any(mentions) && self.may_stand(block, claim, &[]) {
+                self.add(claim, &mut facts);
+            }
+        }
+        facts
+    }
+
+    /// What may hold where it ends.
+    pub(crate) fn exit(&self, block: u32) -> Vec<Fact> {
+        let mut facts = self.program.memory.none();
+        let changes = row(self.changes, block);
+        let mut ranges = self.lasting(block, changes);
+        if let Some(result) = self.program.result(block) {
+            self.program.memory.push(&mut ranges, result);
+        }
+        self.add_ranges(&ranges, &mut facts);
+        self.add_defined(&self.lasting(block, row(self.mentions, block)), &mut facts);
+        for claim in row(self.claims, block) {
+            if claim.names_any(changes) && self.may_stand(block, claim, changes) {
+                self.add(claim, &mut facts);
+            }
+        }
+        facts
+    }
+
+    /// What may hold whenever a turn of each loop begins, by its number.
+    pub(crate) fn all_turns(&self) -> Vec<Vec<Fact>> {
+        let memory = &self.program.memory;
+        let mut all = memory.rows(self.turns.len());
+        for event in self.program.events.iter().flatten() {
+            if let Event::Enter { number, head } = event
+                && let Some(facts) = all.get_mut(*number as usize)
+            {
+                let control = head.map(|head| head.control);
+                *facts = self.turn(*number, control);
+            }
+        }
+        all
+    }
+
+    // Those of a loop, which has a control variable if it is a for.
+    fn turn(&self, number: u32, control: Option<u32>) -> Vec<Fact> {
+        let mut facts = self.program.memory.none();
+        let Some(one) = self.program.tree.loops.get(number as usize) else {
+            return facts;
+        };
+        let changes = row(self.turns, number);
+        let mut touched = self.program.memory.none();
+        for root in changes {
+            let aliases = self
+                .pairs
+                .aliases_in(self.program.memory.alloc, one.block, *root);
+            for alias in self.program.memory.list(aliases).iter().chain(&[*root]) {
+                self.program.memory.push(&mut touched, *alias);
+            }
+        }
+        for root in one.controls.iter().chain(&control) {
+            self.program.memory.push(&mut touched, *root);
+        }
+        settle(&mut touched);
+        self.add_ranges(&touched, &mut facts);
+        for claim in row(self.claims, one.block) {
+            let roots = claim.roots();
+            let mut named = roots.iter().flatten();
+            if claim.names_any(changes) && !named.any(|root| one.controls.contains(root)) {
+                self.add(claim, &mut facts);
+            }
+        }
+        facts
+    }
+
+    // Those of some variables that no block has by value.
+    fn lasting(&self, block: u32, roots: &[u32]) -> Vec<u32> {
+        let mut lasting = self.program.memory.none();
+        for root in roots {
+            if !is_value_parameter(self.program.tree, block, *root) {
+                self.program.memory.push(&mut lasting, *root);
+            }
+        }
+        lasting
+    }
+
+    // Whether callers may know all that a claim names, where some variables are changed.
+    fn may_stand(&self, block: u32, claim: &Claim, changes: &[u32]) -> bool {
+        let tree = self.program.tree;
+        claim.roots().iter().flatten().all(|root| {
+            is_outward(tree, block, *root)
+                && !(is_value_parameter(tree, block, *root) && changes.binary_search(root).is_ok())
+        })
+    }
+
+    // A range for each scalar part of some variables: none of its values is known yet.
+    fn add_ranges(&self, roots: &[u32], facts: &mut Vec<Fact>) {
+        for root in roots {
+            for part in self.program.parts(*root) {
+                if self.program.tree.types.is_scalar(part.type_id) {
+                    let path = part.path(&self.program.memory, None);
+                    let range = Interval::EMPTY;
+                    self.program.memory.push(facts, Fact::Range { path, range });
+                }
+            }
+        }
+    }
+
+    // That each part of some variables is defined that has no index.
+    fn add_defined(&self, roots: &[u32], facts: &mut Vec<Fact>) {
+        for root in roots {
+            for part in self.program.parts(*root) {
+                if part.is_direct() {
+                    let path = part.path(&self.program.memory, None);
+                    self.program.memory.push(facts, Fact::Defined { path });
+                }
+            }
+        }
+    }
+
+    // A claim as certificates tell it. An order begins at the least number that is tried.
+    fn add(&self, claim: &Claim, facts: &mut Vec<Fact>) {
+        let fact = match claim {
+            Claim::Stretch(array, first, last) => {
+                let Some(part) = self.program.parts(array.root).get(array.part) else {
+                    return;
+                };
+                let (Some(first), Some(last)) = (first.said(), last.said()) else {
+                    return;
+                };
+                let path = part.path(&self.program.memory, None);
+                Fact::Stretch { path, first, last }
+            }
+            Claim::Order(root, other) => Fact::Order {
+                root: *root,
+                other: *other,
+                number: -1,
+            },
+        };
+        self.program.memory.push(facts, fact);
+    }
+}

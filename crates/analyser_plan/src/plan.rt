@@ -1,0 +1,75 @@
+use crate::memory::number_of;
+use crate::places::Grounds;
+use crate::program::{Program, Question};
+use analyser_tables::Ladders;
+use certificate::{Certificate, Fact};
+use checker_rows::Rows;
+use std::alloc::{AllocError, Global};
+
+/// What is proposed for a program.
+#[derive(Drop)]
+pub struct Plan {
+    /// A section for each block, with claims for each loop, by their numbers: the pairs that may share a place, and
+    /// what is changed. No facts.
+    pub frame: Certificate,
+    /// What may hold where each block begins, by its number; nothing for the program's.
+    pub entries: Vec<Vec<Fact>>,
+    /// What may hold where it ends, likewise.
+    pub exits: Vec<Vec<Fact>>,
+    /// What may hold whenever a turn of each loop begins, by its number.
+    pub loops: Vec<Vec<Fact>>,
+    pub ladders: Ladders,
+    /// The blocks that call each, ascending, by its number.
+    pub callers: Vec<Vec<u32>>,
+    /// Whether calls lead from each block back to it.
+    pub is_recursive: Vec<bool>,
+}
+
+impl Plan {
+    /// The plan for a program, of these rows.
+    ///
+    /// # Errors
+    /// No memory.
+    pub fn of(alloc: Global, rows: &Rows) -> Result<Plan, AllocError> {
+        let program = Program::of(alloc, rows);
+        let changes = program.spread(Question::Changed);
+        let mentions = program.spread(Question::Mentioned);
+        let turns = program.loop_changes(&changes);
+        let pairs = program.alias_pairs()?;
+        let claims = program.all_claims(&mentions);
+        let grounds = Grounds {
+            program: &program,
+            pairs: &pairs,
+            claims: &claims,
+            mentions: &mentions,
+            changes: &changes,
+            turns: &turns,
+        };
+        let mut entries = program.memory.rows(1);
+        let mut exits = program.memory.rows(1);
+        for block in 1..program.events.len() {
+            program
+                .memory
+                .push(&mut entries, grounds.entry(number_of(block)));
+            program
+                .memory
+                .push(&mut exits, grounds.exit(number_of(block)));
+        }
+        let loops = grounds.all_turns();
+        let mut ladders = Ladders::new(alloc, rows.count())?;
+        program.add_steps(&mut ladders);
+        ladders.finish()?;
+        let is_recursive = program.all_recursive();
+        let frame = program.frame(&pairs, changes, turns);
+        program.memory.finish()?;
+        Ok(Plan {
+            frame,
+            entries,
+            exits,
+            loops,
+            ladders,
+            callers: program.callers,
+            is_recursive,
+        })
+    }
+}

@@ -1,0 +1,69 @@
+use certificate::{Fact, Path};
+use checker_calls::actuals::{Bearers, Bindings, bearers_named};
+use checker_calls::entry::are_given;
+use checker_loops::claims::{gives_facts, rows_named};
+use checker_rows::Span;
+use checker_trail::State;
+use domain::Domain;
+use domain::interval::Interval;
+use std::slice;
+
+/// What comes to a place of facts, at a point that runs may come to.
+#[derive(Clone, Copy)]
+pub enum Coming<'s, 'r, 'b, 'a> {
+    /// What is known at the place itself: where a turn of a loop begins or a block ends.
+    Here(&'s State<'r>),
+    /// What is known where a block is called, for the place where it begins.
+    Called {
+        state: &'s State<'r>,
+        bindings: Bindings<'b, 'a>,
+    },
+}
+
+impl<'s, 'r, 'b, 'a> Coming<'s, 'r, 'b, 'a> {
+    /// A state at the place itself. Proofs cover no variant that is given a borrow of a variable; a call they do.
+    pub fn here(state: &'s State<'r>) -> Coming<'s, 'r, 'b, 'a> {
+        Coming::Here(state)
+    }
+
+    /// A state where a block is called, with its parameters.
+    pub fn called(state: &'s State<'r>, bindings: Bindings<'b, 'a>) -> Coming<'s, 'r, 'b, 'a> {
+        Coming::Called { state, bindings }
+    }
+
+    /// Whether it gives a fact of the place.
+    pub fn gives(&self, fact: &Fact) -> bool {
+        let facts = slice::from_ref(fact);
+        match self {
+            Coming::Here(state) => gives_facts(state, facts),
+            Coming::Called { state, bindings } => are_given(*bindings, state, facts),
+        }
+    }
+
+    /// The least range of what lies at a path of the place: the empty range, where the path names nothing.
+    pub fn range(&self, path: &Path) -> Interval {
+        match self {
+            Coming::Here(state) => range_of_rows(state, rows_named(state.table(), path)),
+            Coming::Called { state, bindings } => {
+                match bearers_named(state.table(), *bindings, path) {
+                    Bearers::Passed(ranges) => range_of_all(ranges),
+                    Bearers::Reached { rows, .. } => range_of_rows(state, rows),
+                }
+            }
+        }
+    }
+}
+
+fn range_of_rows(state: &State, rows: Span) -> Interval {
+    let mut all = Interval::EMPTY;
+    for row in rows.first..rows.end() {
+        all = all.join(&state.row_range(row));
+    }
+    all
+}
+
+fn range_of_all(ranges: &[Interval]) -> Interval {
+    ranges
+        .iter()
+        .fold(Interval::EMPTY, |all, range| all.join(range))
+}

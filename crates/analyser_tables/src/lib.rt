@@ -1,0 +1,10 @@
+//! What the analyser knows so far of the places where facts stand: tables of facts that move until nothing new comes.
+#![tactic(auto)]
+
+mod coming;
+mod ladder;
+mod table;
+
+pub use coming::Coming;
+pub use ladder::Ladders;
+pub use table::Table;

@@ -1,0 +1,4 @@
+pub mod Ascending
+pub mod Items
+pub mod Listed
+pub mod Ordered

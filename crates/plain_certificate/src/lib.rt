@@ -1,0 +1,37 @@
+//! The widest certificate of a program: it has no facts, and lists each pair and each change that it may.
+#![tactic(auto)]
+
+ghost use Rattle.std.specs.Prelude.{◌≡◌, IfOk, true};
+ghost use Rattle.certificate.specs.Contents.{are_in_order, contents};
+ghost use Rattle.cert_checker.specs.Names.{is_known};
+ghost use Rattle.cert_checker.specs.Plain.{HasNoFacts, ListsAll};
+
+mod loops;
+mod pairs;
+mod roots;
+mod sections;
+
+use certificate::{Certificate, Version};
+use roots::check_numbers;
+use sections::sections;
+use std::alloc::{AllocError, Global};
+use typed_tree::tree::Tree;
+
+/// The widest certificate of a program, which the checker accepts (see `cert_checker::laws::plain_is_accepted`).
+/// Sections, and in each of them pairs, changes and loops, are in ascending order; what lists nothing is left out. So
+/// what is written of it is read again.
+///
+/// # Errors
+/// Want of memory, or a program with more than 1,000,000 variables, loops or blocks, for which a certificate has no
+/// numbers.
+pub fn widest(alloc: Global, tree: &Tree) -> Result<Certificate, AllocError>
+    ensures lists { IfOk result (λ certificate. (is_known tree.now certificate ≡ true)
+        × HasNoFacts certificate × ListsAll tree.now certificate) }
+    ensures in_order { IfOk result (λ certificate. are_in_order (contents certificate) ≡ true) }
+{
+    check_numbers(tree)?;
+    Ok(Certificate {
+        version: Version::One,
+        sections: sections(alloc, tree)?,
+    })
+}
