@@ -1,0 +1,1 @@
+program p; var x: integer; begin x := 1 end.
