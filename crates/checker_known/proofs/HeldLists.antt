@@ -1,6 +1,7 @@
 -- Lists of what is held: which of them passes a test, where one comes among them, and what is left of them.
 use Rattle.std.proofs.Common.{arith, ◌≡◌, ◌∙◌, sym, ap, ap₂, refl, subst, ℕ, zero, suc, ◌+◌, ◌<◌, ◌≤◌, Bool, true, false, cond, ◌||◌, List, [], ◌∷◌, ◌++◌}
-use Rattle.std.proofs.Common.{append_assoc, append-nil, length, map, set, take, drop, drop-cons, get_or, Option, Some, None, filter, pos}
+use Rattle.std.proofs.Common.{append_assoc, append-nil, length, map, set, take, drop, drop-cons, get_or, Option, Some, None, filter, pos, ◌-◌}
+use Rattle.std.proofs.Common.{◌⊎◌, ⊎_elim, inl, inr}
 use Rattle.std.specs.List.{Contains, cons_option, filter_map, insert, list_any, remove}
 use Rattle.std.specs.declared.cmp.Ordering.{Ordering}
 use Rattle.std.specs.declared.cmp.Ordering.TheVariants.{Less, Equal, Greater}
@@ -13,6 +14,7 @@ use Rattle.checker_state.specs.declared.held.Held.{Held as KeptHeld}
 use Rattle.checker_state.specs.declared.held.Held.TheVariants as kept
 use Rattle.checker_state.specs.State.{Held, held_order, put, with_more, with_one}
 use Rattle.checker_known.specs.Known.{changed_at, kept_by}
+use Rattle.checker_known.specs.Resting.{AreRising, IsAt}
 use Rattle.checker_state.specs.View.{said_held}
 
 abbrev pub said_all : List KeptHeld → List Held
@@ -202,3 +204,70 @@ pub contains-there : (held : List KeptHeld) (i : ℕ) (next one : KeptHeld) → 
     → said_held one ≡ said_held next → Contains (said_all held) (said_held one)
 contains-there held i next one inside is same =
     subst (λ (h : Held). Contains (said_all held) h) (sym same) (i, said-inside held i inside, said-there held i next inside is)
+
+-- ---- those at places become others, or go, the last one first
+
+module _ (change : Held → Option Held) where
+  abbrev pub changed_each : List ℕ → List Held → List Held
+  changed_each [] held = held
+  changed_each (place ∷ places) held = changed_at change place (changed_each places held)
+
+  -- each that stands at none of some places stays
+  abbrev pub OthersStay : (from : ℕ) (places : List ℕ) → List Held → Type 0
+  OthersStay from places held = (one : Held) (i : ℕ) → from ≤ i → IsAt one held i → (change one ≡ Some one) ⊎ Contains places i
+
+  one-stays : (held : List Held) (place : ℕ) → ((one : Held) → IsAt one held place → change one ≡ Some one)
+      → changed_from change (suc place) held ≡ changed_from change place held
+  one-stays [] zero stays = refl
+  one-stays [] (suc place) stays = refl
+  one-stays (one ∷ held) zero stays =
+      ap (λ (some : Option Held). cons_option some (filter_map change held)) (sym (stays one (omega arith, refl)))
+  one-stays (one ∷ held) (suc place) stays =
+      ap (λ (rest : List Held). one ∷ rest) (one-stays held place (λ other at. stays other (omega (arith, at.0), at.1)))
+
+  gap-stays : (held : List Held) (from count : ℕ) → ((one : Held) (i : ℕ) → from ≤ i → i < from + count → IsAt one held i → change one ≡ Some one)
+      → changed_from change (from + count) held ≡ changed_from change from held
+  gap-stays held from zero stays = ap (λ (n : ℕ). changed_from change n held) (let same : from + zero ≡ from = omega arith in same)
+  gap-stays held from (suc count) stays =
+      ap (λ (n : ℕ). changed_from change n held) (let same : from + suc count ≡ suc (from + count) = omega arith in same)
+      ∙ one-stays held (from + count) (λ one at. stays one (from + count) (omega arith) (omega arith) at)
+      ∙ gap-stays held from count (λ one i past below at. stays one i past (omega (arith, below)) at)
+
+  between-stays : (held : List Held) (from to : ℕ) → from ≤ to → ((one : Held) (i : ℕ) → from ≤ i → i < to → IsAt one held i → change one ≡ Some one)
+      → changed_from change to held ≡ changed_from change from held
+  between-stays held from to up stays =
+      let sum : from + (to - from) ≡ to = omega (arith, up) in
+      ap (λ (n : ℕ). changed_from change n held) (sym sum)
+      ∙ gap-stays held from (to - from) (λ one i past below at. stays one i past (omega (arith, below, sum)) at)
+
+  not-first : (place : ℕ) (places : List ℕ) (i : ℕ) → place < i → Contains (place ∷ places) i → Contains places i
+  not-first place places i below has = rest has.0 has.1 has.2
+    where
+      rest : (k : ℕ) → k < length (place ∷ places) → get_or (place ∷ places) k i ≡ i → Contains places i
+      rest zero inside is = absurd (omega (arith, below, is))
+      rest (suc k) inside is = (k, omega (arith, inside), is)
+
+  not-below : (first : ℕ) (places : List ℕ) (end i k : ℕ) → AreRising first places end → i < first → k < length places → get_or places k i ≡ i → ⊥
+  not-below first [] end i k rising below inside is = omega (arith, inside)
+  not-below first (place ∷ places) end i zero rising below inside is = omega (arith, below, is, rising.0)
+  not-below first (place ∷ places) end i (suc k) rising below inside is =
+      not-below (suc place) places end i k rising.1 (omega (arith, below, rising.0)) (omega (arith, inside)) is
+
+  pub each-from : (held : List Held) (from : ℕ) (places : List ℕ) → AreRising from places (length held) → OthersStay from places held
+      → changed_each places held ≡ changed_from change from held
+  each-from held from [] rising stay =
+      sym (changed-end change held (length held) (omega arith))
+      ∙ between-stays held from (length held) rising (λ one i past below at.
+      ⊎_elim (λ (is : change one ≡ Some one). is) (λ (has : Contains [] i). absurd (omega (arith, has.1))) (stay one i past at))
+  each-from held from (place ∷ places) rising stay =
+      ap (changed_at change place)
+      (each-from held (suc place) places rising.1 (λ one i past at.
+      ⊎_elim (λ (is : change one ≡ Some one). inl is)
+      (λ (has : Contains (place ∷ places) i). inr (not-first place places i (omega (arith, past)) has))
+      (stay one i (omega (arith, past, rising.0)) at)))
+      ∙ changed-step change place held
+      ∙ between-stays held from place rising.0 (λ one i past below at.
+      ⊎_elim (λ (is : change one ≡ Some one). is)
+      (λ (has : Contains (place ∷ places) i).
+      absurd (not-below place (place ∷ places) (length held) i has.0 (omega arith, rising.1) below has.1 has.2))
+      (stay one i past at))

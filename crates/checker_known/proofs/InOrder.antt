@@ -84,7 +84,7 @@ then-then Greater two three = refl
 orders-are : (a b c d : ℕ) (m n : ℤ) → order_order (order_of a b m) (order_of c d n) ≡ held_order (Ordered a b m) (Ordered c d n)
 orders-are a b c d m n = then-then (nat_cmp a c) (nat_cmp b d) (int_cmp m n)
 
-held-turned : (one other : Held) → held_order one other ≡ ordering_reverse (held_order other one)
+pub held-turned : (one other : Held) → held_order one other ≡ ordering_reverse (held_order other one)
 held-turned (Stretched a) (Stretched b) = stretches-total.antisymm a b
 held-turned (Stretched a) (Ordered c d n) = refl
 held-turned (Ordered a b m) (Stretched c) = refl

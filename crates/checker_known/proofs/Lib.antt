@@ -5,6 +5,8 @@ pub mod InOrder
 pub mod Tangles
 pub mod Near
 pub mod Kept
+pub mod Listed
+pub mod Finds
 pub mod Tests
 pub mod Longer
 pub mod Types

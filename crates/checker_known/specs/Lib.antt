@@ -4,5 +4,6 @@ pub mod Order
 pub mod Halves
 pub mod Knots
 pub mod Longer
+pub mod Resting
 pub mod Known
 pub mod Told

@@ -1,12 +1,14 @@
-ghost use Rattle.std.specs.Prelude.{◌≡◌, map};
+ghost use Rattle.std.specs.Prelude.{◌≡◌, map, true};
 ghost use Rattle.std.specs.Bool.{OnTrue};
 ghost use Rattle.checker_state.specs.View.{said_held};
 ghost use Rattle.checker_known.specs.Knots.{AreCounted};
 ghost use Rattle.checker_known.specs.Order.{disorder_of};
+ghost use Rattle.checker_known.specs.Resting.{AreListed};
 
 use crate::change::Change;
 use crate::knots::{knot_at, knots_around, recount};
 use crate::order::{wrong_around, wrong_at};
+use crate::resting::Resting;
 use checker_state::Held;
 use domain::interval::Interval;
 
@@ -47,10 +49,13 @@ pub struct Known {
     pub disorder: usize,
     /// By the number of a row, how many of its stretches at most don't go on from the one before.
     pub knots: Vec<usize>,
+    /// What is held, by the variables on which it rests.
+    pub resting: Resting,
     /// `true`: no run comes here.
     pub is_dead: bool,
     pub ghost counted: { disorder ≡ disorder_of (map said_held held.items) },
     pub ghost knots_counted: { AreCounted knots.items (map said_held held.items) },
+    pub ghost all_listed: { resting.is_whole ≡ true → AreListed resting.lists.items (map said_held held.items) },
 }
 
 impl Known {
@@ -104,6 +109,7 @@ impl Known {
             Ok(()) => {
                 self.disorder = self.disorder - was + wrong_around(&self.held, place);
                 recount(&mut self.knots, gone, knots_around(&self.held, place));
+                self.resting.list(&held);
                 true
             }
             Err(_) => false,
@@ -131,6 +137,7 @@ impl Known {
             self.held[place] = now;
             self.disorder = self.disorder - was + wrong_around(&self.held, place);
             recount(&mut self.knots, gone, knots_around(&self.held, place));
+            self.resting.list(&now);
         }
     }
 }

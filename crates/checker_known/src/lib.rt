@@ -9,10 +9,13 @@ mod halves;
 mod knots;
 mod known;
 mod order;
+mod places;
+mod resting;
 mod start;
 mod told;
 
 pub use beside::Beside;
 pub use change::{Branch, Change};
 pub use known::{Known, Row};
+pub use resting::Resting;
 pub use told::{Arrival, Asked, Told};

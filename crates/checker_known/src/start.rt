@@ -3,6 +3,7 @@ ghost use Rattle.checker_state.specs.State.{of_types};
 ghost use Rattle.checker_known.specs.View.{said_row, type_rows};
 
 use crate::known::{Known, Row};
+use crate::resting::Resting;
 use checker_rows::Rows;
 use std::alloc::{AllocError, Global};
 
@@ -15,11 +16,13 @@ impl Known {
     {
         let rows = type_rows(alloc, table)?;
         let knots = vec![in alloc; 0; rows.len()]?;
+        let resting = Resting::of(alloc, table.variables())?;
         Ok(Known {
             rows,
             held: Vec::new(alloc),
             disorder: 0,
             knots,
+            resting,
             is_dead: false,
         })
     }

@@ -1,8 +1,9 @@
 -- Single changes of the state of the program: each is taken back, and makes of what is seen what a definition does.
-use Rattle.std.proofs.Common.{arith, ◌≡◌, ◌∙◌, sym, ap, ap₂, refl, ℕ, suc, ◌+◌, ◌<◌, ◌≤◌, Bool, true, false, cond, List, [], ◌∷◌, ◌++◌, append_assoc}
+use Rattle.std.proofs.Common.{arith, ◌≡◌, ◌∙◌, sym, ap, ap₂, refl, ℕ, suc, ◌+◌, ◌<◌, ◌≤◌, Bool, true, false, cond, List, [], ◌∷◌, ◌++◌}
+use Rattle.std.proofs.Common.{append_assoc, append-nil}
 use Rattle.std.proofs.Common.{get_or, set, take, drop, drop-cons, length, map, Option, Some, None, ℤ, neg_ℤ}
 use Rattle.std.proofs.Math.ListN.{get_or-map}
-use Rattle.std.specs.List.{insert, remove}
+use Rattle.std.specs.List.{filter_map, insert, remove}
 use Rattle.std.proofs.lemmas.Bool.{cond_both, ne_eqb}
 use Rattle.std.proofs.lemmas.List.{drop_all, drop_at, length-map, length-take-le, length_push, map-append, map-set, set-set, set-get_or}
 use Rattle.std.proofs.lemmas.List.{take-append-drop, take_all}
@@ -11,15 +12,19 @@ use Rattle.domain.specs.Interval.{vacant}
 use Rattle.checker_state.specs.declared.held.Held.{Held as KeptHeld}
 use Rattle.checker_known.specs.declared.known.Row.{Row}
 use Rattle.checker_trail.specs.declared.state.State.{State as Kept}
+use Rattle.checker_state.specs.declared.bound.Rebinding.{Rebinding}
+use Rattle.checker_known.specs.declared.known.Known.{Known}
+use Rattle.checker_known.specs.Resting.{AreChanging}
 use Rattle.checker_known.specs.declared.change.Change.TheVariants as change
 use Rattle.checker_state.specs.Changes.{all_changed, ordered, with_change, with_equal_to, with_some}
 use Rattle.checker_state.specs.State.{Dead, Facts, Held, Live, RowState, State, no_row, row_at, with_more, with_one, with_row}
 use Rattle.checker_known.specs.Longer.{without}
 use Rattle.checker_known.specs.Known.{Core, IsPlace, changed_at, core, seen_core, viewed}
 use Rattle.checker_trail.specs.Trail.{Makes, Moves, over_held, seen, with_state}
-use Rattle.checker_state.specs.View.{said_held}
+use Rattle.checker_state.specs.View.{held_by, said_held}
 use Rattle.checker_known.specs.View.{said_row}
-use Rattle.checker_known.proofs.HeldLists.{changed-end, changed-step, changed_from, dropped-step, insert-said, kept-end, kept-step, kept_from, more-append}
+use Rattle.checker_known.proofs.HeldLists.{changed-end, changed-step, changed_each, changed_from, each-from, dropped-step, insert-said, kept-end}
+use Rattle.checker_known.proofs.HeldLists.{kept-step, kept_from, more-append}
 use Rattle.checker_known.proofs.HeldLists.{no_held, none-there, one-became, one-gone, remove-said, said-inside, said-there, said_all, taken-step}
 use Rattle.checker_trail.proofs.Ways.{Returns, moves-as, moves-dead, moves-live, moves-made, moves-stay, moves-then, seen-live}
 
@@ -210,6 +215,45 @@ changed-begin change n state is =
     let held = state.known.held.items in
     let past : length (said_all held) ≤ n = rw length-map (omega (arith, is)) in
     held-stays (changed_from change n) state (changed-end change (said_all held) n past)
+
+-- the same at places, the last one first
+pub each-begin : (change : Held → Option Held) (places : List ℕ) (state : Kept)
+    → Moves (over_held (changed_each change (drop (length places) places))) state state
+each-begin change places state =
+    held-stays (changed_each change (drop (length places) places)) state
+    (ap (λ (some : List ℕ). changed_each change some (said_all state.known.held.items)) (drop_all (length places) places (omega arith)))
+
+pub each-more : {a b c : Kept} (change : Held → Option Held) (places : List ℕ) (i left : ℕ) → left ≡ suc i → i < length places
+    → Moves (over_held (changed_each change (drop left places))) a b → Moves (over_held (changed_at change (get_or places i 0))) b c
+    → Moves (over_held (changed_each change (drop i places))) a c
+each-more change places i left is inside first rest =
+    held-then (changed_each change (drop left places)) (changed_at change (get_or places i 0)) (changed_each change (drop i places)) first rest
+    (λ held.
+    ap (λ (n : ℕ). changed_at change (get_or places i 0) (changed_each change (drop n places) held)) is
+    ∙ ap (λ (some : List ℕ). changed_each change some held) (sym (drop-cons places i 0 inside)))
+
+-- all has become another, or gone, if the others stay
+pub each-moves : {a b : Kept} (how : Rebinding) (places : List ℕ) → AreChanging how (said_all a.known.held.items) places
+    → Moves (over_held (changed_each (held_by how) places)) a b → Moves (over_held (filter_map (held_by how))) a b
+each-moves {a = a} how places changing moves =
+    let held = said_all a.known.held.items in
+    held-as (changed_each (held_by how) places) (filter_map (held_by how)) moves
+    (each-from (held_by how) held 0 places changing.rising (λ one i past at. changing.others one i at))
+
+-- only what isn't seen became another
+pub unseen-moves : (step : State → State) (a b : Kept) (known : Known) → core known ≡ core a.known → Moves step (record a { known = known }) b
+    → Moves step a b
+unseen-moves step a b known same moves =
+    let here : Kept = record a { known = known } in
+    let before : Moves (λ state. state) a here = record {
+      unless_short = λ long.
+          record {
+            was_long = long;
+            seen_is = ap seen_core same;
+            goes = record { same_table = refl; more = []; trail_is = sym (append-nil a.trail.items); forth = sym same; back = same };
+          };
+    } in
+    moves-then before moves
 
 -- ---- those that are kept
 

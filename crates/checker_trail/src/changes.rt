@@ -5,6 +5,7 @@ ghost use Rattle.checker_state.specs.State.{with_more};
 ghost use Rattle.checker_known.specs.Longer.{without};
 ghost use Rattle.checker_trail.specs.Trail.{Moves, over_held};
 ghost use Rattle.checker_known.specs.Known.{changed_at, kept_by};
+ghost use Rattle.checker_known.specs.Resting.{AreChanging};
 ghost use Rattle.checker_state.specs.View.{held_by, said_form, said_held, said_ordered};
 
 use crate::state::State;
@@ -92,12 +93,32 @@ impl<'a> State<'a> {
         }
     }
 
-    /// What becomes of what is held.
+    /// What becomes of what is held: what may change stands at some places, where they are known.
     pub(crate) fn rebind(&mut self, how: Rebinding)
+        ensures { Moves (over_held (filter_map (held_by how))) self.old self.new }
+    {
+        match self.known.changing(self.alloc, how) {
+            None => self.rebind_all(how),
+            Some(places) => self.rebind_each(&places, how),
+        }
+    }
+
+    // The same, where what may change may stand anywhere.
+    fn rebind_all(&mut self, how: Rebinding)
         ensures { Moves (over_held (filter_map (held_by how))) self.old self.new }
     {
         for place in (0..self.known.held.len()).rev() {
             self.rebind_at(place, how);
+        }
+    }
+
+    // The same, where it stands at places.
+    fn rebind_each(&mut self, places: &[usize], how: Rebinding)
+        requires { AreChanging how (map said_held self.old.known.held.items) places.now }
+        ensures { Moves (over_held (filter_map (held_by how))) self.old self.new }
+    {
+        for i in (0..places.len()).rev() {
+            self.rebind_at(places[i], how);
         }
     }
 

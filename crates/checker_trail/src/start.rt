@@ -2,7 +2,7 @@ ghost use Rattle.checker_state.specs.State.{of_types};
 ghost use Rattle.checker_trail.specs.Trail.{Starts};
 
 use crate::state::State;
-use checker_known::Known;
+use checker_known::{Known, Resting};
 use checker_rows::Rows;
 use std::alloc::Global;
 
@@ -27,6 +27,7 @@ impl<'a> State<'a> {
                     held: Vec::new(alloc),
                     disorder: 0,
                     knots: Vec::new(alloc),
+                    resting: Resting::none(alloc),
                     is_dead: false,
                 },
                 trail: Vec::new(alloc),

@@ -1,4 +1,8 @@
-use Rattle.std.proofs.Common.{arith, refl, None}
+use Rattle.std.proofs.Common.{arith, refl, ◌∙◌, ap, subst, Contains, List, None}
+use Rattle.checker_state.specs.State.{Held}
+use Rattle.checker_state.specs.View.{said_held}
+use Rattle.checker_known.proofs.HeldLists.{insert-said, said_all}
+use Rattle.checker_known.proofs.Listed.{among-inserted, whole-more}
 use Rattle.checker_known.proofs.InOrder.{Recounted, inserted-count, was-within}
 use Rattle.checker_known.proofs.Tangles.{knots-inserted}
 use Rattle.checker_known.proofs.known.Known.insert.Goals.{After-wrong_around}
@@ -29,4 +33,11 @@ invariant_of-self c =
           c.recount.new.knots.items (c.knot_at.result, None) c.knots_around.result known.knots_counted (omega (arith, c.len.type_inv, c.len.ensures))
           c.deref-2.ensures.value c.deref-in-Ok-2.ensures.value c.recount.ensures c.args.held (omega (arith, c.min-place.ensures, c.len.ensures))
           c.in-Ok.ensures.items c.knot_at.ensures refl c.knots_around.ensures.first c.knots_around.ensures.next;
+      all_listed =
+          whole-more (said_held c.args.held) (said_all known.held.items) (said_all c.insert.new.self.items) known.resting c.list.new.self
+          known.all_listed c.list.ensures
+          (λ other has.
+          among-inserted (said_all known.held.items) c.min-place.result (said_held c.args.held) other
+          (subst (λ (all : List Held). Contains all other)
+          (ap said_all c.in-Ok.ensures.items ∙ insert-said known.held.items c.min-place.result c.args.held) has));
     }

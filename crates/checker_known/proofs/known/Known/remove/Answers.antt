@@ -1,4 +1,7 @@
-use Rattle.std.proofs.Common.{arith, refl, None}
+use Rattle.std.proofs.Common.{arith, refl, ◌∙◌, ap, subst, Contains, List, None}
+use Rattle.checker_state.specs.State.{Held}
+use Rattle.checker_known.proofs.HeldLists.{remove-said, said_all}
+use Rattle.checker_known.proofs.Listed.{among-removed, whole-less}
 use Rattle.checker_known.proofs.InOrder.{Recounted, removed-count, were-within}
 use Rattle.checker_known.proofs.Tangles.{knots-removed}
 use Rattle.checker_known.proofs.known.Known.remove.Goals.{After-wrong_at}
@@ -30,4 +33,9 @@ invariant_of-self c =
           (omega (arith, c.len.type_inv, c.len.ensures)) c.deref-then-place-len.ensures.value c.deref-then-place-len-3.ensures.value c.recount.ensures
           (omega (arith, c.if-place-len.true, c.len.ensures)) c.remove.ensures.items c.knots_around-gone.ensures.first c.knots_around-gone.ensures.next
           c.knot_at.ensures refl;
+      all_listed =
+          whole-less (said_all known.held.items) (said_all c.remove.new.self.items) known.resting known.all_listed
+          (λ other has.
+          among-removed (said_all known.held.items) c.args.place other
+          (subst (λ (all : List Held). Contains all other) (ap said_all c.remove.ensures.items ∙ remove-said known.held.items c.args.place) has));
     }

@@ -1,4 +1,9 @@
-use Rattle.std.proofs.Common.{arith, refl, set}
+use Rattle.std.proofs.Common.{arith, refl, set, subst, Contains, List}
+use Rattle.std.proofs.lemmas.List.{length-map, map-set}
+use Rattle.checker_state.specs.State.{Held}
+use Rattle.checker_state.specs.View.{said_held}
+use Rattle.checker_known.proofs.HeldLists.{said_all}
+use Rattle.checker_known.proofs.Listed.{among-set, whole-more}
 use Rattle.checker_known.proofs.InOrder.{Recounted, set-counted, were-within}
 use Rattle.checker_known.proofs.Tangles.{knots-set}
 use Rattle.checker_known.proofs.known.Known.replace.Goals.{After-wrong_around}
@@ -32,4 +37,11 @@ invariant_of-self c =
           (omega (arith, c.len.type_inv, c.len.ensures)) c.deref-then-place-len.ensures.value c.deref-then-place-len-3.ensures.value c.recount.ensures
           c.args.now (omega (arith, c.if-place-len.true, c.len.ensures)) refl c.knots_around-gone.ensures.first c.knots_around-gone.ensures.next
           c.knots_around.ensures.first c.knots_around.ensures.next;
+      all_listed =
+          whole-more (said_held c.args.now) (said_all known.held.items) (said_all (set known.held.items c.args.place c.args.now)) known.resting
+          c.list.new.self known.all_listed c.list.ensures
+          (λ other has.
+          among-set (said_all known.held.items) c.args.place (said_held c.args.now) other
+          (rw length-map (omega (arith, c.if-place-len.true, c.len.ensures)))
+          (subst (λ (all : List Held). Contains all other) (map-set said_held known.held.items c.args.place c.args.now) has));
     }

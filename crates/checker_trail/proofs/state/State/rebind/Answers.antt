@@ -1,11 +1,27 @@
-use Rattle.std.proofs.Common.{arith}
+use Rattle.std.proofs.Common.{ap, subst, sym, List, ℕ}
+use Rattle.std.specs.List.{filter_map}
+use Rattle.checker_state.specs.State.{Held}
 use Rattle.checker_state.specs.View.{held_by}
-use Rattle.checker_trail.proofs.Steps.{changed-begin, changed-more}
+use Rattle.checker_known.specs.Known.{Core}
+use Rattle.checker_known.specs.Resting.{AreChanging}
+use Rattle.checker_known.proofs.HeldLists.{said_all}
+use Rattle.checker_trail.specs.Trail.{over_held}
+use Rattle.checker_trail.proofs.Steps.{unseen-moves}
 use Rattle.checker_trail.proofs.state.State.rebind.Goals as goal
 
-pub loop-place-init : goal.loop-place-init
-loop-place-init c = changed-begin (held_by c.args.how) c.len-place.result c.args.self.now (omega (arith, c.len-place.ensures))
+pub returns-in-None : goal.returns-in-None
+returns-in-None c =
+    unseen-moves (over_held (filter_map (held_by c.args.how))) c.args.self.now c.rebind_all.new.self c.changing.new.self c.changing.ensures.same
+    c.rebind_all.ensures
 
-pub loop-place-preserved : goal.loop-place-preserved
-loop-place-preserved c =
-    changed-more (held_by c.args.how) _ c.loop-place.place (omega (arith, c.loop-place-test.true)) c.loop-place.invariant c.rebind_at.ensures
+pub rebind_each-requires : goal.rebind_each-requires
+rebind_each-requires c =
+    let held = said_all c.args.self.now.known.held.items in
+    subst (λ (some : List Held). AreChanging c.args.how some c.deref.result.now)
+    (sym (ap (λ (one : Core). said_all one.held) c.changing.ensures.same))
+    (subst (λ (places : List ℕ). AreChanging c.args.how held places) (sym c.deref.ensures.value) c.in-Some.ensures.places)
+
+pub returns-in-Some : goal.returns-in-Some
+returns-in-Some c =
+    unseen-moves (over_held (filter_map (held_by c.args.how))) c.args.self.now c.rebind_each.new.self c.changing.new.self c.changing.ensures.same
+    c.rebind_each.ensures

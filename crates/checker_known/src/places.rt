@@ -1,0 +1,95 @@
+ghost use Rattle.std.specs.Prelude.{◌≡◌, IfOk, IfSome, map};
+ghost use Rattle.checker_state.specs.View.{said_held};
+ghost use Rattle.checker_known.specs.Known.{core};
+ghost use Rattle.checker_known.specs.Resting.{AreChanging, HasAllAt, HaveAll, IsFound, listed};
+
+use crate::halves::{Test, edge};
+use crate::known::Known;
+use crate::resting::root_of;
+use checker_state::{Held, Rebinding};
+use std::alloc::{AllocError, Global};
+use std::cmp::Ordering;
+
+impl Known {
+    /// Where what a rebinding may change stands, each place behind the one before. `None`: it may stand anywhere.
+    pub fn changing(&mut self, alloc: Global, how: Rebinding) -> Option<Vec<usize>>
+        ensures same { core self.new ≡ core self.old }
+        ensures places { IfSome result (λ places. AreChanging how (map said_held self.old.held.items) places.items) }
+    {
+        if self.disorder > 0 || !self.resting.is_whole {
+            return None;
+        }
+        let root = root_of(how) as usize;
+        if root >= self.resting.lists.len() {
+            return None;
+        }
+        let places = self.places_of(alloc, &self.resting.lists[root])?;
+        if places.len() < self.resting.lists[root].len() {
+            self.relist(alloc, root, &places);
+        }
+        Some(places)
+    }
+
+    // Where those of a list are held, each place behind the one before. `None`: there is no memory for them, or they
+    // don't stand in the order of what is held.
+    fn places_of(&self, alloc: Global, list: &[Held]) -> Option<Vec<usize>>
+        requires { self.now.disorder ≡ 0 }
+        ensures { IfSome result (λ places.
+            HaveAll (map said_held list.now) (map said_held self.now.held.items) places.items) }
+    {
+        let mut places = Vec::new(alloc);
+        let mut end = 0;
+        for one in list {
+            let Some(place) = self.found(one) else {
+                continue;
+            };
+            if place < end || places.push(place).is_err() {
+                return None;
+            }
+            end = place + 1;
+        }
+        Some(places)
+    }
+
+    // Where something is held, by halves. `None`: it is not.
+    fn found(&self, one: &Held) -> Option<usize>
+        requires { self.now.disorder ≡ 0 }
+        ensures { IsFound (said_held one.now) (map said_held self.now.held.items) result }
+    {
+        let place = edge(&self.held, Test::Below(*one), 0, self.held.len());
+        if place >= self.held.len() {
+            return None;
+        }
+        match one.compare(&self.held[place]) {
+            Ordering::Equal => Some(place),
+            _ => None,
+        }
+    }
+
+    // Lists by a variable what stands at places alone, if there is memory for it.
+    fn relist(&mut self, alloc: Global, root: usize, places: &[usize])
+        requires { HaveAll (listed self.old.resting.lists.items root) (map said_held self.old.held.items) places.now }
+        ensures { core self.new ≡ core self.old }
+    {
+        if let Ok(list) = self.held_at(alloc, places) {
+            if let Some(found) = self.resting.lists.get_mut(root) {
+                *found = list;
+            }
+        }
+    }
+
+    // What is held at places.
+    fn held_at(&self, alloc: Global, places: &[usize]) -> Result<Vec<Held>, AllocError>
+        ensures { IfOk result (λ list.
+            HasAllAt places.now (map said_held self.now.held.items) (map said_held list.items)) }
+    {
+        let mut list = Vec::new(alloc);
+        for place in places {
+            let Some(one) = self.held.get(*place) else {
+                continue;
+            };
+            list.push(*one)?;
+        }
+        Ok(list)
+    }
+}

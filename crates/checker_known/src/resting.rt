@@ -1,0 +1,134 @@
+ghost use Rattle.std.specs.Prelude.{◌≡◌, ◌||◌, IfOk, Some, length, map, nat_eq, true};
+ghost use Rattle.std.specs.Bool.{OnTrue};
+ghost use Rattle.checker_state.specs.Changes.{bound_rests_on, ordered, rests_on, span_rests_on};
+ghost use Rattle.checker_state.specs.State.{Stretched};
+ghost use Rattle.checker_state.specs.View.{said_bound, said_held, said_order, said_span, said_stretch};
+ghost use Rattle.checker_known.specs.Resting.{Lists, ListsMore, Puts, root_of};
+
+use crate::halves::{Test, edge};
+use checker_state::{Bound, Held, Order, Rebinding, Span, Stretch};
+use std::alloc::{AllocError, Global};
+
+/// What is held, by the number of each variable on whose value it rests. A list may have what is held no longer.
+#[derive(Drop)]
+pub struct Resting {
+    /// Each in the order of what is held.
+    pub(crate) lists: Vec<Vec<Held>>,
+    /// `false`: something that is held may be in no list.
+    pub(crate) is_whole: bool,
+}
+
+impl Resting {
+    /// Lists for no variable.
+    pub fn none(alloc: Global) -> Resting
+        ensures { length result.lists.items ≡ 0 }
+    {
+        Resting {
+            lists: Vec::new(alloc),
+            is_whole: true,
+        }
+    }
+
+    /// A list for each variable, of which there are so many.
+    pub(crate) fn of(alloc: Global, variables: usize) -> Result<Resting, AllocError>
+        ensures { IfOk result (λ resting. length resting.lists.items ≡ variables) }
+    {
+        let mut lists = Vec::new(alloc);
+        for _variable in 0..variables {
+            lists.push(Vec::new(alloc))?;
+        }
+        Ok(Resting {
+            lists,
+            is_whole: true,
+        })
+    }
+
+    /// Lists what is held from here on.
+    pub(crate) fn list(&mut self, held: &Held)
+        ensures { self.new.is_whole ≡ true → ListsMore (said_held held.now) self.old self.new }
+    {
+        match held {
+            Held::Stretched(stretch) => self.list_stretch(stretch, held),
+            Held::Ordered(order) => self.list_order(order, held),
+        }
+    }
+
+    // Lists something by the variables of a stretch.
+    fn list_stretch(&mut self, stretch: &Stretch, held: &Held)
+        ensures { self.new.is_whole ≡ true → Lists (λ root. rests_on root (Stretched (said_stretch stretch.now)))
+            (said_held held.now) self.old self.new }
+    {
+        self.list_span(stretch.span, held);
+        if let Some(inner) = stretch.inner {
+            self.list_span(inner, held);
+        }
+    }
+
+    fn list_span(&mut self, span: Span, held: &Held)
+        ensures { self.new.is_whole ≡ true → Lists (λ root. span_rests_on root (said_span span)) (said_held held.now)
+            self.old self.new }
+    {
+        self.list_bound(span.first, held);
+        self.list_bound(span.last, held);
+    }
+
+    fn list_bound(&mut self, bound: Bound, held: &Held)
+        ensures { self.new.is_whole ≡ true → Lists (λ root. bound_rests_on root (said_bound bound)) (said_held held.now)
+            self.old self.new }
+    {
+        if let Some(root) = bound.root {
+            self.list_at(root, held);
+        }
+    }
+
+    // Lists something by the variables of an order. One whose number facts don't have may go at any rebinding.
+    fn list_order(&mut self, order: &Order, held: &Held)
+        ensures lists { self.new.is_whole ≡ true → Lists (λ root. nat_eq root order.now.root
+            || nat_eq root order.now.other) (said_held held.now) self.old self.new }
+        ensures number { self.new.is_whole ≡ true → ordered order.now.root order.now.other order.now.number
+            ≡ Some (said_order order.now) }
+    {
+        match Order::new(order.root, order.other, i64::from(order.number)) {
+            None => self.is_whole = false,
+            Some(_) => {
+                self.list_at(order.root, held);
+                self.list_at(order.other, held);
+            }
+        }
+    }
+
+    fn list_at(&mut self, root: u32, held: &Held)
+        ensures { self.new.is_whole ≡ true → Lists (λ other. nat_eq other root) (said_held held.now)
+            self.old self.new }
+    {
+        match self.lists.get_mut(root as usize) {
+            None => self.is_whole = false,
+            Some(list) => {
+                if !put(list, held) {
+                    self.is_whole = false;
+                }
+            }
+        }
+    }
+}
+
+// Puts something into a list where it comes in the order, unless it stands there. `false`: there is no memory for it.
+fn put(list: &mut Vec<Held>, held: &Held) -> bool
+    ensures { OnTrue result (Puts (said_held held.now) (map said_held list.old.items) (map said_held list.new.items)) }
+{
+    let place = edge(list, Test::Below(*held), 0, list.len()).min(list.len());
+    if place < list.len() && held.is_same(&list[place]) {
+        return true;
+    }
+    list.insert(place, *held).is_ok()
+}
+
+/// The variable that is rebound.
+pub(crate) fn root_of(how: Rebinding) -> u32
+    ensures { result ≡ root_of how }
+{
+    match how {
+        Rebinding::Changed { root, .. } => root,
+        Rebinding::InPlace { root, .. } => root,
+    }
+}
