@@ -1,12 +1,12 @@
 -- Code that can be written can be written without some of its checks, if its last instruction is none.
-use Rattle.std.proofs.Common.{◌≡◌, ℕ, zero, suc, ◌<◌, Bool, true, false, cond, List, [], ◌∷◌, Some, None, length, map, take, refl, sym, ap, ◌∙◌, subst}
+use Rattle.std.proofs.Common.{◌≡◌, ℕ, zero, suc, ◌<◌, ◌≤◌, Bool, true, false, cond, List, [], ◌∷◌, Some, None, length, map, take, refl, sym, ap, ◌∙◌, subst}
 use Rattle.std.proofs.Common.{arith, ◌&&◌}
 use Rattle.std.specs.Prelude.{count_by, filter, nat_lt}
 use Rattle.std.specs.List.{list_all}
 use Rattle.std.specs.Option.{option_and_then, option_map_or}
 use Rattle.std.proofs.lemmas.Bool.{and_parts, lt-ltb, ltb-true}
 use Rattle.std.proofs.lemmas.List.{length-map}
-use Rattle.std.proofs.lemmas.List.Sums.{length-filter, sum_by-cons}
+use Rattle.std.proofs.lemmas.List.Sums.{count_by-le-length, length-filter, sum_by-cons}
 use Rattle.std.proofs.lemmas.Option.{none-some, same_Some}
 use Rattle.pcode_assembler.specs.declared.code.Code.{Code}
 use Rattle.pcode_assembler.specs.declared.code.Site.{Site}
@@ -14,6 +14,8 @@ use Rattle.pcode_assembler.specs.declared.code.Point.{Point}
 use Rattle.pcode_assembler.specs.declared.instr.Instr.{Instr}
 use Rattle.pcode_assembler.specs.declared.instr.Instr.TheVariants as instr
 use Rattle.pcode_assembler.specs.Bounds.{in_bounds}
+use Rattle.pcode_assembler.specs.Contents.{HasText}
+use Rattle.pcode_assembler.specs.Lines.{is_place}
 use Rattle.pcode_assembler.specs.Writable.{AreNumbered, EndsInNoCheck, IsWritable, check_site, is_kind, last_of, names_what_is_there}
 use Rattle.check_remover.specs.Strip.{is_among, moved, moved_place, stays, strip, strip_by}
 
@@ -140,3 +142,25 @@ still_writable open_sites code stripped is sites points writable ends =
       points = subst (λ p. AreNumbered (map (λ (point : Point). point.id) p)) (sym points) writable.points;
       kinds = subst (λ s. list_all (λ (site : Site). is_kind site.kind) s ≡ true) (sym sites) writable.kinds;
     }
+
+-- no more instructions stay than there are
+no_more : (is_open : ℕ → Bool) (code : List Instr) → length (strip_by is_open code) ≤ length code
+no_more is_open code =
+    omega (
+      arith,
+      length-map (filter (stays is_open) code) (moved (moved_place is_open code)),
+      length-filter (stays is_open) code,
+      count_by-le-length (stays is_open) code,
+    )
+
+pub still_said : (open_sites : List Site) (code stripped : Code) → stripped.instructions.items ≡ strip open_sites code.instructions.items
+    → stripped.sites.items ≡ code.sites.items → stripped.points.items ≡ code.points.items → HasText code → EndsInNoCheck code.instructions.items
+    → HasText stripped
+still_said open_sites code stripped is sites points has ends = record {
+  writable = still_writable open_sites code stripped is sites points has.writable ends;
+  few_sites = omega (arith, ap length sites, has.few_sites);
+  few_points = omega (arith, ap length points, has.few_points);
+  few_instructions = omega (arith, ap length is, no_more (is_among open_sites) code.instructions.items, has.few_instructions);
+  site_places = ap (list_all (λ (site : Site). is_place site.line && is_place site.column)) sites ∙ has.site_places;
+  point_places = ap (list_all (λ (point : Point). is_place point.line && is_place point.column)) points ∙ has.point_places;
+}

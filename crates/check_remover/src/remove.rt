@@ -1,4 +1,5 @@
 ghost use Rattle.std.specs.Prelude.{◌≡◌, ℕ, ◌≤◌, IfOk, length, map, filter};
+ghost use Rattle.pcode_assembler.specs.Contents.{HasText};
 ghost use Rattle.pcode_assembler.specs.Writable.{EndsInNoCheck, IsWritable};
 ghost use Rattle.check_remover.specs.Places.{new_place};
 ghost use Rattle.check_remover.specs.Strip.{KeepsInstructions, is_among, moved, stays, strip};
@@ -11,7 +12,7 @@ use std::alloc::{AllocError, Global};
 
 /// The code without its checks at sites whose id isn't among the open ones. A jump goes to the first
 /// remaining instruction at or after its old target, or just past the last. The tables stay. Code that can be written
-/// and whose last instruction is no check can be written then too.
+/// and whose last instruction is no check can be written then too, and code that a text can say has one then too.
 ///
 /// # Errors
 /// Want of memory.
@@ -26,6 +27,8 @@ pub fn remove(alloc: Global, code: &Code, open_sites: &[Site]) -> Result<Code, A
         EndsInNoCheck code.now.instructions.items → EndsInNoCheck stripped.instructions.items) }
     ensures writable { IfOk result (λ stripped.
         IsWritable code.now → EndsInNoCheck code.now.instructions.items → IsWritable stripped) }
+    ensures text { IfOk result (λ stripped.
+        HasText code.now → EndsInNoCheck code.now.instructions.items → HasText stripped) }
 {
     Ok(Code {
         instructions: stripped(alloc, code, open_sites)?,

@@ -1,10 +1,15 @@
--- The code of a well formed tree can be written.
+-- The code of a well formed tree can be written, and has a text.
 use Rattle.code_generator.proofs.Words.{◌≡◌, ◌&&◌, true, List, [], ◌∷◌, length, map, refl, sym, ap, ◌∙◌, subst, length-map, Tree, IsWellFormed}
 use Rattle.std.specs.List.{list_all, range_with_len}
 use Rattle.pcode_assembler.specs.declared.code.Code.{Code}
 use Rattle.pcode_assembler.specs.declared.code.Site.{Site as Plain}
 use Rattle.pcode_assembler.specs.declared.code.Point.{Point as PlainPoint}
+use Rattle.std.proofs.Common.{ℕ, ◌≤◌, ◌||◌, Bool, false, nat_lt, arith}
+use Rattle.std.proofs.lemmas.Bool.{and_from, and_parts}
+use Rattle.std.proofs.lemmas.Bool.Decides.{nat_tests}
 use Rattle.pcode_assembler.specs.Bounds.{in_bounds}
+use Rattle.pcode_assembler.specs.Contents.{HasText}
+use Rattle.pcode_assembler.specs.Lines.{is_place}
 use Rattle.pcode_assembler.specs.Writable.{AreNumbered, IsWritable, is_kind, names_what_is_there}
 use Rattle.typed_tree.specs.declared.site.Point.{Point}
 use Rattle.typed_tree.specs.declared.site.Site.{Site}
@@ -12,8 +17,9 @@ use Rattle.typed_tree.specs.declared.site.SiteKind.{SiteKind}
 use Rattle.typed_tree.specs.declared.site.SiteKind.TheVariants as kind
 use Rattle.typed_tree.specs.Sites.{number_of}
 use Rattle.code_scheme.specs.Code.{program_code}
+use Rattle.code_scheme.specs.Large.{has_large_frame, is_too_large}
 use Rattle.code_scheme.proofs.Bounds.{program_in_bounds, program_names}
-use Rattle.code_generator.specs.Tables.{IsNumbered, in_plain_numbers, point_in_plain_numbers, point_table, site_table}
+use Rattle.code_generator.specs.Tables.{FitsText, IsNumbered, in_plain_numbers, point_in_plain_numbers, point_table, site_table}
 
 kind_is : (k : SiteKind) → is_kind (number_of k) ≡ true
 kind_is kind.Index = refl
@@ -64,3 +70,39 @@ writable tree code is sites_are points_are well numbered =
           (subst AreNumbered (sym (same_point_ids points)) numbered.points);
       kinds = ap (list_all (λ (site : Plain). is_kind site.kind)) sites_are ∙ kinds_are sites;
     }
+
+-- ---- the text of the code
+
+few_code : (length_is : ℕ) (large other : Bool) → nat_lt 1000000 length_is ≡ large → (large || other) ≡ false → length_is ≤ 1000000
+few_code n true other is small = absurd cc
+few_code n false other is small = grind (arith, nat_tests)
+
+pub has_text : (tree : Tree) (code : Code) → code.instructions.items ≡ program_code tree → code.sites.items ≡ site_table tree.sites.items
+    → code.points.items ≡ point_table tree.points.items → is_too_large tree ≡ false → IsWellFormed tree → FitsText tree → HasText code
+has_text tree code is sites_are points_are small well fits =
+    let sites = tree.sites.items in
+    let points = tree.points.items in
+    let few = few_code (length (program_code tree)) _ (has_large_frame tree 0 tree.blocks.items) refl small in
+    record {
+      writable = writable tree code is sites_are points_are well fits.numbered;
+      few_sites = omega (arith, ap length sites_are, length-map sites in_plain_numbers, fits.few_sites);
+      few_points = omega (arith, ap length points_are, length-map points point_in_plain_numbers, fits.few_points);
+      few_instructions = omega (arith, ap length is, few);
+      site_places = ap (list_all (λ (site : Plain). is_place site.line && is_place site.column)) sites_are ∙ site_places_are sites fits.site_places;
+      point_places = ap (list_all (λ (point : PlainPoint). is_place point.line && is_place point.column)) points_are
+          ∙ point_places_are points fits.point_places;
+    }
+  where
+    site_places_are : (sites : List Site) → list_all (λ (site : Site). is_place site.place.line && is_place site.place.column) sites ≡ true
+        → list_all (λ (site : Plain). is_place site.line && is_place site.column) (site_table sites) ≡ true
+    site_places_are [] all = refl
+    site_places_are (site ∷ sites) all =
+        let parts = and_parts (is_place site.place.line && is_place site.place.column) _ all in
+        and_from _ _ parts.0 (site_places_are sites parts.1)
+
+    point_places_are : (points : List Point) → list_all (λ (point : Point). is_place point.place.line && is_place point.place.column) points ≡ true
+        → list_all (λ (point : PlainPoint). is_place point.line && is_place point.column) (point_table points) ≡ true
+    point_places_are [] all = refl
+    point_places_are (point ∷ points) all =
+        let parts = and_parts (is_place point.place.line && is_place point.place.column) _ all in
+        and_from _ _ parts.0 (point_places_are points parts.1)

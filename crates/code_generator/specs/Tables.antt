@@ -1,9 +1,11 @@
 -- The tables of sites and points of some code: those of the tree, in plain numbers. It does not say where sites stand.
-use Rattle.std.specs.Prelude.{List, map}
+use Rattle.std.specs.Prelude.{◌≡◌, ◌≤◌, true, ◌&&◌, List, length, map}
+use Rattle.std.specs.List.{list_all}
 use Rattle.pcode_assembler.specs.declared.code.Site.{Site as Plain}
 use Rattle.pcode_assembler.specs.declared.code.Point.{Point as PlainPoint}
 use Rattle.typed_tree.specs.declared.site.Site.{Site}
 use Rattle.typed_tree.specs.declared.site.Point.{Point}
+use Rattle.pcode_assembler.specs.Lines.{is_place}
 use Rattle.pcode_assembler.specs.Writable.{AreNumbered}
 use Rattle.typed_tree.specs.declared.tree.Tree.{Tree}
 use Rattle.typed_tree.specs.Ids.{AreInOrder}
@@ -30,3 +32,13 @@ point_table points = map point_in_plain_numbers points
 pub record IsNumbered (tree : Tree) : Type 0 where
   pub sites : AreInOrder tree.sites.items
   pub points : AreNumbered (map (λ (point : Point). point.id) tree.points.items)
+
+-- and they are no more than a text of code may have, at places that it can spell
+pub record FitsText (tree : Tree) : Type 0 where
+  pub numbered : IsNumbered tree
+  pub few_sites : length tree.sites.items ≤ 1000000
+  pub few_points : length tree.points.items ≤ 1000000
+  pub site_places :
+      list_all (λ (site : Site). is_place site.place.line && is_place site.place.column) tree.sites.items ≡ true
+  pub point_places :
+      list_all (λ (point : Point). is_place point.place.line && is_place point.place.column) tree.points.items ≡ true

@@ -1,11 +1,12 @@
 ghost use Rattle.std.specs.Prelude.{◌≡◌, false, true, IfOk};
 ghost use Rattle.std.specs.List.{list_all};
 ghost use Rattle.pcode_assembler.specs.Bounds.{in_bounds};
+ghost use Rattle.pcode_assembler.specs.Contents.{HasText};
 ghost use Rattle.pcode_assembler.specs.Writable.{EndsInNoCheck, IsWritable};
 ghost use Rattle.code_scheme.specs.Code.{program_code};
 ghost use Rattle.code_generator.specs.Follows.{Follows};
 ghost use Rattle.code_scheme.specs.Large.{is_too_large};
-ghost use Rattle.code_generator.specs.Tables.{IsNumbered, point_table, site_table};
+ghost use Rattle.code_generator.specs.Tables.{FitsText, IsNumbered, point_table, site_table};
 ghost use Rattle.typed_tree.specs.WellFormed.{IsWellFormed};
 
 use crate::fault::GenFault;
@@ -18,7 +19,8 @@ use typed_tree::tree::Tree;
 
 /// The code of the program: its instructions, and the tables of the tree's sites and points. Each check has its site,
 /// and the text of a code has room for each operand. If the tree is well formed, the code follows the program, for
-/// every input and every number of cells; and it can be written, if the tree's sites and points are numbered.
+/// every input and every number of cells; and it can be written, if the tree's sites and points are numbered, and has a
+/// text, if they are no more than a text may have and stand at places that it can spell.
 ///
 /// # Errors
 /// Want of memory; or code that is too large. Where it is, memory may run out first.
@@ -31,6 +33,7 @@ pub fn generate(alloc: Global, tree: &Tree) -> Result<Code, GenFault>
     ensures points { IfOk result (λ code. code.points.items ≡ point_table tree.now.points.items) }
     ensures last { IfOk result (λ code. EndsInNoCheck code.instructions.items) }
     ensures writable { IfOk result (λ code. IsWellFormed tree.now → IsNumbered tree.now → IsWritable code) }
+    ensures text { IfOk result (λ code. IsWellFormed tree.now → FitsText tree.now → HasText code) }
     ensures follows { IfOk result (λ code. IsWellFormed tree.now → Follows code tree.now) }
 {
     known();

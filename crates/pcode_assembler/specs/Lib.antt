@@ -1,2 +1,10 @@
 pub mod Bounds
+pub mod Contents
+pub mod Faults
+pub mod Lines
+pub mod Reading
+pub mod Table
+pub mod Text
+pub mod Words
 pub mod Writable
+pub mod Writing

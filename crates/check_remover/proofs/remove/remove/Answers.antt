@@ -2,7 +2,7 @@ use Rattle.std.proofs.Common.{subst, sym, ◌∙◌}
 use Rattle.pcode_assembler.specs.Writable.{EndsInNoCheck}
 use Rattle.check_remover.specs.Strip.{KeepsInstructions, is_among}
 use Rattle.check_remover.proofs.Kept.{strip-keeps}
-use Rattle.check_remover.proofs.Written.{ends_still, still_writable}
+use Rattle.check_remover.proofs.Written.{ends_still, still_said, still_writable}
 use Rattle.check_remover.proofs.remove.remove.Goals as goal
 
 pub returns-clause-kept : goal.returns-clause-kept
@@ -23,3 +23,7 @@ returns-clause-last c ends =
 pub returns-clause-writable : goal.returns-clause-writable
 returns-clause-writable c =
     still_writable c.args.open_sites.now c.args.code.now _ c.in_ok-stripped.ensures (returns-clause-sites c) (returns-clause-points c)
+
+pub returns-clause-text : goal.returns-clause-text
+returns-clause-text c =
+    still_said c.args.open_sites.now c.args.code.now _ c.in_ok-stripped.ensures (returns-clause-sites c) (returns-clause-points c)

@@ -6,7 +6,7 @@ use Rattle.code_scheme.specs.Large.{is_too_large}
 use Rattle.code_generator.specs.Tables.{point_table, site_table}
 use Rattle.code_scheme.proofs.Bounds.{program_ends}
 use Rattle.code_generator.proofs.Program.{follows}
-use Rattle.code_generator.proofs.Written.{writable}
+use Rattle.code_generator.proofs.Written.{has_text, writable}
 use Rattle.code_generator.proofs.generate.generate.Goals as goal
 
 pub returns-clause-last : goal.returns-clause-last
@@ -20,6 +20,14 @@ returns-clause-writable c =
     let sites : c.in_ok-sites_of.field-0.items ≡ site_table c.args.tree.now.sites.items = search rules in
     let points : c.in_ok-points_of.field-0.items ≡ point_table c.args.tree.now.points.items = search rules in
     writable c.args.tree.now _ whole sites points
+
+pub returns-clause-text : goal.returns-clause-text
+returns-clause-text c =
+    let whole : c.in_ok-instructions.instructions.items ≡ program_code c.args.tree.now = search rules in
+    let sites : c.in_ok-sites_of.field-0.items ≡ site_table c.args.tree.now.sites.items = search rules in
+    let points : c.in_ok-points_of.field-0.items ≡ point_table c.args.tree.now.points.items = search rules in
+    let short : is_too_large c.args.tree.now ≡ false = search rules in
+    has_text c.args.tree.now _ whole sites points short
 
 pub returns-clause-follows : goal.returns-clause-follows
 returns-clause-follows c =

@@ -1,0 +1,15 @@
+pub mod Bodies
+pub mod Instructions
+pub mod LabelLines
+pub mod Labelled
+pub mod LineLaws
+pub mod Numbers
+pub mod Numerals
+pub mod Parting
+pub mod SaidAgain
+pub mod Sets
+pub mod Spelling
+pub mod Steps
+pub mod TextLines
+pub mod Whole
+pub mod Written

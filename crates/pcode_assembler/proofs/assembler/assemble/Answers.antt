@@ -1,0 +1,42 @@
+use Rattle.std.proofs.Common.{refl, sym, ap, ◌∙◌, map}
+use Rattle.pcode_assembler.specs.Contents.{going_to, named}
+use Rattle.pcode_assembler.specs.Reading.{seen_by}
+use Rattle.pcode_assembler.specs.Text.{body, body_fault, end_fault, fault_from, start}
+use Rattle.pcode_assembler.proofs.Whole.{end_from, error_only, exactly, memory_only, no_body_fault, no_end_fault, no_fault_below, one_code}
+use Rattle.pcode_assembler.proofs.assembler.assemble.Goals as goal
+
+pub returns-in_err-check_end-clause-spelled : goal.returns-in_err-check_end-clause-spelled
+returns-in_err-check_end-clause-spelled c code says =
+    let text = c.args.text.now in
+    let error = c.in_err-check_end.field-0.0 in
+    error_only code _ error c.from_residual.ensures.1
+    (memory_only error (end_fault text) (no_end_fault text code says) (λ _. sym c.in_err-check_end.ensures))
+
+pub returns-in_err-below-clause-spelled : goal.returns-in_err-below-clause-spelled
+returns-in_err-below-clause-spelled c code says =
+    let text = c.args.text.now in
+    let error = c.in_err-below.field-0.0 in
+    error_only code _ error c.from_residual-in_err-below.ensures.1
+    (memory_only error (body_fault (body text)) (no_body_fault text code says) (λ _. c.in_err-below.ensures))
+
+pub returns-in_err-code-clause-spelled : goal.returns-in_err-code-clause-spelled
+returns-in_err-code-clause-spelled c code says =
+    let text = c.args.text.now in
+    let error = c.in_err-code.field-0.0 in
+    let seen = seen_by c.in_ok-labels.labels in
+    let below = body c.in_ok-below.below.now in
+    error_only code _ error c.from_residual-in_err-code.ensures.1
+    (memory_only error (fault_from seen start 2 below)
+    (no_fault_below text below seen code says c.in_ok-below.ensures c.in_ok-labels.ensures) c.in_err-code.ensures)
+
+pub returns-clause-exact : goal.returns-clause-exact
+returns-clause-exact c =
+    let text = c.args.text.now in
+    let seen = seen_by c.in_ok-labels.labels in
+    let below = body c.in_ok-below.below.now in
+    let resolved = c.in_ok-code-2.ensures ∙ ap (map (going_to (named seen))) c.deref.ensures.value in
+    exactly text below seen c.in_ok-code.code _ (end_from text (sym c.in_ok-check_end.ensures)) c.in_ok-below.ensures
+    c.in_ok-labels.ensures c.in_ok-code.ensures.0 refl refl resolved
+
+pub returns-clause-spelled : goal.returns-clause-spelled
+returns-clause-spelled c code says = one_code c.args.text.now code _ says (returns-clause-exact c)
